@@ -1,0 +1,28 @@
+//! The operations of NFSv4.0 and their results, as values and as bytes (RFC 7530, section 16; RFC 7531).
+#![tactic(auto)]
+
+mod bytes;
+mod callback;
+mod client_id;
+mod compound;
+mod op;
+mod op_result;
+mod sequence;
+mod set_client_id;
+mod set_client_id_confirm;
+mod status;
+mod verifier;
+mod wire_error;
+
+pub use bytes::Bytes;
+pub use callback::{Address, Callback};
+pub use client_id::ClientId;
+pub use compound::{Compound, Request};
+pub use op::Op;
+pub use op_result::OpResult;
+pub use sequence::Sequence;
+pub use set_client_id::{SetClientId, SetClientIdResult};
+pub use set_client_id_confirm::SetClientIdConfirm;
+pub use status::Status;
+pub use verifier::Verifier;
+pub use wire_error::WireError;

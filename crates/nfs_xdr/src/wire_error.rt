@@ -1,0 +1,15 @@
+use thiserror::Error;
+
+/// Why bytes could not be read or a value could not be written.
+#[derive(Clone, Copy, Debug, PartialEq, Eq, Error)]
+pub enum WireError {
+    /// The bytes end inside the form, or hold a number that the form doesn't have.
+    #[error("the bytes do not hold the form (1)")]
+    Short = 1,
+    /// A length is above what the form allows.
+    #[error("a length is above its limit (2)")]
+    TooLong = 2,
+    /// Memory was refused.
+    #[error("no memory (3)")]
+    Memory = 3,
+}
