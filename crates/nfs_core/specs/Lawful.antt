@@ -1,0 +1,15 @@
+-- Journals that the rules allow.
+use Rattle.std.specs.Prelude.{◌≡◌, List, [], ◌∷◌, ◌++◌}
+use Rattle.nfs_core.specs.declared.entry.Entry.{Entry}
+use Rattle.nfs_core.specs.State.{State, History, empty_server}
+use Rattle.nfs_core.specs.Step.{Step}
+
+-- the entries lead, one after the other, from the state old with this journal to the state new
+abbrev pub Leads : History → State → List Entry → State → Type 0
+Leads journal old [] new = new ≡ old
+Leads journal old (entry ∷ entries) new =
+    (mid : State) × Step journal old entry mid × Leads (record journal { entries = journal.entries ++ entry ∷ [] }) mid entries new
+
+-- the journal leads from the empty server to the state
+abbrev pub Lawful : History → State → Type 0
+Lawful journal state = Leads (record journal { entries = [] }) empty_server journal.entries state

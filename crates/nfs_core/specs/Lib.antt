@@ -1,0 +1,7 @@
+pub mod Principal
+pub mod Registry
+pub mod SetClientId
+pub mod SetClientIdConfirm
+pub mod State
+pub mod Step
+pub mod Lawful

@@ -1,0 +1,62 @@
+-- SETCLIENTID_CONFIRM (RFC 7530, section 16.34.5).
+use Rattle.std.specs.Prelude.{◌≡◌, ℕ, Bool, true, false, not, ◌&&◌, ◌++◌, List, [], ◌∷◌, Option, Some, None, filter, if◌then◌else◌}
+use Rattle.nfs_xdr.specs.declared.set_client_id_confirm.SetClientIdConfirm.{SetClientIdConfirm}
+use Rattle.nfs_xdr.specs.declared.status.Status.{Status}
+use Rattle.nfs_xdr.specs.declared.status.Status.TheVariants as status
+use Rattle.nfs_core.specs.declared.client_record.ClientRecord.{ClientRecord}
+use Rattle.nfs_core.specs.declared.client_record.PathMark.TheVariants.{Unknown}
+use Rattle.nfs_core.specs.declared.principal.Principal.{Principal}
+use Rattle.nfs_core.specs.Principal.{is_same_principal}
+use Rattle.nfs_core.specs.Registry.{Registry, confirmed_of, unconfirmed_with, confirmed_with, is_of, is_same_client}
+
+-- What the call finds.
+pub data Confirmation : Type 0 where
+  -- no record has the clientid and the value
+  Stale : Confirmation
+  -- the record with both is another principal's, or its id is in use by another principal's client with state
+  Refused : Confirmation
+  -- a confirmed record has both: this was confirmed before
+  Before : Confirmation
+  -- the unconfirmed record that becomes its id's confirmed one
+  Becomes : ClientRecord → Confirmation
+
+-- The unconfirmed record with both, beside the confirmed record of its id. A client that keeps its
+-- clientid changes verifier, callback and value alone; another one's place is taken.
+abbrev pub confirmation_beside : Option ClientRecord → ClientRecord → Bool → Confirmation
+confirmation_beside None r has_state = Becomes r
+confirmation_beside (Some s) r has_state =
+    if not (is_same_client s.client r.client) && not (is_same_principal s.principal r.principal) && has_state
+    then Refused
+    else Becomes r
+
+abbrev pub confirmation_again : Option ClientRecord → Principal → Confirmation
+confirmation_again None principal = Stale
+confirmation_again (Some r) principal = if is_same_principal r.principal principal then Before else Refused
+
+abbrev pub confirmation_at : Registry → Option ClientRecord → Bool → Principal → SetClientIdConfirm → Confirmation
+confirmation_at registry (Some r) has_state principal args =
+    if is_same_principal r.principal principal
+    then confirmation_beside (confirmed_of registry r.id) r has_state
+    else Refused
+confirmation_at registry None has_state principal args =
+    confirmation_again (confirmed_with registry args.client args.confirm) principal
+
+-- `has_state`: whether the client of the confirmed record of the same id has state.
+abbrev pub confirmation : Registry → Bool → Principal → SetClientIdConfirm → Confirmation
+confirmation registry has_state principal args =
+    confirmation_at registry (unconfirmed_with registry args.client args.confirm) has_state principal args
+
+-- the record is confirmed, nothing is known of its path, and it stands alone for its id
+abbrev pub with_confirmed : List ClientRecord → ClientRecord → List ClientRecord
+with_confirmed records r =
+    filter (λ s. not (is_of r.id s)) records ++ record r { confirmed = true; path = Unknown } ∷ []
+
+-- From old, the call may be answered so and lead to new.
+abbrev pub ConfirmsBy : Confirmation → Registry → Status → Registry → Type 0
+ConfirmsBy Stale old answer new = (answer ≡ status.StaleClientId) × (new ≡ old)
+ConfirmsBy Refused old answer new = (answer ≡ status.ClidInUse) × (new ≡ old)
+ConfirmsBy Before old answer new = (answer ≡ status.Ok) × (new ≡ old)
+ConfirmsBy (Becomes r) old answer new = (answer ≡ status.Ok) × (new ≡ record old { records = with_confirmed old.records r })
+
+abbrev pub Confirms : Bool → Registry → Principal → SetClientIdConfirm → Status → Registry → Type 0
+Confirms has_state old principal args answer new = ConfirmsBy (confirmation old has_state principal args) old answer new

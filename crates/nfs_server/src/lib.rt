@@ -1,0 +1,6 @@
+//! From records of bytes to replies of bytes.
+#![tactic(auto)]
+
+mod records;
+
+pub use records::RECORD_LIMIT;
