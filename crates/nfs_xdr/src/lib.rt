@@ -1,6 +1,7 @@
 //! The operations of NFSv4.0 and their results, as values and as bytes (RFC 7530, section 16; RFC 7531).
 #![tactic(auto)]
 
+mod basic;
 mod bytes;
 mod callback;
 mod client_id;
@@ -14,6 +15,10 @@ mod status;
 mod verifier;
 mod wire_error;
 
+pub use basic::{
+    padding_of, read_fixed, read_flag, read_opaque, read_opaque_bytes, read_u32, read_u64, write_fixed,
+    write_flag, write_opaque, write_u32, write_u64,
+};
 pub use bytes::Bytes;
 pub use callback::{Address, Callback};
 pub use client_id::ClientId;

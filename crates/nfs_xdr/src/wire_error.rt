@@ -1,3 +1,8 @@
+ghost use Rattle.std.specs.Prelude.{◌≡◌};
+ghost use Rattle.nfs_xdr.specs.declared.wire_error.WireError.TheVariants as errors;
+
+use std::alloc::AllocError;
+
 use thiserror::Error;
 
 /// Why bytes could not be read or a value could not be written.
@@ -12,4 +17,12 @@ pub enum WireError {
     /// Memory was refused.
     #[error("no memory (3)")]
     Memory = 3,
+}
+
+impl From<AllocError> for WireError {
+    ghost from_gives = { λ _ e. e ≡ errors.Memory };
+
+    fn from(_refused: AllocError) -> WireError {
+        WireError::Memory
+    }
 }

@@ -1,0 +1,38 @@
+-- Which bytes stand for a value (RFC 4506, RFC 7531). Numbers are big-endian.
+use Rattle.std.specs.Prelude.{◌≡◌, ℕ, ◌-◌, ◌%◌, ◌≤◌, Bool, List, [], ◌∷◌, ◌++◌, length, if◌then◌else◌}
+use Rattle.byteorder.specs.Endian.{big_number}
+
+-- the front of the bytes stands in the one layout, and the back in the other
+infixr 5 ◌⨾◌
+abbrev pub ◌⨾◌ : (List ℕ → Type 0) → (List ℕ → Type 0) → List ℕ → Type 0
+(P ⨾ Q) bytes = (front : List ℕ) × (back : List ℕ) × (bytes ≡ front ++ back) × P front × Q back
+
+-- a number of so many bytes
+abbrev pub Number : ℕ → ℕ → List ℕ → Type 0
+Number count n bytes = (length bytes ≡ count) × (big_number count bytes ≡ n)
+
+abbrev pub U32 : ℕ → List ℕ → Type 0
+U32 = Number 4
+
+abbrev pub U64 : ℕ → List ℕ → Type 0
+U64 = Number 8
+
+-- 1 or 0
+abbrev pub Flag : Bool → List ℕ → Type 0
+Flag b = U32 (if b then 1 else 0)
+
+-- so many bytes as they are
+abbrev pub Fixed : ℕ → List ℕ → List ℕ → Type 0
+Fixed count value bytes = (length value ≡ count) × (bytes ≡ value)
+
+-- how many bytes of padding follow n bytes, to a multiple of 4
+abbrev pub padding_of : ℕ → ℕ
+padding_of n = (4 - n % 4) % 4
+
+-- any bytes, so many
+abbrev pub Any : ℕ → List ℕ → Type 0
+Any count bytes = length bytes ≡ count
+
+-- a length of at most the limit, as many bytes, and padding of any bytes
+abbrev pub Opaque : ℕ → List ℕ → List ℕ → Type 0
+Opaque limit value = λ bytes. (length value ≤ limit) × (U32 (length value) ⨾ Fixed (length value) value ⨾ Any (padding_of (length value))) bytes

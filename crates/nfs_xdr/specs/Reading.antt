@@ -1,0 +1,60 @@
+-- Reading from the front: the value and the bytes behind it, or why there is none.
+use Rattle.std.specs.Prelude.{◌≡◌, ℕ, ◌+◌, Bool, true, false, List, [], ◌∷◌, ◌++◌, length, take, drop, Result, Ok, Err, nat_lt, ◌==◌, if◌then◌else◌}
+use Rattle.byteorder.specs.Endian.{big_number}
+use Rattle.nfs_xdr.specs.declared.wire_error.WireError.{WireError}
+use Rattle.nfs_xdr.specs.declared.wire_error.WireError.TheVariants as errors
+use Rattle.nfs_xdr.specs.Layout.{padding_of, ◌⨾◌}
+
+-- what a reading function answers
+abbrev pub Read : Type 0 → Type 0
+Read A = Result (A × List ℕ) WireError
+
+infixl 10 ◌>>=◌
+abbrev pub ◌>>=◌ : {A B : Type 0} → Result A WireError → (A → Result B WireError) → Result B WireError
+(Ok x) >>= f = f x
+(Err e) >>= f = Err e
+
+-- What a function answered, seen by view, is what reading gives, unless memory ran out.
+abbrev pub Fails : {Y : Type 0} → WireError → Result Y WireError → Type 0
+Fails errors.Memory read = Unit {0}
+Fails errors.Short read = read ≡ Err errors.Short
+Fails errors.TooLong read = read ≡ Err errors.TooLong
+
+abbrev pub Gives : {X Y : Type 0} → (X → Y) → Result X WireError → Result Y WireError → Type 0
+Gives view (Ok x) read = read ≡ Ok (view x)
+Gives view (Err e) read = Fails e read
+
+abbrev pub number_at : ℕ → List ℕ → Read ℕ
+number_at count bytes = if nat_lt (length bytes) count then Err errors.Short else Ok (big_number count bytes, drop count bytes)
+
+abbrev pub flag_of : ℕ → List ℕ → Read Bool
+flag_of n rest = if n == 0 then Ok (false, rest) else if n == 1 then Ok (true, rest) else Err errors.Short
+
+unfoldable pub flag_at : List ℕ → Read Bool
+flag_at bytes = number_at 4 bytes >>= λ n. flag_of n.0 n.1
+
+abbrev pub fixed_at : ℕ → List ℕ → Read (List ℕ)
+fixed_at count bytes = if nat_lt (length bytes) count then Err errors.Short else Ok (take count bytes, drop count bytes)
+
+-- so many bytes, and the padding behind them
+abbrev pub padded_at : ℕ → List ℕ → Read (List ℕ)
+padded_at count bytes =
+    if nat_lt (length bytes) (count + padding_of count) then Err errors.Short
+    else Ok (take count bytes, drop (count + padding_of count) bytes)
+
+unfoldable pub opaque_at : ℕ → List ℕ → Read (List ℕ)
+opaque_at limit bytes = number_at 4 bytes >>= λ n. if nat_lt limit n.0 then Err errors.TooLong else padded_at n.0 n.1
+
+-- one, and then the other
+infixr 5 ◌then◌
+abbrev pub ◌then◌ : {A B : Type 0} → (List ℕ → Read A) → (List ℕ → Read B) → List ℕ → Read (A × B)
+(f then g) bytes = f bytes >>= λ a. g a.1 >>= λ b. Ok ((a.0, b.0), b.1)
+
+-- what is read, made into another value
+abbrev pub as_value : {A B : Type 0} → (A → B) → (List ℕ → Read A) → List ℕ → Read B
+as_value make f bytes = f bytes >>= λ a. Ok (make a.0, a.1)
+
+-- A reading function reads a layout: what it reads stands in it, and what stands in it is read, whatever follows.
+pub record Reads {A : Type 0} (layout : A → List ℕ → Type 0) (read : List ℕ → Read A) : Type 0 where
+  pub sound : (bytes : List ℕ) (value : A) (rest : List ℕ) → read bytes ≡ Ok (value, rest) → (front : List ℕ) × (bytes ≡ front ++ rest) × layout value front
+  pub complete : (value : A) (front rest : List ℕ) → layout value front → read (front ++ rest) ≡ Ok (value, rest)

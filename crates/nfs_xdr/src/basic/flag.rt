@@ -1,0 +1,29 @@
+ghost use Rattle.std.specs.Prelude.{◌≡◌, ◌+◌, ◌<◌, ◌≤◌, ◌++◌, length, vec_len, vec_capacity, OnOk, OnErr};
+ghost use Rattle.nfs_xdr.specs.Reading.{Gives, flag_at};
+ghost use Rattle.nfs_xdr.specs.Writing.{written_flag};
+
+use crate::WireError;
+use crate::basic::{read_u32, write_u32};
+
+/// The bool at the front, a number that is 0 or 1, and the bytes behind it; else Short.
+#[tactic(auto, unfolding(crate::specs::Reading::flag_at))]
+pub fn read_flag(bytes: &[u8]) -> Result<(bool, &[u8]), WireError>
+    ensures { Gives (λ x. (x.0, x.1.now)) result (flag_at bytes.now) }
+{
+    let (n, rest) = read_u32(bytes)?;
+    match n {
+        0 => Ok((false, rest)),
+        1 => Ok((true, rest)),
+        _ => Err(WireError::Short),
+    }
+}
+
+/// Writes the bool as 1 or 0 at the end. Only memory can be refused, and then nothing is written.
+pub fn write_flag(out: &mut Vec<u8>, flag: bool) -> Result<(), WireError>
+    ensures ok { OnOk result (out.new.items ≡ out.old.items ++ written_flag flag) }
+    ensures err { OnErr result (out.new.items ≡ out.old.items) }
+    ensures memory { OnErr result ((result ≡ Err WireError.Memory) × (vec_capacity out.old < vec_len out.old + 4)) }
+    ensures capacity { vec_capacity out.old ≤ vec_capacity out.new }
+{
+    write_u32(out, if flag { 1 } else { 0 })
+}

@@ -1,0 +1,60 @@
+ghost use Rattle.std.specs.Prelude.{◌≡◌, ℕ, List, ◌+◌, ◌<◌, ◌≤◌, ◌^◌, ◌++◌, ◌↔◌, length, vec_len, vec_capacity, OnOk, OnErr, IsErrOf};
+ghost use Rattle.nfs_xdr.specs.Layout as layout;
+ghost use Rattle.nfs_xdr.specs.Reading.{Gives, opaque_at};
+ghost use Rattle.nfs_xdr.specs.Writing.{written_opaque};
+
+use std::alloc::Global;
+
+use crate::basic::{read_u32, write_u32};
+use crate::{Bytes, WireError};
+
+/// How many bytes of padding follow `len` bytes, to a multiple of 4.
+pub fn padding_of(len: usize) -> usize
+    ensures value { result ≡ layout.padding_of len }
+    ensures few { result < 4 }
+{
+    (4 - len % 4) % 4
+}
+
+/// The bytes of a length that stands before them, lent, and the bytes behind their padding. TooLong where
+/// the length is above `limit`, Short where bytes are missing, those of the padding too.
+#[tactic(auto, unfolding(crate::specs::Reading::opaque_at))]
+pub fn read_opaque(bytes: &[u8], limit: u32) -> Result<(&[u8], &[u8]), WireError>
+    ensures { Gives (λ x. (x.0.now, x.1.now)) result (opaque_at limit bytes.now) }
+{
+    let (len, rest) = read_u32(bytes)?;
+    if len > limit {
+        return Err(WireError::TooLong);
+    }
+    let len = len as usize;
+    let padded = len + padding_of(len);
+    if rest.len() < padded {
+        return Err(WireError::Short);
+    }
+    Ok((&rest[..len], &rest[padded..]))
+}
+
+/// The same, as bytes of their own.
+pub fn read_opaque_bytes(alloc: Global, bytes: &[u8], limit: u32) -> Result<(Bytes, &[u8]), WireError>
+    ensures { Gives (λ x. (x.0, x.1.now)) result (opaque_at limit bytes.now) }
+{
+    let (value, rest) = read_opaque(bytes, limit)?;
+    Ok((Bytes::copied(alloc, value)?, rest))
+}
+
+/// Writes the length, the bytes and zeros to a multiple of 4 at the end. TooLong from 2^32 bytes on.
+pub fn write_opaque(out: &mut Vec<u8>, bytes: &[u8]) -> Result<(), WireError>
+    ensures ok { OnOk result (out.new.items ≡ out.old.items ++ written_opaque bytes.now) }
+    ensures grows { OnErr result ((more : List ℕ) × (out.new.items ≡ out.old.items ++ more)) }
+    ensures too_long { IsErrOf result WireError.TooLong ↔ (2 ^ 32 ≤ length bytes.now) }
+    ensures memory { IsErrOf result WireError.Memory → vec_capacity out.old < vec_len out.old + length (written_opaque bytes.now) }
+    ensures capacity { vec_capacity out.old ≤ vec_capacity out.new }
+{
+    let Ok(len) = u32::try_from(bytes.len()) else {
+        return Err(WireError::TooLong);
+    };
+    write_u32(out, len)?;
+    out.extend_from_slice(bytes)?;
+    out.extend_from_slice(&[0; 4][..padding_of(bytes.len())])?;
+    Ok(())
+}
