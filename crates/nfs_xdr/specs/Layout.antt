@@ -1,5 +1,5 @@
 -- Which bytes stand for a value (RFC 4506, RFC 7531). Numbers are big-endian.
-use Rattle.std.specs.Prelude.{◌≡◌, ℕ, ◌-◌, ◌%◌, ◌≤◌, Bool, List, [], ◌∷◌, ◌++◌, length, if◌then◌else◌}
+use Rattle.std.specs.Prelude.{◌≡◌, ℕ, ◌-◌, ◌^◌, ◌%◌, ◌≤◌, Bool, List, [], ◌∷◌, ◌++◌, length, if◌then◌else◌}
 use Rattle.byteorder.specs.Endian.{big_number}
 
 -- the front of the bytes stands in the one layout, and the back in the other
@@ -32,6 +32,10 @@ padding_of n = (4 - n % 4) % 4
 -- any bytes, so many
 abbrev pub Any : ℕ → List ℕ → Type 0
 Any count bytes = length bytes ≡ count
+
+-- the greatest length that the form can say
+abbrev pub NO_LIMIT : ℕ
+NO_LIMIT = 2 ^ 32 - 1
 
 -- a length of at most the limit, as many bytes, and padding of any bytes
 abbrev pub Opaque : ℕ → List ℕ → List ℕ → Type 0

@@ -1,5 +1,6 @@
-ghost use Rattle.std.specs.Prelude.{◌≡◌, ◌+◌, ◌<◌, ◌≤◌, ◌++◌, length, vec_len, vec_capacity, OnOk, OnErr};
+ghost use Rattle.std.specs.Prelude.{◌≡◌, OnErr};
 ghost use Rattle.nfs_xdr.specs.Reading.{Gives, fixed_at};
+ghost use Rattle.nfs_xdr.specs.Writing.{Writes};
 
 use crate::WireError;
 
@@ -17,10 +18,8 @@ pub fn read_fixed<const N: usize>(bytes: &[u8]) -> Result<([u8; N], &[u8]), Wire
 
 /// Writes the bytes as they are at the end. Only memory can be refused, and then nothing is written.
 pub fn write_fixed(out: &mut Vec<u8>, bytes: &[u8]) -> Result<(), WireError>
-    ensures ok { OnOk result (out.new.items ≡ out.old.items ++ bytes.now) }
+    ensures writes { Writes out.old out.new result (bytes.now) ⊥ }
     ensures err { OnErr result (out.new.items ≡ out.old.items) }
-    ensures memory { OnErr result ((result ≡ Err WireError.Memory) × (vec_capacity out.old < vec_len out.old + length bytes.now)) }
-    ensures capacity { vec_capacity out.old ≤ vec_capacity out.new }
 {
     out.extend_from_slice(bytes)?;
     Ok(())

@@ -1,6 +1,6 @@
-ghost use Rattle.std.specs.Prelude.{◌≡◌, ◌+◌, ◌<◌, ◌≤◌, ◌++◌, length, vec_len, vec_capacity, OnOk, OnErr};
+ghost use Rattle.std.specs.Prelude.{◌≡◌, OnErr};
 ghost use Rattle.nfs_xdr.specs.Reading.{Gives, flag_at};
-ghost use Rattle.nfs_xdr.specs.Writing.{written_flag};
+ghost use Rattle.nfs_xdr.specs.Writing.{Writes, written_flag};
 
 use crate::WireError;
 use crate::basic::{read_u32, write_u32};
@@ -20,10 +20,8 @@ pub fn read_flag(bytes: &[u8]) -> Result<(bool, &[u8]), WireError>
 
 /// Writes the bool as 1 or 0 at the end. Only memory can be refused, and then nothing is written.
 pub fn write_flag(out: &mut Vec<u8>, flag: bool) -> Result<(), WireError>
-    ensures ok { OnOk result (out.new.items ≡ out.old.items ++ written_flag flag) }
+    ensures writes { Writes out.old out.new result (written_flag flag) ⊥ }
     ensures err { OnErr result (out.new.items ≡ out.old.items) }
-    ensures memory { OnErr result ((result ≡ Err WireError.Memory) × (vec_capacity out.old < vec_len out.old + 4)) }
-    ensures capacity { vec_capacity out.old ≤ vec_capacity out.new }
 {
     write_u32(out, if flag { 1 } else { 0 })
 }

@@ -1,6 +1,6 @@
-ghost use Rattle.std.specs.Prelude.{◌≡◌, ◌+◌, ◌<◌, ◌≤◌, ◌++◌, length, vec_len, vec_capacity, OnOk, OnErr};
+ghost use Rattle.std.specs.Prelude.{◌≡◌, OnErr};
 ghost use Rattle.nfs_xdr.specs.Reading.{Gives, number_at};
-ghost use Rattle.nfs_xdr.specs.Writing.{written_u32, written_u64};
+ghost use Rattle.nfs_xdr.specs.Writing.{Writes, written_u32, written_u64};
 
 use byteorder::{BigEndian, ByteOrder};
 
@@ -28,10 +28,8 @@ pub fn read_u64(bytes: &[u8]) -> Result<(u64, &[u8]), WireError>
 
 /// Writes the number in four bytes at the end. Only memory can be refused, and then nothing is written.
 pub fn write_u32(out: &mut Vec<u8>, n: u32) -> Result<(), WireError>
-    ensures ok { OnOk result (out.new.items ≡ out.old.items ++ written_u32 n) }
+    ensures writes { Writes out.old out.new result (written_u32 n) ⊥ }
     ensures err { OnErr result (out.new.items ≡ out.old.items) }
-    ensures memory { OnErr result ((result ≡ Err WireError.Memory) × (vec_capacity out.old < vec_len out.old + 4)) }
-    ensures capacity { vec_capacity out.old ≤ vec_capacity out.new }
 {
     let mut bytes = [0; 4];
     BigEndian::write_u32(&mut bytes, n);
@@ -41,10 +39,8 @@ pub fn write_u32(out: &mut Vec<u8>, n: u32) -> Result<(), WireError>
 
 /// Writes the number in eight bytes at the end. Only memory can be refused, and then nothing is written.
 pub fn write_u64(out: &mut Vec<u8>, n: u64) -> Result<(), WireError>
-    ensures ok { OnOk result (out.new.items ≡ out.old.items ++ written_u64 n) }
+    ensures writes { Writes out.old out.new result (written_u64 n) ⊥ }
     ensures err { OnErr result (out.new.items ≡ out.old.items) }
-    ensures memory { OnErr result ((result ≡ Err WireError.Memory) × (vec_capacity out.old < vec_len out.old + 8)) }
-    ensures capacity { vec_capacity out.old ≤ vec_capacity out.new }
 {
     let mut bytes = [0; 8];
     BigEndian::write_u64(&mut bytes, n);

@@ -1,7 +1,7 @@
-ghost use Rattle.std.specs.Prelude.{◌≡◌, ℕ, List, ◌+◌, ◌<◌, ◌≤◌, ◌^◌, ◌++◌, ◌↔◌, length, vec_len, vec_capacity, OnOk, OnErr, IsErrOf};
+ghost use Rattle.std.specs.Prelude.{◌≡◌, ◌<◌, ◌≤◌, ◌^◌, length};
 ghost use Rattle.nfs_xdr.specs.Layout as layout;
 ghost use Rattle.nfs_xdr.specs.Reading.{Gives, opaque_at};
-ghost use Rattle.nfs_xdr.specs.Writing.{written_opaque};
+ghost use Rattle.nfs_xdr.specs.Writing.{Writes, written_opaque};
 
 use std::alloc::Global;
 
@@ -44,11 +44,8 @@ pub fn read_opaque_bytes(alloc: Global, bytes: &[u8], limit: u32) -> Result<(Byt
 
 /// Writes the length, the bytes and zeros to a multiple of 4 at the end. TooLong from 2^32 bytes on.
 pub fn write_opaque(out: &mut Vec<u8>, bytes: &[u8]) -> Result<(), WireError>
-    ensures ok { OnOk result (out.new.items ≡ out.old.items ++ written_opaque bytes.now) }
-    ensures grows { OnErr result ((more : List ℕ) × (out.new.items ≡ out.old.items ++ more)) }
-    ensures too_long { IsErrOf result WireError.TooLong ↔ (2 ^ 32 ≤ length bytes.now) }
-    ensures memory { IsErrOf result WireError.Memory → vec_capacity out.old < vec_len out.old + length (written_opaque bytes.now) }
-    ensures capacity { vec_capacity out.old ≤ vec_capacity out.new }
+    ensures writes { Writes out.old out.new result (written_opaque bytes.now) (2 ^ 32 ≤ length bytes.now) }
+    ensures too_long { 2 ^ 32 ≤ length bytes.now → result ≡ Err WireError.TooLong }
 {
     let Ok(len) = u32::try_from(bytes.len()) else {
         return Err(WireError::TooLong);
