@@ -6,3 +6,4 @@ pub mod ClientId
 pub mod Status
 pub mod SetClientId
 pub mod SetClientIdConfirm
+pub mod Op

@@ -24,6 +24,11 @@ abbrev pub Gives : {X Y : Type 0} → (X → Y) → Result X WireError → Resul
 Gives view (Ok x) read = read ≡ Ok (view x)
 Gives view (Err e) read = Fails e read
 
+-- The same of a function that takes no memory: it never tells that memory ran out.
+abbrev pub Answers : {X Y : Type 0} → (X → Y) → Result X WireError → Result Y WireError → Type 0
+Answers view (Ok x) read = read ≡ Ok (view x)
+Answers view (Err e) read = read ≡ Err e
+
 abbrev pub number_at : ℕ → List ℕ → Read ℕ
 number_at count bytes = if nat_lt (length bytes) count then Err errors.Short else Ok (big_number count bytes, drop count bytes)
 
@@ -54,7 +59,11 @@ abbrev pub ◌then◌ : {A B : Type 0} → (List ℕ → Read A) → (List ℕ �
 abbrev pub as_value : {A B : Type 0} → (A → B) → (List ℕ → Read A) → List ℕ → Read B
 as_value make f bytes = f bytes >>= λ a. Ok (make a.0, a.1)
 
+-- the bytes are some that stand in the layout, and then the rest
+abbrev pub Begins : (List ℕ → Type 0) → List ℕ → List ℕ → Type 0
+Begins layout bytes rest = (front : List ℕ) × (bytes ≡ front ++ rest) × layout front
+
 -- A reading function reads a layout: what it reads stands in it, and what stands in it is read, whatever follows.
 pub record Reads {A : Type 0} (layout : A → List ℕ → Type 0) (read : List ℕ → Read A) : Type 0 where
-  pub sound : (bytes : List ℕ) (value : A) (rest : List ℕ) → read bytes ≡ Ok (value, rest) → (front : List ℕ) × (bytes ≡ front ++ rest) × layout value front
+  pub sound : (bytes : List ℕ) (value : A) (rest : List ℕ) → read bytes ≡ Ok (value, rest) → Begins (layout value) bytes rest
   pub complete : (value : A) (front rest : List ℕ) → layout value front → read (front ++ rest) ≡ Ok (value, rest)

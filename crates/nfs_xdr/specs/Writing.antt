@@ -32,3 +32,13 @@ Writes old new result spelling IsTooLong =
     × (IsErrOf result errors.Memory → vec_capacity old < vec_len old + length spelling)
     × (IsErrOf result errors.Short → ⊥)
     × (vec_capacity old ≤ vec_capacity new)
+
+-- The same, but after an error the bytes are as before.
+abbrev pub WritesWhole : {T : Type 0} → Vec ℕ → Vec ℕ → Result T WireError → List ℕ → Type 0 → Type 0
+WritesWhole old new result spelling IsTooLong =
+    OnOk result ((new.items ≡ old.items ++ spelling) × ¬ IsTooLong)
+    × OnErr result (new.items ≡ old.items)
+    × (IsErrOf result errors.TooLong → IsTooLong)
+    × (IsErrOf result errors.Memory → vec_capacity old < vec_len old + length spelling)
+    × (IsErrOf result errors.Short → ⊥)
+    × (vec_capacity old ≤ vec_capacity new)

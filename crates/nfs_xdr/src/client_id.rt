@@ -1,5 +1,5 @@
 ghost use Rattle.nfs_xdr.specs.ClientId.{client_id_at, written_client_id};
-ghost use Rattle.nfs_xdr.specs.Reading.{Gives};
+ghost use Rattle.nfs_xdr.specs.Reading.{Answers};
 ghost use Rattle.nfs_xdr.specs.Writing.{Writes};
 
 use crate::WireError;
@@ -16,7 +16,7 @@ pub struct ClientId {
 
 #[tactic(auto, unfolding(crate::specs::ClientId::client_id_at))]
 pub(crate) fn read_client_id(bytes: &[u8]) -> Result<(ClientId, &[u8]), WireError>
-    ensures { Gives (λ x. (x.0, x.1.now)) result (client_id_at bytes.now) }
+    ensures { Answers (λ x. (x.0, x.1.now)) result (client_id_at bytes.now) }
 {
     let (epoch, rest) = read_u32(bytes)?;
     let (number, rest) = read_u32(rest)?;

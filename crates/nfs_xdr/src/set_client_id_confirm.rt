@@ -1,4 +1,4 @@
-ghost use Rattle.nfs_xdr.specs.Reading.{Gives};
+ghost use Rattle.nfs_xdr.specs.Reading.{Answers};
 ghost use Rattle.nfs_xdr.specs.SetClientIdConfirm.{set_client_id_confirm_at, written_set_client_id_confirm};
 ghost use Rattle.nfs_xdr.specs.Writing.{Writes};
 
@@ -18,7 +18,7 @@ pub struct SetClientIdConfirm {
 pub(crate) fn read_set_client_id_confirm(
     bytes: &[u8],
 ) -> Result<(SetClientIdConfirm, &[u8]), WireError>
-    ensures { Gives (λ x. (x.0, x.1.now)) result (set_client_id_confirm_at bytes.now) }
+    ensures { Answers (λ x. (x.0, x.1.now)) result (set_client_id_confirm_at bytes.now) }
 {
     let (client, rest) = read_client_id(bytes)?;
     let (confirm, rest) = read_u64(rest)?;

@@ -1,5 +1,5 @@
 ghost use Rattle.std.specs.Prelude.{◌≡◌};
-ghost use Rattle.nfs_xdr.specs.Reading.{Gives};
+ghost use Rattle.nfs_xdr.specs.Reading.{Answers};
 ghost use Rattle.nfs_xdr.specs.Status.{number_of, status_at, status_of, written_status};
 ghost use Rattle.nfs_xdr.specs.Writing.{Writes};
 
@@ -95,7 +95,7 @@ impl Status {
 
 #[tactic(auto, unfolding(crate::specs::Status::status_at))]
 pub(crate) fn read_status(bytes: &[u8]) -> Result<(Status, &[u8]), WireError>
-    ensures { Gives (λ x. (x.0, x.1.now)) result (status_at bytes.now) }
+    ensures { Answers (λ x. (x.0, x.1.now)) result (status_at bytes.now) }
 {
     let (number, rest) = read_u32(bytes)?;
     match Status::from_number(number) {

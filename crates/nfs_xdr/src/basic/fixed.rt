@@ -1,12 +1,12 @@
-ghost use Rattle.std.specs.Prelude.{◌≡◌, OnErr};
-ghost use Rattle.nfs_xdr.specs.Reading.{Gives, fixed_at};
-ghost use Rattle.nfs_xdr.specs.Writing.{Writes};
+ghost use Rattle.std.specs.Prelude.{◌≡◌};
+ghost use Rattle.nfs_xdr.specs.Reading.{Answers, fixed_at};
+ghost use Rattle.nfs_xdr.specs.Writing.{WritesWhole};
 
 use crate::WireError;
 
 /// The first `N` bytes, and the bytes behind them; Short where there are fewer.
 pub fn read_fixed<const N: usize>(bytes: &[u8]) -> Result<([u8; N], &[u8]), WireError>
-    ensures { Gives (λ x. (x.0, x.1.now)) result (fixed_at N bytes.now) }
+    ensures { Answers (λ x. (x.0, x.1.now)) result (fixed_at N bytes.now) }
 {
     if bytes.len() < N {
         return Err(WireError::Short);
@@ -18,8 +18,7 @@ pub fn read_fixed<const N: usize>(bytes: &[u8]) -> Result<([u8; N], &[u8]), Wire
 
 /// Writes the bytes as they are at the end. Only memory can be refused, and then nothing is written.
 pub fn write_fixed(out: &mut Vec<u8>, bytes: &[u8]) -> Result<(), WireError>
-    ensures writes { Writes out.old out.new result (bytes.now) ⊥ }
-    ensures err { OnErr result (out.new.items ≡ out.old.items) }
+    ensures { WritesWhole out.old out.new result (bytes.now) ⊥ }
 {
     out.extend_from_slice(bytes)?;
     Ok(())

@@ -1,6 +1,6 @@
-ghost use Rattle.std.specs.Prelude.{◌≡◌, OnErr};
-ghost use Rattle.nfs_xdr.specs.Reading.{Gives, flag_at};
-ghost use Rattle.nfs_xdr.specs.Writing.{Writes, written_flag};
+ghost use Rattle.std.specs.Prelude.{◌≡◌};
+ghost use Rattle.nfs_xdr.specs.Reading.{Answers, flag_at};
+ghost use Rattle.nfs_xdr.specs.Writing.{WritesWhole, written_flag};
 
 use crate::WireError;
 use crate::basic::{read_u32, write_u32};
@@ -8,7 +8,7 @@ use crate::basic::{read_u32, write_u32};
 /// The bool at the front, a number that is 0 or 1, and the bytes behind it; else Short.
 #[tactic(auto, unfolding(crate::specs::Reading::flag_at))]
 pub fn read_flag(bytes: &[u8]) -> Result<(bool, &[u8]), WireError>
-    ensures { Gives (λ x. (x.0, x.1.now)) result (flag_at bytes.now) }
+    ensures { Answers (λ x. (x.0, x.1.now)) result (flag_at bytes.now) }
 {
     let (n, rest) = read_u32(bytes)?;
     match n {
@@ -20,8 +20,7 @@ pub fn read_flag(bytes: &[u8]) -> Result<(bool, &[u8]), WireError>
 
 /// Writes the bool as 1 or 0 at the end. Only memory can be refused, and then nothing is written.
 pub fn write_flag(out: &mut Vec<u8>, flag: bool) -> Result<(), WireError>
-    ensures writes { Writes out.old out.new result (written_flag flag) ⊥ }
-    ensures err { OnErr result (out.new.items ≡ out.old.items) }
+    ensures { WritesWhole out.old out.new result (written_flag flag) ⊥ }
 {
     write_u32(out, if flag { 1 } else { 0 })
 }

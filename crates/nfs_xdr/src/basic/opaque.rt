@@ -1,6 +1,6 @@
 ghost use Rattle.std.specs.Prelude.{◌≡◌, ◌<◌, ◌≤◌, ◌^◌, length};
 ghost use Rattle.nfs_xdr.specs.Layout as layout;
-ghost use Rattle.nfs_xdr.specs.Reading.{Gives, opaque_at};
+ghost use Rattle.nfs_xdr.specs.Reading.{Answers, Gives, opaque_at};
 ghost use Rattle.nfs_xdr.specs.Writing.{Writes, written_opaque};
 
 use std::alloc::Global;
@@ -20,7 +20,7 @@ pub fn padding_of(len: usize) -> usize
 /// the length is above `limit`, Short where bytes are missing, those of the padding too.
 #[tactic(auto, unfolding(crate::specs::Reading::opaque_at))]
 pub fn read_opaque(bytes: &[u8], limit: u32) -> Result<(&[u8], &[u8]), WireError>
-    ensures { Gives (λ x. (x.0.now, x.1.now)) result (opaque_at limit bytes.now) }
+    ensures { Answers (λ x. (x.0.now, x.1.now)) result (opaque_at limit bytes.now) }
 {
     let (len, rest) = read_u32(bytes)?;
     if len > limit {

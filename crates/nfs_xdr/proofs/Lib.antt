@@ -1,0 +1,2 @@
+pub mod BasicForms
+pub mod Operations

@@ -1,0 +1,134 @@
+-- The same of the arguments of the operations, and of an operation itself.
+use Rattle.std.proofs.Common.{◌≡◌, ℕ, ◌+◌, ◌<◌, ◌≤◌, Bool, true, false, cond, ltb, eqb, List, [], ◌∷◌, ◌++◌, length, drop, Result, Ok, Err, refl, sym, ap, subst, ◌∙◌, arith, inl, inr, ◌⊎◌}
+use Rattle.std.specs.Prelude.{IfOk}
+use Rattle.std.proofs.lemmas.Bool.{ltb-true, eqb-true}
+use Rattle.byteorder.specs.Endian.{big_number}
+use Rattle.nfs_xdr.specs.declared.wire_error.WireError.{WireError}
+use Rattle.nfs_xdr.specs.declared.wire_error.WireError.TheVariants as errors
+use Rattle.nfs_xdr.specs.declared.op.Op.{Op}
+use Rattle.nfs_xdr.specs.declared.op.Op.TheVariants as ops
+use Rattle.nfs_xdr.specs.declared.callback.Address.{Address}
+use Rattle.nfs_xdr.specs.declared.callback.Callback.{Callback}
+use Rattle.nfs_xdr.specs.declared.client_id.ClientId.{ClientId}
+use Rattle.nfs_xdr.specs.declared.set_client_id.SetClientId.{SetClientId}
+use Rattle.nfs_xdr.specs.declared.set_client_id.TheConstants.{ID_LIMIT}
+use Rattle.nfs_xdr.specs.declared.set_client_id_confirm.SetClientIdConfirm.{SetClientIdConfirm}
+use Rattle.nfs_xdr.specs.Callback.{IsAddress, IsCallback, address_at, callback_at}
+use Rattle.nfs_xdr.specs.ClientId.{IsClientId, client_id_at}
+use Rattle.nfs_xdr.specs.Layout.{◌⨾◌, U32, U64, Fixed, Opaque, NO_LIMIT}
+use Rattle.nfs_xdr.specs.Op.{AreArguments, LacksArguments, StandsAt, op_number, op_of, op_at, op_behind, or_bad_args, is_known}
+use Rattle.nfs_xdr.specs.Reading.{Read, Reads, Begins, ◌then◌, number_at, fixed_at, opaque_at}
+use Rattle.nfs_xdr.specs.SetClientId.{IsSetClientId, set_client_id_at}
+use Rattle.nfs_xdr.specs.SetClientIdConfirm.{IsSetClientIdConfirm, set_client_id_confirm_at}
+use Rattle.nfs_xdr.proofs.BasicForms.{Begins-then, reads_then, reads_as, reads_number, reads_fixed, reads_opaque}
+
+pub reads_address : Reads IsAddress address_at
+unfolding address_at
+reads_address = reads_as (λ p. Opaque NO_LIMIT p.0 ⨾ Opaque NO_LIMIT p.1) (opaque_at NO_LIMIT then opaque_at NO_LIMIT)
+    (λ (p : List ℕ × List ℕ). record { netid = p.0; addr = p.1 }) (λ (a : Address). (a.netid, a.addr)) (λ _. refl) (λ _. refl)
+    (reads_then (Opaque NO_LIMIT) (Opaque NO_LIMIT) (opaque_at NO_LIMIT) (opaque_at NO_LIMIT) (reads_opaque NO_LIMIT) (reads_opaque NO_LIMIT))
+
+pub reads_callback : Reads IsCallback callback_at
+unfolding callback_at
+reads_callback = reads_as (λ p. U32 p.0 ⨾ IsAddress p.1.0 ⨾ U32 p.1.1) (number_at 4 then address_at then number_at 4)
+    (λ (p : ℕ × (Address × ℕ)). record { program = p.0; address = p.1.0; ident = p.1.1 }) (λ (c : Callback). (c.program, (c.address, c.ident))) (λ _. refl) (λ _. refl)
+    (reads_then U32 (λ (q : Address × ℕ). IsAddress q.0 ⨾ U32 q.1) (number_at 4) (address_at then number_at 4) (reads_number 4)
+      (reads_then IsAddress U32 address_at (number_at 4) reads_address (reads_number 4)))
+
+pub reads_client_id : Reads IsClientId client_id_at
+unfolding client_id_at
+reads_client_id = reads_as (λ p. U32 p.0 ⨾ U32 p.1) (number_at 4 then number_at 4)
+    (λ (p : ℕ × ℕ). record { epoch = p.0; number = p.1 }) (λ (c : ClientId). (c.epoch, c.number)) (λ _. refl) (λ _. refl)
+    (reads_then U32 U32 (number_at 4) (number_at 4) (reads_number 4) (reads_number 4))
+
+pub reads_set_client_id : Reads IsSetClientId set_client_id_at
+unfolding set_client_id_at
+reads_set_client_id = reads_as (λ p. Fixed 8 p.0 ⨾ Opaque ID_LIMIT p.1.0 ⨾ IsCallback p.1.1) (fixed_at 8 then opaque_at ID_LIMIT then callback_at)
+    (λ (p : List ℕ × (List ℕ × Callback)). record { verifier = record { 0 = p.0 }; id = p.1.0; callback = p.1.1 }) (λ (a : SetClientId). (a.verifier.0, (a.id, a.callback))) (λ _. refl) (λ _. refl)
+    (reads_then (Fixed 8) (λ (q : List ℕ × Callback). Opaque ID_LIMIT q.0 ⨾ IsCallback q.1) (fixed_at 8) (opaque_at ID_LIMIT then callback_at) (reads_fixed 8)
+      (reads_then (Opaque ID_LIMIT) IsCallback (opaque_at ID_LIMIT) callback_at (reads_opaque ID_LIMIT) reads_callback))
+
+pub reads_set_client_id_confirm : Reads IsSetClientIdConfirm set_client_id_confirm_at
+unfolding set_client_id_confirm_at
+reads_set_client_id_confirm = reads_as (λ p. IsClientId p.0 ⨾ U64 p.1) (client_id_at then number_at 8)
+    (λ (p : ClientId × ℕ). record { client = p.0; confirm = p.1 }) (λ (a : SetClientIdConfirm). (a.client, a.confirm)) (λ _. refl) (λ _. refl)
+    (reads_then IsClientId U64 client_id_at (number_at 8) reads_client_id (reads_number 8))
+
+-- where reading fails, nothing at the front stands in the layout
+lacks : {A : Type 0} (layout : A → List ℕ → Type 0) (read : List ℕ → Read A) → Reads layout read → (bytes : List ℕ) (e : WireError) → read bytes ≡ Err e → (value : A) (rest : List ℕ) → Begins (layout value) bytes rest → ⊥
+lacks layout read reads bytes e failed value rest found =
+    let given : read bytes ≡ Ok (value, rest) = ap read found.1 ∙ reads.complete value found.0 rest found.2 in
+    let clash : Err e ≡ Ok (value, rest) = sym failed ∙ given in
+    cc
+
+lacks_set_client_id : (bytes : List ℕ) (e : WireError) → set_client_id_at bytes ≡ Err e → LacksArguments 35 bytes
+lacks_set_client_id bytes e failed (ops.SetClientId args) rest number found = lacks IsSetClientId set_client_id_at reads_set_client_id bytes e failed args rest found
+lacks_set_client_id bytes e failed (ops.SetClientIdConfirm args) rest number found = absurd (omega arith)
+lacks_set_client_id bytes e failed (ops.BadArgs n) rest number found = found.2
+lacks_set_client_id bytes e failed (ops.Unsupported n) rest number found = found.2
+lacks_set_client_id bytes e failed (ops.Illegal n) rest number found = found.2
+
+lacks_set_client_id_confirm : (bytes : List ℕ) (e : WireError) → set_client_id_confirm_at bytes ≡ Err e → LacksArguments 36 bytes
+lacks_set_client_id_confirm bytes e failed (ops.SetClientId args) rest number found = absurd (omega arith)
+lacks_set_client_id_confirm bytes e failed (ops.SetClientIdConfirm args) rest number found = lacks IsSetClientIdConfirm set_client_id_confirm_at reads_set_client_id_confirm bytes e failed args rest found
+lacks_set_client_id_confirm bytes e failed (ops.BadArgs n) rest number found = found.2
+lacks_set_client_id_confirm bytes e failed (ops.Unsupported n) rest number found = found.2
+lacks_set_client_id_confirm bytes e failed (ops.Illegal n) rest number found = found.2
+
+stands_set_client_id : (bytes rest : List ℕ) (r : Read SetClientId) → Begins (U32 35) bytes rest → set_client_id_at rest ≡ r → StandsAt bytes (or_bad_args ops.SetClientId 35 rest r).0 (or_bad_args ops.SetClientId 35 rest r).1
+stands_set_client_id bytes rest (Ok x) number e = Begins-then (U32 35) (IsSetClientId x.0) bytes rest x.1 number (reads_set_client_id.sound rest x.0 x.1 e)
+stands_set_client_id bytes rest (Err d) number e = inr (number, refl, lacks_set_client_id rest d e)
+
+stands_set_client_id_confirm : (bytes rest : List ℕ) (r : Read SetClientIdConfirm) → Begins (U32 36) bytes rest → set_client_id_confirm_at rest ≡ r → StandsAt bytes (or_bad_args ops.SetClientIdConfirm 36 rest r).0 (or_bad_args ops.SetClientIdConfirm 36 rest r).1
+stands_set_client_id_confirm bytes rest (Ok x) number e = Begins-then (U32 36) (IsSetClientIdConfirm x.0) bytes rest x.1 number (reads_set_client_id_confirm.sound rest x.0 x.1 e)
+stands_set_client_id_confirm bytes rest (Err d) number e = inr (number, refl, lacks_set_client_id_confirm rest d e)
+
+-- a test went one way or the other
+decided : (b : Bool) → (b ≡ true) ⊎ (b ≡ false)
+decided true = inl refl
+decided false = inr refl
+
+abbrev Stands : List ℕ → Op × List ℕ → Type 0
+Stands bytes x = StandsAt bytes x.0 x.1
+
+-- an operation without a rule, with what the tests say of its number
+stands_bare : (bytes rest : List ℕ) (number : ℕ) → Begins (U32 number) bytes rest → eqb number 35 ≡ false → eqb number 36 ≡ false → Stands bytes (cond (is_known number) (ops.Unsupported number, rest) (ops.Illegal number, rest))
+stands_bare bytes rest number begins first second =
+    elim (decided (is_known number)) [
+      | inl known ↦ rw known (begins, rw (first, second) refl, known)
+      | inr unknown ↦ rw unknown (begins, rw (first, second) refl, unknown)
+    ]
+
+stands_numbered : (bytes rest : List ℕ) (number : ℕ) → Begins (U32 number) bytes rest → Stands bytes (op_of number rest)
+unfolding op_of
+stands_numbered bytes rest number begins =
+    elim (decided (eqb number 35)) [
+      | inl first ↦
+        let at : number ≡ 35 = eqb-true number 35 first in
+        rw (first, at) (stands_set_client_id bytes rest (set_client_id_at rest) (rw at at begins) refl)
+      | inr other ↦ elim (decided (eqb number 36)) [
+        | inl second ↦
+          let at : number ≡ 36 = eqb-true number 36 second in
+          rw (other, second, at) (stands_set_client_id_confirm bytes rest (set_client_id_confirm_at rest) (rw at at begins) refl)
+        | inr neither ↦ rw (other, neither) (stands_bare bytes rest number begins other neither)
+      ]
+    ]
+
+too_short : (bytes : List ℕ) (e : WireError) → number_at 4 bytes ≡ Err e → length bytes < 4
+too_short bytes e failed =
+    elim (decided (ltb (length bytes) 4)) [
+      | inl short ↦ ltb-true _ _ short
+      | inr long ↦ let clash : Ok (big_number 4 bytes, drop 4 bytes) ≡ Err e = rw long at failed in absurd cc
+    ]
+
+stands_behind : (bytes : List ℕ) (r : Read ℕ) → number_at 4 bytes ≡ r → Stands bytes (op_behind bytes r)
+stands_behind bytes (Ok n) e = stands_numbered bytes n.1 n.0 ((reads_number 4).sound bytes n.0 n.1 e)
+stands_behind bytes (Err d) e = inl (too_short bytes d e, refl, refl)
+
+-- what is read at the front stands there
+pub op_at_stands : (bytes : List ℕ) → Stands bytes (op_at bytes)
+op_at_stands bytes = stands_behind bytes (number_at 4 bytes) refl
+
+pub stands_if_ok : {X E : Type 0} (view : X → Op × List ℕ) (bytes : List ℕ) (r : Result X E) → IfOk r (λ x. view x ≡ op_at bytes) → IfOk r (λ x. Stands bytes (view x))
+stands_if_ok view bytes (Ok x) e = subst (Stands bytes) (sym e) (op_at_stands bytes)
+stands_if_ok view bytes (Err d) e = tt
