@@ -1,2 +1,5 @@
 pub mod BasicForms
 pub mod Operations
+pub mod CompoundLists
+pub mod WritingLists
+pub mod Compounds

@@ -33,7 +33,7 @@ unfolding callback_at
 reads_callback = reads_as (λ p. U32 p.0 ⨾ IsAddress p.1.0 ⨾ U32 p.1.1) (number_at 4 then address_at then number_at 4)
     (λ (p : ℕ × (Address × ℕ)). record { program = p.0; address = p.1.0; ident = p.1.1 }) (λ (c : Callback). (c.program, (c.address, c.ident))) (λ _. refl) (λ _. refl)
     (reads_then U32 (λ (q : Address × ℕ). IsAddress q.0 ⨾ U32 q.1) (number_at 4) (address_at then number_at 4) (reads_number 4)
-      (reads_then IsAddress U32 address_at (number_at 4) reads_address (reads_number 4)))
+    (reads_then IsAddress U32 address_at (number_at 4) reads_address (reads_number 4)))
 
 pub reads_client_id : Reads IsClientId client_id_at
 unfolding client_id_at
@@ -46,7 +46,7 @@ unfolding set_client_id_at
 reads_set_client_id = reads_as (λ p. Fixed 8 p.0 ⨾ Opaque ID_LIMIT p.1.0 ⨾ IsCallback p.1.1) (fixed_at 8 then opaque_at ID_LIMIT then callback_at)
     (λ (p : List ℕ × (List ℕ × Callback)). record { verifier = record { 0 = p.0 }; id = p.1.0; callback = p.1.1 }) (λ (a : SetClientId). (a.verifier.0, (a.id, a.callback))) (λ _. refl) (λ _. refl)
     (reads_then (Fixed 8) (λ (q : List ℕ × Callback). Opaque ID_LIMIT q.0 ⨾ IsCallback q.1) (fixed_at 8) (opaque_at ID_LIMIT then callback_at) (reads_fixed 8)
-      (reads_then (Opaque ID_LIMIT) IsCallback (opaque_at ID_LIMIT) callback_at (reads_opaque ID_LIMIT) reads_callback))
+    (reads_then (Opaque ID_LIMIT) IsCallback (opaque_at ID_LIMIT) callback_at (reads_opaque ID_LIMIT) reads_callback))
 
 pub reads_set_client_id_confirm : Reads IsSetClientIdConfirm set_client_id_confirm_at
 unfolding set_client_id_confirm_at
@@ -84,11 +84,11 @@ stands_set_client_id_confirm bytes rest (Ok x) number e = Begins-then (U32 36) (
 stands_set_client_id_confirm bytes rest (Err d) number e = inr (number, refl, lacks_set_client_id_confirm rest d e)
 
 -- a test went one way or the other
-decided : (b : Bool) → (b ≡ true) ⊎ (b ≡ false)
+pub decided : (b : Bool) → (b ≡ true) ⊎ (b ≡ false)
 decided true = inl refl
 decided false = inr refl
 
-abbrev Stands : List ℕ → Op × List ℕ → Type 0
+abbrev pub Stands : List ℕ → Op × List ℕ → Type 0
 Stands bytes x = StandsAt bytes x.0 x.1
 
 -- an operation without a rule, with what the tests say of its number
@@ -104,12 +104,12 @@ unfolding op_of
 stands_numbered bytes rest number begins =
     elim (decided (eqb number 35)) [
       | inl first ↦
-        let at : number ≡ 35 = eqb-true number 35 first in
-        rw (first, at) (stands_set_client_id bytes rest (set_client_id_at rest) (rw at at begins) refl)
+          let at : number ≡ 35 = eqb-true number 35 first in
+          rw (first, at) (stands_set_client_id bytes rest (set_client_id_at rest) (rw at at begins) refl)
       | inr other ↦ elim (decided (eqb number 36)) [
         | inl second ↦
-          let at : number ≡ 36 = eqb-true number 36 second in
-          rw (other, second, at) (stands_set_client_id_confirm bytes rest (set_client_id_confirm_at rest) (rw at at begins) refl)
+            let at : number ≡ 36 = eqb-true number 36 second in
+            rw (other, second, at) (stands_set_client_id_confirm bytes rest (set_client_id_confirm_at rest) (rw at at begins) refl)
         | inr neither ↦ rw (other, neither) (stands_bare bytes rest number begins other neither)
       ]
     ]

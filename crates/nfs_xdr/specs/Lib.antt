@@ -7,3 +7,5 @@ pub mod Status
 pub mod SetClientId
 pub mod SetClientIdConfirm
 pub mod Op
+pub mod OpResult
+pub mod Compound

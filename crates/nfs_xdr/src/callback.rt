@@ -3,10 +3,9 @@ ghost use Rattle.nfs_xdr.specs.Callback.{IsAddressTooLong, address_at, callback_
 ghost use Rattle.nfs_xdr.specs.Reading.{Gives};
 ghost use Rattle.nfs_xdr.specs.Writing.{Writes};
 
-use std::alloc::Global;
-
 use crate::basic::{read_opaque_bytes, read_u32, write_opaque, write_u32};
 use crate::{Bytes, WireError};
+use std::alloc::Global;
 
 /// Where a client takes callbacks: a transport and an address on it (RFC 7530, section 2.2.4; netaddr4).
 #[derive(Clone, Debug, PartialEq, Drop)]

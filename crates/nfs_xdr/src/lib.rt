@@ -16,8 +16,8 @@ mod verifier;
 mod wire_error;
 
 pub use basic::{
-    padding_of, read_fixed, read_flag, read_opaque, read_opaque_bytes, read_u32, read_u64, write_fixed,
-    write_flag, write_opaque, write_u32, write_u64,
+    padding_of, read_fixed, read_flag, read_opaque, read_opaque_bytes, read_u32, read_u64,
+    write_fixed, write_flag, write_opaque, write_u32, write_u64,
 };
 pub use bytes::Bytes;
 pub use callback::{Address, Callback};

@@ -4,12 +4,11 @@ ghost use Rattle.nfs_xdr.specs.SetClientId.{set_client_id_at};
 ghost use Rattle.nfs_xdr.specs.SetClientIdConfirm.{set_client_id_confirm_at};
 ghost use Rattle.nfs_xdr.specs.Writing.{Writes, WritesWhole};
 
-use std::alloc::{AllocError, Global};
-
 use crate::basic::{read_u32, write_u32};
 use crate::set_client_id::{read_set_client_id, write_set_client_id};
 use crate::set_client_id_confirm::{read_set_client_id_confirm, write_set_client_id_confirm};
 use crate::{SetClientId, SetClientIdConfirm, WireError};
+use std::alloc::{AllocError, Global};
 
 /// The operations of NFSv4.0 have the numbers from here on.
 pub const FIRST_OPERATION: u32 = 3;
@@ -17,7 +16,9 @@ pub const FIRST_OPERATION: u32 = 3;
 pub const LAST_OPERATION: u32 = 39;
 
 pub const OP_SET_ATTR: u32 = 34;
+
 pub const OP_SET_CLIENT_ID: u32 = 35;
+
 pub const OP_SET_CLIENT_ID_CONFIRM: u32 = 36;
 /// The number under which operations that don't exist are answered.
 pub const OP_ILLEGAL: u32 = 10044;

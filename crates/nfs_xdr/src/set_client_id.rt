@@ -3,13 +3,12 @@ ghost use Rattle.nfs_xdr.specs.Reading.{Gives};
 ghost use Rattle.nfs_xdr.specs.SetClientId.{IsSetClientIdResultTooLong, IsSetClientIdTooLong, set_client_id_at, set_client_id_result_at, written_set_client_id, written_set_client_id_result};
 ghost use Rattle.nfs_xdr.specs.Writing.{Writes};
 
-use std::alloc::Global;
-
 use crate::basic::{read_fixed, read_opaque_bytes, read_u64, write_fixed, write_opaque, write_u64};
 use crate::callback::{read_address, read_callback, write_address, write_callback};
 use crate::client_id::{read_client_id, write_client_id};
 use crate::status::write_status;
 use crate::{Address, Bytes, Callback, ClientId, Status, Verifier, WireError};
+use std::alloc::Global;
 
 /// The most bytes of a client's id (NFS4_OPAQUE_LIMIT).
 pub const ID_LIMIT: u32 = 1024;

@@ -2,7 +2,6 @@ ghost use Rattle.std.specs.Prelude.{◌≡◌};
 ghost use Rattle.nfs_xdr.specs.declared.wire_error.WireError.TheVariants as errors;
 
 use std::alloc::AllocError;
-
 use thiserror::Error;
 
 /// Why bytes could not be read or a value could not be written.

@@ -2,9 +2,8 @@ ghost use Rattle.std.specs.Prelude.{◌≡◌};
 ghost use Rattle.nfs_xdr.specs.Reading.{Answers, number_at};
 ghost use Rattle.nfs_xdr.specs.Writing.{WritesWhole, written_u32, written_u64};
 
-use byteorder::{BigEndian, ByteOrder};
-
 use crate::WireError;
+use byteorder::{BigEndian, ByteOrder};
 
 /// The number of four bytes at the front, and the bytes behind it; Short where there are fewer.
 pub fn read_u32(bytes: &[u8]) -> Result<(u32, &[u8]), WireError>

@@ -3,10 +3,9 @@ ghost use Rattle.nfs_xdr.specs.Layout as layout;
 ghost use Rattle.nfs_xdr.specs.Reading.{Answers, Gives, opaque_at};
 ghost use Rattle.nfs_xdr.specs.Writing.{Writes, written_opaque};
 
-use std::alloc::Global;
-
 use crate::basic::{read_u32, write_u32};
 use crate::{Bytes, WireError};
+use std::alloc::Global;
 
 /// How many bytes of padding follow `len` bytes, to a multiple of 4.
 pub fn padding_of(len: usize) -> usize
@@ -35,7 +34,11 @@ pub fn read_opaque(bytes: &[u8], limit: u32) -> Result<(&[u8], &[u8]), WireError
 }
 
 /// The same, as bytes of their own.
-pub fn read_opaque_bytes(alloc: Global, bytes: &[u8], limit: u32) -> Result<(Bytes, &[u8]), WireError>
+pub fn read_opaque_bytes(
+    alloc: Global,
+    bytes: &[u8],
+    limit: u32,
+) -> Result<(Bytes, &[u8]), WireError>
     ensures { Gives (λ x. (x.0, x.1.now)) result (opaque_at limit bytes.now) }
 {
     let (value, rest) = read_opaque(bytes, limit)?;

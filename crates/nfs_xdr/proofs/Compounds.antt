@@ -1,0 +1,74 @@
+-- What is read as a COMPOUND stands in its layout, and where none is read, none stands there.
+use Rattle.std.proofs.Common.{◌≡◌, ℕ, zero, suc, ◌+◌, ◌≤◌, Bool, true, false, cond, leb, eqb, List, [], ◌∷◌, ◌++◌, length, Result, Ok, Err, refl, sym, ap, subst, ◌∙◌, arith, inl, inr, ◌⊎◌}
+use Rattle.std.specs.Prelude.{IfOk, OnErr}
+use Rattle.std.proofs.lemmas.Bool.{eqb-true, leb-true}
+use Rattle.nfs_xdr.specs.declared.compound.Compound.{Compound}
+use Rattle.nfs_xdr.specs.declared.compound.Request.{Request}
+use Rattle.nfs_xdr.specs.declared.compound.Request.TheVariants.{MinorVersion, TooMany, Operations}
+use Rattle.nfs_xdr.specs.declared.compound.TheConstants.{OPERATION_LIMIT}
+use Rattle.nfs_xdr.specs.declared.op.Op.{Op}
+use Rattle.nfs_xdr.specs.declared.wire_error.WireError.{WireError}
+use Rattle.nfs_xdr.specs.declared.wire_error.WireError.TheVariants as errors
+use Rattle.nfs_xdr.specs.Compound.{HoldOperations, IsRequest, IsCompound, or_more, operations_at, request_at, head_at, compound_at}
+use Rattle.nfs_xdr.specs.Layout.{◌⨾◌, U32, Opaque, NO_LIMIT}
+use Rattle.nfs_xdr.specs.Op.{ends_list, op_at}
+use Rattle.nfs_xdr.specs.Reading.{Read, Reads, Begins, Gives, Fails, ◌>>=◌, ◌then◌, number_at, opaque_at}
+use Rattle.nfs_xdr.proofs.BasicForms.{bind_ok, ok_is, reads_then, reads_number, reads_opaque}
+use Rattle.nfs_xdr.proofs.Operations.{decided, op_at_stands}
+
+holds_more : (count : ℕ) (bytes : List ℕ) (b : Bool) → ends_list (op_at bytes).0 ≡ b → HoldOperations count (op_at bytes).1 (operations_at count (op_at bytes).1) → HoldOperations (suc count) bytes (or_more (op_at bytes) (operations_at count))
+holds_more count bytes true last more = ((op_at bytes).1, op_at_stands bytes, rw last refl)
+holds_more count bytes false goes more = ((op_at bytes).1, op_at_stands bytes, rw goes more)
+
+operations_held : (count : ℕ) (bytes : List ℕ) → HoldOperations count bytes (operations_at count bytes)
+unfolding operations_at
+operations_held zero bytes = refl
+operations_held (suc count) bytes = holds_more count bytes (ends_list (op_at bytes).0) refl (operations_held count (op_at bytes).1)
+
+request_held : (minor count : ℕ) (bytes : List ℕ) → IsRequest minor count bytes (request_at minor count bytes)
+request_held minor count bytes =
+    elim (decided (eqb minor 0)) [
+      | inl zeroth ↦ elim (decided (leb count OPERATION_LIMIT)) [
+        | inl few ↦ rw (zeroth, few) (eqb-true _ _ zeroth, leb-true _ _ few, operations_held count bytes)
+        | inr many ↦ rw (zeroth, many) (eqb-true _ _ zeroth, refl, many)
+      ]
+      | inr other ↦ rw other (refl, other)
+    ]
+
+abbrev IsHead : List ℕ × (ℕ × ℕ) → List ℕ → Type 0
+IsHead x = Opaque NO_LIMIT x.0 ⨾ U32 x.1.0 ⨾ U32 x.1.1
+
+reads_head : Reads IsHead head_at
+reads_head = reads_then (Opaque NO_LIMIT) (λ (q : ℕ × ℕ). U32 q.0 ⨾ U32 q.1) (opaque_at NO_LIMIT) (number_at 4 then number_at 4) (reads_opaque NO_LIMIT) (reads_then U32 U32 (number_at 4) (number_at 4) (reads_number 4) (reads_number 4))
+
+abbrev compound_of : (List ℕ × (ℕ × ℕ)) × List ℕ → Compound
+compound_of head = record { tag = head.0.0; request = request_at head.0.1.0 head.0.1.1 head.1 }
+
+pub compound_stands : (bytes : List ℕ) (compound : Compound) → compound_at bytes ≡ Ok compound → IsCompound compound bytes
+unfolding compound_at
+compound_stands bytes compound e =
+    let head = bind_ok (head_at bytes) (λ head. Ok (compound_of head)) compound e in
+    let begins = reads_head.sound bytes head.0.0 head.0.1 head.1 in
+    let stands : IsCompound (compound_of head.0) bytes = (head.0.0.1.0, head.0.0.1.1, head.0.1, begins, request_held head.0.0.1.0 head.0.0.1.1 head.0.1) in
+    subst (λ (c : Compound). IsCompound c bytes) (ok_is (compound_of head.0) compound head.2) stands
+
+pub no_compound : (bytes : List ℕ) (error : WireError) → compound_at bytes ≡ Err error → (compound : Compound) → IsCompound compound bytes → ⊥
+unfolding compound_at
+no_compound bytes error failed compound stands =
+    let head : List ℕ × (ℕ × ℕ) = (compound.tag, (stands.0, stands.1)) in
+    let given : head_at bytes ≡ Ok (head, stands.2) = ap head_at stands.3.1 ∙ reads_head.complete head stands.3.0 stands.2 stands.3.2 in
+    let clash : Err error ≡ Ok (compound_of (head, stands.2)) = sym failed ∙ ap (λ (r : Read (List ℕ × (ℕ × ℕ))). r >>= λ h. Ok (compound_of h)) given in
+    cc
+
+abbrev same : Compound → Compound
+same compound = compound
+
+pub stands_if_ok : (bytes : List ℕ) (r : Result Compound WireError) → Gives same r (compound_at bytes) → IfOk r (λ compound. IsCompound compound bytes)
+stands_if_ok bytes (Ok compound) given = compound_stands bytes compound given
+stands_if_ok bytes (Err e) given = tt
+
+pub none_if_err : (bytes : List ℕ) (r : Result Compound WireError) → Gives same r (compound_at bytes) → OnErr r ((r ≡ Err errors.Memory) ⊎ ((compound : Compound) → IsCompound compound bytes → ⊥))
+none_if_err bytes (Ok compound) given = tt
+none_if_err bytes (Err errors.Memory) given = inl refl
+none_if_err bytes (Err errors.Short) given = inr (no_compound bytes errors.Short given)
+none_if_err bytes (Err errors.TooLong) given = inr (no_compound bytes errors.TooLong given)
