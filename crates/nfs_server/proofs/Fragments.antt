@@ -1,9 +1,9 @@
 -- A text is read as fragments and records in one way.
-use Rattle.std.proofs.Common.{◌≡◌, ℕ, ◌+◌, ◌^◌, ◌<◌, ◌≤◌, Bool, true, false, List, [], ◌∷◌, ◌++◌, length, refl, sym, ◌∙◌, ap, subst, inl, inr, ◌⊎◌, arith, append_assoc, length-append}
+use Rattle.std.proofs.Common.{◌≡◌, ℕ, ◌+◌, ◌≤◌, Bool, true, false, List, [], ◌∷◌, ◌++◌, length, refl, sym, ◌∙◌, ap, subst, inl, inr, ◌⊎◌, arith, append_assoc, length-append}
 use Rattle.std.proofs.lemmas.List.{append-nil}
 use Rattle.std.specs.List.{concat}
 use Rattle.nfs_server.specs.declared.records.TheConstants.{RECORD_LIMIT}
-use Rattle.nfs_server.specs.Records.{IsHeader, IsFragment, AreOpen, IsRecord, AreRecords, IsRest, IsTooLong}
+use Rattle.nfs_server.specs.Records.{IsHeader, IsFragment, AreOpen, IsRecord, AreRecords}
 
 -- lists joined in two ways, where the first parts are equally long
 pub append_same : (a b c d : List ℕ) → a ++ b ≡ c ++ d → length a ≡ length c → (a ≡ c) × (b ≡ d)

@@ -1,12 +1,12 @@
 -- What is known of a text from a place between the fragments of its first record.
-use Rattle.std.proofs.Common.{◌≡◌, ℕ, ◌+◌, ◌<◌, ◌≤◌, ◌↔◌, Bool, true, false, List, [], ◌∷◌, ◌++◌, length, take, drop, refl, sym, ◌∙◌, ap, subst, inl, inr, arith, append_assoc, length-append, IsTrue, slice_range}
-use Rattle.std.proofs.lemmas.List.{append-nil, take-append-drop, take-append-le, length-take-le, length-drop, drop_at, take_at}
+use Rattle.std.proofs.Common.{◌≡◌, ℕ, ◌+◌, ◌<◌, ◌≤◌, Bool, true, false, List, [], ◌∷◌, ◌++◌, length, take, drop, refl, sym, ◌∙◌, ap, subst, inl, inr, arith, append_assoc, length-append, slice_range}
+use Rattle.std.proofs.lemmas.List.{append-nil, take-append-drop, length-take-le, length-drop, drop_at}
 use Rattle.std.proofs.lemmas.Slice.{between_to_end}
 use Rattle.std.proofs.lemmas.List.Folds.{concat-append}
 use Rattle.std.specs.List.{concat}
 use Rattle.nfs_server.specs.declared.records.TheConstants.{RECORD_LIMIT}
 use Rattle.nfs_server.specs.declared.records.Place.{Place}
-use Rattle.nfs_server.specs.Records.{IsHeader, IsFragment, AreOpen, IsRecord, AreRecords, IsRest, IsTooLong, IsPlace, EndsRecord, IsHeld}
+use Rattle.nfs_server.specs.Records.{IsHeader, IsFragment, AreOpen, IsRecord, IsRest, IsTooLong, IsPlace, EndsRecord, IsHeld}
 use Rattle.nfs_server.proofs.Fragments.{append_same, IsHeader-same, IsFragment-header, length-fragment, IsRecord-head, IsRecord-behind, AreOpen-header, AreOpen-push}
 
 -- `rest` is the text from the place on, as `&text[place.end..]` gives it.

@@ -1,7 +1,6 @@
 -- A text is split in one way, and what comes behind it goes on from the rest.
-use Rattle.std.proofs.Common.{◌≡◌, ℕ, ◌≤◌, List, [], ◌∷◌, ◌++◌, length, refl, sym, ◌∙◌, ap, append_assoc}
-use Rattle.nfs_server.specs.declared.records.TheConstants.{RECORD_LIMIT}
-use Rattle.nfs_server.specs.Records.{IsRecord, AreRecords, IsRest, Splits, OneSplit, SplitGoesOn}
+use Rattle.std.proofs.Common.{◌≡◌, ℕ, List, [], ◌∷◌, ◌++◌, refl, sym, ◌∙◌, ap, append_assoc}
+use Rattle.nfs_server.specs.Records.{AreRecords, IsRest, OneSplit, SplitGoesOn}
 use Rattle.nfs_server.proofs.Fragments.{IsRecord-same}
 
 AreRecords-same : (records others : List (List ℕ)) (front ahead rest remainder : List ℕ)
