@@ -4,7 +4,7 @@ use Rattle.std.proofs.lemmas.List.{append-nil, take-append-drop, drop_at, take_a
 use Rattle.std.proofs.lemmas.Slice.{between_to_end}
 use Rattle.nfs_server.specs.declared.records.TheConstants.{RECORD_LIMIT}
 use Rattle.nfs_server.specs.declared.records.Place.{Place}
-use Rattle.nfs_server.specs.Records.{IsHeader, IsFragment, IsRecord, AreRecords, IsPlace, EndsRecord, IsHeld, AreFound}
+use Rattle.nfs_server.specs.Records.{IsHeader, IsFragment, IsRecord, AreRecords, IsPlace, EndsRecord}
 use Rattle.nfs_server.proofs.Fragments.{IsFragment-header, IsRecord-cases, IsRecord-head, IsRecord-same, length-fragment, AreRecords-push}
 
 -- of the text's first record these bytes are gathered, and the others stand at the front of the rest
@@ -136,16 +136,4 @@ found_more text rest messages from whole message s e r =
       whole = s.whole ∙ ap (λ l. s.front ++ l) (sym behind) ∙ sym (append_assoc s.front (take whole.end rest) (slice_range rest whole.end (length rest)));
       are_records = AreRecords-push messages s.front message (take whole.end rest) s.are_records r fits;
       up_to = place_at_start (slice_range rest whole.end (length rest));
-    }
-
-pub found_all : (text rest : List ℕ) (messages : List (List ℕ)) (from place : Place) (is_too_long : Bool) (start : ℕ)
-    → AreFoundSoFar text rest messages from → IsHeld rest place is_too_long → start ≡ length text - length rest
-    → AreFound text messages (record { start = start; place = place; is_too_long = is_too_long })
-found_all text rest messages from place is_too_long start s held is =
-    let sizes : length text ≡ length s.front + length rest = ap length s.whole ∙ length-append s.front rest in
-    let same : length s.front ≡ start = omega arith in
-    record {
-      within = omega arith;
-      are_records = subst (λ l. AreRecords messages l) (sym (ap (take start) s.whole ∙ take_at s.front rest start same)) s.are_records;
-      held = subst (λ l. IsHeld l place is_too_long) (sym (ap (drop start) s.whole ∙ drop_at s.front rest start same)) held;
     }

@@ -6,7 +6,7 @@ use Rattle.std.proofs.lemmas.List.Folds.{concat-append}
 use Rattle.std.specs.List.{concat}
 use Rattle.nfs_server.specs.declared.records.TheConstants.{RECORD_LIMIT}
 use Rattle.nfs_server.specs.declared.records.Place.{Place}
-use Rattle.nfs_server.specs.Records.{IsHeader, IsFragment, AreOpen, IsRecord, IsRest, IsTooLong, IsPlace, EndsRecord, IsHeld}
+use Rattle.nfs_server.specs.Records.{IsHeader, IsFragment, AreOpen, IsRecord, IsRest, IsTooLong, IsPlace, EndsRecord, IsUnfinished}
 use Rattle.nfs_server.proofs.Fragments.{append_same, IsHeader-same, IsFragment-header, length-fragment, IsRecord-head, IsRecord-behind, AreOpen-header, AreOpen-push}
 
 -- `rest` is the text from the place on, as `&text[place.end..]` gives it.
@@ -31,8 +31,8 @@ module _ (text rest : List ℕ) (place : Place) (p : IsPlace text place) (rest_i
       ]
 
   -- Fewer bytes than a header stand here.
-  pub held_short : length rest < 4 → IsHeld text place false
-  held_short few =
+  pub short_here : length rest < 4 → IsUnfinished text (record { place = place; is_too_long = false })
+  short_here few =
       let short : length p.back < 4 = subst (λ l. length l < 4) (rest_behind) few in
       record {
         up_to = p;
@@ -60,8 +60,8 @@ module _ (text rest : List ℕ) (place : Place) (p : IsPlace text place) (rest_i
     here = subst (λ l. IsHeader last len (take 4 l)) (rest_behind) header
 
     -- The header that stands here brings the record above the limit.
-    pub held_long : RECORD_LIMIT < place.gathered + len → IsHeld text place true
-    held_long above = record {
+    pub long_here : RECORD_LIMIT < place.gathered + len → IsUnfinished text (record { place = place; is_too_long = true })
+    long_here above = record {
       up_to = p;
       none_left = rest_from (λ m f t r e fits.
           let h = IsRecord-head m f r in
@@ -88,8 +88,8 @@ module _ (text rest : List ℕ) (place : Place) (p : IsPlace text place) (rest_i
     }
 
     -- The fragment that begins here is within the limit, and ends behind the text.
-    pub held_part : place.gathered + len ≤ RECORD_LIMIT → length rest < 4 + len → IsHeld text place false
-    held_part within few =
+    pub part_here : place.gathered + len ≤ RECORD_LIMIT → length rest < 4 + len → IsUnfinished text (record { place = place; is_too_long = false })
+    part_here within few =
         let short : length p.back < 4 + len = subst (λ l. length l < 4 + len) (rest_behind) few in
         record {
           up_to = p;

@@ -4,8 +4,9 @@ use Rattle.std.specs.List.{concat}
 use Rattle.byteorder.specs.Endian.{big_number}
 use Rattle.nfs_server.specs.declared.records.TheConstants.{RECORD_LIMIT}
 use Rattle.nfs_server.specs.declared.records.Place.{Place}
+use Rattle.nfs_server.specs.declared.records.Unfinished.{Unfinished}
 use Rattle.nfs_server.specs.declared.records.Front.{Front}
-use Rattle.nfs_server.specs.declared.records.Front.TheVariants.{Whole, Rest}
+use Rattle.nfs_server.specs.declared.records.Front.TheVariants.{Whole, Partial}
 use Rattle.nfs_server.specs.declared.records.Tail.{Tail}
 
 -- Four bytes: the top bit says that the fragment is its record's last, and the other 31 are its length.
@@ -110,19 +111,19 @@ pub record EndsRecord (text : List ℕ) (place : Place) : Type 0 where
   pub gathers : place.gathered ≡ length message
   pub within : place.gathered ≤ RECORD_LIMIT
 
--- no record within the limit, up to this place nothing but open fragments, and whether the next is too long
-pub record IsHeld (text : List ℕ) (place : Place) (is_too_long : Bool) : Type 0 where
-  pub up_to : IsPlace text place
+-- no record within the limit stands at the front; how far its fragments are there, and whether it is too long
+pub record IsUnfinished (text : List ℕ) (first : Unfinished) : Type 0 where
+  pub up_to : IsPlace text first.place
   pub none_left : IsRest text
-  pub too_long : IsTrue is_too_long ↔ IsTooLong text
+  pub too_long : IsTrue first.is_too_long ↔ IsTooLong text
 
 -- what there is at the front of a text
 abbrev pub IsFront : List ℕ → Front → Type 0
 IsFront text (Whole place) = EndsRecord text place
-IsFront text (Rest place is_too_long) = IsHeld text place is_too_long
+IsFront text (Partial first) = IsUnfinished text first
 
 -- these are all whole records of a text, and this is behind them
 pub record AreFound (text : List ℕ) (messages : List (List ℕ)) (tail : Tail) : Type 0 where
   pub within : tail.start ≤ length text
   pub are_records : AreRecords messages (take tail.start text)
-  pub held : IsHeld (drop tail.start text) tail.place tail.is_too_long
+  pub unfinished : IsUnfinished (drop tail.start text) tail.first

@@ -1,5 +1,5 @@
-ghost use Rattle.std.specs.Prelude.{◌≡◌, ◌+◌, ◌^◌, ◌≤◌, ◌∷◌, [], ◌++◌, ℕ, List, map, false, length, take, drop, IfOk, OnOk, OnErr, IsErrOf, IfSome, IfNone, IsTrue};
-ghost use Rattle.nfs_server.specs.Records.{IsHeader, IsRecord, IsTooLong, Splits, Stream, IsStream, TakesPiece, OneSplit, SplitGoesOn, IsPlace, EndsRecord, IsFront, IsHeld, AreFound};
+ghost use Rattle.std.specs.Prelude.{◌≡◌, ◌+◌, ◌^◌, ◌≤◌, ◌↔◌, ◌∷◌, [], ◌++◌, ℕ, List, map, false, length, take, drop, IfOk, OnOk, OnErr, IsErrOf, IfSome, IfNone, IsTrue};
+ghost use Rattle.nfs_server.specs.Records.{IsHeader, IsRecord, IsRest, IsTooLong, Splits, Stream, IsStream, TakesPiece, OneSplit, SplitGoesOn, IsPlace, EndsRecord, IsFront, IsUnfinished, AreFound};
 
 use byteorder::{BigEndian, ByteOrder};
 use std::alloc::{AllocError, Global};
@@ -44,12 +44,29 @@ struct Place {
     gathered: usize,
 }
 
+impl Place {
+    /// Before the first fragment.
+    const START: Place = Place {
+        end: 0,
+        gathered: 0,
+    };
+}
+
+/// How far a record is there that is not whole.
+#[derive(Clone, Copy)]
+struct Unfinished {
+    /// Behind its last whole fragment.
+    place: Place,
+    /// Whether the header there brings it above `RECORD_LIMIT`.
+    is_too_long: bool,
+}
+
 /// What stands at the front of a text.
 enum Front {
-    /// A record within the limit, up to here.
+    /// A record, up to here.
     Whole(Place),
-    /// Open fragments up to here, and none behind them that is whole; and whether the next is too long.
-    Rest(Place, bool),
+    /// Nothing yet, or a part of a record.
+    Partial(Unfinished),
 }
 
 /// What stands behind the whole records of a text.
@@ -57,9 +74,7 @@ enum Front {
 struct Tail {
     /// The bytes of the records, headers included.
     start: usize,
-    /// How far whole fragments go behind the records, counted from there.
-    place: Place,
-    is_too_long: bool,
+    first: Unfinished,
 }
 
 /// The whole records of a text, and what is behind them.
@@ -90,14 +105,23 @@ fn scan(text: &[u8], from: Place) -> Front
     loop {
         let rest = &text[place.end..];
         if rest.len() < HEADER_LEN {
-            return Front::Rest(place, false);
+            return Front::Partial(Unfinished {
+                place,
+                is_too_long: false,
+            });
         }
         let header = header_at(rest);
         if place.gathered + header.len > RECORD_LIMIT {
-            return Front::Rest(place, true);
+            return Front::Partial(Unfinished {
+                place,
+                is_too_long: true,
+            });
         }
         if rest.len() - HEADER_LEN < header.len {
-            return Front::Rest(place, false);
+            return Front::Partial(Unfinished {
+                place,
+                is_too_long: false,
+            });
         }
         place = Place {
             end: place.end + HEADER_LEN + header.len,
@@ -142,20 +166,13 @@ fn find(alloc: Global, text: &[u8], known: Place) -> Result<Found, AllocError>
                 let message = gather(alloc, rest, whole)?;
                 records.push_back(message)?;
                 rest = &rest[whole.end..];
-                from = Place {
-                    end: 0,
-                    gathered: 0,
-                };
+                from = Place::START;
             }
-            Front::Rest(place, is_too_long) => {
+            Front::Partial(first) => {
                 let start = text.len() - rest.len();
                 return Ok(Found {
                     records,
-                    tail: Tail {
-                        start,
-                        place,
-                        is_too_long,
-                    },
+                    tail: Tail { start, first },
                 });
             }
         }
@@ -198,11 +215,11 @@ fn take_piece(
     rest: &mut Vec<u8>,
     known: Place,
     piece: &[u8],
-) -> Result<Tail, AllocError>
+) -> Result<Unfinished, AllocError>
     requires { IsPlace rest.old.items known }
-    ensures ok { IfOk result (λ tail.
+    ensures ok { IfOk result (λ first.
         (found : List (List ℕ)) × Splits (rest.old.items ++ piece.now) found rest.new.items
-        × IsHeld rest.new.items tail.place tail.is_too_long
+        × IsUnfinished rest.new.items first
         × (map (λ message. message.items) ready.new.items ≡ map (λ message. message.items) ready.old.items ++ found)) }
     ensures err { OnErr result ((ready.new.items ≡ ready.old.items) × (rest.new.items ≡ rest.old.items)) }
 {
@@ -211,7 +228,7 @@ fn take_piece(
     match add_found(alloc, ready, rest, known) {
         Ok(tail) => {
             drop_front(rest, tail.start);
-            Ok(tail)
+            Ok(tail.first)
         }
         Err(error) => {
             rest.truncate(kept);
@@ -229,18 +246,17 @@ pub struct Records {
     alloc: Global,
     ready: VecDeque<Vec<u8>>,
     rest: Vec<u8>,
-    /// How far whole fragments go in `rest`, so that no feed goes over them again.
-    place: Place,
+    /// How far the record at the front of `rest` is there, so that no feed goes over its fragments again.
+    first: Unfinished,
     fed: u64,
-    is_too_long: bool,
 }
 
 impl Model for Records {
     ghost Value = { Stream };
 
-    ghost view = { λ r. record { ready = map (λ message. message.items) r.ready.items; rest = r.rest.items; fed = r.fed; is_too_long = r.is_too_long } };
+    ghost view = { λ r. record { ready = map (λ message. message.items) r.ready.items; rest = r.rest.items; fed = r.fed; is_too_long = r.first.is_too_long } };
 
-    ghost invariant = { λ r. IsHeld r.rest.items r.place r.is_too_long × (r.fed ≤ 2 ^ 40) };
+    ghost invariant = { λ r. IsUnfinished r.rest.items r.first × (r.fed ≤ 2 ^ 40) };
 }
 
 impl Records {
@@ -253,12 +269,11 @@ impl Records {
             alloc,
             ready: VecDeque::new(alloc),
             rest: Vec::new(alloc),
-            place: Place {
-                end: 0,
-                gathered: 0,
+            first: Unfinished {
+                place: Place::START,
+                is_too_long: false,
             },
             fed: 0,
-            is_too_long: false,
         }
     }
 
@@ -271,7 +286,7 @@ impl Records {
         requires { self.old.fed + length piece.now ≤ 2 ^ 40 }
         ensures ok { OnOk result (TakesPiece self.old self.new piece.now × (self.new.is_too_long ≡ false)) }
 
-        // The records before the one that is too long are there, unless they were before.
+        // At the first header of a record that is too long the piece is taken, and the records before it are kept.
         ensures too_long { IsErrOf result RecordError.TooLong → IsTrue self.new.is_too_long }
         ensures first { IsErrOf result RecordError.TooLong → self.old.is_too_long ≡ false → TakesPiece self.old self.new piece.now }
         ensures again { IsTrue self.old.is_too_long → IsErrOf result RecordError.TooLong × (self.new ≡ self.old) }
@@ -279,21 +294,20 @@ impl Records {
         ensures memory { IsErrOf result RecordError.Memory → self.new ≡ self.old }
         ensures sound { IsStream self.new }
     {
-        if self.is_too_long {
+        if self.first.is_too_long {
             return Err(RecordError::TooLong);
         }
-        let tail = take_piece(
+        let first = take_piece(
             self.alloc,
             &mut self.ready,
             &mut self.rest,
-            self.place,
+            self.first.place,
             piece,
         )
         .map_err(|_| RecordError::Memory)?;
-        self.place = tail.place;
-        self.is_too_long = tail.is_too_long;
+        self.first = first;
         self.fed += piece.len() as u64;
-        if tail.is_too_long {
+        if first.is_too_long {
             return Err(RecordError::TooLong);
         }
         Ok(())
@@ -310,23 +324,26 @@ impl Records {
 
     /// How many bytes came behind the last whole record, headers included.
     pub fn rest(&self) -> usize
-        ensures { result ≡ length self.now.rest }
+        ensures value { result ≡ length self.now.rest }
+        ensures none_left { IsRest self.now.rest }
     {
         self.rest.len()
     }
 
     /// How many bytes came in all.
     pub fn fed(&self) -> u64
-        ensures { result ≡ self.now.fed }
+        ensures value { result ≡ self.now.fed }
+        ensures bounded { result ≤ 2 ^ 40 }
     {
         self.fed
     }
 
     /// Whether a record is above `RECORD_LIMIT`. No more bytes are taken then.
     pub fn is_too_long(&self) -> bool
-        ensures { result ≡ self.now.is_too_long }
+        ensures value { result ≡ self.now.is_too_long }
+        ensures known { IsTrue result ↔ IsTooLong self.now.rest }
     {
-        self.is_too_long
+        self.first.is_too_long
     }
 }
 

@@ -11,6 +11,6 @@ returns-in-Ok-clause-ok c =
     let found = subst (λ l. AreFound l w.0 c.in-Ok.tail) text w.1 in (
       w.0,
       rw (c.drop_front.ensures, c.in_ok-extend_from_slice.ensures.items) (found_split _ w.0 c.in-Ok.tail found),
-      rw (c.drop_front.ensures, c.in_ok-extend_from_slice.ensures.items) found.held,
+      rw (c.drop_front.ensures, c.in_ok-extend_from_slice.ensures.items) found.unfinished,
       w.2,
     )
