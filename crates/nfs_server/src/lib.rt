@@ -3,4 +3,4 @@
 
 mod records;
 
-pub use records::RECORD_LIMIT;
+pub use records::{RECORD_LIMIT, RecordError, Records, one_split, split_goes_on};

@@ -1,0 +1,5 @@
+pub mod Fragments
+pub mod Places
+pub mod Gathering
+pub mod Splitting
+pub mod Taking
