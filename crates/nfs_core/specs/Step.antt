@@ -1,5 +1,5 @@
 -- How one entry leads from a state to the next.
-use Rattle.std.specs.Prelude.{◌≡◌, ℕ, ◌<◌, Bool, length, List, Option, Some, None}
+use Rattle.std.specs.Prelude.{◌≡◌, ◌<◌, length, Option, Some, None}
 use Rattle.nfs_xdr.specs.declared.op.Op.{Op}
 use Rattle.nfs_xdr.specs.declared.op.Op.TheVariants as ops
 use Rattle.nfs_xdr.specs.declared.op_result.OpResult.{OpResult}
@@ -11,7 +11,6 @@ use Rattle.nfs_xdr.specs.declared.status.Status.{Status}
 use Rattle.nfs_core.specs.declared.client_record.ClientRecord.{ClientRecord}
 use Rattle.nfs_core.specs.declared.entry.Entry.{Entry}
 use Rattle.nfs_core.specs.declared.entry.Entry.TheVariants as entries
-use Rattle.nfs_core.specs.declared.entry.Call.{Call}
 use Rattle.nfs_core.specs.declared.entry.TheConstants.{JOURNAL_LIMIT}
 use Rattle.nfs_core.specs.declared.principal.Principal.{Principal}
 use Rattle.nfs_core.specs.Registry.{confirmed_of, unconfirmed_with}

@@ -2,6 +2,7 @@
 #![tactic(auto)]
 
 mod client_record;
+mod clients;
 mod entry;
 mod moment;
 mod principal;
