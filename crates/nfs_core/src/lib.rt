@@ -3,11 +3,16 @@
 
 mod client_record;
 mod clients;
+mod core_state;
 mod entry;
+mod journal;
 mod moment;
 mod principal;
+mod tables;
 
 pub use client_record::{ADDRESS_LIMIT, CLIENT_LIMIT, ClientRecord, PathMark};
+pub use core_state::{Core, has_entry};
 pub use entry::{Call, Entry, JOURNAL_LIMIT};
+pub use journal::{Journal, LEASE_MAX, LEASE_MIN};
 pub use moment::Moment;
 pub use principal::Principal;

@@ -1,0 +1,30 @@
+-- The state's core: the journal, and the state that it leads to.
+use Rattle.std.specs.Prelude.{◌≡◌, ℕ, ◌++◌, [], ◌∷◌, Option}
+use Rattle.nfs_xdr.specs.declared.op.Op.{Op}
+use Rattle.nfs_xdr.specs.declared.op_result.OpResult.{OpResult}
+use Rattle.nfs_core.specs.declared.entry.Entry.{Entry}
+use Rattle.nfs_core.specs.declared.entry.Entry.TheVariants as entries
+use Rattle.nfs_core.specs.declared.entry.Call.{Call}
+use Rattle.nfs_core.specs.declared.principal.Principal.{Principal}
+use Rattle.nfs_core.specs.State.{State, History}
+use Rattle.nfs_core.specs.Step.{Step}
+use Rattle.nfs_core.specs.Lawful.{Lawful}
+
+pub record Server : Type 0 where
+  pub journal : History
+  pub state : State
+
+-- its journal leads to its state
+abbrev pub IsLawful : Server → Type 0
+IsLawful server = Lawful server.journal server.state
+
+-- the entry of an operation that was answered
+abbrev pub call_of : ℕ → Principal → Op → Option ℕ → OpResult → Entry
+call_of moment principal op filehandle answer =
+    let call : Call = record { moment = moment; principal = principal; op = op; filehandle = filehandle; answer = answer } in
+    entries.Call call
+
+-- From old, the entry comes next in the journal, and leads to new.
+pub record Enters (old new : Server) (entry : Entry) : Type 0 where
+  pub journal : new.journal ≡ record old.journal { entries = old.journal.entries ++ entry ∷ [] }
+  pub step : Step old.journal old.state entry new.state
