@@ -1,15 +1,16 @@
-ghost use Rattle.std.specs.Prelude.{◌≡◌, ◌+◌, ◌^◌, ◌-◌, ◌<◌, ◌≤◌, [], IsTrue, IfOk, IfSome, IfNone, OnSome, OnErr, length};
-ghost use Rattle.nfs_core.specs.Server.{Server, IsLawful, Enters, call_of};
+ghost use Rattle.std.specs.Prelude.{◌≡◌, ◌≤◌, [], IsTrue};
+ghost use Rattle.nfs_core.specs.Server.{Applies, IsLawful};
 ghost use Rattle.nfs_core.specs.State.{empty_server};
-ghost use Rattle.nfs_core.specs.Step.{has_entry, resource};
+ghost use Rattle.nfs_core.specs.Step.{has_entry};
 
 use nfs_xdr::{Op, OpResult, SetClientId, SetClientIdConfirm, SetClientIdResult, Status};
-use std::alloc::{AllocError, Global};
+use std::alloc::Global;
 use std::marker::Model;
 
-use crate::clients::ClientsError;
+use crate::set_client_id::set_client_id;
+use crate::set_client_id_confirm::set_client_id_confirm;
 use crate::tables::Tables;
-use crate::{Call, Entry, JOURNAL_LIMIT, Journal, LEASE_MAX, LEASE_MIN, Moment, Principal};
+use crate::{Journal, LEASE_MAX, LEASE_MIN, Moment, Principal};
 
 /// The state of a server and the journal of its changes, which leads to that state.
 #[derive(Debug, Drop)]
@@ -42,6 +43,67 @@ impl Core {
         Core {
             tables: Tables::new(alloc),
             journal: Journal::new(alloc, lease, epoch),
+        }
+    }
+
+    /// Answers an operation that has a rule here (`has_entry`), and gives its entry's number in the journal. With no
+    /// number the answer is NFS4ERR_RESOURCE and nothing has changed: the journal, memory or a table's limit refused it.
+    pub fn apply(
+        &mut self,
+        moment: Moment,
+        principal: Principal,
+        op: &Op,
+        filehandle: Option<u32>,
+    ) -> (OpResult, Option<u32>)
+        requires { IsTrue (has_entry op.now) }
+        ensures applies { Applies self.old self.new moment principal op.now filehandle result.0 result.1 }
+        ensures lawful { IsLawful self.new }
+    {
+        match op {
+            Op::SetClientId(args) => self.set_client_id(moment, principal, args, filehandle),
+            Op::SetClientIdConfirm(args) => {
+                self.set_client_id_confirm(moment, principal, args, filehandle)
+            }
+            Op::BadArgs(_) | Op::Unsupported(_) | Op::Illegal(_) => unreachable!(),
+        }
+    }
+
+    fn set_client_id(
+        &mut self,
+        moment: Moment,
+        principal: Principal,
+        args: &SetClientId,
+        filehandle: Option<u32>,
+    ) -> (OpResult, Option<u32>)
+        ensures applies { Applies self.old self.new moment principal (Op.SetClientId args.now) filehandle result.0 result.1 }
+        ensures lawful { IsLawful self.new }
+    {
+        let tables = &mut self.tables;
+        let journal = &mut self.journal;
+        match set_client_id(tables, journal, moment, principal, args, filehandle) {
+            Some((answer, number)) => (OpResult::SetClientId(answer), Some(number)),
+            None => (
+                OpResult::SetClientId(SetClientIdResult::Refused(Status::Resource)),
+                None,
+            ),
+        }
+    }
+
+    fn set_client_id_confirm(
+        &mut self,
+        moment: Moment,
+        principal: Principal,
+        args: &SetClientIdConfirm,
+        filehandle: Option<u32>,
+    ) -> (OpResult, Option<u32>)
+        ensures applies { Applies self.old self.new moment principal (Op.SetClientIdConfirm args.now) filehandle result.0 result.1 }
+        ensures lawful { IsLawful self.new }
+    {
+        let tables = &mut self.tables;
+        let journal = &mut self.journal;
+        match set_client_id_confirm(tables, journal, moment, principal, args, filehandle) {
+            Some((answer, number)) => (OpResult::SetClientIdConfirm(answer), Some(number)),
+            None => (OpResult::SetClientIdConfirm(Status::Resource), None),
         }
     }
 

@@ -1,9 +1,10 @@
-ghost use Rattle.std.specs.Prelude.{◌≡◌, ◌≤◌, []};
+ghost use Rattle.std.specs.Prelude.{◌≡◌, ◌<◌, ◌≤◌, [], ◌∷◌, ◌++◌, length, OnSome};
+ghost use Rattle.std.specs.Vec.{vec_len, vec_capacity};
 
 use std::alloc::Global;
 use std::marker::Model;
 
-use crate::Entry;
+use crate::{Call, Entry, JOURNAL_LIMIT};
 
 /// The shortest and the longest lease, in seconds.
 pub const LEASE_MIN: u32 = 1;
@@ -64,4 +65,28 @@ impl Journal {
     {
         self.entries.as_slice()
     }
+}
+
+/// Makes room for one more entry, or gives none where the journal is full or memory is refused.
+pub(crate) fn make_room(entries: &mut Vec<Entry>) -> Option<()>
+    ensures same { entries.new.items ≡ entries.old.items }
+    ensures below { OnSome result (length entries.new.items < JOURNAL_LIMIT) }
+    ensures room { OnSome result (vec_len entries.new < vec_capacity entries.new) }
+{
+    if entries.len() >= JOURNAL_LIMIT {
+        return None;
+    }
+    entries.reserve(1).ok()
+}
+
+/// Puts the call at the end, where there is room, and gives its number.
+pub(crate) fn push_call(entries: &mut Vec<Entry>, call: Call) -> u32
+    requires below { length entries.old.items < JOURNAL_LIMIT }
+    requires room { vec_len entries.old < vec_capacity entries.old }
+    ensures items { entries.new.items ≡ entries.old.items ++ Entry.Call call ∷ [] }
+    ensures number { result ≡ length entries.old.items }
+{
+    let number = entries.len() as u32;
+    entries.push_reserved(Entry::Call(call));
+    number
 }

@@ -8,6 +8,8 @@ mod entry;
 mod journal;
 mod moment;
 mod principal;
+mod set_client_id;
+mod set_client_id_confirm;
 mod tables;
 
 pub use client_record::{ADDRESS_LIMIT, CLIENT_LIMIT, ClientRecord, PathMark};

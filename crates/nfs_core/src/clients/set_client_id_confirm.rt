@@ -1,4 +1,4 @@
-ghost use Rattle.std.specs.Prelude.{◌≡◌, ◌<◌, ◌≤◌, length, filter, Some, None, MatchOption, slice_get, position, not, ◌&&◌, if◌then◌else◌};
+ghost use Rattle.std.specs.Prelude.{◌≡◌, ◌<◌, ◌≤◌, length, filter, Some, None, MatchOption, slice_get, position, option_and_then, not, ◌&&◌, if◌then◌else◌};
 ghost use Rattle.std.specs.Option.{ForSome, option_copied};
 ghost use Rattle.std.specs.Vec.{vec_len, vec_capacity};
 ghost use Rattle.nfs_core.specs.Registry.{is_of, has_both, confirmed_of, confirmed_with, unconfirmed_with};
@@ -28,6 +28,14 @@ impl Clients {
         }
         confirm_at(&mut self.records, place);
         Status::Ok
+    }
+
+    /// The confirmed record of the id that the call would confirm, if there is one.
+    pub(crate) fn rival_of(&self, args: &SetClientIdConfirm) -> Option<&ClientRecord>
+        ensures { option_copied result ≡ option_and_then (λ r. confirmed_of self.now r.id) (unconfirmed_with self.now args.now.client args.now.confirm) }
+    {
+        let place = self.unconfirmed_with(args)?;
+        self.confirmed_of(self.records[place].id.as_slice())
     }
 
     // Answers where no unconfirmed record has both.
