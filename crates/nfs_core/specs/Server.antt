@@ -3,11 +3,9 @@ use Rattle.std.specs.Prelude.{◌≡◌, ℕ, ◌++◌, [], ◌∷◌, length, O
 use Rattle.nfs_xdr.specs.declared.op.Op.{Op}
 use Rattle.nfs_xdr.specs.declared.op_result.OpResult.{OpResult}
 use Rattle.nfs_core.specs.declared.entry.Entry.{Entry}
-use Rattle.nfs_core.specs.declared.entry.Entry.TheVariants as entries
-use Rattle.nfs_core.specs.declared.entry.Call.{Call}
 use Rattle.nfs_core.specs.declared.principal.Principal.{Principal}
 use Rattle.nfs_core.specs.State.{State, History}
-use Rattle.nfs_core.specs.Step.{Step, resource}
+use Rattle.nfs_core.specs.Step.{Step, call_of, resource}
 use Rattle.nfs_core.specs.Lawful.{Lawful}
 
 pub record Server : Type 0 where
@@ -17,12 +15,6 @@ pub record Server : Type 0 where
 -- its journal leads to its state
 abbrev pub IsLawful : Server → Type 0
 IsLawful server = Lawful server.journal server.state
-
--- the entry of an operation that was answered
-abbrev pub call_of : ℕ → Principal → Op → Option ℕ → OpResult → Entry
-call_of moment principal op filehandle answer =
-    let call : Call = record { moment = moment; principal = principal; op = op; filehandle = filehandle; answer = answer } in
-    entries.Call call
 
 -- From old, the entry comes next in the journal, and leads to new.
 pub record Enters (old new : Server) (entry : Entry) : Type 0 where

@@ -1,5 +1,5 @@
 -- How one entry leads from a state to the next.
-use Rattle.std.specs.Prelude.{Bool, true, false, ◌≡◌, ◌<◌, length, Option, Some, None}
+use Rattle.std.specs.Prelude.{◌≡◌, ℕ, ◌<◌, Bool, true, false, length, Option, Some, None}
 use Rattle.nfs_xdr.specs.declared.op.Op.{Op}
 use Rattle.nfs_xdr.specs.declared.op.Op.TheVariants as ops
 use Rattle.nfs_xdr.specs.declared.op_result.OpResult.{OpResult}
@@ -13,6 +13,7 @@ use Rattle.nfs_xdr.specs.declared.status.Status.TheVariants.{Resource}
 use Rattle.nfs_core.specs.declared.client_record.ClientRecord.{ClientRecord}
 use Rattle.nfs_core.specs.declared.entry.Entry.{Entry}
 use Rattle.nfs_core.specs.declared.entry.Entry.TheVariants as entries
+use Rattle.nfs_core.specs.declared.entry.Call.{Call}
 use Rattle.nfs_core.specs.declared.entry.TheConstants.{JOURNAL_LIMIT}
 use Rattle.nfs_core.specs.declared.principal.Principal.{Principal}
 use Rattle.nfs_core.specs.Registry.{confirmed_of, unconfirmed_with}
@@ -65,3 +66,17 @@ resource (ops.SetClientIdConfirm args) = results.SetClientIdConfirm Resource
 resource (ops.BadArgs number) = results.BadArgs number
 resource (ops.Unsupported number) = results.Unsupported number
 resource (ops.Illegal number) = results.Illegal
+
+-- the entry of an operation that was answered
+abbrev pub call_of : ℕ → Principal → Op → Option ℕ → OpResult → Entry
+call_of moment principal op filehandle answer =
+    let call : Call = record { moment = moment; principal = principal; op = op; filehandle = filehandle; answer = answer } in
+    entries.Call call
+
+-- For one journal, state and call there is at most one answer, and at most one state after it.
+abbrev pub AtMostOneStep : Type 0
+AtMostOneStep =
+    (journal : History) (old : State) (moment : ℕ) (principal : Principal) (op : Op) (filehandle : Option ℕ) (answer answer' : OpResult) (new new' : State)
+    → Step journal old (call_of moment principal op filehandle answer) new
+    → Step journal old (call_of moment principal op filehandle answer') new'
+    → (answer ≡ answer') × (new ≡ new')

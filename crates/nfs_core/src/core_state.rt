@@ -1,16 +1,15 @@
 ghost use Rattle.std.specs.Prelude.{◌≡◌, ◌≤◌, [], IsTrue};
 ghost use Rattle.nfs_core.specs.Server.{Applies, IsLawful};
 ghost use Rattle.nfs_core.specs.State.{empty_server};
-ghost use Rattle.nfs_core.specs.Step.{has_entry};
-
-use nfs_xdr::{Op, OpResult, SetClientId, SetClientIdConfirm, SetClientIdResult, Status};
-use std::alloc::Global;
-use std::marker::Model;
+ghost use Rattle.nfs_core.specs.Step.{has_entry, AtMostOneStep};
 
 use crate::set_client_id::set_client_id;
 use crate::set_client_id_confirm::set_client_id_confirm;
 use crate::tables::Tables;
 use crate::{Journal, LEASE_MAX, LEASE_MIN, Moment, Principal};
+use nfs_xdr::{Op, OpResult, SetClientId, SetClientIdConfirm, SetClientIdResult, Status};
+use std::alloc::Global;
+use std::marker::Model;
 
 /// The state of a server and the journal of its changes, which leads to that state.
 #[derive(Debug, Drop)]
@@ -36,8 +35,8 @@ impl Core {
     pub fn new(alloc: Global, lease: u32, epoch: u32) -> Core
         requires { (LEASE_MIN ≤ lease) × (lease ≤ LEASE_MAX) }
         ensures { result ≡ record {
-            journal = record { epoch = epoch; lease = lease; entries = [] };
-            state = empty_server;
+          journal = record { epoch = epoch; lease = lease; entries = [] };
+          state = empty_server;
         } }
     {
         Core {
@@ -121,3 +120,8 @@ pub fn has_entry(op: &Op) -> bool
 {
     matches!(op, Op::SetClientId(_) | Op::SetClientIdConfirm(_))
 }
+
+/// The law that an operation has at most one answer from a state, and leads to at most one state.
+pub fn at_most_one_step()
+    ensures { AtMostOneStep }
+{}

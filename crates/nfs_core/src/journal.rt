@@ -1,13 +1,13 @@
 ghost use Rattle.std.specs.Prelude.{◌≡◌, ◌<◌, ◌≤◌, [], ◌∷◌, ◌++◌, length, OnSome};
 ghost use Rattle.std.specs.Vec.{vec_len, vec_capacity};
 
+use crate::{Call, Entry, JOURNAL_LIMIT};
 use std::alloc::Global;
 use std::marker::Model;
 
-use crate::{Call, Entry, JOURNAL_LIMIT};
-
 /// The shortest and the longest lease, in seconds.
 pub const LEASE_MIN: u32 = 1;
+
 pub const LEASE_MAX: u32 = 86_400;
 
 /// What the server was opened with, and its entries in order, the first of them number 0.

@@ -13,7 +13,7 @@ mod set_client_id_confirm;
 mod tables;
 
 pub use client_record::{ADDRESS_LIMIT, CLIENT_LIMIT, ClientRecord, PathMark};
-pub use core_state::{Core, has_entry};
+pub use core_state::{Core, at_most_one_step, has_entry};
 pub use entry::{Call, Entry, JOURNAL_LIMIT};
 pub use journal::{Journal, LEASE_MAX, LEASE_MIN};
 pub use moment::Moment;

@@ -1,12 +1,12 @@
 ghost use Rattle.std.specs.Prelude.{◌≡◌, ◌≤◌, IfSome, IfNone, length};
 ghost use Rattle.nfs_xdr.specs.declared.callback.Address.{Address};
-ghost use Rattle.nfs_core.specs.Server.{Enters, call_of};
-
-use nfs_xdr::{Op, OpResult, SetClientId, SetClientIdResult};
+ghost use Rattle.nfs_core.specs.Server.{Enters};
+ghost use Rattle.nfs_core.specs.Step.{call_of};
 
 use crate::journal::{make_room, push_call};
 use crate::tables::Tables;
 use crate::{Call, Journal, Moment, Principal};
+use nfs_xdr::{Op, OpResult, SetClientId, SetClientIdResult};
 
 /// Answers SETCLIENTID and enters it: the answer and its entry's number, or none and no change where
 /// the journal, memory, the client numbers or the limit of an address refuse it.
@@ -50,7 +50,9 @@ fn copy_of(answer: &SetClientIdResult) -> Option<SetClientIdResult>
     ensures refused { IfNone result ((address : Address) × (answer.now ≡ SetClientIdResult.ClidInUse address)) }
 {
     match answer {
-        SetClientIdResult::Done(client, confirm) => Some(SetClientIdResult::Done(*client, *confirm)),
+        SetClientIdResult::Done(client, confirm) => Some(SetClientIdResult::Done(
+            *client, *confirm,
+        )),
         SetClientIdResult::ClidInUse(address) => {
             Some(SetClientIdResult::ClidInUse(address.clone().ok()?))
         }

@@ -1,11 +1,11 @@
 ghost use Rattle.std.specs.Prelude.{◌≡◌, IfSome, IfNone, length};
-ghost use Rattle.nfs_core.specs.Server.{Enters, call_of};
-
-use nfs_xdr::{Op, OpResult, SetClientIdConfirm, Status};
+ghost use Rattle.nfs_core.specs.Server.{Enters};
+ghost use Rattle.nfs_core.specs.Step.{call_of};
 
 use crate::journal::{make_room, push_call};
 use crate::tables::Tables;
 use crate::{Call, Journal, Moment, Principal};
+use nfs_xdr::{Op, OpResult, SetClientIdConfirm, Status};
 
 /// Answers SETCLIENTID_CONFIRM and enters it: the answer and its entry's number, or none and no change
 /// where the journal or memory refuses it.

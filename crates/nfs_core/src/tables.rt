@@ -1,11 +1,10 @@
 ghost use Rattle.std.specs.Prelude.{◌≡◌};
 
+use crate::ClientRecord;
+use crate::clients::Clients;
 use nfs_xdr::ClientId;
 use std::alloc::Global;
 use std::marker::Model;
-
-use crate::ClientRecord;
-use crate::clients::Clients;
 
 /// What the server keeps.
 #[derive(Debug, Drop)]
