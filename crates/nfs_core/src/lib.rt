@@ -11,6 +11,8 @@ mod principal;
 mod set_client_id;
 mod set_client_id_confirm;
 mod tables;
+#[cfg(test)]
+mod tests;
 
 pub use client_record::{ADDRESS_LIMIT, CLIENT_LIMIT, ClientRecord, PathMark};
 pub use core_state::{Core, at_most_one_step, has_entry};
