@@ -5,3 +5,4 @@ pub mod SetClientIdConfirm
 pub mod State
 pub mod Step
 pub mod Lawful
+pub mod Server

@@ -1,5 +1,5 @@
 -- The clients' records (RFC 7530, section 16.33.5).
-use Rattle.std.specs.Prelude.{◌≡◌, ℕ, ◌+◌, ◌≤◌, Bool, false, ◌&&◌, ◌==◌, not, List, [], ◌∷◌, ◌++◌, length, filter, find, Option, Some, None}
+use Rattle.std.specs.Prelude.{ℕ, ◌<◌, ◌≤◌, ◌⊎◌, Bool, ◌&&◌, ◌==◌, not, List, [], length, find, Option}
 use Rattle.std.specs.Str.{bytes_eq}
 use Rattle.nfs_xdr.specs.declared.callback.Address.{Address}
 use Rattle.nfs_xdr.specs.declared.client_id.ClientId.{ClientId}
@@ -50,3 +50,7 @@ confirmed_with registry client confirm = find (λ r. r.confirmed && has_both cli
 pub record IsWithinLimit (address : Address) : Type 0 where
   pub netid : length address.netid ≤ ADDRESS_LIMIT
   pub addr : length address.addr ≤ ADDRESS_LIMIT
+
+-- one of its parts is above the limit
+abbrev pub IsAboveLimit : Address → Type 0
+IsAboveLimit address = (ADDRESS_LIMIT < length address.netid) ⊎ (ADDRESS_LIMIT < length address.addr)

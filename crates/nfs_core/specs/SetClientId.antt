@@ -1,5 +1,5 @@
 -- SETCLIENTID (RFC 7530, section 16.33.5).
-use Rattle.std.specs.Prelude.{◌≡◌, ℕ, ◌+◌, ◌≤◌, Bool, true, false, not, ◌++◌, List, [], ◌∷◌, Option, Some, None, filter, if◌then◌else◌}
+use Rattle.std.specs.Prelude.{◌≡◌, ℕ, ◌+◌, ◌≤◌, ◌⊎◌, Bool, false, not, ◌++◌, List, [], ◌∷◌, Option, Some, None, filter, if◌then◌else◌}
 use Rattle.std.specs.Str.{bytes_eq}
 use Rattle.nfs_xdr.specs.declared.callback.Address.{Address}
 use Rattle.nfs_xdr.specs.declared.client_id.ClientId.{ClientId}
@@ -11,7 +11,7 @@ use Rattle.nfs_core.specs.declared.client_record.PathMark.TheVariants.{Unknown}
 use Rattle.nfs_core.specs.declared.client_record.TheConstants.{CLIENT_LIMIT}
 use Rattle.nfs_core.specs.declared.principal.Principal.{Principal}
 use Rattle.nfs_core.specs.Principal.{is_same_principal}
-use Rattle.nfs_core.specs.Registry.{Registry, confirmed_of, is_unconfirmed_of, IsWithinLimit}
+use Rattle.nfs_core.specs.Registry.{Registry, confirmed_of, is_unconfirmed_of, IsWithinLimit, IsAboveLimit}
 
 -- What the call finds among the records of its id.
 pub data Finding : Type 0 where
@@ -72,3 +72,12 @@ SetsBy Arrival epoch old principal args answer new =
 abbrev pub Sets : ℕ → Bool → Registry → Principal → SetClientId → SetClientIdResult → Registry → Type 0
 Sets epoch has_state old principal args answer new =
     SetsBy (finding old has_state principal args) epoch old principal args answer new
+
+-- The call can't be answered from old, whatever memory there is: an address is above the limit, or no number is left.
+abbrev pub IsFullBy : Finding → Registry → SetClientId → Type 0
+IsFullBy (InUse address) old args = ⊥
+IsFullBy (Again client) old args = IsAboveLimit args.callback.address
+IsFullBy Arrival old args = IsAboveLimit args.callback.address ⊎ (CLIENT_LIMIT ≤ old.last_number)
+
+abbrev pub IsFull : Bool → Registry → Principal → SetClientId → Type 0
+IsFull has_state old principal args = IsFullBy (finding old has_state principal args) old args

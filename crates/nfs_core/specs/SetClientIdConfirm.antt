@@ -1,5 +1,5 @@
 -- SETCLIENTID_CONFIRM (RFC 7530, section 16.34.5).
-use Rattle.std.specs.Prelude.{◌≡◌, ℕ, Bool, true, false, not, ◌&&◌, ◌++◌, List, [], ◌∷◌, Option, Some, None, filter, if◌then◌else◌}
+use Rattle.std.specs.Prelude.{◌≡◌, Bool, true, not, ◌&&◌, ◌++◌, List, [], ◌∷◌, Option, Some, None, filter, if◌then◌else◌}
 use Rattle.nfs_xdr.specs.declared.set_client_id_confirm.SetClientIdConfirm.{SetClientIdConfirm}
 use Rattle.nfs_xdr.specs.declared.status.Status.{Status}
 use Rattle.nfs_xdr.specs.declared.status.Status.TheVariants as status

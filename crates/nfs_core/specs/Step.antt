@@ -1,5 +1,5 @@
 -- How one entry leads from a state to the next.
-use Rattle.std.specs.Prelude.{◌≡◌, ℕ, ◌<◌, Bool, length, List, Option, Some, None}
+use Rattle.std.specs.Prelude.{◌≡◌, ℕ, ◌<◌, Bool, true, false, length, Option, Some, None}
 use Rattle.nfs_xdr.specs.declared.op.Op.{Op}
 use Rattle.nfs_xdr.specs.declared.op.Op.TheVariants as ops
 use Rattle.nfs_xdr.specs.declared.op_result.OpResult.{OpResult}
@@ -7,7 +7,9 @@ use Rattle.nfs_xdr.specs.declared.op_result.OpResult.TheVariants as results
 use Rattle.nfs_xdr.specs.declared.set_client_id.SetClientId.{SetClientId}
 use Rattle.nfs_xdr.specs.declared.set_client_id.SetClientIdResult.{SetClientIdResult}
 use Rattle.nfs_xdr.specs.declared.set_client_id_confirm.SetClientIdConfirm.{SetClientIdConfirm}
+use Rattle.nfs_xdr.specs.declared.set_client_id.SetClientIdResult.TheVariants.{Refused}
 use Rattle.nfs_xdr.specs.declared.status.Status.{Status}
+use Rattle.nfs_xdr.specs.declared.status.Status.TheVariants.{Resource}
 use Rattle.nfs_core.specs.declared.client_record.ClientRecord.{ClientRecord}
 use Rattle.nfs_core.specs.declared.entry.Entry.{Entry}
 use Rattle.nfs_core.specs.declared.entry.Entry.TheVariants as entries
@@ -48,3 +50,33 @@ StepOp journal old principal op answer new = ⊥
 abbrev pub Step : History → State → Entry → State → Type 0
 Step journal old (entries.Call call) new =
     (length journal.entries < JOURNAL_LIMIT) × StepOp journal old call.principal call.op call.answer new
+
+-- the operation has a rule here, and an entry each time that it is answered by that rule
+abbrev pub has_entry : Op → Bool
+has_entry (ops.SetClientId args) = true
+has_entry (ops.SetClientIdConfirm args) = true
+has_entry (ops.BadArgs number) = false
+has_entry (ops.Unsupported number) = false
+has_entry (ops.Illegal number) = false
+
+-- NFS4ERR_RESOURCE as the operation's result; one without an entry has no such result, and keeps its own
+abbrev pub resource : Op → OpResult
+resource (ops.SetClientId args) = results.SetClientId (Refused Resource)
+resource (ops.SetClientIdConfirm args) = results.SetClientIdConfirm Resource
+resource (ops.BadArgs number) = results.BadArgs number
+resource (ops.Unsupported number) = results.Unsupported number
+resource (ops.Illegal number) = results.Illegal
+
+-- the entry of an operation that was answered
+abbrev pub call_of : ℕ → Principal → Op → Option ℕ → OpResult → Entry
+call_of moment principal op filehandle answer =
+    let call : Call = record { moment = moment; principal = principal; op = op; filehandle = filehandle; answer = answer } in
+    entries.Call call
+
+-- For one journal, state and call there is at most one answer, and at most one state after it.
+abbrev pub AtMostOneStep : Type 0
+AtMostOneStep =
+    (journal : History) (old : State) (moment : ℕ) (principal : Principal) (op : Op) (filehandle : Option ℕ) (answer answer' : OpResult) (new new' : State)
+    → Step journal old (call_of moment principal op filehandle answer) new
+    → Step journal old (call_of moment principal op filehandle answer') new'
+    → (answer ≡ answer') × (new ≡ new')

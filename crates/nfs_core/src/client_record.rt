@@ -1,6 +1,5 @@
-use nfs_xdr::{Bytes, Callback, ClientId, Verifier};
-
 use crate::Principal;
+use nfs_xdr::{Bytes, Callback, ClientId, SetClientIdConfirm, Verifier};
 
 /// What the server keeps of a SETCLIENTID: RFC 7530, section 16.33.5, writes it { v, x, c, l, s }.
 #[derive(Debug, Drop)]
@@ -39,3 +38,36 @@ pub const ADDRESS_LIMIT: usize = 128;
 
 /// The most client numbers that are given in a run.
 pub const CLIENT_LIMIT: u32 = 4096;
+
+impl ClientRecord {
+    ghost use Rattle.std.specs.Prelude.{◌≡◌};
+    ghost use Rattle.nfs_core.specs.Registry.{is_of, is_confirmed_of, is_unconfirmed_of, has_both};
+
+    /// Whether the record is of this id.
+    pub(crate) fn is_of(&self, id: &[u8]) -> bool
+        ensures { result ≡ is_of id.now self.now }
+    {
+        self.id.as_slice() == id
+    }
+
+    /// Whether it is this id's confirmed record.
+    pub(crate) fn is_confirmed_of(&self, id: &[u8]) -> bool
+        ensures { result ≡ is_confirmed_of id.now self.now }
+    {
+        self.confirmed && self.is_of(id)
+    }
+
+    /// Whether it is this id's unconfirmed record.
+    pub(crate) fn is_unconfirmed_of(&self, id: &[u8]) -> bool
+        ensures { result ≡ is_unconfirmed_of id.now self.now }
+    {
+        !self.confirmed && self.is_of(id)
+    }
+
+    /// Whether it has the clientid and the confirm value that the call names.
+    pub(crate) fn has_both(&self, args: &SetClientIdConfirm) -> bool
+        ensures { result ≡ has_both args.now.client args.now.confirm self.now }
+    {
+        self.client == args.client && self.confirm == args.confirm
+    }
+}

@@ -1,6 +1,5 @@
-use nfs_xdr::{Op, OpResult};
-
 use crate::{Moment, Principal};
+use nfs_xdr::{Op, OpResult};
 
 /// One change of the state, as the journal keeps it.
 #[derive(Debug, Drop)]

@@ -2,11 +2,21 @@
 #![tactic(auto)]
 
 mod client_record;
+mod clients;
+mod core_state;
 mod entry;
+mod journal;
 mod moment;
 mod principal;
+mod set_client_id;
+mod set_client_id_confirm;
+mod tables;
+#[cfg(test)]
+mod tests;
 
 pub use client_record::{ADDRESS_LIMIT, CLIENT_LIMIT, ClientRecord, PathMark};
+pub use core_state::{Core, at_most_one_step, has_entry};
 pub use entry::{Call, Entry, JOURNAL_LIMIT};
+pub use journal::{Journal, LEASE_MAX, LEASE_MIN};
 pub use moment::Moment;
 pub use principal::Principal;

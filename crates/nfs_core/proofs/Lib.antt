@@ -1,0 +1,4 @@
+pub mod Lists
+pub mod RecordLists
+pub mod Steps
+pub mod Journals

@@ -1,0 +1,15 @@
+use Rattle.nfs_core.proofs.Journals.{Lawful-enters}
+use Rattle.nfs_core.proofs.core_state.Core.set_client_id_confirm.Goals as goal
+use Rattle.nfs_core.proofs.core_state.Core.set_client_id_confirm.Goals.{in-Some, in-None}
+
+pub invariant_of-self : goal.invariant_of-self
+invariant_of-self c =
+    let before = c.self.inside in
+    let after = c.set_client_id_confirm.new in
+    elim c.match-set_client_id_confirm.branch [
+      | in-Some w ↦ Lawful-enters (record { journal = before.journal; state = before.tables }) (record { journal = after.journal; state = after.tables }) _ c.self.invariant w.in-Some.ensures.entered
+      | in-None w ↦ rw (w.in-None.ensures.refused.0, w.in-None.ensures.refused.1) c.self.invariant
+    ]
+
+pub returns-clause-lawful : goal.returns-clause-lawful
+returns-clause-lawful c = invariant_of-self c

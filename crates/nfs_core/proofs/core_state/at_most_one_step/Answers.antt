@@ -1,0 +1,5 @@
+use Rattle.nfs_core.proofs.Steps.{Step-unique}
+use Rattle.nfs_core.proofs.core_state.at_most_one_step.Goals as goal
+
+pub returns : goal.returns
+returns c = Step-unique

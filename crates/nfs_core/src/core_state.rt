@@ -1,0 +1,127 @@
+ghost use Rattle.std.specs.Prelude.{◌≡◌, ◌≤◌, [], IsTrue};
+ghost use Rattle.nfs_core.specs.Server.{Applies, IsLawful};
+ghost use Rattle.nfs_core.specs.State.{empty_server};
+ghost use Rattle.nfs_core.specs.Step.{has_entry, AtMostOneStep};
+
+use crate::set_client_id::set_client_id;
+use crate::set_client_id_confirm::set_client_id_confirm;
+use crate::tables::Tables;
+use crate::{Journal, LEASE_MAX, LEASE_MIN, Moment, Principal};
+use nfs_xdr::{Op, OpResult, SetClientId, SetClientIdConfirm, SetClientIdResult, Status};
+use std::alloc::Global;
+use std::marker::Model;
+
+/// The state of a server and the journal of its changes, which leads to that state.
+#[derive(Debug, Drop)]
+pub struct Core {
+    tables: Tables,
+    journal: Journal,
+}
+
+impl Model for Core {
+    ghost use Rattle.nfs_core.specs.Server.{Server};
+    ghost use Rattle.nfs_core.specs.Lawful.{Lawful};
+
+    ghost Value = { Server };
+
+    ghost view = { λ c. record { journal = c.journal; state = c.tables } };
+
+    ghost invariant = { λ c. Lawful c.journal c.tables };
+}
+
+impl Core {
+    /// A server that no client has come to, opened for the run `epoch` with this lease in seconds. It
+    /// takes no memory.
+    pub fn new(alloc: Global, lease: u32, epoch: u32) -> Core
+        requires { (LEASE_MIN ≤ lease) × (lease ≤ LEASE_MAX) }
+        ensures { result ≡ record {
+          journal = record { epoch = epoch; lease = lease; entries = [] };
+          state = empty_server;
+        } }
+    {
+        Core {
+            tables: Tables::new(alloc),
+            journal: Journal::new(alloc, lease, epoch),
+        }
+    }
+
+    /// Answers an operation that has a rule here (`has_entry`), and gives its entry's number in the journal. With no
+    /// number the answer is NFS4ERR_RESOURCE and nothing has changed: the journal, memory or a table's limit refused it.
+    pub fn apply(
+        &mut self,
+        moment: Moment,
+        principal: Principal,
+        op: &Op,
+        filehandle: Option<u32>,
+    ) -> (OpResult, Option<u32>)
+        requires { IsTrue (has_entry op.now) }
+        ensures applies { Applies self.old self.new moment principal op.now filehandle result.0 result.1 }
+        ensures lawful { IsLawful self.new }
+    {
+        match op {
+            Op::SetClientId(args) => self.set_client_id(moment, principal, args, filehandle),
+            Op::SetClientIdConfirm(args) => {
+                self.set_client_id_confirm(moment, principal, args, filehandle)
+            }
+            Op::BadArgs(_) | Op::Unsupported(_) | Op::Illegal(_) => unreachable!(),
+        }
+    }
+
+    fn set_client_id(
+        &mut self,
+        moment: Moment,
+        principal: Principal,
+        args: &SetClientId,
+        filehandle: Option<u32>,
+    ) -> (OpResult, Option<u32>)
+        ensures applies { Applies self.old self.new moment principal (Op.SetClientId args.now) filehandle result.0 result.1 }
+        ensures lawful { IsLawful self.new }
+    {
+        let tables = &mut self.tables;
+        let journal = &mut self.journal;
+        match set_client_id(tables, journal, moment, principal, args, filehandle) {
+            Some((answer, number)) => (OpResult::SetClientId(answer), Some(number)),
+            None => (
+                OpResult::SetClientId(SetClientIdResult::Refused(Status::Resource)),
+                None,
+            ),
+        }
+    }
+
+    fn set_client_id_confirm(
+        &mut self,
+        moment: Moment,
+        principal: Principal,
+        args: &SetClientIdConfirm,
+        filehandle: Option<u32>,
+    ) -> (OpResult, Option<u32>)
+        ensures applies { Applies self.old self.new moment principal (Op.SetClientIdConfirm args.now) filehandle result.0 result.1 }
+        ensures lawful { IsLawful self.new }
+    {
+        let tables = &mut self.tables;
+        let journal = &mut self.journal;
+        match set_client_id_confirm(tables, journal, moment, principal, args, filehandle) {
+            Some((answer, number)) => (OpResult::SetClientIdConfirm(answer), Some(number)),
+            None => (OpResult::SetClientIdConfirm(Status::Resource), None),
+        }
+    }
+
+    /// The journal.
+    pub fn journal(&self) -> &Journal
+        ensures { result.now ≡ self.now.journal }
+    {
+        &self.journal
+    }
+}
+
+/// Whether an operation has a rule here, and an entry each time that it is answered by that rule.
+pub fn has_entry(op: &Op) -> bool
+    ensures { result ≡ has_entry op.now }
+{
+    matches!(op, Op::SetClientId(_) | Op::SetClientIdConfirm(_))
+}
+
+/// The law that an operation has at most one answer from a state, and leads to at most one state.
+pub fn at_most_one_step()
+    ensures { AtMostOneStep }
+{}

@@ -1,0 +1,92 @@
+ghost use Rattle.std.specs.Prelude.{◌≡◌, ◌<◌, ◌≤◌, [], ◌∷◌, ◌++◌, length, OnSome};
+ghost use Rattle.std.specs.Vec.{vec_len, vec_capacity};
+
+use crate::{Call, Entry, JOURNAL_LIMIT};
+use std::alloc::Global;
+use std::marker::Model;
+
+/// The shortest and the longest lease, in seconds.
+pub const LEASE_MIN: u32 = 1;
+
+pub const LEASE_MAX: u32 = 86_400;
+
+/// What the server was opened with, and its entries in order, the first of them number 0.
+#[derive(Debug, Drop)]
+pub struct Journal {
+    epoch: u32,
+    lease: u32,
+    // The crate's operations make room for an entry before they change the state.
+    pub(crate) entries: Vec<Entry>,
+}
+
+impl Model for Journal {
+    ghost use Rattle.std.specs.Prelude.{◌≤◌};
+    ghost use Rattle.nfs_core.specs.State.{History};
+    ghost use Rattle.nfs_core.specs.declared.journal.TheConstants.{LEASE_MIN, LEASE_MAX};
+
+    ghost Value = { History };
+
+    ghost view = { λ j. record { epoch = j.epoch; lease = j.lease; entries = j.entries.items } };
+
+    ghost invariant = { λ j. (LEASE_MIN ≤ j.lease) × (j.lease ≤ LEASE_MAX) };
+}
+
+impl Journal {
+    /// An empty journal, taking no memory.
+    pub(crate) fn new(alloc: Global, lease: u32, epoch: u32) -> Journal
+        requires { (LEASE_MIN ≤ lease) × (lease ≤ LEASE_MAX) }
+        ensures { result ≡ record { epoch = epoch; lease = lease; entries = [] } }
+    {
+        Journal {
+            epoch,
+            lease,
+            entries: Vec::new(alloc),
+        }
+    }
+
+    /// The server's run, the upper half of each clientid that it gives.
+    pub fn epoch(&self) -> u32
+        ensures { result ≡ self.now.epoch }
+    {
+        self.epoch
+    }
+
+    /// The lease in seconds, from `LEASE_MIN` to `LEASE_MAX`.
+    pub fn lease(&self) -> u32
+        ensures value { result ≡ self.now.lease }
+        ensures range { (LEASE_MIN ≤ result) × (result ≤ LEASE_MAX) }
+    {
+        self.lease
+    }
+
+    /// The entries in order.
+    pub fn entries(&self) -> &[Entry]
+        ensures { result.now ≡ self.now.entries }
+    {
+        self.entries.as_slice()
+    }
+}
+
+/// Makes room for one more entry, or gives none where the journal is full or memory is refused.
+pub(crate) fn make_room(entries: &mut Vec<Entry>) -> Option<()>
+    ensures same { entries.new.items ≡ entries.old.items }
+    ensures below { OnSome result (length entries.new.items < JOURNAL_LIMIT) }
+    ensures room { OnSome result (vec_len entries.new < vec_capacity entries.new) }
+{
+    if entries.len() >= JOURNAL_LIMIT {
+        return None;
+    }
+    entries.reserve(1).ok()
+}
+
+/// Puts the call at the end, where there is room, and gives its number.
+pub(crate) fn push_call(entries: &mut Vec<Entry>, call: Call) -> u32
+    requires below { length entries.old.items < JOURNAL_LIMIT }
+    requires room { vec_len entries.old < vec_capacity entries.old }
+    ensures items { entries.new.items ≡ entries.old.items ++ Entry.Call call ∷ [] }
+    ensures number { result ≡ length entries.old.items }
+{
+    let number = entries.len() as u32;
+    entries.push_reserved(Entry::Call(call));
+    number
+}

@@ -1,0 +1,61 @@
+ghost use Rattle.std.specs.Prelude.{◌≡◌, ◌≤◌, IfSome, IfNone, length};
+ghost use Rattle.nfs_xdr.specs.declared.callback.Address.{Address};
+ghost use Rattle.nfs_core.specs.Server.{Enters};
+ghost use Rattle.nfs_core.specs.Step.{call_of};
+
+use crate::journal::{make_room, push_call};
+use crate::tables::Tables;
+use crate::{Call, Journal, Moment, Principal};
+use nfs_xdr::{Op, OpResult, SetClientId, SetClientIdResult};
+
+/// Answers SETCLIENTID and enters it: the answer and its entry's number, or none and no change where
+/// the journal, memory, the client numbers or the limit of an address refuse it.
+pub(crate) fn set_client_id(
+    tables: &mut Tables,
+    journal: &mut Journal,
+    moment: Moment,
+    principal: Principal,
+    args: &SetClientId,
+    filehandle: Option<u32>,
+) -> Option<(SetClientIdResult, u32)>
+    requires { tables.old.clients.last_confirm ≤ length journal.old.entries }
+    ensures entered { IfSome result (λ r. Enters
+        (record { journal = journal.old; state = tables.old })
+        (record { journal = journal.new; state = tables.new })
+        (call_of moment principal (Op.SetClientId args.now) filehandle (OpResult.SetClientId r.0))) }
+    ensures number { IfSome result (λ r. r.1 ≡ length journal.old.entries) }
+    ensures refused { IfNone result ((journal.new ≡ journal.old) × (tables.new ≡ tables.old)) }
+{
+    make_room(&mut journal.entries)?;
+    let op = Op::SetClientId(args.clone().ok()?);
+    let has_state = tables.record_has_state(tables.clients.confirmed_of(args.id.as_slice()));
+    let answer = tables
+        .clients
+        .set(journal.epoch(), principal, args, has_state)
+        .ok()?;
+    let kept = OpResult::SetClientId(copy_of(&answer)?);
+    let call = Call {
+        moment,
+        principal,
+        op,
+        filehandle,
+        answer: kept,
+    };
+    Some((answer, push_call(&mut journal.entries, call)))
+}
+
+// A copy of the answer. Only the one that changes nothing, CLID_INUSE with its address, takes memory.
+fn copy_of(answer: &SetClientIdResult) -> Option<SetClientIdResult>
+    ensures copy { IfSome result (λ copy. copy ≡ answer.now) }
+    ensures refused { IfNone result ((address : Address) × (answer.now ≡ SetClientIdResult.ClidInUse address)) }
+{
+    match answer {
+        SetClientIdResult::Done(client, confirm) => Some(SetClientIdResult::Done(
+            *client, *confirm,
+        )),
+        SetClientIdResult::ClidInUse(address) => {
+            Some(SetClientIdResult::ClidInUse(address.clone().ok()?))
+        }
+        SetClientIdResult::Refused(status) => Some(SetClientIdResult::Refused(*status)),
+    }
+}

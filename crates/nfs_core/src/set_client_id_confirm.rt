@@ -1,0 +1,38 @@
+ghost use Rattle.std.specs.Prelude.{◌≡◌, IfSome, IfNone, length};
+ghost use Rattle.nfs_core.specs.Server.{Enters};
+ghost use Rattle.nfs_core.specs.Step.{call_of};
+
+use crate::journal::{make_room, push_call};
+use crate::tables::Tables;
+use crate::{Call, Journal, Moment, Principal};
+use nfs_xdr::{Op, OpResult, SetClientIdConfirm, Status};
+
+/// Answers SETCLIENTID_CONFIRM and enters it: the answer and its entry's number, or none and no change
+/// where the journal or memory refuses it.
+pub(crate) fn set_client_id_confirm(
+    tables: &mut Tables,
+    journal: &mut Journal,
+    moment: Moment,
+    principal: Principal,
+    args: &SetClientIdConfirm,
+    filehandle: Option<u32>,
+) -> Option<(Status, u32)>
+    ensures entered { IfSome result (λ r. Enters
+        (record { journal = journal.old; state = tables.old })
+        (record { journal = journal.new; state = tables.new })
+        (call_of moment principal (Op.SetClientIdConfirm args.now) filehandle (OpResult.SetClientIdConfirm r.0))) }
+    ensures number { IfSome result (λ r. r.1 ≡ length journal.old.entries) }
+    ensures refused { IfNone result ((journal.new ≡ journal.old) × (tables.new ≡ tables.old)) }
+{
+    make_room(&mut journal.entries)?;
+    let has_state = tables.record_has_state(tables.clients.rival_of(args));
+    let answer = tables.clients.confirm(principal, args, has_state);
+    let call = Call {
+        moment,
+        principal,
+        op: Op::SetClientIdConfirm(*args),
+        filehandle,
+        answer: OpResult::SetClientIdConfirm(answer),
+    };
+    Some((answer, push_call(&mut journal.entries, call)))
+}
