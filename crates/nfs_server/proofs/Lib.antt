@@ -3,3 +3,4 @@ pub mod Places
 pub mod Gathering
 pub mod Splitting
 pub mod Taking
+pub mod Limits

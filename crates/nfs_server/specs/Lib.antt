@@ -1,1 +1,6 @@
 pub mod Records
+pub mod Reply
+pub mod Call
+pub mod Answering
+pub mod Asking
+pub mod Connection

@@ -1,0 +1,29 @@
+-- What a service is asked, and what it answers.
+use Rattle.std.specs.Prelude.{◌≡◌, ℕ, List, [], ◌∷◌, map, Option, None}
+use Rattle.nfs_core.specs.declared.principal.Principal.{Principal}
+use Rattle.nfs_core.specs.Server.{Server, Applies}
+use Rattle.nfs_xdr.specs.declared.op.Op.{Op}
+use Rattle.nfs_xdr.specs.declared.op_result.OpResult.{OpResult}
+
+-- an operation, with who asks for it when under which current filehandle
+pub record Question : Type 0 where
+  pub moment : ℕ
+  pub principal : Principal
+  pub op : Op
+  pub filehandle : Option ℕ
+
+-- the question of an operation where there is no current filehandle
+abbrev pub question_of : ℕ → Principal → Op → Question
+question_of moment principal op = record { moment = moment; principal = principal; op = op; filehandle = None }
+
+-- From old, the service may answer these questions so, one after the other, and go on to new. `gives` is one question.
+abbrev pub Asks : {S : Type 0} → (S → Question → OpResult → S → Type 0) → S → List Question → List OpResult → S → Type 0
+Asks gives old [] [] new = new ≡ old
+Asks {S = S} gives old (question ∷ questions) (answer ∷ answers) new = (mid : S) × gives old question answer mid × Asks gives mid questions answers new
+Asks gives old [] (answer ∷ answers) new = ⊥
+Asks gives old (question ∷ questions) [] new = ⊥
+
+-- a core answers a question: it is the journal's next entry, or the answer is NFS4ERR_RESOURCE and nothing changes
+abbrev pub GivenByCore : Server → Question → OpResult → Server → Type 0
+GivenByCore old question answer new =
+    (number : Option ℕ) × Applies old new question.moment question.principal question.op question.filehandle answer number

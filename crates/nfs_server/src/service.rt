@@ -1,0 +1,67 @@
+ghost use Rattle.std.specs.Prelude.{◌≡◌, ◌≤◌, IsTrue, length};
+ghost use Rattle.nfs_core.specs.Step.{has_entry};
+ghost use Rattle.nfs_server.specs.Asking.{GivenByCore, Question};
+ghost use Rattle.nfs_server.specs.declared.service.TheConstants.{ANSWER_ROOM};
+ghost use Rattle.nfs_xdr.specs.declared.op_result.OpResult.{OpResult};
+ghost use Rattle.nfs_xdr.specs.OpResult.{written_result};
+
+use nfs_core::{Core, Moment, Principal};
+use nfs_xdr::{Op, OpResult};
+
+/// The most bytes of a service's answer in a reply.
+pub const ANSWER_ROOM: usize = 2048;
+
+/// What answers the operations that need the state.
+pub trait Service {
+    /// From a state, the service may answer a question so and go on to a state.
+    ghost gives: { Self → Question → OpResult → Self → Type 0 };
+
+    /// Answers an operation that has an entry.
+    fn call(
+        &mut self,
+        moment: Moment,
+        principal: Principal,
+        op: &Op,
+        filehandle: Option<u32>,
+    ) -> OpResult
+        requires { IsTrue (has_entry op.now) }
+        ensures gives { gives self.old (record { moment = moment; principal = principal; op = op.now; filehandle = filehandle }) result self.new }
+        ensures fits { length (written_result result) ≤ ANSWER_ROOM };
+}
+
+/// A core that is lent to one connection after another.
+#[derive(Debug, Drop)]
+pub struct Lent {
+    core: Core,
+}
+
+impl Lent {
+    pub fn new(core: Core) -> Lent
+        ensures { result.core ≡ core }
+    {
+        Lent { core }
+    }
+
+    /// The core, given back.
+    pub fn into_core(self) -> Core
+        ensures { result ≡ self.core }
+    {
+        let Lent { core } = self;
+        core
+    }
+}
+
+impl Service for Lent {
+    ghost gives = { λ old question answer new. GivenByCore old.core question answer new.core };
+
+    fn call(
+        &mut self,
+        moment: Moment,
+        principal: Principal,
+        op: &Op,
+        filehandle: Option<u32>,
+    ) -> OpResult {
+        let (answer, _) = self.core.apply(moment, principal, op, filehandle);
+        answer
+    }
+}
