@@ -4,3 +4,4 @@ pub mod Gathering
 pub mod Splitting
 pub mod Taking
 pub mod Limits
+pub mod Writing

@@ -3,4 +3,3 @@ pub mod Reply
 pub mod Call
 pub mod Answering
 pub mod Asking
-pub mod Connection

@@ -7,10 +7,17 @@ use Rattle.nfs_server.specs.declared.reply.TheConstants.{ACCEPTED_SUCCESS, ACCEP
 use Rattle.nfs_xdr.specs.Compound.{AreResultsTooLong, written_results}
 use Rattle.nfs_xdr.specs.Writing.{written_u32}
 
--- An accepted reply up to its state: the xid, REPLY, MSG_ACCEPTED, an empty AUTH_NONE verifier, the state.
-abbrev pub written_accepted : ℕ → ℕ → List ℕ
-written_accepted xid state =
-    written_u32 xid ++ (written_u32 1 ++ (written_u32 0 ++ (written_u32 0 ++ (written_u32 0 ++ written_u32 state))))
+-- the xid and REPLY
+unfoldable pub written_reply_head : ℕ → List ℕ
+written_reply_head xid = written_u32 xid ++ written_u32 1
+
+-- AUTH_NONE and no body
+unfoldable pub written_no_verifier : List ℕ
+written_no_verifier = written_u32 0 ++ written_u32 0
+
+-- An accepted reply up to its state: the xid, REPLY, MSG_ACCEPTED, an empty verifier, the state.
+unfoldable pub written_accepted : ℕ → ℕ → List ℕ
+written_accepted xid state = written_reply_head xid ++ (written_u32 0 ++ (written_no_verifier ++ written_u32 state))
 
 abbrev pub written_compound_reply : CompoundReply → List ℕ
 written_compound_reply c = written_results c.status c.tag c.results

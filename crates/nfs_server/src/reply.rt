@@ -1,5 +1,5 @@
 ghost use Rattle.std.specs.Prelude.{◌++◌};
-ghost use Rattle.nfs_server.specs.Reply.{IsReplyTooLong, written_accepted, written_compound_reply, written_reply};
+ghost use Rattle.nfs_server.specs.Reply.{IsReplyTooLong, written_accepted, written_compound_reply, written_no_verifier, written_reply, written_reply_head};
 ghost use Rattle.nfs_xdr.specs.Compound.{AreResultsTooLong};
 ghost use Rattle.nfs_xdr.specs.Writing.{Writes, WritesWhole};
 
@@ -62,17 +62,34 @@ fn put_compound(out: &mut Vec<u8>, xid: u32, reply: &CompoundReply) -> Result<()
     ensures { Writes out.old out.new result (written_accepted xid ACCEPTED_SUCCESS ++ written_compound_reply reply.now) (AreResultsTooLong reply.now.tag reply.now.results) }
 {
     put_accepted(out, xid, ACCEPTED_SUCCESS)?;
-    write_results(out, reply.status, reply.tag.as_slice(), reply.results.as_slice())
+    let tag = reply.tag.as_slice();
+    let results = reply.results.as_slice();
+    write_results(out, reply.status, tag, results)
 }
 
-// An accepted reply up to its state, with an empty verifier.
+// An accepted reply up to its state.
+#[tactic(auto, unfolding(crate::specs::Reply::written_accepted))]
 fn put_accepted(out: &mut Vec<u8>, xid: u32, state: u32) -> Result<(), WireError>
     ensures { Writes out.old out.new result (written_accepted xid state) ⊥ }
 {
-    write_u32(out, xid)?;
-    write_u32(out, 1)?;
+    put_reply_head(out, xid)?;
     write_u32(out, 0)?;
-    write_u32(out, 0)?;
-    write_u32(out, 0)?;
+    put_no_verifier(out)?;
     write_u32(out, state)
+}
+
+#[tactic(auto, unfolding(crate::specs::Reply::written_reply_head))]
+fn put_reply_head(out: &mut Vec<u8>, xid: u32) -> Result<(), WireError>
+    ensures { Writes out.old out.new result (written_reply_head xid) ⊥ }
+{
+    write_u32(out, xid)?;
+    write_u32(out, 1)
+}
+
+#[tactic(auto, unfolding(crate::specs::Reply::written_no_verifier))]
+fn put_no_verifier(out: &mut Vec<u8>) -> Result<(), WireError>
+    ensures { Writes out.old out.new result written_no_verifier ⊥ }
+{
+    write_u32(out, 0)?;
+    write_u32(out, 0)
 }
