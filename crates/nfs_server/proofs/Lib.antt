@@ -5,3 +5,4 @@ pub mod Splitting
 pub mod Taking
 pub mod Limits
 pub mod Writing
+pub mod Folding

@@ -1,5 +1,5 @@
 -- A COMPOUND (RFC 7530, section 16.2): a fold over its operations, given the answers of the service.
-use Rattle.std.specs.Prelude.{◌≡◌, ℕ, ◌+◌, Bool, true, false, nat_le, List, [], ◌∷◌, ◌++◌, length, Option, Some, None, if◌then◌else◌}
+use Rattle.std.specs.Prelude.{◌≡◌, ℕ, ◌+◌, ◌-◌, slice_get, Bool, true, false, nat_le, List, [], ◌∷◌, ◌++◌, length, Option, Some, None, if◌then◌else◌}
 use Rattle.nfs_server.specs.declared.call.Call.{Call}
 use Rattle.nfs_server.specs.declared.call.Call.TheVariants as calls
 use Rattle.nfs_server.specs.declared.records.TheConstants.{RECORD_LIMIT}
@@ -60,10 +60,12 @@ outcome_of size (op ∷ ops) answers =
     else ends_with (resource op)
 
 -- the reply's status is that of the last result
+abbrev pub status_or_ok : Option OpResult → Status
+status_or_ok None = status.Ok
+status_or_ok (Some answer) = result_status answer
+
 abbrev pub last_status : List OpResult → Status
-last_status [] = status.Ok
-last_status (answer ∷ []) = result_status answer
-last_status (answer ∷ next ∷ others) = last_status (next ∷ others)
+last_status results = status_or_ok (slice_get results (length results - 1))
 
 -- the reply's record before the first result: RPC's part, the status, the tag and the count
 abbrev pub head_size : List ℕ → ℕ

@@ -3,3 +3,4 @@ pub mod Reply
 pub mod Call
 pub mod Answering
 pub mod Asking
+pub mod Folding

@@ -2,6 +2,7 @@
 #![tactic(auto)]
 
 mod call;
+mod compound;
 mod records;
 mod reply;
 mod service;
@@ -9,4 +10,5 @@ mod service;
 pub use call::{Call, Header, read_call};
 pub use records::{RECORD_LIMIT, RecordError, Records, one_split, split_goes_on};
 pub use reply::{CompoundReply, Reply, write_reply};
+pub use compound::run_compound;
 pub use service::{ANSWER_ROOM, Lent, Service};
