@@ -67,9 +67,10 @@ HasFewOperations (MinorVersion minor) = Unit {0}
 HasFewOperations (TooMany count) = Unit {0}
 HasFewOperations (Operations ops) = length ops ≤ OPERATION_LIMIT
 
-abbrev pub IsWithinLimits : CompoundArgs → Type 0
-IsWithinLimits c = (length c.tag < 2 ^ 32) × HasFewOperations c.request
+-- the tag is no longer than what it was read from
+abbrev pub IsWithinLimits : ℕ → CompoundArgs → Type 0
+IsWithinLimits len c = (length c.tag ≤ len) × HasFewOperations c.request
 
-abbrev pub IsCallWithinLimits : Call → Type 0
-IsCallWithinLimits (Compound xid principal c) = IsWithinLimits c
-IsCallWithinLimits call = Unit {0}
+abbrev pub IsCallWithinLimits : ℕ → Call → Type 0
+IsCallWithinLimits len (Compound xid principal c) = IsWithinLimits len c
+IsCallWithinLimits len call = Unit {0}

@@ -4,3 +4,4 @@ pub mod Call
 pub mod Answering
 pub mod Asking
 pub mod Folding
+pub mod Connection

@@ -1,4 +1,4 @@
-ghost use Rattle.std.specs.Prelude.{◌≡◌};
+ghost use Rattle.std.specs.Prelude.{◌≡◌, ◌≤◌, IfOk, length};
 ghost use Rattle.nfs_server.specs.Call.{IsCall, IsCallWithinLimits, IsCompoundCall, flavor_at, header_at, is_served};
 ghost use Rattle.nfs_xdr.specs.Reading.{Answers};
 
@@ -45,11 +45,11 @@ pub struct Header {
 }
 
 /// Reads a record. Where memory is refused while a COMPOUND is read, it is to be answered SYSTEM_ERR.
-pub fn read_call(alloc: Global, record: &[u8]) -> Call
-    ensures call { IsCall record.now result }
-    ensures limits { IsCallWithinLimits result }
+pub fn read_call(alloc: Global, message: &[u8]) -> Call
+    ensures call { IsCall message.now result }
+    ensures limits { IsCallWithinLimits (length message.now) result }
 {
-    let Ok((header, rest)) = read_header(record) else {
+    let Ok((header, rest)) = read_header(message) else {
         return Call::Silent;
     };
     if !header.is_served() {
@@ -64,7 +64,7 @@ pub fn read_call(alloc: Global, record: &[u8]) -> Call
 
 fn compound_call(alloc: Global, xid: u32, bytes: &[u8]) -> Call
     ensures call { IsCompoundCall xid bytes.now result }
-    ensures limits { IsCallWithinLimits result }
+    ensures limits { IsCallWithinLimits (length bytes.now) result }
 {
     match read_compound(alloc, bytes) {
         Ok(compound) => Call::Compound(xid, Principal::AuthNone, compound),
@@ -86,8 +86,15 @@ impl Header {
     }
 }
 
-#[tactic(auto, unfolding(crate::specs::Call::header_at))]
 fn read_header(bytes: &[u8]) -> Result<(Header, &[u8]), WireError>
+    ensures header { Answers (λ x. (x.0, x.1.now)) result (header_at bytes.now) }
+    ensures shorter { IfOk result (λ x. length x.1.now ≤ length bytes.now) }
+{
+    header_from(bytes)
+}
+
+#[tactic(auto, unfolding(crate::specs::Call::header_at))]
+fn header_from(bytes: &[u8]) -> Result<(Header, &[u8]), WireError>
     ensures { Answers (λ x. (x.0, x.1.now)) result (header_at bytes.now) }
 {
     let (xid, rest) = read_u32(bytes)?;

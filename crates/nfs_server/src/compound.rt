@@ -6,6 +6,7 @@ ghost use Rattle.nfs_server.specs.Call.{IsWithinLimits};
 ghost use Rattle.nfs_server.specs.Folding.{AreAnswers, IsAnswer, IsCompoundAnswered, IsDetermined};
 ghost use Rattle.nfs_server.specs.Reply.{written_compound_reply};
 ghost use Rattle.nfs_core.specs.Step.{resource};
+ghost use Rattle.nfs_xdr.specs.Compound.{AreResultsTooLong};
 ghost use Rattle.nfs_xdr.specs.declared.op_result.OpResult.{OpResult};
 ghost use Rattle.nfs_xdr.specs.OpResult.{result_status, written_result};
 
@@ -28,7 +29,7 @@ pub fn run_compound<S: Service>(
     compound: Compound,
     mut results: Vec<OpResult>,
 ) -> CompoundReply
-    requires limits { IsWithinLimits compound }
+    requires limits { IsWithinLimits RECORD_LIMIT compound }
     requires empty { results.items ≡ [] }
     requires room { OPERATION_LIMIT ≤ vec_capacity results }
     // The service was asked what the COMPOUND asks, given the answers, and the reply is that of the answers.
@@ -36,6 +37,7 @@ pub fn run_compound<S: Service>(
         × Asks S.gives service.old (map (question_of moment principal) (compound_outcome compound answers).asked) answers service.new
         × (result ≡ compound_reply compound answers) }
     ensures fits { ACCEPTED_LEN + length (written_compound_reply result) ≤ max (head_size compound.tag) RECORD_LIMIT + 12 }
+    ensures written { ¬ AreResultsTooLong result.tag result.results }
 {
     let status = answer_request(service, moment, principal, &compound, &mut results);
     CompoundReply {
@@ -52,7 +54,7 @@ fn answer_request<S: Service>(
     compound: &Compound,
     results: &mut Vec<OpResult>,
 ) -> Status
-    requires limits { IsWithinLimits compound.now }
+    requires limits { IsWithinLimits RECORD_LIMIT compound.now }
     requires empty { results.old.items ≡ [] }
     requires room { OPERATION_LIMIT ≤ vec_capacity results.old }
     ensures answers { IsCompoundAnswered S.gives moment principal compound.now service.old results.new.items service.new }

@@ -2,13 +2,21 @@
 #![tactic(auto)]
 
 mod call;
+mod clock;
 mod compound;
+mod connection;
+mod device;
 mod records;
 mod reply;
+mod serve_error;
 mod service;
 
 pub use call::{Call, Header, read_call};
+pub use clock::{Clock, Stopped};
+pub use compound::run_compound;
+pub use connection::STREAM_LIMIT;
+pub use device::{Counted, DeviceFailed, Sink, Source};
 pub use records::{RECORD_LIMIT, RecordError, Records, one_split, split_goes_on};
 pub use reply::{CompoundReply, Reply, write_reply};
-pub use compound::run_compound;
+pub use serve_error::ServeError;
 pub use service::{ANSWER_ROOM, Lent, Service};

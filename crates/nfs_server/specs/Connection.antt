@@ -1,0 +1,102 @@
+-- A connection: what was read, what was asked at which moment, and what was written.
+use Rattle.std.specs.Prelude.{◌≡◌, ℕ, ◌+◌, ◌^◌, ◌<◌, List, [], ◌∷◌, ◌++◌, length, map, Option, Some, None, Result, Ok, Err}
+use Rattle.std.specs.List.{flat_map}
+use Rattle.std.specs.Io.KnownBytes.{Appends, Consumes, IsAtEnd}
+use Rattle.nfs_core.specs.declared.principal.Principal.{Principal}
+use Rattle.nfs_core.specs.declared.principal.Principal.TheVariants.{AuthNone}
+use Rattle.nfs_server.specs.declared.call.Call.{Call}
+use Rattle.nfs_server.specs.declared.call.Call.TheVariants as calls
+use Rattle.nfs_server.specs.declared.serve_error.ServeError.{ServeError}
+use Rattle.nfs_server.specs.declared.serve_error.ServeError.TheVariants as errors
+use Rattle.nfs_server.specs.declared.connection.TheConstants.{STREAM_LIMIT}
+use Rattle.nfs_server.specs.Answering.{asked, reply}
+use Rattle.nfs_server.specs.Asking.{Asks, Question, question_of}
+use Rattle.nfs_server.specs.Call.{IsCall}
+use Rattle.nfs_server.specs.Records.{IsTooLong, Splits}
+use Rattle.nfs_server.specs.Reply.{written_record}
+use Rattle.nfs_xdr.specs.declared.op_result.OpResult.{OpResult}
+
+-- A record, the call that it is, the moment read for it, and the answers of the service.
+pub record Exchange : Type 0 where
+  pub message : List ℕ
+  pub call : Call
+  pub moment : ℕ
+  pub answers : List OpResult
+
+abbrev pub principal_of : Call → Principal
+principal_of (calls.Compound xid principal compound) = principal
+principal_of call = AuthNone
+
+-- what the service is asked for it
+abbrev pub questions_of : Exchange → List Question
+questions_of e = map (question_of e.moment (principal_of e.call)) (asked e.call e.answers)
+
+-- what is written for it: the reply as one record of one fragment, or nothing
+abbrev pub written_or_nothing : Option (List ℕ) → List ℕ
+written_or_nothing None = []
+written_or_nothing (Some message) = written_record message
+
+abbrev pub written_for : Exchange → List ℕ
+written_for e = written_or_nothing (reply e.call e.answers)
+
+-- The clock is read once for a COMPOUND, and for nothing else.
+abbrev pub ReadsClock : {C : Type 0} → (C → ℕ → C → Type 0) → C → Call → ℕ → C → Type 0
+ReadsClock tells old (calls.Compound xid principal compound) moment new = tells old moment new
+ReadsClock tells old call moment new = new ≡ old
+
+-- One record was read as its call, and the service was asked what the call asks at that moment, given the answers.
+abbrev pub IsExchanged : {S C : Type 0} → (S → Question → OpResult → S → Type 0) → (C → ℕ → C → Type 0) → S → C → Exchange → S → C → Type 0
+IsExchanged gives tells service clock e service' clock' =
+    IsCall e.message e.call × Asks gives service (questions_of e) e.answers service' × ReadsClock tells clock e.call e.moment clock'
+
+-- the exchanges follow one another
+abbrev pub AreExchanged : {S C : Type 0} → (S → Question → OpResult → S → Type 0) → (C → ℕ → C → Type 0) → S → C → List Exchange → S → C → Type 0
+AreExchanged gives tells service clock [] service' clock' = (service' ≡ service) × (clock' ≡ clock)
+AreExchanged {S = S} {C = C} gives tells service clock (e ∷ es) service' clock' =
+    (s : S) × (c : C) × IsExchanged gives tells service clock e s c × AreExchanged gives tells s c es service' clock'
+
+abbrev pub messages_of : List Exchange → List (List ℕ)
+messages_of es = map (λ e. e.message) es
+
+abbrev pub written_for_all : List Exchange → List ℕ
+written_for_all es = flat_map written_for es
+
+-- What came of a connection. The text that was read is `fed` and what was lost of it; `fed` is the records of the
+-- exchanges, records to which nothing was said any more, and a rest.
+pub record Course : Type 0 where
+  pub text : List ℕ
+  pub fed : List ℕ
+  pub lost : List ℕ
+  pub exchanges : List Exchange
+  pub unanswered : List (List ℕ)
+  pub rest : List ℕ
+  pub written : List ℕ
+
+-- what is so of every course
+pub record IsCourse {S C : Type 0} (gives : S → Question → OpResult → S → Type 0) (tells : C → ℕ → C → Type 0) (service : S) (clock : C) (course : Course) (service' : S) (clock' : C) : Type 0 where
+  pub whole : course.text ≡ course.fed ++ course.lost
+  pub split : Splits course.fed (messages_of course.exchanges ++ course.unanswered) course.rest
+  pub exchanged : AreExchanged gives tells service clock course.exchanges service' clock'
+
+-- all replies to the exchanges were written, and nothing else
+abbrev pub IsAnswered : Course → Type 0
+IsAnswered course = course.written ≡ written_for_all course.exchanges
+
+-- no record that came was left without a word
+abbrev pub IsComplete : Course → Type 0
+IsComplete course = IsAnswered course × (course.unanswered ≡ [])
+
+-- How a connection ends.
+abbrev pub EndsWith : Course → Result ℕ ServeError → Type 0
+-- at the end of the input: the number is the length of the rest
+EndsWith course (Ok len) = IsComplete course × (course.lost ≡ []) × (len ≡ length course.rest)
+-- a read failed
+EndsWith course (Err errors.Read) = IsComplete course × (course.lost ≡ [])
+-- a write failed: what went out is a beginning of the replies
+EndsWith course (Err errors.Write) = (course.lost ≡ []) × ((more : List ℕ) × (written_for_all course.exchanges ≡ course.written ++ more))
+-- the records before the one that is too long were answered
+EndsWith course (Err errors.TooLong) = IsComplete course × (course.lost ≡ []) × IsTooLong course.rest
+-- memory was refused
+EndsWith course (Err errors.Memory) = IsAnswered course
+-- more came than a stream may have: the records before the last read were answered
+EndsWith course (Err errors.TooMuch) = IsComplete course × (STREAM_LIMIT < length course.text)

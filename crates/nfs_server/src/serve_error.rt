@@ -1,0 +1,21 @@
+use thiserror::Error;
+
+/// Why a connection ended before its input did.
+#[derive(Clone, Copy, Debug, PartialEq, Eq, Error)]
+pub enum ServeError {
+    /// A read failed.
+    #[error("input not read (1)")]
+    Read = 1,
+    /// A write failed, or took nothing.
+    #[error("output not written (2)")]
+    Write = 2,
+    /// A record has more than 262,144 bytes.
+    #[error("record too long (3)")]
+    TooLong = 3,
+    /// Memory was refused.
+    #[error("no memory (4)")]
+    Memory = 4,
+    /// More than 2^40 bytes came.
+    #[error("input too long (5)")]
+    TooMuch = 5,
+}
