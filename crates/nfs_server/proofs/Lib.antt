@@ -6,3 +6,4 @@ pub mod Taking
 pub mod Limits
 pub mod Writing
 pub mod Folding
+pub mod Replying

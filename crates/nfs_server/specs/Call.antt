@@ -4,7 +4,10 @@ use Rattle.nfs_server.specs.declared.call.Call.{Call}
 use Rattle.nfs_server.specs.declared.call.Call.TheVariants.{Silent, Null, Compound, Answer}
 use Rattle.nfs_server.specs.declared.call.Header.{Header}
 use Rattle.nfs_server.specs.declared.call.TheConstants.{BODY_LIMIT, NFS_PROGRAM, NFS_VERSION, PROC_COMPOUND, PROC_NULL, RPC_VERSION}
+use Rattle.nfs_server.specs.declared.reply.Reply.{Reply}
 use Rattle.nfs_server.specs.declared.reply.Reply.TheVariants.{SystemError}
+use Rattle.nfs_server.specs.declared.reply.TheConstants.{ACCEPTED_LEN}
+use Rattle.nfs_server.specs.Reply.{IsReplyTooLong, written_reply}
 use Rattle.nfs_core.specs.declared.principal.Principal.TheVariants.{AuthNone}
 use Rattle.nfs_xdr.specs.declared.wire_error.WireError.{WireError}
 use Rattle.nfs_xdr.specs.Compound.{compound_at}
@@ -67,10 +70,15 @@ HasFewOperations (MinorVersion minor) = Unit {0}
 HasFewOperations (TooMany count) = Unit {0}
 HasFewOperations (Operations ops) = length ops ≤ OPERATION_LIMIT
 
+-- an answer without the service is short
+abbrev pub IsShortReply : ℕ → Reply → Type 0
+IsShortReply xid reply = (length (written_reply xid reply) ≤ ACCEPTED_LEN) × ¬ IsReplyTooLong reply
+
 -- the tag is no longer than what it was read from
 abbrev pub IsWithinLimits : ℕ → CompoundArgs → Type 0
 IsWithinLimits len c = (length c.tag ≤ len) × HasFewOperations c.request
 
 abbrev pub IsCallWithinLimits : ℕ → Call → Type 0
 IsCallWithinLimits len (Compound xid principal c) = IsWithinLimits len c
+IsCallWithinLimits len (Answer xid reply) = IsShortReply xid reply
 IsCallWithinLimits len call = Unit {0}

@@ -1,6 +1,7 @@
 //! From records of bytes to replies of bytes.
 #![tactic(auto)]
 
+mod answer;
 mod call;
 mod clock;
 mod compound;

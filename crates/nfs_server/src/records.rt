@@ -11,10 +11,10 @@ use thiserror::Error;
 pub const RECORD_LIMIT: usize = 262_144;
 
 /// The bytes of a fragment's header.
-const HEADER_LEN: usize = 4;
+pub(crate) const HEADER_LEN: usize = 4;
 
 /// The bit of a header which says that the fragment is its record's last.
-const LAST_FRAGMENT: u32 = 0x8000_0000;
+pub(crate) const LAST_FRAGMENT: u32 = 0x8000_0000;
 
 /// Why a piece of a stream was not taken.
 #[derive(Clone, Copy, Debug, PartialEq, Eq, Error)]

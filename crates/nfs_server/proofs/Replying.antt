@@ -1,0 +1,80 @@
+-- The reply to a record.
+use Rattle.std.proofs.Common.{◌≡◌, ℕ, ◌+◌, ◌^◌, ◌<◌, ◌≤◌, max, List, [], ◌∷◌, ◌++◌, length, take, map, Result, Ok, Err, refl, sym, ap, subst, ◌∙◌, arith, inl, inr, ◌⊎◌}
+use Rattle.std.specs.Prelude.{OnOk, OnErr, IsOk, vec_capacity, vec_len}
+use Rattle.std.proofs.lemmas.List.{length-append, length-take}
+use Rattle.nfs_core.specs.declared.principal.Principal.{Principal}
+use Rattle.nfs_server.specs.declared.call.Call.{Call}
+use Rattle.nfs_server.specs.declared.call.Call.TheVariants as calls
+use Rattle.nfs_server.specs.declared.records.TheConstants.{RECORD_LIMIT}
+use Rattle.nfs_server.specs.declared.reply.CompoundReply.{CompoundReply}
+use Rattle.nfs_server.specs.declared.reply.Reply.{Reply}
+use Rattle.nfs_server.specs.declared.reply.Reply.TheVariants as replies
+use Rattle.nfs_server.specs.declared.reply.TheConstants.{ACCEPTED_LEN, ACCEPTED_SUCCESS}
+use Rattle.nfs_server.specs.Answering.{compound_outcome, compound_reply, head_size}
+use Rattle.nfs_server.specs.Asking.{Asks, Question, question_of}
+use Rattle.nfs_server.specs.Call.{IsCall}
+use Rattle.nfs_server.specs.Connection.{Exchange, IsExchanged, written_for}
+use Rattle.nfs_server.specs.Reply.{written_accepted, written_compound_reply, written_no_verifier, written_record, written_reply, written_reply_head}
+use Rattle.nfs_xdr.specs.declared.compound.Compound.{Compound}
+use Rattle.nfs_xdr.specs.declared.op_result.OpResult.{OpResult}
+use Rattle.nfs_xdr.specs.Writing.{written_opaque, zeros}
+use Rattle.nfs_xdr.specs.Layout.{padding_of}
+
+pub length_accepted : (xid state : ℕ) → length (written_accepted xid state) ≡ ACCEPTED_LEN
+unfolding written_accepted written_reply_head written_no_verifier
+length_accepted xid state = refl
+
+head_size_le : (tag : List ℕ) → head_size tag ≤ length tag + 43
+head_size_le tag =
+    let pad : length (zeros (padding_of (length tag))) ≤ 4 = omega (arith, length-take {A = ℕ} (padding_of (length tag)) (0 ∷ 0 ∷ 0 ∷ 0 ∷ [])) in
+    omega (arith, length-append tag (zeros (padding_of (length tag))))
+
+-- the reply to a COMPOUND has room
+pub reply_fits : (xid : ℕ) (reply : CompoundReply) (tag : List ℕ) → length tag ≤ RECORD_LIMIT → ACCEPTED_LEN + length (written_compound_reply reply) ≤ max (head_size tag) RECORD_LIMIT + 12
+    → length (written_reply xid (replies.Compound reply)) ≤ RECORD_LIMIT + 60
+reply_fits xid reply tag short fits =
+    omega (arith, length-append (written_accepted xid ACCEPTED_SUCCESS) (written_compound_reply reply), length_accepted xid ACCEPTED_SUCCESS, head_size_le tag)
+
+pub on_ok : {T E : Type 0} (r : Result T E) (P Q : Type 0) → (P → Q) → OnOk r P → OnOk r Q
+on_ok (Ok x) P Q f p = f p
+on_ok (Err e) P Q f p = tt
+
+pub no_err : {T E : Type 0} (r : Result T E) (P : Type 0) → IsOk r → OnErr r P
+no_err (Ok x) P ok = tt
+no_err (Err e) P ok = absurd cc
+
+-- an exchange without the service
+pub silent_exchange : {S C : Type 0} (gives : S → Question → OpResult → S → Type 0) (tells : C → ℕ → C → Type 0) (service : S) (clock : C) (message out : List ℕ) → IsCall message calls.Silent → out ≡ []
+    → (e : Exchange) × (e.message ≡ message) × IsExchanged gives tells service clock e service clock × (out ≡ written_for e)
+silent_exchange gives tells service clock message out call none =
+    (record { message = message; call = calls.Silent; moment = 0; answers = [] }, refl, (call, refl, refl), none)
+
+pub null_exchange : {S C : Type 0} (gives : S → Question → OpResult → S → Type 0) (tells : C → ℕ → C → Type 0) (service : S) (clock : C) (message out : List ℕ) (xid : ℕ) → IsCall message (calls.Null xid) → out ≡ written_record (written_reply xid replies.Null)
+    → (e : Exchange) × (e.message ≡ message) × IsExchanged gives tells service clock e service clock × (out ≡ written_for e)
+null_exchange gives tells service clock message out xid call written =
+    (record { message = message; call = calls.Null xid; moment = 0; answers = [] }, refl, (call, refl, refl), written)
+
+pub answer_exchange : {S C : Type 0} (gives : S → Question → OpResult → S → Type 0) (tells : C → ℕ → C → Type 0) (service : S) (clock : C) (message out : List ℕ) (xid : ℕ) (reply : Reply) → IsCall message (calls.Answer xid reply) → out ≡ written_record (written_reply xid reply)
+    → (e : Exchange) × (e.message ≡ message) × IsExchanged gives tells service clock e service clock × (out ≡ written_for e)
+answer_exchange gives tells service clock message out xid reply call written =
+    (record { message = message; call = calls.Answer xid reply; moment = 0; answers = [] }, refl, (call, refl, refl), written)
+
+-- what is said of a COMPOUND alone
+abbrev pub IsAnsweredCompound : {S C : Type 0} → (S → Question → OpResult → S → Type 0) → (C → ℕ → C → Type 0) → S → C → ℕ → Principal → Compound → List ℕ → S → C → Type 0
+IsAnsweredCompound gives tells service clock xid principal compound out service' clock' =
+    (moment : ℕ) × (answers : List OpResult) × tells clock moment clock'
+    × Asks gives service (map (question_of moment principal) (compound_outcome compound answers).asked) answers service'
+    × (out ≡ written_record (written_reply xid (replies.Compound (compound_reply compound answers))))
+
+pub compound_exchange : {S C : Type 0} (gives : S → Question → OpResult → S → Type 0) (tells : C → ℕ → C → Type 0) (service service' : S) (clock clock' : C) (message out : List ℕ) (xid : ℕ) (principal : Principal) (compound : Compound)
+    → IsCall message (calls.Compound xid principal compound) → IsAnsweredCompound gives tells service clock xid principal compound out service' clock'
+    → (e : Exchange) × (e.message ≡ message) × IsExchanged gives tells service clock e service' clock' × (out ≡ written_for e)
+compound_exchange gives tells service service' clock clock' message out xid principal compound call is =
+    (record { message = message; call = calls.Compound xid principal compound; moment = is.0; answers = is.1 }, refl, (call, is.3, is.2), is.4)
+
+pub compound_answered : {S C : Type 0} (gives : S → Question → OpResult → S → Type 0) (tells : C → ℕ → C → Type 0) (service service' : S) (clock clock' : C) (xid moment : ℕ) (principal : Principal) (compound : Compound) (out : List ℕ) (reply : CompoundReply)
+    → tells clock moment clock'
+    → (answers : List OpResult) × Asks gives service (map (question_of moment principal) (compound_outcome compound answers).asked) answers service' × (reply ≡ compound_reply compound answers)
+    → out ≡ written_record (written_reply xid (replies.Compound reply)) → IsAnsweredCompound gives tells service clock xid principal compound out service' clock'
+compound_answered gives tells service service' clock clock' xid moment principal compound out reply told asked written =
+    (moment, asked.0, told, asked.1, written ∙ ap (λ (r : CompoundReply). written_record (written_reply xid (replies.Compound r))) asked.2)
