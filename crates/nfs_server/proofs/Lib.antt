@@ -7,3 +7,4 @@ pub mod Limits
 pub mod Writing
 pub mod Folding
 pub mod Replying
+pub mod Serving

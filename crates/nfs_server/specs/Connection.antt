@@ -61,6 +61,42 @@ messages_of es = map (λ e. e.message) es
 abbrev pub written_for_all : List Exchange → List ℕ
 written_for_all es = flat_map written_for es
 
+-- some of the replies went out, and then a write failed
+abbrev pub IsCut : List ℕ → List Exchange → Type 0
+IsCut written es = (more : List ℕ) × (written_for_all es ≡ written ++ more)
+
+-- what was written while records were served
+abbrev pub HasWritten : {T : Type 0} → Result T ServeError → List Exchange → List (List ℕ) → List ℕ → Type 0
+HasWritten (Ok x) es left written = (written ≡ written_for_all es) × (left ≡ [])
+HasWritten (Err errors.Write) es left written = IsCut written es
+HasWritten (Err errors.Memory) es left written = written ≡ written_for_all es
+HasWritten (Err errors.Read) es left written = ⊥
+HasWritten (Err errors.TooLong) es left written = ⊥
+HasWritten (Err errors.TooMuch) es left written = ⊥
+
+-- Records that are whole were served in their order: those of the exchanges. At an error some are left.
+pub record IsServed {S C T : Type 0} (gives : S → Question → OpResult → S → Type 0) (tells : C → ℕ → C → Type 0) (service : S) (clock : C) (before : Option (List ℕ)) (messages : List (List ℕ)) (result : Result T ServeError) (service' : S) (clock' : C) (after : Option (List ℕ)) : Type 0 where
+  pub exchanges : List Exchange
+  pub left : List (List ℕ)
+  pub written : List ℕ
+  pub served : messages ≡ messages_of exchanges ++ left
+  pub exchanged : AreExchanged gives tells service clock exchanges service' clock'
+  pub appends : Appends before after written
+  pub outcome : HasWritten result exchanges left written
+
+-- one record was served, or, where memory was refused, left
+abbrev pub IsServedOne : {S C T : Type 0} → (S → Question → OpResult → S → Type 0) → (C → ℕ → C → Type 0) → S → C → Option (List ℕ) → List ℕ → Result T ServeError → S → C → Option (List ℕ) → Type 0
+IsServedOne gives tells service clock before message (Ok x) service' clock' after =
+    (e : Exchange) × (e.message ≡ message) × IsExchanged gives tells service clock e service' clock' × Appends before after (written_for e)
+IsServedOne gives tells service clock before message (Err errors.Write) service' clock' after =
+    (e : Exchange) × (e.message ≡ message) × IsExchanged gives tells service clock e service' clock'
+    × ((front : List ℕ) × (back : List ℕ) × (written_for e ≡ front ++ back) × Appends before after front)
+IsServedOne gives tells service clock before message (Err errors.Memory) service' clock' after =
+    (service' ≡ service) × (clock' ≡ clock) × (after ≡ before)
+IsServedOne gives tells service clock before message (Err errors.Read) service' clock' after = ⊥
+IsServedOne gives tells service clock before message (Err errors.TooLong) service' clock' after = ⊥
+IsServedOne gives tells service clock before message (Err errors.TooMuch) service' clock' after = ⊥
+
 -- What came of a connection. The text that was read is `fed` and what was lost of it; `fed` is the records of the
 -- exchanges, records to which nothing was said any more, and a rest.
 pub record Course : Type 0 where
@@ -93,7 +129,7 @@ EndsWith course (Ok len) = IsComplete course × (course.lost ≡ []) × (len ≡
 -- a read failed
 EndsWith course (Err errors.Read) = IsComplete course × (course.lost ≡ [])
 -- a write failed: what went out is a beginning of the replies
-EndsWith course (Err errors.Write) = (course.lost ≡ []) × ((more : List ℕ) × (written_for_all course.exchanges ≡ course.written ++ more))
+EndsWith course (Err errors.Write) = (course.lost ≡ []) × IsCut course.written course.exchanges
 -- the records before the one that is too long were answered
 EndsWith course (Err errors.TooLong) = IsComplete course × (course.lost ≡ []) × IsTooLong course.rest
 -- memory was refused
