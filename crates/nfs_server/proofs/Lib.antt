@@ -8,3 +8,4 @@ pub mod Writing
 pub mod Folding
 pub mod Replying
 pub mod Serving
+pub mod Courses

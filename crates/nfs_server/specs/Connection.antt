@@ -136,3 +136,9 @@ EndsWith course (Err errors.TooLong) = IsComplete course × (course.lost ≡ [])
 EndsWith course (Err errors.Memory) = IsAnswered course
 -- more came than a stream may have: the records before the last read were answered
 EndsWith course (Err errors.TooMuch) = IsComplete course × (STREAM_LIMIT < length course.text)
+
+-- There is a course of the connection from where service, clock and devices were to where they are: what was read, what
+-- was asked of the service at which moment, what it answered, and what was written.
+abbrev pub HasCourse : {S C : Type 0} → (S → Question → OpResult → S → Type 0) → (C → ℕ → C → Type 0) → S → C → Option (List ℕ) → Option (List ℕ) → Result ℕ ServeError → S → C → Option (List ℕ) → Option (List ℕ) → Type 0
+HasCourse gives tells service clock unread unwritten result service' clock' unread' written' =
+    (course : Course) × IsCourse gives tells service clock course service' clock' × EndsWith course result × Consumes unread unread' course.text × Appends unwritten written' course.written

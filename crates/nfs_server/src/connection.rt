@@ -1,7 +1,8 @@
-ghost use Rattle.std.specs.Prelude.{◌≡◌, ◌+◌, ◌-◌, ◌^◌, ◌<◌, ◌≤◌, List, ℕ, [], ◌++◌, length, OnOk, OnErr, IsErrOf};
+ghost use Rattle.std.specs.Prelude.{◌≡◌, ◌+◌, ◌-◌, ◌^◌, ◌<◌, ◌≤◌, false, List, ℕ, [], ◌++◌, length, OnOk, OnErr, IsErrOf};
 ghost use Rattle.std.specs.List.{AllByRecursion};
 ghost use Rattle.std.specs.Io.KnownBytes.{Appends, Consumes, IsAtEnd};
-ghost use Rattle.nfs_server.specs.Connection.{Course, EndsWith, IsCourse, IsServed, IsServedOne};
+ghost use Rattle.nfs_server.specs.Connection.{HasCourse, IsServed, IsServedOne};
+ghost use Rattle.nfs_server.specs.Records.{IsStream, TakesPiece};
 
 use std::alloc::Global;
 
@@ -14,6 +15,87 @@ pub const STREAM_LIMIT: u64 = 1 << 40;
 
 /// How many bytes are asked of a source at once.
 const PIECE_LEN: usize = 65_536;
+
+/// Serves a connection until its input ends, and gives the number of bytes that came behind the last whole record.
+///
+/// Each record is answered before the next is looked at: the service is asked what the record's call asks, at the moment
+/// that the clock tells for it, and the reply goes out as one record of one fragment. `Read` and `Write` come only where a
+/// read or a write failed, `TooLong` where a record is above `RECORD_LIMIT`, `TooMuch` where more than `STREAM_LIMIT` bytes
+/// came, and `Memory` where memory was refused outside a call. What was done before an error stands.
+pub fn serve_connection<R: Source, W: Sink, S: Service, C: Clock>(
+    alloc: Global,
+    source: &mut R,
+    sink: &mut W,
+    service: &mut S,
+    clock: &mut C,
+) -> Result<usize, ServeError>
+    requires reads { R.failures source.old < 2 ^ 64 - 1 }
+    requires writes { W.failures sink.old < 2 ^ 64 - 1 }
+    // What was read, what was asked of the service at which moment, what it answered and what was written is one course.
+    ensures course { HasCourse S.gives C.tells service.old clock.old (R.remaining source.old) (W.contents sink.old) result service.new clock.new (R.remaining source.new) (W.contents sink.new) }
+    ensures end { OnOk result (IsAtEnd (R.remaining source.new)) }
+    ensures read_failed { IsErrOf result ServeError.Read → R.failures source.old < R.failures source.new }
+    ensures write_failed { IsErrOf result ServeError.Write → W.failures sink.old < W.failures sink.new }
+{
+    let records = Records::new(alloc);
+    let Ok(mut buffer) = vec![in alloc; 0; PIECE_LEN] else {
+        return Err(ServeError::Memory);
+    };
+    serve_stream(alloc, records, source, sink, service, clock, &mut buffer)
+}
+
+// The same, with records of which none has come, and a buffer for what is read.
+fn serve_stream<R: Source, W: Sink, S: Service, C: Clock>(
+    alloc: Global,
+    mut records: Records,
+    source: &mut R,
+    sink: &mut W,
+    service: &mut S,
+    clock: &mut C,
+    buffer: &mut [u8],
+) -> Result<usize, ServeError>
+    requires reads { R.failures source.old < 2 ^ 64 - 1 }
+    requires writes { W.failures sink.old < 2 ^ 64 - 1 }
+    requires empty { records ≡ record { ready = []; rest = []; fed = 0; is_too_long = false } }
+    requires sound { IsStream records }
+    requires some { 0 < length buffer.old }
+    ensures course { HasCourse S.gives C.tells service.old clock.old (R.remaining source.old) (W.contents sink.old) result service.new clock.new (R.remaining source.new) (W.contents sink.new) }
+    ensures end { OnOk result (IsAtEnd (R.remaining source.new)) }
+    ensures read_failed { IsErrOf result ServeError.Read → R.failures source.old < R.failures source.new }
+    ensures write_failed { IsErrOf result ServeError.Write → W.failures sink.old < W.failures sink.new }
+{
+    let mut out = Vec::new(alloc);
+    loop {
+        let count = match source.read(buffer) {
+            Ok(0) => return Ok(records.rest()),
+            Ok(count) => count,
+            Err(DeviceFailed) => return Err(ServeError::Read),
+        };
+        if count as u64 > STREAM_LIMIT - records.fed() {
+            return Err(ServeError::TooMuch);
+        }
+        take_in(&mut records, &buffer[..count])?;
+        serve_ready(alloc, &mut records, sink, service, clock, &mut out)?;
+        if records.is_too_long() {
+            return Err(ServeError::TooLong);
+        }
+    }
+}
+
+// Takes the next piece of the stream. Whether a record is too long now, the records tell.
+fn take_in(records: &mut Records, piece: &[u8]) -> Result<(), ServeError>
+    requires room { records.old.fed + length piece.now ≤ 2 ^ 40 }
+    requires goes { records.old.is_too_long ≡ false }
+    ensures ok { OnOk result (TakesPiece records.old records.new piece.now) }
+    ensures err { OnErr result (records.new ≡ records.old) }
+    ensures memory { OnErr result (result ≡ Err ServeError.Memory) }
+    ensures sound { IsStream records.new }
+{
+    match records.feed(piece) {
+        Ok(()) | Err(RecordError::TooLong) => Ok(()),
+        Err(RecordError::Memory) => Err(ServeError::Memory),
+    }
+}
 
 // Answers the records that are whole, in their order.
 fn serve_ready<S: Service, W: Sink, C: Clock>(

@@ -15,7 +15,7 @@ mod service;
 pub use call::{Call, Header, read_call};
 pub use clock::{Clock, Stopped};
 pub use compound::run_compound;
-pub use connection::STREAM_LIMIT;
+pub use connection::{STREAM_LIMIT, serve_connection};
 pub use device::{Counted, DeviceFailed, Sink, Source};
 pub use records::{RECORD_LIMIT, RecordError, Records, one_split, split_goes_on};
 pub use reply::{CompoundReply, Reply, write_reply};

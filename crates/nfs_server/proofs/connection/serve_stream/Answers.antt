@@ -1,0 +1,78 @@
+use Rattle.std.proofs.Common.{◌≡◌, ℕ, List, [], Err, length, take, Ok, refl, ap, sym, subst, ◌∙◌, arith}
+use Rattle.std.specs.Io.KnownBytes.{Consumes}
+use Rattle.std.proofs.KnownBytes.{Consumes-nil, Consumes-kept}
+use Rattle.std.proofs.lemmas.List.{length-append, length-take}
+use Rattle.std.proofs.lemmas.Result.{err_from_is_err_and}
+use Rattle.nfs_server.specs.declared.serve_error.ServeError.{ServeError}
+use Rattle.nfs_server.specs.declared.serve_error.ServeError.TheVariants as errors
+use Rattle.nfs_server.proofs.Courses.{starts, ends_answered, ready_within, ends_serving, more_served, ends_too_long, error_is}
+use Rattle.nfs_server.proofs.connection.serve_stream.Goals as goal
+
+pub loop-records-init : goal.loop-records-init
+loop-records-init g c = record {
+  under_way = starts g.S.Service.gives g.C.Clock.tells c.args.service.now c.args.clock.now (g.R.Source.remaining c.args.source.now) (g.W.Sink.contents c.args.sink.now) c.args.records c.requires.empty c.requires.sound;
+  reads = refl;
+  writes = refl;
+}
+
+pub returns-in-Ok-eq0-clause-course : goal.returns-in-Ok-eq0-clause-course
+returns-in-Ok-eq0-clause-course g c =
+    let none : Consumes (g.R.Source.remaining c.loop-records.source) (g.R.Source.remaining c.read.new.self) [] =
+      subst (λ (n : ℕ). Consumes (g.R.Source.remaining c.loop-records.source) (g.R.Source.remaining c.read.new.self) (take n c.read.new.buffer)) c.in-Ok-eq0.field-0-test c.in-Ok-eq0.ensures.bytes.0 in
+    ends_answered g.S.Service.gives g.C.Clock.tells c.args.service.now c.loop-records.service c.args.clock.now c.loop-records.clock
+      (g.R.Source.remaining c.args.source.now) (g.W.Sink.contents c.args.sink.now) (g.R.Source.remaining c.loop-records.source) (g.R.Source.remaining c.read.new.self) (g.W.Sink.contents c.loop-records.sink)
+      c.loop-records.records [] (Ok c.rest.result) c.loop-records.invariant.under_way none ((refl, refl), refl, c.rest.ensures.value)
+
+pub returns-in-Err-clause-course : goal.returns-in-Err-clause-course
+returns-in-Err-clause-course g c =
+    ends_answered g.S.Service.gives g.C.Clock.tells c.args.service.now c.loop-records.service c.args.clock.now c.loop-records.clock
+      (g.R.Source.remaining c.args.source.now) (g.W.Sink.contents c.args.sink.now) (g.R.Source.remaining c.loop-records.source) (g.R.Source.remaining c.read.new.self) (g.W.Sink.contents c.loop-records.sink)
+      c.loop-records.records [] (Err errors.Read) c.loop-records.invariant.under_way
+      (Consumes-kept (g.R.Source.remaining c.loop-records.source) (g.R.Source.remaining c.loop-records.source) (g.R.Source.remaining c.read.new.self) [] (Consumes-nil (g.R.Source.remaining c.loop-records.source)) c.in-Err.ensures.bytes)
+      ((refl, refl), refl)
+
+pub returns-then-count-fed-clause-course : goal.returns-then-count-fed-clause-course
+returns-then-count-fed-clause-course g c =
+    ends_answered g.S.Service.gives g.C.Clock.tells c.args.service.now c.loop-records.service c.args.clock.now c.loop-records.clock
+      (g.R.Source.remaining c.args.source.now) (g.W.Sink.contents c.args.sink.now) (g.R.Source.remaining c.loop-records.source) (g.R.Source.remaining c.read.new.self) (g.W.Sink.contents c.loop-records.sink)
+      c.loop-records.records (take c.in-Ok.count c.read.new.buffer) (Err errors.TooMuch) c.loop-records.invariant.under_way c.in-Ok.ensures.bytes.0
+      ((refl, refl), omega (arith, length-append c.loop-records.invariant.under_way.text (take c.in-Ok.count c.read.new.buffer), length-take c.in-Ok.count c.read.new.buffer, c.loop-records.invariant.under_way.fed, c.fed.ensures.value, c.in-Ok.ensures.within, c.if-count-fed.true))
+
+pub returns-in_err-take_in-clause-course : goal.returns-in_err-take_in-clause-course
+returns-in_err-take_in-clause-course g c =
+    let p = err_from_is_err_and c.from_residual.result c.from_residual.ensures.1 in
+    let memory : c.from_residual.result ≡ Err errors.Memory = p.1 ∙ ap (λ (e : ServeError). Err e) (p.2 ∙ error_is c.in_err-take_in.field-0.0 errors.Memory c.in_err-take_in.ensures.memory) in
+    rw memory
+      (ends_answered g.S.Service.gives g.C.Clock.tells c.args.service.now c.loop-records.service c.args.clock.now c.loop-records.clock
+        (g.R.Source.remaining c.args.source.now) (g.W.Sink.contents c.args.sink.now) (g.R.Source.remaining c.loop-records.source) (g.R.Source.remaining c.read.new.self) (g.W.Sink.contents c.loop-records.sink)
+        c.loop-records.records (take c.in-Ok.count c.read.new.buffer) (Err errors.Memory) c.loop-records.invariant.under_way c.in-Ok.ensures.bytes.0 refl)
+
+pub serve_ready-requires-clause-limits : goal.serve_ready-requires-clause-limits
+serve_ready-requires-clause-limits g c = ready_within c.loop-records.records c.take_in.new.records (take c.in-Ok.count c.read.new.buffer) c.loop-records.invariant.under_way.idle c.in_ok-take_in.ensures.ok
+
+pub returns-in_err-serve_ready-clause-course : goal.returns-in_err-serve_ready-clause-course
+returns-in_err-serve_ready-clause-course g c =
+    let p = err_from_is_err_and c.from_residual-in_err-serve_ready.result c.from_residual-in_err-serve_ready.ensures.1 in
+    ends_serving g.S.Service.gives g.C.Clock.tells c.args.service.now c.loop-records.service c.serve_ready.new.service c.args.clock.now c.loop-records.clock c.serve_ready.new.clock
+      (g.R.Source.remaining c.args.source.now) (g.W.Sink.contents c.args.sink.now) (g.R.Source.remaining c.loop-records.source) (g.R.Source.remaining c.read.new.self) (g.W.Sink.contents c.loop-records.sink) (g.W.Sink.contents c.serve_ready.new.sink)
+      c.loop-records.records c.take_in.new.records (take c.in-Ok.count c.read.new.buffer) c.in_err-serve_ready.field-0.0 c.from_residual-in_err-serve_ready.result
+      (p.1 ∙ ap (λ (e : ServeError). Err e) p.2) c.loop-records.invariant.under_way c.in-Ok.ensures.bytes.0 c.in_ok-take_in.ensures.ok c.in_err-serve_ready.ensures.served
+
+pub returns-then-is_too_long-clause-course : goal.returns-then-is_too_long-clause-course
+returns-then-is_too_long-clause-course g c =
+    ends_too_long g.S.Service.gives g.C.Clock.tells c.args.service.now c.loop-records.service c.serve_ready.new.service c.args.clock.now c.loop-records.clock c.serve_ready.new.clock
+      (g.R.Source.remaining c.args.source.now) (g.W.Sink.contents c.args.sink.now) (g.R.Source.remaining c.loop-records.source) (g.R.Source.remaining c.read.new.self) (g.W.Sink.contents c.loop-records.sink) (g.W.Sink.contents c.serve_ready.new.sink)
+      c.loop-records.records c.take_in.new.records c.serve_ready.new.records (take c.in-Ok.count c.read.new.buffer)
+      c.loop-records.invariant.under_way c.in-Ok.ensures.bytes.0 c.in_ok-take_in.ensures.ok c.in_ok-serve_ready.ensures.served c.in_ok-serve_ready.ensures.taken
+      (c.is_too_long.ensures.known.0 c.if-is_too_long.true)
+
+pub loop-records-preserved : goal.loop-records-preserved
+loop-records-preserved g c = record {
+  under_way = more_served g.S.Service.gives g.C.Clock.tells c.args.service.now c.loop-records.service c.serve_ready.new.service c.args.clock.now c.loop-records.clock c.serve_ready.new.clock
+      (g.R.Source.remaining c.args.source.now) (g.W.Sink.contents c.args.sink.now) (g.R.Source.remaining c.loop-records.source) (g.R.Source.remaining c.read.new.self) (g.W.Sink.contents c.loop-records.sink) (g.W.Sink.contents c.serve_ready.new.sink)
+      c.loop-records.records c.take_in.new.records c.serve_ready.new.records (take c.in-Ok.count c.read.new.buffer)
+      c.loop-records.invariant.under_way c.in-Ok.ensures.bytes.0 c.in_ok-take_in.ensures.ok c.in_ok-serve_ready.ensures.served c.in_ok-serve_ready.ensures.taken
+      (sym c.is_too_long.ensures.value ∙ c.if-is_too_long.false);
+  reads = c.in-Ok.ensures.ok ∙ c.loop-records.invariant.reads;
+  writes = c.in_ok-serve_ready.ensures.ok ∙ c.loop-records.invariant.writes;
+}
