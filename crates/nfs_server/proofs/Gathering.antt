@@ -1,5 +1,5 @@
 -- The bodies of a record, gathered from its fragments; and the records of a text, one after the other.
-use Rattle.std.proofs.Common.{◌≡◌, ℕ, ◌+◌, ◌-◌, ◌≤◌, Bool, true, false, List, [], ◌∷◌, ◌++◌, length, take, drop, refl, sym, ◌∙◌, ap, subst, inl, inr, arith, append_assoc, length-append, slice_range, zero-le}
+use Rattle.std.proofs.Common.{◌≡◌, ℕ, ◌+◌, ◌≤◌, Bool, true, false, List, [], ◌∷◌, ◌++◌, length, take, drop, refl, sym, ◌∙◌, ap, subst, inl, inr, arith, append_assoc, length-append, slice_range, zero-le}
 use Rattle.std.proofs.lemmas.List.{append-nil, take-append-drop, drop_at, take_at}
 use Rattle.std.proofs.lemmas.Slice.{between_to_end}
 use Rattle.nfs_server.specs.declared.records.TheConstants.{RECORD_LIMIT}

@@ -1,5 +1,5 @@
 -- What a stream is once a piece was taken.
-use Rattle.std.proofs.Common.{ℕ, ◌^◌, ◌≤◌, Bool, List, take, drop, sym}
+use Rattle.std.proofs.Common.{ℕ, ◌^◌, ◌≤◌, List, take, drop, sym}
 use Rattle.std.proofs.lemmas.List.{take-append-drop}
 use Rattle.nfs_server.specs.declared.records.Unfinished.{Unfinished}
 use Rattle.nfs_server.specs.declared.records.Tail.{Tail}

@@ -356,3 +356,6 @@ pub fn one_split()
 pub fn split_goes_on()
     ensures { SplitGoesOn }
 {}
+
+#[cfg(test)]
+mod tests;
