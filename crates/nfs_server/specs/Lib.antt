@@ -5,3 +5,4 @@ pub mod Answering
 pub mod Asking
 pub mod Folding
 pub mod Connection
+pub mod Once

@@ -1,0 +1,24 @@
+-- One run over an input and an output.
+use Rattle.std.specs.Prelude.{◌≡◌, ℕ, ◌<◌, List, Option, Some, None, Result, Ok, Err, zero, suc}
+use Rattle.nfs_core.specs.Server.{Server}
+use Rattle.nfs_server.specs.declared.fault.Fault.{Fault}
+use Rattle.nfs_server.specs.declared.fault.Fault.TheVariants.{InputNotRead, OutputNotWritten, RecordTooLong, InputTooLong, EndsInsideRecord, NoMemory}
+use Rattle.nfs_server.specs.declared.serve_error.ServeError.{ServeError}
+use Rattle.nfs_server.specs.declared.serve_error.ServeError.TheVariants as errors
+use Rattle.nfs_server.specs.Asking.{GivenByCore}
+use Rattle.nfs_server.specs.Connection.{HasCourse}
+
+-- the fault of a connection that ended so
+abbrev pub fault_of : Result ℕ ServeError → Option Fault
+fault_of (Ok zero) = None
+fault_of (Ok (suc len)) = Some EndsInsideRecord
+fault_of (Err errors.Read) = Some InputNotRead
+fault_of (Err errors.Write) = Some OutputNotWritten
+fault_of (Err errors.TooLong) = Some RecordTooLong
+fault_of (Err errors.Memory) = Some NoMemory
+fault_of (Err errors.TooMuch) = Some InputTooLong
+
+-- the program's status
+abbrev pub status_of : Option Fault → ℕ
+status_of None = 0
+status_of (Some fault) = 1

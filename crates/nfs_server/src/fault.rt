@@ -1,0 +1,40 @@
+ghost use Rattle.std.specs.Prelude.{◌≡◌};
+ghost use Rattle.nfs_server.specs.Once.{fault_of};
+
+use thiserror::Error;
+
+use crate::ServeError;
+
+/// Why a run of the program failed, as the line that it writes on standard error.
+#[derive(Clone, Copy, Debug, PartialEq, Eq, Error)]
+pub enum Fault {
+    #[error("fault: input not read")]
+    InputNotRead,
+    #[error("fault: output not written")]
+    OutputNotWritten,
+    #[error("fault: record too long")]
+    RecordTooLong,
+    #[error("fault: input too long")]
+    InputTooLong,
+    #[error("fault: input ends inside a record")]
+    EndsInsideRecord,
+    #[error("fault: no memory")]
+    NoMemory,
+}
+
+impl Fault {
+    /// The fault of a connection that ended so, if there is one: an input that ends inside a record is one too.
+    pub fn of(outcome: Result<usize, ServeError>) -> Option<Fault>
+        ensures { result ≡ fault_of outcome }
+    {
+        match outcome {
+            Ok(0) => None,
+            Ok(_) => Some(Fault::EndsInsideRecord),
+            Err(ServeError::Read) => Some(Fault::InputNotRead),
+            Err(ServeError::Write) => Some(Fault::OutputNotWritten),
+            Err(ServeError::TooLong) => Some(Fault::RecordTooLong),
+            Err(ServeError::Memory) => Some(Fault::NoMemory),
+            Err(ServeError::TooMuch) => Some(Fault::InputTooLong),
+        }
+    }
+}

@@ -1,0 +1,42 @@
+ghost use Rattle.std.specs.Prelude.{◌≡◌, ◌-◌, ◌^◌, ◌<◌, ℕ, Result};
+ghost use Rattle.nfs_server.specs.Connection.{HasCourse};
+ghost use Rattle.nfs_server.specs.Once.{fault_of, status_of};
+ghost use Rattle.nfs_server.specs.declared.clock.Stopped.{Stopped};
+ghost use Rattle.nfs_server.specs.declared.serve_error.ServeError.{ServeError};
+ghost use Rattle.nfs_server.specs.declared.service.Lent.{Lent};
+
+use nfs_core::{Core, Moment};
+use std::alloc::Global;
+use std::io::Write;
+
+use crate::{Clock, Fault, Lent, Service, Sink, Source, Stopped, serve_connection};
+
+/// Serves one input to its end, over a core that it is lent, at moment 0. It gives the program's status: 0, or 1 after a
+/// fault, whose line is written on `errors`.
+pub fn run_once<R: Source, W: Sink, E: Write>(
+    alloc: Global,
+    core: Core,
+    source: &mut R,
+    sink: &mut W,
+    errors: &mut E,
+) -> u8
+    requires reads { R.failures source.old < 2 ^ 64 - 1 }
+    requires writes { W.failures sink.old < 2 ^ 64 - 1 }
+    // The input was served as a connection from this core on, and the status says how that ended.
+    ensures { (lent : Lent) × (clock : Stopped) × (lent' : Lent) × (clock' : Stopped) × (outcome : Result ℕ ServeError)
+        × (lent.core ≡ core) × (clock.moment ≡ 0)
+        × HasCourse ⟦<Lent as Service>⟧.gives ⟦<Stopped as Clock>⟧.tells lent clock (R.remaining source.old) (W.contents sink.old) outcome lent' clock' (R.remaining source.new) (W.contents sink.new)
+        × (result ≡ status_of (fault_of outcome)) }
+{
+    let mut lent = Lent::new(core);
+    let mut clock = Stopped::at(Moment::new(0).unwrap());
+    let outcome = serve_connection(alloc, source, sink, &mut lent, &mut clock);
+    match Fault::of(outcome) {
+        None => 0,
+        Some(fault) => {
+            // There is nobody left to tell that this line isn't written either.
+            let _ = writeln!(errors, "{fault}");
+            1
+        }
+    }
+}
