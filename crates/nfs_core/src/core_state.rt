@@ -11,7 +11,8 @@ use nfs_xdr::{Op, OpResult, SetClientId, SetClientIdConfirm, SetClientIdResult, 
 use std::alloc::Global;
 use std::marker::Model;
 
-/// The state of a server and the journal of its changes, which leads to that state.
+/// The state of a server (RFC 7530, section 9) and the journal of its changes, which leads to that
+/// state.
 #[derive(Debug, Drop)]
 pub struct Core {
     tables: Tables,
@@ -45,8 +46,9 @@ impl Core {
         }
     }
 
-    /// Answers an operation that has a rule here (`has_entry`), and gives its entry's number in the journal. With no
-    /// number the answer is NFS4ERR_RESOURCE and nothing has changed: the journal, memory or a table's limit refused it.
+    /// Answers an operation that has a rule here (`has_entry`), and gives its entry's number in the
+    /// journal. With no number the answer is NFS4ERR_RESOURCE and nothing has changed: the journal is
+    /// full, memory was refused, or a limit of the tables is met.
     pub fn apply(
         &mut self,
         moment: Moment,

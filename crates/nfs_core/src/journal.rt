@@ -5,9 +5,10 @@ use crate::{Call, Entry, JOURNAL_LIMIT};
 use std::alloc::Global;
 use std::marker::Model;
 
-/// The shortest and the longest lease, in seconds.
+/// The shortest lease, in seconds.
 pub const LEASE_MIN: u32 = 1;
 
+/// The longest lease, in seconds.
 pub const LEASE_MAX: u32 = 86_400;
 
 /// What the server was opened with, and its entries in order, the first of them number 0.
@@ -15,7 +16,7 @@ pub const LEASE_MAX: u32 = 86_400;
 pub struct Journal {
     epoch: u32,
     lease: u32,
-    // The crate's operations make room for an entry before they change the state.
+    // The operations reach it, since they make room here before they change the state.
     pub(crate) entries: Vec<Entry>,
 }
 
@@ -66,6 +67,8 @@ impl Journal {
         self.entries.as_slice()
     }
 }
+
+// These two work on the entries alone: that there is room is nothing that a journal's value tells.
 
 /// Makes room for one more entry, or gives none where the journal is full or memory is refused.
 pub(crate) fn make_room(entries: &mut Vec<Entry>) -> Option<()>

@@ -1,5 +1,4 @@
 ghost use Rattle.std.specs.Prelude.{◌≡◌, ◌≤◌, IfSome, IfNone, length};
-ghost use Rattle.nfs_xdr.specs.declared.callback.Address.{Address};
 ghost use Rattle.nfs_core.specs.Server.{Enters};
 ghost use Rattle.nfs_core.specs.Step.{call_of};
 
@@ -33,7 +32,8 @@ pub(crate) fn set_client_id(
         .clients
         .set(journal.epoch(), principal, args, has_state)
         .ok()?;
-    let kept = OpResult::SetClientId(copy_of(&answer)?);
+    // A copy takes memory only where the answer is CLID_INUSE, which changes nothing.
+    let kept = OpResult::SetClientId(answer.clone().ok()?);
     let call = Call {
         moment,
         principal,
@@ -42,20 +42,4 @@ pub(crate) fn set_client_id(
         answer: kept,
     };
     Some((answer, push_call(&mut journal.entries, call)))
-}
-
-// A copy of the answer. Only the one that changes nothing, CLID_INUSE with its address, takes memory.
-fn copy_of(answer: &SetClientIdResult) -> Option<SetClientIdResult>
-    ensures copy { IfSome result (λ copy. copy ≡ answer.now) }
-    ensures refused { IfNone result ((address : Address) × (answer.now ≡ SetClientIdResult.ClidInUse address)) }
-{
-    match answer {
-        SetClientIdResult::Done(client, confirm) => Some(SetClientIdResult::Done(
-            *client, *confirm,
-        )),
-        SetClientIdResult::ClidInUse(address) => {
-            Some(SetClientIdResult::ClidInUse(address.clone().ok()?))
-        }
-        SetClientIdResult::Refused(status) => Some(SetClientIdResult::Refused(*status)),
-    }
 }

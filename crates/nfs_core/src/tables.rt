@@ -44,10 +44,9 @@ impl Tables {
     }
 
     // Whether the client has state. There is none yet that it could have.
-    fn has_state(&self, client: ClientId) -> bool
-        ensures { result ≡ has_state self.now client }
+    fn has_state(&self, _client: ClientId) -> bool
+        ensures { result ≡ has_state self.now _client }
     {
-        let _ = client;
         false
     }
 }

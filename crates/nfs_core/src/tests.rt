@@ -7,7 +7,6 @@ use nfs_xdr::{
     SetClientIdResult, Status, Verifier,
 };
 use std::alloc::{AllocError, Global};
-use std::process::Abort;
 use std::test::Fail;
 
 const EPOCH: u32 = 7;
@@ -21,19 +20,23 @@ const ANN: Principal = Principal::AuthSys(1);
 const BOB: Principal = Principal::AuthSys(2);
 
 /// A call, by what differs between the calls of a test.
-#[derive(Clone, Copy, Debug)]
+#[derive(Clone, Copy)]
 enum Ask {
     /// SETCLIENTID with this one byte as the id, and the verifier of eight such bytes.
     Set(u8, u8),
+    /// SETCLIENTID of the id `a` with an r_netid and an r_addr of these lengths.
+    SetAt(usize, usize),
     /// SETCLIENTID_CONFIRM with the clientid of this epoch and number, and this value.
     Confirm(u32, u32, u64),
 }
 
 /// What is answered.
-#[derive(Clone, Copy, Debug)]
+#[derive(Clone, Copy)]
 enum Want {
     /// SETCLIENTID gives this number in the epoch, and this confirm value.
     Given(u32, u64),
+    /// SETCLIENTID is refused with NFS4ERR_RESOURCE.
+    Refused,
     /// SETCLIENTID_CONFIRM has this status.
     Is(Status),
 }
@@ -45,27 +48,32 @@ const IN_USE: Want = Want::Is(Status::ClidInUse);
 const STALE: Want = Want::Is(Status::StaleClientId);
 
 impl Want {
-    fn result(self) -> OpResult {
-        match self {
-            Want::Given(number, confirm) => {
+    /// Whether the answer is what is wanted.
+    fn is(self, answer: &OpResult) -> bool {
+        match (self, answer) {
+            (Want::Given(number, value), OpResult::SetClientId(answer)) => {
                 let client = ClientId {
                     epoch: EPOCH,
                     number,
                 };
-                OpResult::SetClientId(SetClientIdResult::Done(client, confirm))
+                *answer == SetClientIdResult::Done(client, value)
             }
-            Want::Is(status) => OpResult::SetClientIdConfirm(status),
+            (Want::Refused, OpResult::SetClientId(answer)) => {
+                *answer == SetClientIdResult::Refused(Status::Resource)
+            }
+            (Want::Is(status), OpResult::SetClientIdConfirm(answer)) => *answer == status,
+            _ => false,
         }
     }
 }
 
-/// The arguments of SETCLIENTID.
+/// The arguments of SETCLIENTID, with addresses of these lengths.
 fn set_args(
     alloc: Global,
     id: u8,
     verifier: u8,
-    netid: &[u8],
-    addr: &[u8],
+    netid: usize,
+    addr: usize,
 ) -> Result<SetClientId, AllocError> {
     Ok(SetClientId {
         verifier: Verifier([verifier; 8]),
@@ -73,8 +81,8 @@ fn set_args(
         callback: Callback {
             program: 0x4000_0000,
             address: Address {
-                netid: Bytes::copied(alloc, netid)?,
-                addr: Bytes::copied(alloc, addr)?,
+                netid: Bytes::new(vec![in alloc; b't'; netid]?),
+                addr: Bytes::new(vec![in alloc; b'1'; addr]?),
             },
             ident: 1,
         },
@@ -86,15 +94,31 @@ fn op_of(alloc: Global, ask: Ask) -> Result<Op, AllocError>
     ensures { IfOk result (λ op. IsTrue (has_entry op)) }
 {
     match ask {
-        Ask::Set(id, verifier) => {
-            let args = set_args(alloc, id, verifier, b"tcp", b"127.0.0.1.8.1")?;
-            Ok(Op::SetClientId(args))
-        }
+        Ask::Set(id, verifier) => Ok(Op::SetClientId(set_args(alloc, id, verifier, 3, 13)?)),
+        Ask::SetAt(netid, addr) => Ok(Op::SetClientId(set_args(alloc, b'a', 1, netid, addr)?)),
         Ask::Confirm(epoch, number, confirm) => {
             let client = ClientId { epoch, number };
             Ok(Op::SetClientIdConfirm(SetClientIdConfirm { client, confirm }))
         }
     }
+}
+
+fn start() -> Moment {
+    Moment::new(0).unwrap()
+}
+
+/// Whether the call gets what is wanted, under this number.
+fn gives(
+    core: &mut Core,
+    alloc: Global,
+    principal: Principal,
+    ask: Ask,
+    want: Want,
+    number: Option<u32>,
+) -> Result<bool, AllocError> {
+    let op = op_of(alloc, ask)?;
+    let (answer, entry) = core.apply(start(), principal, &op, None);
+    Ok(want.is(&answer) && entry == number)
 }
 
 /// SETCLIENTID and its confirmation, each case that comes without opens.
@@ -143,111 +167,104 @@ const TABLE: [(Principal, Ask, Want); 32] = [
 
 #[test]
 fn answers(rt: HostRuntime) -> Result<(), Fail> {
-    let moment = Moment::new(0).ok_or("a moment")?;
     let mut core = Core::new(rt.alloc(), 90, EPOCH);
     for (i, (principal, ask, want)) in TABLE.iter().enumerate() {
-        let op = op_of(rt.alloc(), *ask)?;
-        let (answer, number) = core.apply(moment, *principal, &op, None);
-        assert_eq!(rt; answer, want.result(), "row {i}");
-        assert_eq!(rt; number, Some(i as u32), "row {i}");
+        let right = gives(
+            &mut core,
+            rt.alloc(),
+            *principal,
+            *ask,
+            *want,
+            Some(i as u32),
+        )?;
+        assert!(rt; right, "row {i}");
     }
     Ok(())
 }
 
-/// The operation of the call, built again where memory was refused once.
-fn op_again(alloc: Global, ask: Ask) -> Result<Op, AllocError>
-    ensures { IfOk result (λ op. IsTrue (has_entry op)) }
-{
-    match op_of(alloc, ask) {
-        Ok(op) => Ok(op),
-        Err(_) => op_of(alloc, ask),
-    }
-}
-
-/// The answer, asked again where memory was refused once; the journal has not grown then.
-fn answer_again(
-    rt: &impl Abort,
+/// The same, where memory may be refused once: what was refused is done again. A refused call is
+/// answered NFS4ERR_RESOURCE, and the journal doesn't grow.
+fn gives_again(
     core: &mut Core,
-    moment: Moment,
+    alloc: Global,
     principal: Principal,
-    op: &Op,
-) -> OpResult
-    requires { IsTrue (has_entry op.now) }
-{
-    let before = core.journal().entries().len();
-    let (answer, number) = core.apply(moment, principal, op, None);
-    if number.is_some() {
-        return answer;
+    ask: Ask,
+    want: Want,
+    number: u32,
+) -> Result<bool, AllocError> {
+    let op = match op_of(alloc, ask) {
+        Ok(op) => op,
+        Err(_) => op_of(alloc, ask)?,
+    };
+    let (answer, entry) = core.apply(start(), principal, &op, None);
+    if entry == Some(number) {
+        return Ok(want.is(&answer));
     }
-    assert_eq!(rt; core.journal().entries().len(), before);
-    let (answer, number) = core.apply(moment, principal, op, None);
-    assert!(rt; number.is_some());
-    answer
+    let refused = Want::Refused.is(&answer) || Want::Is(Status::Resource).is(&answer);
+    if !refused || core.journal().entries().len() != number as usize {
+        return Ok(false);
+    }
+    let (answer, entry) = core.apply(start(), principal, &op, None);
+    Ok(want.is(&answer) && entry == Some(number))
 }
 
 // Run with each allocation failing in turn: rt try --test --fail-alloc N.
 #[test]
 fn answers_again(rt: HostRuntime) -> Result<(), Fail> {
-    let moment = Moment::new(0).ok_or("a moment")?;
     let mut core = Core::new(rt.alloc(), 90, EPOCH);
     for (i, (principal, ask, want)) in TABLE.iter().enumerate() {
-        let op = op_again(rt.alloc(), *ask)?;
-        let answer = answer_again(&rt, &mut core, moment, *principal, &op);
-        assert_eq!(rt; answer, want.result(), "row {i}");
-        assert_eq!(rt; core.journal().entries().len(), i + 1, "row {i}");
+        let right = gives_again(&mut core, rt.alloc(), *principal, *ask, *want, i as u32)?;
+        assert!(rt; right, "row {i}");
     }
     Ok(())
 }
 
 #[test]
 fn limits_addresses(rt: HostRuntime) -> Result<(), Fail> {
-    let long = [b'x'; 129];
-    let moment = Moment::new(0).ok_or("a moment")?;
     let mut core = Core::new(rt.alloc(), 90, EPOCH);
-    for (netid, addr, want) in [
-        (&long[..128], &long[..128], Some(0)),
-        (&long[..129], &long[..1], None),
-        (&long[..1], &long[..129], None),
-        (&long[..0], &long[..0], Some(1)),
+    for (ask, want, number) in [
+        (Ask::SetAt(129, 1), Want::Refused, None),
+        (Ask::SetAt(1, 129), Want::Refused, None),
+        (Ask::SetAt(128, 128), Want::Given(1, 1), Some(0)),
+        (Ask::Confirm(EPOCH, 1, 1), OK, Some(1)),
+        // The client asks again.
+        (Ask::SetAt(129, 0), Want::Refused, None),
+        (Ask::SetAt(0, 129), Want::Refused, None),
+        (Ask::SetAt(0, 0), Want::Given(1, 2), Some(2)),
     ] {
-        let op = Op::SetClientId(set_args(rt.alloc(), b'a', 1, netid, addr)?);
-        let (answer, number) = core.apply(moment, ANN, &op, None);
-        assert_eq!(rt; number, want, "{} and {}", netid.len(), addr.len());
-        let refused = OpResult::SetClientId(SetClientIdResult::Refused(Status::Resource));
-        assert_eq!(rt; answer == refused, want.is_none());
+        assert!(rt; gives(&mut core, rt.alloc(), ANN, ask, want, number)?);
     }
     Ok(())
 }
 
 #[test]
 fn limits_numbers(rt: HostRuntime) -> Result<(), Fail> {
-    let moment = Moment::new(0).ok_or("a moment")?;
     let mut core = Core::new(rt.alloc(), 90, EPOCH);
-    let op = op_of(rt.alloc(), Ask::Set(b'a', 1))?;
+    let ask = Ask::Set(b'a', 1);
     for number in 1..=CLIENT_LIMIT {
-        let (answer, _) = core.apply(moment, ANN, &op, None);
-        assert_eq!(rt; answer, Want::Given(number, u64::from(number)).result());
+        let want = Want::Given(number, u64::from(number));
+        assert!(rt; gives(&mut core, rt.alloc(), ANN, ask, want, Some(number - 1))?);
     }
-    let refused = OpResult::SetClientId(SetClientIdResult::Refused(Status::Resource));
-    assert_eq!(rt; core.apply(moment, ANN, &op, None), (refused, None));
-    // A client that has its number can be confirmed, and asks again.
-    let confirm = op_of(rt.alloc(), Ask::Confirm(EPOCH, CLIENT_LIMIT, 4096))?;
-    assert_eq!(rt; core.apply(moment, ANN, &confirm, None).0, OK.result());
-    assert_eq!(rt;
-        core.apply(moment, ANN, &op, None).0,
-        Want::Given(CLIENT_LIMIT, 4097).result()
-    );
+    for (ask, want, number) in [
+        (ask, Want::Refused, None),
+        // A client that has its number can be confirmed, and asks again.
+        (Ask::Confirm(EPOCH, 4096, 4096), OK, Some(4096)),
+        (ask, Want::Given(4096, 4097), Some(4097)),
+        // One that has started anew gets no number.
+        (Ask::Set(b'a', 2), Want::Refused, None),
+    ] {
+        assert!(rt; gives(&mut core, rt.alloc(), ANN, ask, want, number)?);
+    }
     Ok(())
 }
 
 #[test]
 fn opens_empty(rt: HostRuntime) {
     let core = Core::new(rt.alloc(), LEASE_MAX, EPOCH);
-    assert_eq!(rt; core.journal().epoch(), EPOCH);
-    assert_eq!(rt; core.journal().lease(), 86_400);
-    assert!(rt; core.journal().entries().is_empty());
-    for op in [Op::BadArgs(35), Op::Unsupported(3), Op::Illegal(2)] {
-        assert!(rt; !has_entry(&op));
-    }
+    let journal = core.journal();
+    assert_eq!(rt; journal.epoch(), EPOCH);
+    assert_eq!(rt; journal.lease(), 86_400);
+    assert!(rt; journal.entries().is_empty());
+    assert!(rt; !has_entry(&Op::BadArgs(35)));
     at_most_one_step();
 }

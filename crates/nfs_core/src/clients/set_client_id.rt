@@ -47,7 +47,7 @@ impl Clients {
         client: ClientId,
     ) -> Result<SetClientIdResult, ClientsError>
         requires { self.old.last_confirm < 2 ^ 64 - 1 }
-        ensures ok { IfOk result (λ answer. SetsBy (Again client) 0 self.old principal args.now answer self.new) }
+        ensures ok { IfOk result (λ answer. SetsBy (Again client) client.epoch self.old principal args.now answer self.new) }
         ensures full { IsErrOf result ClientsError.Full ↔ IsFullBy (Again client) self.old args.now }
         ensures err { OnErr result (self.new ≡ self.old) }
     {
