@@ -1,0 +1,14 @@
+//! Tests that go through all crates, from bytes to bytes. The expected bytes come from the XDR of RFC 7531 and the
+//! messages of RFC 5531, worked out by hand in words of four bytes.
+#![tactic(auto)]
+
+#[cfg(test)]
+mod devices;
+#[cfg(test)]
+mod faults;
+#[cfg(test)]
+mod limits;
+#[cfg(test)]
+mod messages;
+#[cfg(test)]
+mod rows;

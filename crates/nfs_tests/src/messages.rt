@@ -1,0 +1,50 @@
+//! Messages in words of four bytes, and a server over memory to send them to.
+
+use std::alloc::{AllocError, Global};
+
+use nfs_core::{Core, Moment};
+use nfs_server::{Counted, Lent, ServeError, Stopped, serve_connection};
+
+/// The words, big-endian.
+pub fn bytes_of(alloc: Global, words: &[u32]) -> Result<Vec<u8>, AllocError> {
+    let mut bytes = Vec::new(alloc);
+    for word in words {
+        bytes.extend_from_slice(&word.to_be_bytes())?;
+    }
+    Ok(bytes)
+}
+
+/// A record of one fragment: a call of this procedure under AUTH_NONE, with these words as its arguments.
+pub fn call(
+    alloc: Global,
+    xid: u32,
+    procedure: u32,
+    arguments: &[u32],
+) -> Result<Vec<u8>, AllocError> {
+    let head = [xid, 0, 2, 100_003, 4, procedure, 0, 0, 0, 0];
+    record(alloc, &head, arguments)
+}
+
+/// A record of one fragment: an accepted reply with SUCCESS and these words behind it.
+pub fn reply(alloc: Global, xid: u32, words: &[u32]) -> Result<Vec<u8>, AllocError> {
+    record(alloc, &[xid, 1, 0, 0, 0, 0], words)
+}
+
+/// A record of one fragment.
+pub fn record(alloc: Global, head: &[u32], body: &[u32]) -> Result<Vec<u8>, AllocError> {
+    let len = (head.len() + body.len()).min(1 << 20) as u32 * 4;
+    let mut bytes = bytes_of(alloc, &[0x8000_0000 + len])?;
+    bytes.extend_from_slice(bytes_of(alloc, head)?.as_slice())?;
+    bytes.extend_from_slice(bytes_of(alloc, body)?.as_slice())?;
+    Ok(bytes)
+}
+
+/// What a fresh server with lease 90 and epoch 1 writes for this input, and how the connection ends.
+pub fn served(alloc: Global, input: &[u8]) -> (Vec<u8>, Result<usize, ServeError>) {
+    let mut source = Counted::new(input);
+    let mut sink = Counted::new(Vec::new(alloc));
+    let mut lent = Lent::new(Core::new(alloc, 90, 1));
+    let mut clock = Stopped::at(Moment::new(0).unwrap());
+    let outcome = serve_connection(alloc, &mut source, &mut sink, &mut lent, &mut clock);
+    (sink.into_device(), outcome)
+}
