@@ -13,8 +13,8 @@ use Rattle.nfs_xdr.specs.Compound.{HoldOperations, IsRequest, IsCompound, or_mor
 use Rattle.nfs_xdr.specs.Layout.{◌⨾◌, U32, Opaque, NO_LIMIT}
 use Rattle.nfs_xdr.specs.Op.{ends_list, op_at}
 use Rattle.nfs_xdr.specs.Reading.{Read, Reads, Begins, Gives, Fails, ◌>>=◌, ◌then◌, number_at, opaque_at}
-use Rattle.nfs_xdr.proofs.BasicForms.{bind_ok, ok_is, reads_then, reads_number, reads_opaque}
-use Rattle.nfs_xdr.proofs.Operations.{decided, op_at_stands}
+use Rattle.nfs_xdr.proofs.BasicForms.{decided, bind_ok, ok_is, reads_then, reads_number, reads_opaque}
+use Rattle.nfs_xdr.proofs.Operations.{op_at_stands}
 
 holds_more : (count : ℕ) (bytes : List ℕ) (b : Bool) → ends_list (op_at bytes).0 ≡ b → HoldOperations count (op_at bytes).1 (operations_at count (op_at bytes).1) → HoldOperations (suc count) bytes (or_more (op_at bytes) (operations_at count))
 holds_more count bytes true last more = ((op_at bytes).1, op_at_stands bytes, rw last refl)

@@ -3,3 +3,4 @@ pub mod Operations
 pub mod CompoundLists
 pub mod WritingLists
 pub mod Compounds
+pub mod Results

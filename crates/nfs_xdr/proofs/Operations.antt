@@ -20,7 +20,7 @@ use Rattle.nfs_xdr.specs.Op.{AreArguments, LacksArguments, StandsAt, op_number, 
 use Rattle.nfs_xdr.specs.Reading.{Read, Reads, Begins, ◌then◌, number_at, fixed_at, opaque_at}
 use Rattle.nfs_xdr.specs.SetClientId.{IsSetClientId, set_client_id_at}
 use Rattle.nfs_xdr.specs.SetClientIdConfirm.{IsSetClientIdConfirm, set_client_id_confirm_at}
-use Rattle.nfs_xdr.proofs.BasicForms.{Begins-then, reads_then, reads_as, reads_number, reads_fixed, reads_opaque}
+use Rattle.nfs_xdr.proofs.BasicForms.{decided, Begins-then, reads_then, reads_as, lacks, reads_number, reads_fixed, reads_opaque}
 
 pub reads_address : Reads IsAddress address_at
 unfolding address_at
@@ -54,13 +54,6 @@ reads_set_client_id_confirm = reads_as (λ p. IsClientId p.0 ⨾ U64 p.1) (clien
     (λ (p : ClientId × ℕ). record { client = p.0; confirm = p.1 }) (λ (a : SetClientIdConfirm). (a.client, a.confirm)) (λ _. refl) (λ _. refl)
     (reads_then IsClientId U64 client_id_at (number_at 8) reads_client_id (reads_number 8))
 
--- where reading fails, nothing at the front stands in the layout
-lacks : {A : Type 0} (layout : A → List ℕ → Type 0) (read : List ℕ → Read A) → Reads layout read → (bytes : List ℕ) (e : WireError) → read bytes ≡ Err e → (value : A) (rest : List ℕ) → Begins (layout value) bytes rest → ⊥
-lacks layout read reads bytes e failed value rest found =
-    let given : read bytes ≡ Ok (value, rest) = ap read found.1 ∙ reads.complete value found.0 rest found.2 in
-    let clash : Err e ≡ Ok (value, rest) = sym failed ∙ given in
-    cc
-
 lacks_set_client_id : (bytes : List ℕ) (e : WireError) → set_client_id_at bytes ≡ Err e → LacksArguments 35 bytes
 lacks_set_client_id bytes e failed (ops.SetClientId args) rest number found = lacks IsSetClientId set_client_id_at reads_set_client_id bytes e failed args rest found
 lacks_set_client_id bytes e failed (ops.SetClientIdConfirm args) rest number found = absurd (omega arith)
@@ -82,11 +75,6 @@ stands_set_client_id bytes rest (Err d) number e = inr (number, refl, lacks_set_
 stands_set_client_id_confirm : (bytes rest : List ℕ) (r : Read SetClientIdConfirm) → Begins (U32 36) bytes rest → set_client_id_confirm_at rest ≡ r → StandsAt bytes (or_bad_args ops.SetClientIdConfirm 36 rest r).0 (or_bad_args ops.SetClientIdConfirm 36 rest r).1
 stands_set_client_id_confirm bytes rest (Ok x) number e = Begins-then (U32 36) (IsSetClientIdConfirm x.0) bytes rest x.1 number (reads_set_client_id_confirm.sound rest x.0 x.1 e)
 stands_set_client_id_confirm bytes rest (Err d) number e = inr (number, refl, lacks_set_client_id_confirm rest d e)
-
--- a test went one way or the other
-pub decided : (b : Bool) → (b ≡ true) ⊎ (b ≡ false)
-decided true = inl refl
-decided false = inr refl
 
 abbrev pub Stands : List ℕ → Op × List ℕ → Type 0
 Stands bytes x = StandsAt bytes x.0 x.1
@@ -118,7 +106,7 @@ too_short : (bytes : List ℕ) (e : WireError) → number_at 4 bytes ≡ Err e �
 too_short bytes e failed =
     elim (decided (ltb (length bytes) 4)) [
       | inl short ↦ ltb-true _ _ short
-      | inr long ↦ let clash : Ok (big_number 4 bytes, drop 4 bytes) ≡ Err e = rw long at failed in absurd cc
+      | inr long ↦ let clash : ◌≡◌ {A = Read ℕ} (Ok (big_number 4 bytes, drop 4 bytes)) (Err e) = rw long at failed in absurd cc
     ]
 
 stands_behind : (bytes : List ℕ) (r : Read ℕ) → number_at 4 bytes ≡ r → Stands bytes (op_behind bytes r)

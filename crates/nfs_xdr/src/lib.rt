@@ -22,9 +22,12 @@ pub use basic::{
 pub use bytes::Bytes;
 pub use callback::{Address, Callback};
 pub use client_id::ClientId;
-pub use compound::{Compound, Request};
-pub use op::Op;
-pub use op_result::OpResult;
+pub use compound::{Compound, OPERATION_LIMIT, Request, read_compound, write_results};
+pub use op::{
+    FIRST_OPERATION, LAST_OPERATION, OP_ILLEGAL, OP_SET_ATTR, OP_SET_CLIENT_ID,
+    OP_SET_CLIENT_ID_CONFIRM, Op, read_op, write_op,
+};
+pub use op_result::{OpResult, read_result, write_result};
 pub use sequence::Sequence;
 pub use set_client_id::{ID_LIMIT, SetClientId, SetClientIdResult};
 pub use set_client_id_confirm::SetClientIdConfirm;
