@@ -1,5 +1,5 @@
 -- What the reading functions of the basic forms read stands in the layouts, and what stands in them is read.
-use Rattle.std.proofs.Common.{◌≡◌, ℕ, zero, suc, ◌+◌, ◌-◌, ◌^◌, ◌<◌, ◌≤◌, Bool, true, false, cond, ltb, eqb, List, [], ◌∷◌, ◌++◌, length, take, drop, Result, Ok, Err, refl, sym, ap, subst, ◌∙◌, append_assoc, arith, inl, inr, ◌⊎◌}
+use Rattle.std.proofs.Common.{◌≡◌, ℕ, ◌+◌, ◌≤◌, Bool, true, false, cond, ltb, eqb, List, ◌++◌, length, take, drop, Result, Ok, Err, refl, sym, ap, subst, ◌∙◌, append_assoc, arith, inl, inr, ◌⊎◌}
 use Rattle.std.proofs.lemmas.Bool.{ltb-false, le-ltb, eqb-true}
 use Rattle.std.proofs.lemmas.List.{take_at, drop_at, take-append-drop, length-append, length-take, length-drop, drop-drop}
 use Rattle.byteorder.specs.Endian.{big_number}
@@ -7,7 +7,7 @@ use Rattle.byteorder.specs.Numbers.{big_from-take, big_from-append}
 use Rattle.nfs_xdr.specs.declared.wire_error.WireError.{WireError}
 use Rattle.nfs_xdr.specs.declared.wire_error.WireError.TheVariants as errors
 use Rattle.nfs_xdr.specs.Layout.{◌⨾◌, Number, U32, Flag, Fixed, Opaque, Any, padding_of}
-use Rattle.nfs_xdr.specs.Reading.{Read, Reads, Begins, ◌>>=◌, ◌then◌, as_value, number_at, fixed_at, padded_at, opaque_at}
+use Rattle.nfs_xdr.specs.Reading.{Read, Reads, Begins, ◌>>=◌, ◌then◌, as_value, number_at, flag_of, flag_at, fixed_at, padded_at, opaque_at}
 
 -- a test went one way or the other
 pub decided : (b : Bool) → (b ≡ true) ⊎ (b ≡ false)
@@ -151,4 +151,32 @@ reads_opaque limit = record {
       let second : drop (count + padding_of count) (value ++ (pad ++ rest)) ≡ rest =
       sym (drop-drop (padding_of count) count (value ++ (pad ++ rest))) ∙ ap (drop (padding_of count)) (drop_at value (pad ++ rest) count refl) ∙ drop_at pad rest (padding_of count) pad_len in
       rw (number, within, tail_is, long, first, second) refl;
+}
+
+flag_stands : (n : ℕ) (front mid : List ℕ) (y : Bool × List ℕ) → U32 n front → flag_of n mid ≡ Ok y → Flag y.0 front × (mid ≡ y.1)
+flag_stands n front mid y number e =
+    elim (decided (eqb n 0)) [
+      | inl zeroth ↦
+          let same : (false, mid) ≡ y = ok_is (false, mid) y (rw zeroth at e) in
+          subst (λ (x : Bool × List ℕ). Flag x.0 front × (mid ≡ x.1)) same (subst (λ (k : ℕ). U32 k front) (eqb-true n 0 zeroth) number, refl)
+      | inr other ↦
+          let one = wanted_ok (eqb n 1) errors.Short (Ok (true, mid)) y (rw other at e) in
+          let same : (true, mid) ≡ y = ok_is (true, mid) y one.1 in
+          subst (λ (x : Bool × List ℕ). Flag x.0 front × (mid ≡ x.1)) same (subst (λ (k : ℕ). U32 k front) (eqb-true n 1 one.0) number, refl)
+    ]
+
+flag_complete : (b : Bool) (front rest : List ℕ) → Flag b front → flag_at (front ++ rest) ≡ Ok (b, rest)
+unfolding flag_at
+flag_complete true front rest h = rw ((reads_number 4).complete 1 front rest h) refl
+flag_complete false front rest h = rw ((reads_number 4).complete 0 front rest h) refl
+
+pub reads_flag : Reads Flag flag_at
+unfolding flag_at
+reads_flag = record {
+  sound = λ bytes value rest e.
+      let n = bind_ok (number_at 4 bytes) (λ n. flag_of n.0 n.1) (value, rest) e in
+      let number = (reads_number 4).sound bytes n.0.0 n.0.1 n.1 in
+      let flag = flag_stands n.0.0 number.0 n.0.1 (value, rest) number.2 n.2 in
+      (number.0, number.1 ∙ ap (λ (x : List ℕ). number.0 ++ x) flag.1, flag.0);
+  complete = flag_complete;
 }

@@ -1,18 +1,15 @@
 -- What is read as a COMPOUND stands in its layout, and where none is read, none stands there.
-use Rattle.std.proofs.Common.{◌≡◌, ℕ, zero, suc, ◌+◌, ◌≤◌, Bool, true, false, cond, leb, eqb, List, [], ◌∷◌, ◌++◌, length, Result, Ok, Err, refl, sym, ap, subst, ◌∙◌, arith, inl, inr, ◌⊎◌}
+use Rattle.std.proofs.Common.{◌≡◌, ℕ, zero, suc, Bool, true, false, leb, eqb, List, Result, Ok, Err, refl, sym, ap, subst, ◌∙◌, inl, inr, ◌⊎◌}
 use Rattle.std.specs.Prelude.{IfOk, OnErr}
 use Rattle.std.proofs.lemmas.Bool.{eqb-true, leb-true}
 use Rattle.nfs_xdr.specs.declared.compound.Compound.{Compound}
-use Rattle.nfs_xdr.specs.declared.compound.Request.{Request}
-use Rattle.nfs_xdr.specs.declared.compound.Request.TheVariants.{MinorVersion, TooMany, Operations}
 use Rattle.nfs_xdr.specs.declared.compound.TheConstants.{OPERATION_LIMIT}
-use Rattle.nfs_xdr.specs.declared.op.Op.{Op}
 use Rattle.nfs_xdr.specs.declared.wire_error.WireError.{WireError}
 use Rattle.nfs_xdr.specs.declared.wire_error.WireError.TheVariants as errors
 use Rattle.nfs_xdr.specs.Compound.{HoldOperations, IsRequest, IsCompound, or_more, operations_at, request_at, head_at, compound_at}
 use Rattle.nfs_xdr.specs.Layout.{◌⨾◌, U32, Opaque, NO_LIMIT}
 use Rattle.nfs_xdr.specs.Op.{ends_list, op_at}
-use Rattle.nfs_xdr.specs.Reading.{Read, Reads, Begins, Gives, Fails, ◌>>=◌, ◌then◌, number_at, opaque_at}
+use Rattle.nfs_xdr.specs.Reading.{Read, Reads, Gives, ◌>>=◌, ◌then◌, number_at, opaque_at}
 use Rattle.nfs_xdr.proofs.BasicForms.{decided, bind_ok, ok_is, reads_then, reads_number, reads_opaque}
 use Rattle.nfs_xdr.proofs.Operations.{op_at_stands}
 

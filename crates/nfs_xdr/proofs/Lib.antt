@@ -4,3 +4,4 @@ pub mod CompoundLists
 pub mod WritingLists
 pub mod Compounds
 pub mod Results
+pub mod RoundTrips

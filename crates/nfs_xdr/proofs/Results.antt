@@ -1,6 +1,6 @@
 -- What is read as a result stands in its layout, and where none is read, none stands there.
-use Rattle.std.proofs.Common.{◌≡◌, ◌≢◌, ℕ, ◌+◌, ◌≤◌, Bool, true, false, cond, eqb, leb, List, [], ◌∷◌, ◌++◌, Option, Some, None, Result, Ok, Err, refl, sym, ap, subst, ◌∙◌, arith, inl, inr, ◌⊎◌}
-use Rattle.std.specs.Prelude.{IfOk, OnErr, ◌&&◌, ◌||◌, IsTrue, IsFalse, MatchBool}
+use Rattle.std.proofs.Common.{◌≡◌, ◌≢◌, ℕ, Bool, true, false, cond, eqb, List, [], ◌∷◌, ◌++◌, Option, Some, None, Result, Ok, Err, refl, ap, subst, ◌∙◌, inl, inr, ◌⊎◌}
+use Rattle.std.specs.Prelude.{IfOk, OnErr, ◌||◌, IsTrue, IsFalse}
 use Rattle.std.specs.List.{find}
 use Rattle.std.proofs.lemmas.Bool.{eqb-true}
 use Rattle.nfs_xdr.specs.declared.callback.Address.{Address}
@@ -20,7 +20,7 @@ use Rattle.nfs_xdr.specs.ClientId.{IsClientId, client_id_at}
 use Rattle.nfs_xdr.specs.Layout.{◌⨾◌, U32, U64}
 use Rattle.nfs_xdr.specs.Op.{has_rule, is_known}
 use Rattle.nfs_xdr.specs.OpResult.{IsResult, IsUnsupportedRest, answer_at, illegal_answer_at, result_at, set_client_id_answer_at, set_client_id_confirm_answer_at, unsupported_answer_at, unsupported_rest_at}
-use Rattle.nfs_xdr.specs.Reading.{Read, Reads, Begins, Gives, ◌>>=◌, ◌then◌, as_value, number_at}
+use Rattle.nfs_xdr.specs.Reading.{Reads, Begins, Gives, ◌>>=◌, ◌then◌, number_at}
 use Rattle.nfs_xdr.specs.SetClientId.{IsSetClientIdResult, set_client_id_result_at}
 use Rattle.nfs_xdr.specs.Status.{IsStatus, number_of, status_of, status_or_short, status_at}
 use Rattle.nfs_xdr.proofs.BasicForms.{decided, bind_ok, ok_is, wanted_ok, Begins-then, reads_then, reads_first, as_value_gives, lacks, reads_number}
@@ -203,7 +203,7 @@ unfolding answer_at set_client_id_answer_at set_client_id_result_at
 in_use_read address front rest h = rw (reads_address.complete address front rest h) refl
 
 -- the number of bad arguments is one of these
-bad_args_number : (n : ℕ) → IsTrue (has_rule n || eqb n OP_ILLEGAL) → (n ≡ OP_SET_CLIENT_ID) ⊎ (n ≡ OP_SET_CLIENT_ID_CONFIRM) ⊎ (n ≡ OP_ILLEGAL)
+pub bad_args_number : (n : ℕ) → IsTrue (has_rule n || eqb n OP_ILLEGAL) → (n ≡ OP_SET_CLIENT_ID) ⊎ (n ≡ OP_SET_CLIENT_ID_CONFIRM) ⊎ (n ≡ OP_ILLEGAL)
 bad_args_number n is =
     elim (decided (eqb n OP_SET_CLIENT_ID)) [
       | inl first ↦ inl (eqb-true _ _ first)

@@ -1,5 +1,5 @@
 -- The results of operations (RFC 7530, section 16; RFC 7531, nfs_resop4): a number, a status, and what the status brings.
-use Rattle.std.specs.Prelude.{◌≡◌, ◌≢◌, ℕ, Bool, true, false, ◌&&◌, ◌||◌, ◌==◌, List, [], ◌++◌, Result, Ok, Err, IsTrue, IsFalse, MatchBool, if◌then◌else◌}
+use Rattle.std.specs.Prelude.{◌≡◌, ◌≢◌, ℕ, ◌||◌, ◌==◌, List, [], ◌++◌, Ok, Err, IsTrue, IsFalse, MatchBool, if◌then◌else◌}
 use Rattle.nfs_xdr.specs.declared.op.TheConstants.{OP_ILLEGAL, OP_SET_ATTR, OP_SET_CLIENT_ID, OP_SET_CLIENT_ID_CONFIRM}
 use Rattle.nfs_xdr.specs.declared.op_result.OpResult.{OpResult}
 use Rattle.nfs_xdr.specs.declared.op_result.OpResult.TheVariants.{SetClientId, SetClientIdConfirm, BadArgs, Unsupported, Illegal}
@@ -11,7 +11,7 @@ use Rattle.nfs_xdr.specs.declared.wire_error.WireError.TheVariants as errors
 use Rattle.nfs_xdr.specs.Layout.{◌⨾◌, U32}
 use Rattle.nfs_xdr.specs.Op.{has_rule, is_known}
 use Rattle.nfs_xdr.specs.Reading.{Read, ◌>>=◌, as_value, number_at}
-use Rattle.nfs_xdr.specs.SetClientId.{IsSetClientIdResult, IsSetClientIdResultTooLong, set_client_id_result_at, written_set_client_id_result}
+use Rattle.nfs_xdr.specs.SetClientId.{IsSetClientIdResult, SetClientIdResultFits, IsSetClientIdResultTooLong, set_client_id_result_at, written_set_client_id_result}
 use Rattle.nfs_xdr.specs.Status.{IsStatus, status_at, written_status}
 use Rattle.nfs_xdr.specs.Writing.{written_u32}
 
@@ -97,3 +97,11 @@ written_result Illegal = written_u32 OP_ILLEGAL ++ written_status status.OpIlleg
 abbrev pub IsResultTooLong : OpResult → Type 0
 IsResultTooLong (SetClientId answer) = IsSetClientIdResultTooLong answer
 IsResultTooLong answer = ⊥
+
+-- The result can be spelled: what it holds fits its form, and its number and status are those of such a result.
+abbrev pub ResultFits : OpResult → Type 0
+ResultFits (SetClientId answer) = SetClientIdResultFits answer
+ResultFits (SetClientIdConfirm answer) = answer ≢ status.BadXdr
+ResultFits (BadArgs number) = IsTrue (has_rule number || (number == OP_ILLEGAL))
+ResultFits (Unsupported number) = IsFalse (has_rule number) × IsTrue (is_known number)
+ResultFits Illegal = Unit {0}

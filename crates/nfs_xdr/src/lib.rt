@@ -8,6 +8,7 @@ mod client_id;
 mod compound;
 mod op;
 mod op_result;
+mod round_trip;
 mod sequence;
 mod set_client_id;
 mod set_client_id_confirm;
@@ -28,6 +29,9 @@ pub use op::{
     OP_SET_CLIENT_ID_CONFIRM, Op, read_op, write_op,
 };
 pub use op_result::{OpResult, read_result, write_result};
+pub use round_trip::{
+    basic_forms_are_read_again, operations_are_read_again, results_are_read_again,
+};
 pub use sequence::Sequence;
 pub use set_client_id::{ID_LIMIT, SetClientId, SetClientIdResult};
 pub use set_client_id_confirm::SetClientIdConfirm;
