@@ -266,6 +266,9 @@ result_read Illegal front rest h = read_bare OP_ILLEGAL status.OpIllegal front r
 pub reads_result : Reads IsResult result_at
 reads_result = record { sound = λ bytes value rest e. result_stands bytes (value, rest) e; complete = result_read }
 
+pub result_complete : (bytes : List ℕ) (answer : OpResult) (rest : List ℕ) → Begins (IsResult answer) bytes rest → result_at bytes ≡ Ok (answer, rest)
+result_complete bytes answer rest begins = ap result_at begins.1 ∙ result_read answer begins.0 rest begins.2
+
 pub stands_if_ok : {X : Type 0} (view : X → OpResult × List ℕ) (bytes : List ℕ) (r : Result X WireError) → Gives view r (result_at bytes) → IfOk r (λ x. Stands bytes (view x))
 stands_if_ok view bytes (Ok x) given = result_stands bytes (view x) given
 stands_if_ok view bytes (Err e) given = tt

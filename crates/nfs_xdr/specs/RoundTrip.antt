@@ -1,10 +1,13 @@
 -- What is written is read again, whatever follows.
 use Rattle.std.specs.Prelude.{◌≡◌, ℕ, ◌^◌, ◌<◌, ◌≤◌, Bool, List, ◌++◌, length, Ok}
+use Rattle.nfs_xdr.specs.declared.compound.Compound.{Compound}
 use Rattle.nfs_xdr.specs.declared.op.Op.{Op}
+use Rattle.nfs_xdr.specs.declared.op_result.OpResult.{OpResult}
+use Rattle.nfs_xdr.specs.Compound.{IsCompound, compound_at}
 use Rattle.nfs_xdr.specs.Layout.{U32, U64, Flag, Fixed, Opaque}
 use Rattle.nfs_xdr.specs.Op.{OpFits, StandsAt, op_at, written_op}
 use Rattle.nfs_xdr.specs.OpResult.{IsResult, ResultFits, result_at, written_result}
-use Rattle.nfs_xdr.specs.Reading.{Read, number_at, flag_at, fixed_at, opaque_at}
+use Rattle.nfs_xdr.specs.Reading.{Read, Begins, number_at, flag_at, fixed_at, opaque_at}
 use Rattle.nfs_xdr.specs.Writing.{written_u32, written_u64, written_flag, written_opaque}
 
 -- The spelling of what fits stands in the layout, and it is read again, whatever follows.
@@ -34,6 +37,12 @@ ResultsAreReadAgain = IsReadAgain ResultFits written_result IsResult result_at
 abbrev pub OperationsAreReadAgain : Type 0
 OperationsAreReadAgain = (op : Op) (rest : List ℕ) → OpFits op → StandsAt (written_op op ++ rest) op rest
 
--- what stands at the front is what is read there, so it is one operation
+-- What stands at the front is what is read there, so no bytes stand for two values.
 abbrev pub OneOperationStands : Type 0
 OneOperationStands = (bytes : List ℕ) (op : Op) (rest : List ℕ) → StandsAt bytes op rest → op_at bytes ≡ (op, rest)
+
+abbrev pub OneResultStands : Type 0
+OneResultStands = (bytes : List ℕ) (answer : OpResult) (rest : List ℕ) → Begins (IsResult answer) bytes rest → result_at bytes ≡ Ok (answer, rest)
+
+abbrev pub OneCompoundStands : Type 0
+OneCompoundStands = (bytes : List ℕ) (compound : Compound) → IsCompound compound bytes → compound_at bytes ≡ Ok compound

@@ -30,7 +30,7 @@ pub use op::{
 };
 pub use op_result::{OpResult, read_result, write_result};
 pub use round_trip::{
-    basic_forms_are_read_again, operations_are_read_again, results_are_read_again,
+    basic_forms_are_read_again, one_value_stands, operations_and_results_are_read_again,
 };
 pub use sequence::Sequence;
 pub use set_client_id::{ID_LIMIT, SetClientId, SetClientIdResult};
