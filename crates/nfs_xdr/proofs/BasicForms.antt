@@ -180,3 +180,27 @@ reads_flag = record {
       (number.0, number.1 ∙ ap (λ (x : List ℕ). number.0 ++ x) flag.1, flag.0);
   complete = flag_complete;
 }
+
+padded_never_memory : (count : ℕ) (bytes : List ℕ) → padded_at count bytes ≡ Err errors.Memory → ⊥
+padded_never_memory count bytes e =
+    elim (decided (ltb (length bytes) (count + padding_of count))) [
+      | inl short ↦ let clash : ◌≡◌ {A = Read (List ℕ)} (Err errors.Short) (Err errors.Memory) = rw short at e in cc
+      | inr long ↦ let clash : ◌≡◌ {A = Read (List ℕ)} (Ok (take count bytes, drop (count + padding_of count) bytes)) (Err errors.Memory) = rw long at e in cc
+    ]
+
+-- the form is missing or too long, and no other error is told
+opaque_never_memory : (limit : ℕ) (bytes : List ℕ) → opaque_at limit bytes ≡ Err errors.Memory → ⊥
+unfolding opaque_at
+opaque_never_memory limit bytes e =
+    elim (decided (ltb (length bytes) 4)) [
+      | inl short ↦ let clash : ◌≡◌ {A = Read (List ℕ)} (Err errors.Short) (Err errors.Memory) = rw short at e in cc
+      | inr long ↦ elim (decided (ltb limit (big_number 4 bytes))) [
+        | inl above ↦ let clash : ◌≡◌ {A = Read (List ℕ)} (Err errors.TooLong) (Err errors.Memory) = rw (long, above) at e in cc
+        | inr within ↦
+            let padded : padded_at (big_number 4 bytes) (drop 4 bytes) ≡ Err errors.Memory = rw (long, within) at e in
+            padded_never_memory (big_number 4 bytes) (drop 4 bytes) padded
+      ]
+    ]
+
+pub opaque_tells : {X : Type 0} (limit : ℕ) (bytes : List ℕ) (r : Result X WireError) (e : WireError) → r ≡ Err e → opaque_at limit bytes ≡ Err e → r ≡ Err errors.Memory → ⊥
+opaque_tells limit bytes r e is told memory = let same : e ≡ errors.Memory = cc in opaque_never_memory limit bytes (rw same at told)
