@@ -1,5 +1,5 @@
 -- What the reading functions of the basic forms read stands in the layouts, and what stands in them is read.
-use Rattle.std.proofs.Common.{◌≡◌, ℕ, zero, suc, ◌+◌, ◌-◌, ◌^◌, ◌<◌, ◌≤◌, Bool, true, false, cond, ltb, eqb, List, [], ◌∷◌, ◌++◌, length, take, drop, Result, Ok, Err, refl, sym, ap, subst, ◌∙◌, append_assoc, arith}
+use Rattle.std.proofs.Common.{◌≡◌, ℕ, ◌+◌, ◌≤◌, Bool, true, false, cond, ltb, eqb, List, ◌++◌, length, take, drop, Result, Ok, Err, refl, sym, ap, subst, ◌∙◌, append_assoc, arith, inl, inr, ◌⊎◌}
 use Rattle.std.proofs.lemmas.Bool.{ltb-false, le-ltb, eqb-true}
 use Rattle.std.proofs.lemmas.List.{take_at, drop_at, take-append-drop, length-append, length-take, length-drop, drop-drop}
 use Rattle.byteorder.specs.Endian.{big_number}
@@ -7,7 +7,12 @@ use Rattle.byteorder.specs.Numbers.{big_from-take, big_from-append}
 use Rattle.nfs_xdr.specs.declared.wire_error.WireError.{WireError}
 use Rattle.nfs_xdr.specs.declared.wire_error.WireError.TheVariants as errors
 use Rattle.nfs_xdr.specs.Layout.{◌⨾◌, Number, U32, Flag, Fixed, Opaque, Any, padding_of}
-use Rattle.nfs_xdr.specs.Reading.{Read, Reads, Begins, ◌>>=◌, ◌then◌, as_value, number_at, fixed_at, padded_at, opaque_at}
+use Rattle.nfs_xdr.specs.Reading.{Read, Reads, Begins, ◌>>=◌, ◌then◌, as_value, number_at, flag_of, flag_at, fixed_at, padded_at, opaque_at}
+
+-- a test went one way or the other
+pub decided : (b : Bool) → (b ≡ true) ⊎ (b ≡ false)
+decided true = inl refl
+decided false = inr refl
 
 -- the value of a step that did not fail
 pub bind_ok : {A B : Type 0} (r : Result A WireError) (f : A → Result B WireError) (y : B) → (r >>= f) ≡ Ok y → (x : A) × (r ≡ Ok x) × (f x ≡ Ok y)
@@ -25,6 +30,11 @@ pub guard_ok : {A : Type 0} (b : Bool) (d : WireError) (r : Result A WireError) 
 guard_ok true d r y e = absurd cc
 guard_ok false d r y e = (refl, e)
 
+-- a test that was to be met
+pub wanted_ok : {A : Type 0} (b : Bool) (d : WireError) (r : Result A WireError) (y : A) → cond b r (Err d) ≡ Ok y → (b ≡ true) × (r ≡ Ok y)
+wanted_ok true d r y e = (refl, e)
+wanted_ok false d r y e = absurd cc
+
 pub Begins-then : (P Q : List ℕ → Type 0) (bytes mid rest : List ℕ) → Begins P bytes mid → Begins Q mid rest → Begins (P ⨾ Q) bytes rest
 Begins-then P Q bytes mid rest p q =
     (p.0 ++ q.0, p.1 ∙ ap (λ (x : List ℕ). p.0 ++ x) q.1 ∙ sym (append_assoc p.0 q.0 rest), (p.0, q.0, refl, p.2, q.2))
@@ -40,6 +50,24 @@ reads_then {A = A} {B = B} P Q f g p q = record {
       let regrouped : front ++ rest ≡ h.0 ++ (h.1 ++ rest) = ap (λ (x : List ℕ). x ++ rest) h.2 ∙ append_assoc h.0 h.1 rest in
       ap (f then g) regrouped ∙ rw (p.complete value.0 h.0 (h.1 ++ rest) h.3, q.complete value.1 h.1 rest h.4) refl;
 }
+
+-- the first of two is read, and the second is left
+pub reads_first : {A : Type 0} (P : A → List ℕ → Type 0) (f : List ℕ → Read A) → Reads P f → (value : A) (Q : List ℕ → Type 0) (bytes rest : List ℕ) (h : (P value ⨾ Q) bytes) → f (bytes ++ rest) ≡ Ok (value, h.1 ++ rest)
+reads_first P f p value Q bytes rest h =
+    ap f (ap (λ (x : List ℕ). x ++ rest) h.2 ∙ append_assoc h.0 h.1 rest) ∙ p.complete value h.0 (h.1 ++ rest) h.3
+
+-- what is made of what is read keeps what each value read gives it
+pub as_value_gives : {A B : Type 0} (f : List ℕ → Read A) (make : A → B) (M : B × List ℕ → Type 0) (bytes : List ℕ) → ((x : A × List ℕ) → f bytes ≡ Ok x → M (make x.0, x.1)) → (y : B × List ℕ) → as_value make f bytes ≡ Ok y → M y
+as_value_gives f make M bytes each y e =
+    let a = bind_ok (f bytes) (λ a. Ok (make a.0, a.1)) y e in
+    subst M (ok_is (make a.0.0, a.0.1) y a.2) (each a.0 a.1)
+
+-- where reading fails, nothing at the front stands in the layout
+pub lacks : {A : Type 0} (layout : A → List ℕ → Type 0) (read : List ℕ → Read A) → Reads layout read → (bytes : List ℕ) (e : WireError) → read bytes ≡ Err e → (value : A) (rest : List ℕ) → Begins (layout value) bytes rest → ⊥
+lacks {A = A} layout read reads bytes e failed value rest found =
+    let given : read bytes ≡ Ok (value, rest) = ap read found.1 ∙ reads.complete value found.0 rest found.2 in
+    let clash : ◌≡◌ {A = Read A} (Err e) (Ok (value, rest)) = sym failed ∙ given in
+    cc
 
 -- a record's layout is that of its fields, where `make` and `fields` undo one another
 pub reads_as : {A B : Type 0} (P : A → List ℕ → Type 0) (f : List ℕ → Read A) (make : A → B) (fields : B → A) → ((a : A) → fields (make a) ≡ a) → ((b : B) → make (fields b) ≡ b) → Reads P f → Reads (λ (b : B). P (fields b)) (as_value make f)
@@ -124,3 +152,55 @@ reads_opaque limit = record {
       sym (drop-drop (padding_of count) count (value ++ (pad ++ rest))) ∙ ap (drop (padding_of count)) (drop_at value (pad ++ rest) count refl) ∙ drop_at pad rest (padding_of count) pad_len in
       rw (number, within, tail_is, long, first, second) refl;
 }
+
+flag_stands : (n : ℕ) (front mid : List ℕ) (y : Bool × List ℕ) → U32 n front → flag_of n mid ≡ Ok y → Flag y.0 front × (mid ≡ y.1)
+flag_stands n front mid y number e =
+    elim (decided (eqb n 0)) [
+      | inl zeroth ↦
+          let same : (false, mid) ≡ y = ok_is (false, mid) y (rw zeroth at e) in
+          subst (λ (x : Bool × List ℕ). Flag x.0 front × (mid ≡ x.1)) same (subst (λ (k : ℕ). U32 k front) (eqb-true n 0 zeroth) number, refl)
+      | inr other ↦
+          let one = wanted_ok (eqb n 1) errors.Short (Ok (true, mid)) y (rw other at e) in
+          let same : (true, mid) ≡ y = ok_is (true, mid) y one.1 in
+          subst (λ (x : Bool × List ℕ). Flag x.0 front × (mid ≡ x.1)) same (subst (λ (k : ℕ). U32 k front) (eqb-true n 1 one.0) number, refl)
+    ]
+
+flag_complete : (b : Bool) (front rest : List ℕ) → Flag b front → flag_at (front ++ rest) ≡ Ok (b, rest)
+unfolding flag_at
+flag_complete true front rest h = rw ((reads_number 4).complete 1 front rest h) refl
+flag_complete false front rest h = rw ((reads_number 4).complete 0 front rest h) refl
+
+pub reads_flag : Reads Flag flag_at
+unfolding flag_at
+reads_flag = record {
+  sound = λ bytes value rest e.
+      let n = bind_ok (number_at 4 bytes) (λ n. flag_of n.0 n.1) (value, rest) e in
+      let number = (reads_number 4).sound bytes n.0.0 n.0.1 n.1 in
+      let flag = flag_stands n.0.0 number.0 n.0.1 (value, rest) number.2 n.2 in
+      (number.0, number.1 ∙ ap (λ (x : List ℕ). number.0 ++ x) flag.1, flag.0);
+  complete = flag_complete;
+}
+
+padded_never_memory : (count : ℕ) (bytes : List ℕ) → padded_at count bytes ≡ Err errors.Memory → ⊥
+padded_never_memory count bytes e =
+    elim (decided (ltb (length bytes) (count + padding_of count))) [
+      | inl short ↦ let clash : ◌≡◌ {A = Read (List ℕ)} (Err errors.Short) (Err errors.Memory) = rw short at e in cc
+      | inr long ↦ let clash : ◌≡◌ {A = Read (List ℕ)} (Ok (take count bytes, drop (count + padding_of count) bytes)) (Err errors.Memory) = rw long at e in cc
+    ]
+
+-- the form is missing or too long, and no other error is told
+opaque_never_memory : (limit : ℕ) (bytes : List ℕ) → opaque_at limit bytes ≡ Err errors.Memory → ⊥
+unfolding opaque_at
+opaque_never_memory limit bytes e =
+    elim (decided (ltb (length bytes) 4)) [
+      | inl short ↦ let clash : ◌≡◌ {A = Read (List ℕ)} (Err errors.Short) (Err errors.Memory) = rw short at e in cc
+      | inr long ↦ elim (decided (ltb limit (big_number 4 bytes))) [
+        | inl above ↦ let clash : ◌≡◌ {A = Read (List ℕ)} (Err errors.TooLong) (Err errors.Memory) = rw (long, above) at e in cc
+        | inr within ↦
+            let padded : padded_at (big_number 4 bytes) (drop 4 bytes) ≡ Err errors.Memory = rw (long, within) at e in
+            padded_never_memory (big_number 4 bytes) (drop 4 bytes) padded
+      ]
+    ]
+
+pub opaque_tells : {X : Type 0} (limit : ℕ) (bytes : List ℕ) (r : Result X WireError) (e : WireError) → r ≡ Err e → opaque_at limit bytes ≡ Err e → r ≡ Err errors.Memory → ⊥
+opaque_tells limit bytes r e is told memory = let same : e ≡ errors.Memory = cc in opaque_never_memory limit bytes (rw same at told)

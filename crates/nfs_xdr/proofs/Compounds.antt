@@ -1,7 +1,7 @@
 -- What is read as a COMPOUND stands in its layout, and where none is read, none stands there.
-use Rattle.std.proofs.Common.{◌≡◌, ℕ, zero, suc, ◌+◌, ◌≤◌, Bool, true, false, cond, leb, eqb, List, [], ◌∷◌, ◌++◌, length, Result, Ok, Err, refl, sym, ap, subst, ◌∙◌, arith, inl, inr, ◌⊎◌}
-use Rattle.std.specs.Prelude.{IfOk, OnErr}
-use Rattle.std.proofs.lemmas.Bool.{eqb-true, leb-true}
+use Rattle.std.proofs.Common.{◌≡◌, ℕ, zero, suc, Bool, true, false, cond, leb, eqb, List, [], ◌∷◌, Result, Ok, Err, refl, sym, ap, subst, ◌∙◌, inl, inr, ◌⊎◌}
+use Rattle.std.specs.Prelude.{IfOk, OnErr, MatchBool}
+use Rattle.std.proofs.lemmas.Bool.{eqb-true, leb-true, le-leb}
 use Rattle.nfs_xdr.specs.declared.compound.Compound.{Compound}
 use Rattle.nfs_xdr.specs.declared.compound.Request.{Request}
 use Rattle.nfs_xdr.specs.declared.compound.Request.TheVariants.{MinorVersion, TooMany, Operations}
@@ -12,9 +12,9 @@ use Rattle.nfs_xdr.specs.declared.wire_error.WireError.TheVariants as errors
 use Rattle.nfs_xdr.specs.Compound.{HoldOperations, IsRequest, IsCompound, or_more, operations_at, request_at, head_at, compound_at}
 use Rattle.nfs_xdr.specs.Layout.{◌⨾◌, U32, Opaque, NO_LIMIT}
 use Rattle.nfs_xdr.specs.Op.{ends_list, op_at}
-use Rattle.nfs_xdr.specs.Reading.{Read, Reads, Begins, Gives, Fails, ◌>>=◌, ◌then◌, number_at, opaque_at}
-use Rattle.nfs_xdr.proofs.BasicForms.{bind_ok, ok_is, reads_then, reads_number, reads_opaque}
-use Rattle.nfs_xdr.proofs.Operations.{decided, op_at_stands}
+use Rattle.nfs_xdr.specs.Reading.{Read, Reads, Gives, ◌>>=◌, ◌then◌, number_at, opaque_at}
+use Rattle.nfs_xdr.proofs.BasicForms.{decided, bind_ok, ok_is, reads_then, reads_number, reads_opaque}
+use Rattle.nfs_xdr.proofs.Operations.{op_at_stands, op_complete}
 
 holds_more : (count : ℕ) (bytes : List ℕ) (b : Bool) → ends_list (op_at bytes).0 ≡ b → HoldOperations count (op_at bytes).1 (operations_at count (op_at bytes).1) → HoldOperations (suc count) bytes (or_more (op_at bytes) (operations_at count))
 holds_more count bytes true last more = ((op_at bytes).1, op_at_stands bytes, rw last refl)
@@ -52,13 +52,34 @@ compound_stands bytes compound e =
     let stands : IsCompound (compound_of head.0) bytes = (head.0.0.1.0, head.0.0.1.1, head.0.1, begins, request_held head.0.0.1.0 head.0.0.1.1 head.0.1) in
     subst (λ (c : Compound). IsCompound c bytes) (ok_is (compound_of head.0) compound head.2) stands
 
-pub no_compound : (bytes : List ℕ) (error : WireError) → compound_at bytes ≡ Err error → (compound : Compound) → IsCompound compound bytes → ⊥
+-- What stands there is what is read.
+more_complete : (count : ℕ) (b : Bool) (op : Op) (ops : List Op) (rest : List ℕ) → (HoldOperations count rest ops → operations_at count rest ≡ ops) → MatchBool b (ops ≡ []) (HoldOperations count rest ops) → op ∷ cond b [] (operations_at count rest) ≡ op ∷ ops
+more_complete count true op ops rest each none = rw none refl
+more_complete count false op ops rest each more = rw (each more) refl
+
+operations_complete : (count : ℕ) (bytes : List ℕ) (ops : List Op) → HoldOperations count bytes ops → operations_at count bytes ≡ ops
+unfolding operations_at
+operations_complete zero bytes ops none = sym none
+operations_complete (suc count) bytes [] h = absurd h
+operations_complete (suc count) bytes (op ∷ ops) h =
+    ap (λ (x : Op × List ℕ). or_more x (operations_at count)) (op_complete bytes op h.0 h.1)
+    ∙ more_complete count (ends_list op) op ops h.0 (operations_complete count h.0 ops) h.2
+
+request_complete : (minor count : ℕ) (bytes : List ℕ) (request : Request) → IsRequest minor count bytes request → request_at minor count bytes ≡ request
+request_complete minor count bytes (MinorVersion other) h = rw h.1 (ap MinorVersion h.0)
+request_complete minor count bytes (TooMany many) h = rw (h.0, h.2) (ap TooMany h.1)
+request_complete minor count bytes (Operations ops) h = rw (h.0, le-leb _ _ h.1) (ap Operations (operations_complete count bytes ops h.2))
+
+pub compound_complete : (bytes : List ℕ) (compound : Compound) → IsCompound compound bytes → compound_at bytes ≡ Ok compound
 unfolding compound_at
-no_compound bytes error failed compound stands =
+compound_complete bytes compound stands =
     let head : List ℕ × (ℕ × ℕ) = (compound.tag, (stands.0, stands.1)) in
     let given : head_at bytes ≡ Ok (head, stands.2) = ap head_at stands.3.1 ∙ reads_head.complete head stands.3.0 stands.2 stands.3.2 in
-    let clash : Err error ≡ Ok (compound_of (head, stands.2)) = sym failed ∙ ap (λ (r : Read (List ℕ × (ℕ × ℕ))). r >>= λ h. Ok (compound_of h)) given in
-    cc
+    ap (λ (r : Read (List ℕ × (ℕ × ℕ))). r >>= λ h. Ok (compound_of h)) given
+    ∙ ap (λ (r : Request). Ok (record { tag = compound.tag; request = r })) (request_complete stands.0 stands.1 stands.2 compound.request stands.4)
+
+pub no_compound : (bytes : List ℕ) (error : WireError) → compound_at bytes ≡ Err error → (compound : Compound) → IsCompound compound bytes → ⊥
+no_compound bytes error failed compound stands = let clash : Err error ≡ Ok compound = sym failed ∙ compound_complete bytes compound stands in cc
 
 abbrev same : Compound → Compound
 same compound = compound

@@ -3,3 +3,5 @@ pub mod Operations
 pub mod CompoundLists
 pub mod WritingLists
 pub mod Compounds
+pub mod Results
+pub mod RoundTrips

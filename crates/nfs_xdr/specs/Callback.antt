@@ -1,5 +1,5 @@
 -- Where and how a client is called back (RFC 7530, section 2.2.4; cb_client4).
-use Rattle.std.specs.Prelude.{◌≡◌, ℕ, ◌^◌, ◌-◌, ◌≤◌, ◌⊎◌, List, ◌++◌, length}
+use Rattle.std.specs.Prelude.{ℕ, ◌^◌, ◌≤◌, ◌<◌, ◌⊎◌, List, ◌++◌, length}
 use Rattle.nfs_xdr.specs.declared.callback.Address.{Address}
 use Rattle.nfs_xdr.specs.declared.callback.Callback.{Callback}
 use Rattle.nfs_xdr.specs.Layout.{◌⨾◌, U32, Opaque, NO_LIMIT}
@@ -27,3 +27,10 @@ written_callback c = written_u32 c.program ++ (written_address c.address ++ writ
 -- a part is longer than a length can say
 abbrev pub IsAddressTooLong : Address → Type 0
 IsAddressTooLong a = (2 ^ 32 ≤ length a.netid) ⊎ (2 ^ 32 ≤ length a.addr)
+
+-- the numbers and the lengths fit their forms
+abbrev pub AddressFits : Address → Type 0
+AddressFits a = (length a.netid ≤ NO_LIMIT) × (length a.addr ≤ NO_LIMIT)
+
+abbrev pub CallbackFits : Callback → Type 0
+CallbackFits c = (c.program < 2 ^ 32) × AddressFits c.address × (c.ident < 2 ^ 32)

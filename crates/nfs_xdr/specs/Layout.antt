@@ -1,5 +1,5 @@
 -- Which bytes stand for a value (RFC 4506, RFC 7531). Numbers are big-endian.
-use Rattle.std.specs.Prelude.{◌≡◌, ℕ, ◌-◌, ◌^◌, ◌%◌, ◌≤◌, Bool, List, [], ◌∷◌, ◌++◌, length, if◌then◌else◌}
+use Rattle.std.specs.Prelude.{◌≡◌, ℕ, ◌-◌, ◌^◌, ◌%◌, ◌≤◌, Bool, List, ◌++◌, length, if◌then◌else◌}
 use Rattle.byteorder.specs.Endian.{big_number}
 
 -- the front of the bytes stands in the one layout, and the back in the other

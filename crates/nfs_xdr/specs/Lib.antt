@@ -9,3 +9,4 @@ pub mod SetClientIdConfirm
 pub mod Op
 pub mod OpResult
 pub mod Compound
+pub mod RoundTrip

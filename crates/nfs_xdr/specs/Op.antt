@@ -1,12 +1,12 @@
 -- Operations with their arguments (RFC 7530, section 16; RFC 7531, nfs_argop4).
-use Rattle.std.specs.Prelude.{◌≡◌, ℕ, ◌<◌, Bool, true, false, ◌&&◌, ◌||◌, ◌==◌, nat_le, ◌⊎◌, List, [], ◌++◌, length, Result, Ok, Err, IsTrue, IsFalse, if◌then◌else◌}
+use Rattle.std.specs.Prelude.{◌≡◌, ℕ, ◌^◌, ◌<◌, Bool, true, false, ◌&&◌, ◌||◌, ◌==◌, nat_le, ◌⊎◌, List, ◌++◌, length, Ok, Err, IsTrue, IsFalse, if◌then◌else◌}
 use Rattle.nfs_xdr.specs.declared.op.Op.{Op}
 use Rattle.nfs_xdr.specs.declared.op.Op.TheVariants.{SetClientId, SetClientIdConfirm, BadArgs, Unsupported, Illegal}
 use Rattle.nfs_xdr.specs.declared.op.TheConstants.{FIRST_OPERATION, LAST_OPERATION, OP_ILLEGAL, OP_SET_CLIENT_ID, OP_SET_CLIENT_ID_CONFIRM}
 use Rattle.nfs_xdr.specs.Layout.{◌⨾◌, U32}
 use Rattle.nfs_xdr.specs.Reading.{Read, Begins, number_at}
-use Rattle.nfs_xdr.specs.SetClientId.{IsSetClientId, IsSetClientIdTooLong, set_client_id_at, written_set_client_id}
-use Rattle.nfs_xdr.specs.SetClientIdConfirm.{IsSetClientIdConfirm, set_client_id_confirm_at, written_set_client_id_confirm}
+use Rattle.nfs_xdr.specs.SetClientId.{IsSetClientId, SetClientIdFits, IsSetClientIdTooLong, set_client_id_at, written_set_client_id}
+use Rattle.nfs_xdr.specs.SetClientIdConfirm.{IsSetClientIdConfirm, SetClientIdConfirmFits, set_client_id_confirm_at, written_set_client_id_confirm}
 use Rattle.nfs_xdr.specs.Writing.{written_u32}
 
 -- the number that stands before the arguments
@@ -82,3 +82,12 @@ written_op (Illegal number) = written_u32 number
 abbrev pub IsOpTooLong : Op → Type 0
 IsOpTooLong (SetClientId args) = IsSetClientIdTooLong args
 IsOpTooLong op = ⊥
+
+-- The operation can be spelled: its arguments fit their forms, or its number is that of such an operation. Bad arguments
+-- are bytes that nothing is read from, and have no spelling.
+abbrev pub OpFits : Op → Type 0
+OpFits (SetClientId args) = SetClientIdFits args
+OpFits (SetClientIdConfirm args) = SetClientIdConfirmFits args
+OpFits (BadArgs number) = ⊥
+OpFits (Unsupported number) = IsFalse (has_rule number) × IsTrue (is_known number)
+OpFits (Illegal number) = (number < 2 ^ 32) × IsFalse (has_rule number) × IsFalse (is_known number)

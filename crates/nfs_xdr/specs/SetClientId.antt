@@ -1,14 +1,14 @@
 -- SETCLIENTID (RFC 7530, section 16.33; RFC 7531): the layouts of its arguments and its result.
-use Rattle.std.specs.Prelude.{◌≡◌, ◌≢◌, ℕ, ◌^◌, ◌≤◌, ◌⊎◌, List, ◌++◌, length, Result, Ok, Err}
+use Rattle.std.specs.Prelude.{◌≡◌, ◌≢◌, ℕ, ◌^◌, ◌<◌, ◌≤◌, ◌⊎◌, List, ◌++◌, length, Ok}
 use Rattle.nfs_xdr.specs.declared.set_client_id.SetClientId.{SetClientId}
 use Rattle.nfs_xdr.specs.declared.set_client_id.SetClientIdResult.{SetClientIdResult}
 use Rattle.nfs_xdr.specs.declared.set_client_id.SetClientIdResult.TheVariants.{Done, ClidInUse, Refused}
 use Rattle.nfs_xdr.specs.declared.set_client_id.TheConstants.{ID_LIMIT}
 use Rattle.nfs_xdr.specs.declared.status.Status.{Status}
 use Rattle.nfs_xdr.specs.declared.status.Status.TheVariants as status
-use Rattle.nfs_xdr.specs.Callback.{IsAddress, IsAddressTooLong, IsCallback, address_at, callback_at, written_address, written_callback}
-use Rattle.nfs_xdr.specs.ClientId.{IsClientId, client_id_at, written_client_id}
-use Rattle.nfs_xdr.specs.Layout.{◌⨾◌, U32, U64, Fixed, Opaque}
+use Rattle.nfs_xdr.specs.Callback.{AddressFits, CallbackFits, IsAddress, IsAddressTooLong, IsCallback, address_at, callback_at, written_address, written_callback}
+use Rattle.nfs_xdr.specs.ClientId.{ClientIdFits, IsClientId, client_id_at, written_client_id}
+use Rattle.nfs_xdr.specs.Layout.{◌⨾◌, U64, Fixed, Opaque}
 use Rattle.nfs_xdr.specs.Reading.{Read, ◌then◌, as_value, number_at, fixed_at, opaque_at}
 use Rattle.nfs_xdr.specs.Status.{IsStatus, written_status}
 use Rattle.nfs_xdr.specs.Writing.{written_u64, written_opaque}
@@ -48,3 +48,13 @@ abbrev pub IsSetClientIdResultTooLong : SetClientIdResult → Type 0
 IsSetClientIdResultTooLong (Done client confirm) = ⊥
 IsSetClientIdResultTooLong (ClidInUse address) = IsAddressTooLong address
 IsSetClientIdResultTooLong (Refused s) = ⊥
+
+-- the numbers and the lengths fit their forms
+abbrev pub SetClientIdFits : SetClientId → Type 0
+SetClientIdFits a = (length a.verifier.0 ≡ 8) × (length a.id ≤ ID_LIMIT) × CallbackFits a.callback
+
+-- The same of a result, and it says by Refused only what has no form of its own.
+abbrev pub SetClientIdResultFits : SetClientIdResult → Type 0
+SetClientIdResultFits (Done client confirm) = ClientIdFits client × (confirm < 2 ^ 64)
+SetClientIdResultFits (ClidInUse address) = AddressFits address
+SetClientIdResultFits (Refused s) = (s ≢ status.Ok) × (s ≢ status.ClidInUse) × (s ≢ status.BadXdr)

@@ -1,5 +1,5 @@
 -- The numbers of the statuses (RFC 7530, section 13; RFC 7531, nfsstat4).
-use Rattle.std.specs.Prelude.{◌≡◌, ℕ, List, [], ◌∷◌, ◌==◌, Option, Some, None, Ok, Err, Result}
+use Rattle.std.specs.Prelude.{ℕ, List, ◌==◌, Option, Some, None, Ok, Err}
 use Rattle.std.specs.List.{find}
 use Rattle.nfs_xdr.specs.declared.status.Status.{Status}
 use Rattle.nfs_xdr.specs.declared.status.Status.TheVariants as status

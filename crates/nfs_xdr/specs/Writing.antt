@@ -1,5 +1,5 @@
 -- The one spelling of a value, with zero padding.
-use Rattle.std.specs.Prelude.{◌≡◌, ℕ, ◌+◌, ◌<◌, ◌≤◌, List, [], ◌∷◌, ◌++◌, Bool, length, take, if◌then◌else◌, Result, Err, vec_len, vec_capacity, OnOk, OnErr, IsErrOf}
+use Rattle.std.specs.Prelude.{◌≡◌, ℕ, ◌+◌, ◌<◌, ◌≤◌, List, [], ◌∷◌, ◌++◌, Bool, length, take, if◌then◌else◌, Result, vec_len, vec_capacity, OnOk, OnErr, IsErrOf}
 use Rattle.std.specs.Global.{Vec}
 use Rattle.nfs_xdr.specs.declared.wire_error.WireError.{WireError}
 use Rattle.nfs_xdr.specs.declared.wire_error.WireError.TheVariants as errors

@@ -8,6 +8,7 @@ mod client_id;
 mod compound;
 mod op;
 mod op_result;
+mod round_trip;
 mod sequence;
 mod set_client_id;
 mod set_client_id_confirm;
@@ -27,7 +28,10 @@ pub use op::{
     FIRST_OPERATION, LAST_OPERATION, OP_ILLEGAL, OP_SET_ATTR, OP_SET_CLIENT_ID,
     OP_SET_CLIENT_ID_CONFIRM, Op, read_op, write_op,
 };
-pub use op_result::{OpResult, write_result};
+pub use op_result::{OpResult, read_result, write_result};
+pub use round_trip::{
+    basic_forms_are_read_again, one_value_stands, operations_and_results_are_read_again,
+};
 pub use sequence::Sequence;
 pub use set_client_id::{ID_LIMIT, SetClientId, SetClientIdResult};
 pub use set_client_id_confirm::SetClientIdConfirm;

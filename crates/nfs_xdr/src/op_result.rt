@@ -1,13 +1,19 @@
-ghost use Rattle.std.specs.Prelude.{◌≡◌, ◌≤◌, ◌^◌, ◌++◌, length};
-ghost use Rattle.nfs_xdr.specs.OpResult.{IsResultTooLong, result_number, result_status, set_client_id_status, written_result, written_unsupported_rest};
+ghost use Rattle.std.specs.Prelude.{◌≡◌, ℕ, ◌⊎◌, ◌≤◌, ◌^◌, ◌++◌, List, length, IfOk, OnErr};
+ghost use Rattle.nfs_xdr.specs.declared.op_result.OpResult.{OpResult};
+ghost use Rattle.nfs_xdr.specs.OpResult.{IsResult, IsResultTooLong, answer_at, illegal_answer_at, result_at, result_number, result_status, set_client_id_answer_at, set_client_id_confirm_answer_at, set_client_id_status, unsupported_answer_at, unsupported_rest_at, written_result, written_unsupported_rest};
+ghost use Rattle.nfs_xdr.specs.Reading.{Answers, Begins, Gives};
 ghost use Rattle.nfs_xdr.specs.Status.{written_status};
 ghost use Rattle.nfs_xdr.specs.Writing.{Writes, WritesWhole};
 
-use crate::basic::{padding_of, write_u32};
-use crate::op::{OP_ILLEGAL, OP_SET_ATTR, OP_SET_CLIENT_ID, OP_SET_CLIENT_ID_CONFIRM};
-use crate::set_client_id::write_set_client_id_result;
-use crate::status::write_status;
+use crate::basic::{padding_of, read_u32, write_u32};
+use crate::op::{
+    FIRST_OPERATION, LAST_OPERATION, OP_ILLEGAL, OP_SET_ATTR, OP_SET_CLIENT_ID,
+    OP_SET_CLIENT_ID_CONFIRM,
+};
+use crate::set_client_id::{read_set_client_id_result, write_set_client_id_result};
+use crate::status::{read_status, write_status};
 use crate::{SetClientIdResult, Status, WireError};
+use std::alloc::Global;
 
 /// The result of an operation (nfs_resop4).
 #[derive(Clone, Debug, PartialEq, Drop)]
@@ -75,6 +81,115 @@ impl SetClientIdResult {
             SetClientIdResult::Refused(status) => *status,
         }
     }
+}
+
+/// The result at the front, and the bytes behind it. Short where bytes are missing, or where the number, the status
+/// and what is behind them are those of no result; TooLong where a length is above what its form allows.
+pub fn read_result(alloc: Global, bytes: &[u8]) -> Result<(OpResult, &[u8]), WireError>
+    // What is read stands in the layout. Where nothing is, nothing at the front does, or memory was refused.
+    ensures stands { IfOk result (λ x. Begins (IsResult x.0) bytes.now x.1.now) }
+    ensures none { OnErr result ((result ≡ Err WireError.Memory) ⊎ ((answer : OpResult) (rest : List ℕ) → Begins (IsResult answer) bytes.now rest → ⊥)) }
+    ensures reads { Gives (λ x. (x.0, x.1.now)) result (result_at bytes.now) }
+{
+    result_from(alloc, bytes)
+}
+
+#[tactic(auto, unfolding(crate::specs::OpResult::result_at))]
+fn result_from(alloc: Global, bytes: &[u8]) -> Result<(OpResult, &[u8]), WireError>
+    ensures { Gives (λ x. (x.0, x.1.now)) result (result_at bytes.now) }
+{
+    let (number, rest) = read_u32(bytes)?;
+    let (status, rest) = read_status(rest)?;
+    read_answer(alloc, number, status, rest)
+}
+
+// The result of this number and status, and what they bring is to stand at the front.
+#[tactic(auto, unfolding(crate::specs::OpResult::answer_at))]
+fn read_answer(
+    alloc: Global,
+    number: u32,
+    status: Status,
+    bytes: &[u8],
+) -> Result<(OpResult, &[u8]), WireError>
+    ensures { Gives (λ x. (x.0, x.1.now)) result (answer_at number status bytes.now) }
+{
+    match number {
+        OP_SET_CLIENT_ID => set_client_id_answer(alloc, status, bytes),
+        OP_SET_CLIENT_ID_CONFIRM => set_client_id_confirm_answer(status, bytes),
+        OP_ILLEGAL => illegal_answer(status, bytes),
+        FIRST_OPERATION..=LAST_OPERATION => unsupported_answer(number, status, bytes),
+        _ => Err(WireError::Short),
+    }
+}
+
+#[tactic(auto, unfolding(crate::specs::OpResult::set_client_id_answer_at))]
+fn set_client_id_answer(
+    alloc: Global,
+    status: Status,
+    bytes: &[u8],
+) -> Result<(OpResult, &[u8]), WireError>
+    ensures { Gives (λ x. (x.0, x.1.now)) result (set_client_id_answer_at status bytes.now) }
+{
+    match status {
+        Status::BadXdr => Ok((OpResult::BadArgs(OP_SET_CLIENT_ID), bytes)),
+        status => {
+            let (answer, rest) = read_set_client_id_result(alloc, status, bytes)?;
+            Ok((OpResult::SetClientId(answer), rest))
+        }
+    }
+}
+
+#[tactic(auto, unfolding(crate::specs::OpResult::set_client_id_confirm_answer_at))]
+fn set_client_id_confirm_answer(
+    status: Status,
+    bytes: &[u8],
+) -> Result<(OpResult, &[u8]), WireError>
+    ensures { Answers (λ x. (x.0, x.1.now)) result (set_client_id_confirm_answer_at status bytes.now) }
+{
+    match status {
+        Status::BadXdr => Ok((OpResult::BadArgs(OP_SET_CLIENT_ID_CONFIRM), bytes)),
+        status => Ok((OpResult::SetClientIdConfirm(status), bytes)),
+    }
+}
+
+#[tactic(auto, unfolding(crate::specs::OpResult::illegal_answer_at))]
+fn illegal_answer(status: Status, bytes: &[u8]) -> Result<(OpResult, &[u8]), WireError>
+    ensures { Answers (λ x. (x.0, x.1.now)) result (illegal_answer_at status bytes.now) }
+{
+    match status {
+        Status::OpIllegal => Ok((OpResult::Illegal, bytes)),
+        Status::BadXdr => Ok((OpResult::BadArgs(OP_ILLEGAL), bytes)),
+        _ => Err(WireError::Short),
+    }
+}
+
+#[tactic(auto, unfolding(crate::specs::OpResult::unsupported_answer_at))]
+fn unsupported_answer(
+    number: u32,
+    status: Status,
+    bytes: &[u8],
+) -> Result<(OpResult, &[u8]), WireError>
+    ensures { Answers (λ x. (x.0, x.1.now)) result (unsupported_answer_at number status bytes.now) }
+{
+    match status {
+        Status::NotSupp => read_unsupported_rest(number, bytes),
+        _ => Err(WireError::Short),
+    }
+}
+
+// What the operation's result has behind NFS4ERR_NOTSUPP: for SETATTR the bitmap, which is to be empty.
+#[tactic(auto, unfolding(crate::specs::OpResult::unsupported_rest_at))]
+fn read_unsupported_rest(number: u32, bytes: &[u8]) -> Result<(OpResult, &[u8]), WireError>
+    ensures { Answers (λ x. (x.0, x.1.now)) result (unsupported_rest_at number bytes.now) }
+{
+    if number != OP_SET_ATTR {
+        return Ok((OpResult::Unsupported(number), bytes));
+    }
+    let (count, rest) = read_u32(bytes)?;
+    if count != 0 {
+        return Err(WireError::Short);
+    }
+    Ok((OpResult::Unsupported(number), rest))
 }
 
 /// Writes the number, the status and what the status brings at the end.

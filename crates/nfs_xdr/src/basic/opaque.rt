@@ -1,4 +1,4 @@
-ghost use Rattle.std.specs.Prelude.{◌≡◌, ◌<◌, ◌≤◌, ◌^◌, length};
+ghost use Rattle.std.specs.Prelude.{◌≡◌, ◌<◌, ◌≤◌, ◌^◌, length, IsErrOf, IsOk};
 ghost use Rattle.nfs_xdr.specs.Layout as layout;
 ghost use Rattle.nfs_xdr.specs.Reading.{Answers, Gives, opaque_at};
 ghost use Rattle.nfs_xdr.specs.Writing.{Writes, written_opaque};
@@ -39,7 +39,9 @@ pub fn read_opaque_bytes(
     bytes: &[u8],
     limit: u32,
 ) -> Result<(Bytes, &[u8]), WireError>
-    ensures { Gives (λ x. (x.0, x.1.now)) result (opaque_at limit bytes.now) }
+    ensures reads { Gives (λ x. (x.0, x.1.now)) result (opaque_at limit bytes.now) }
+    // Memory is told only of bytes that are there.
+    ensures memory { IsErrOf result WireError.Memory → IsOk (opaque_at limit bytes.now) }
 {
     let (value, rest) = read_opaque(bytes, limit)?;
     Ok((Bytes::copied(alloc, value)?, rest))
