@@ -11,4 +11,6 @@ mod limits;
 #[cfg(test)]
 mod messages;
 #[cfg(test)]
+mod refusals;
+#[cfg(test)]
 mod rows;
