@@ -156,3 +156,11 @@ errs e = Err e
 
 pub error_is : (e f : ServeError) → errs e ≡ errs f → e ≡ f
 error_is e f same = cc
+
+-- nothing but the records that are ready changes, so what is so of every stream stays
+pub still_stream : (old new : Stream) → new ≡ record old { ready = [] } → IsStream old → IsStream new
+still_stream old new same sound = rw same (record { none_left = sound.none_left; too_long = sound.too_long; bounded = sound.bounded })
+
+-- more can come
+pub goes_on_from : (stream : Stream) (text : List ℕ) → IsStream stream → stream.is_too_long ≡ false → stream.fed ≡ length text → (IsTooLong stream.rest → ⊥) × (length text ≤ STREAM_LIMIT)
+goes_on_from stream text sound goes fed = ((λ long. let told : stream.is_too_long ≡ true = sound.too_long.1 long in let clash : true ≡ false = sym told ∙ goes in cc), omega (arith, sound.bounded))

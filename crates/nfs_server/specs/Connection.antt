@@ -1,5 +1,5 @@
 -- A connection: what was read, what was asked at which moment, and what was written.
-use Rattle.std.specs.Prelude.{◌≡◌, ℕ, ◌+◌, ◌^◌, ◌<◌, List, [], ◌∷◌, ◌++◌, length, map, Option, Some, None, Result, Ok, Err}
+use Rattle.std.specs.Prelude.{◌≡◌, ℕ, ◌+◌, ◌^◌, ◌<◌, ◌≤◌, List, [], ◌∷◌, ◌++◌, length, map, Option, Some, None, Result, Ok, Err}
 use Rattle.std.specs.List.{flat_map}
 use Rattle.std.specs.Io.KnownBytes.{Appends, Consumes, IsAtEnd}
 use Rattle.nfs_core.specs.declared.principal.Principal.{Principal}
@@ -8,7 +8,7 @@ use Rattle.nfs_server.specs.declared.call.Call.{Call}
 use Rattle.nfs_server.specs.declared.call.Call.TheVariants as calls
 use Rattle.nfs_server.specs.declared.serve_error.ServeError.{ServeError}
 use Rattle.nfs_server.specs.declared.serve_error.ServeError.TheVariants as errors
-use Rattle.nfs_server.specs.declared.connection.TheConstants.{STREAM_LIMIT}
+use Rattle.nfs_server.specs.declared.connection.TheConstants.{PIECE_LEN, STREAM_LIMIT}
 use Rattle.nfs_server.specs.Answering.{asked, reply}
 use Rattle.nfs_server.specs.Asking.{Asks, Question, question_of}
 use Rattle.nfs_server.specs.Call.{IsCall}
@@ -122,12 +122,16 @@ IsAnswered course = course.written ≡ written_for_all course.exchanges
 abbrev pub IsComplete : Course → Type 0
 IsComplete course = IsAnswered course × (course.unanswered ≡ [])
 
+-- more could have come: no record is too long, and the stream isn't
+abbrev pub GoesOn : Course → Type 0
+GoesOn course = (IsTooLong course.rest → ⊥) × (length course.text ≤ STREAM_LIMIT)
+
 -- How a connection ends.
 abbrev pub EndsWith : Course → Result ℕ ServeError → Type 0
 -- at the end of the input: the number is the length of the rest
-EndsWith course (Ok len) = IsComplete course × (course.lost ≡ []) × (len ≡ length course.rest)
+EndsWith course (Ok len) = IsComplete course × (course.lost ≡ []) × GoesOn course × (len ≡ length course.rest)
 -- a read failed
-EndsWith course (Err errors.Read) = IsComplete course × (course.lost ≡ [])
+EndsWith course (Err errors.Read) = IsComplete course × (course.lost ≡ []) × GoesOn course
 -- a write failed: what went out is a beginning of the replies
 EndsWith course (Err errors.Write) = (course.lost ≡ []) × IsCut course.written course.exchanges
 -- the records before the one that is too long were answered
@@ -135,7 +139,8 @@ EndsWith course (Err errors.TooLong) = IsComplete course × (course.lost ≡ [])
 -- memory was refused
 EndsWith course (Err errors.Memory) = IsAnswered course
 -- more came than a stream may have: the records before the last read were answered
-EndsWith course (Err errors.TooMuch) = IsComplete course × (STREAM_LIMIT < length course.text)
+EndsWith course (Err errors.TooMuch) =
+    IsComplete course × (STREAM_LIMIT < length course.text) × (length course.fed ≤ STREAM_LIMIT) × (length course.lost ≤ PIECE_LEN)
 
 -- There is a course of the connection from where service, clock and devices were to where they are: what was read, what
 -- was asked of the service at which moment, what it answered, and what was written.

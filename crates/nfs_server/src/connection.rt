@@ -14,7 +14,7 @@ use crate::{Clock, DeviceFailed, RecordError, Records, ServeError, Service, Sink
 pub const STREAM_LIMIT: u64 = 1 << 40;
 
 /// How many bytes are asked of a source at once.
-const PIECE_LEN: usize = 65_536;
+pub const PIECE_LEN: usize = 65_536;
 
 /// Serves a connection until its input ends, and gives the number of bytes that came behind the last whole record.
 ///
@@ -58,7 +58,7 @@ fn serve_stream<R: Source, W: Sink, S: Service, C: Clock>(
     requires writes { W.failures sink.old < 2 ^ 64 - 1 }
     requires empty { records ≡ record { ready = []; rest = []; fed = 0; is_too_long = false } }
     requires sound { IsStream records }
-    requires some { 0 < length buffer.old }
+    requires piece { length buffer.old ≡ PIECE_LEN }
     ensures course { HasCourse S.gives C.tells service.old clock.old (R.remaining source.old) (W.contents sink.old) result service.new clock.new (R.remaining source.new) (W.contents sink.new) }
     ensures end { OnOk result (IsAtEnd (R.remaining source.new)) }
     ensures read_failed { IsErrOf result ServeError.Read → R.failures source.old < R.failures source.new }

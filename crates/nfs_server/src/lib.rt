@@ -17,7 +17,7 @@ mod service;
 pub use call::{Call, Header, read_call};
 pub use clock::{Clock, Stopped};
 pub use compound::run_compound;
-pub use connection::{STREAM_LIMIT, serve_connection};
+pub use connection::{PIECE_LEN, STREAM_LIMIT, serve_connection};
 pub use device::{Counted, DeviceFailed, Sink, Source};
 pub use fault::Fault;
 pub use once::run_once;

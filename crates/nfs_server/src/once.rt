@@ -1,4 +1,5 @@
-ghost use Rattle.std.specs.Prelude.{◌≡◌, ◌-◌, ◌^◌, ◌<◌, ℕ, Result};
+ghost use Rattle.std.specs.Prelude.{◌≡◌, ◌-◌, ◌^◌, ◌<◌, ℕ, Result, OnOk, IsErrOf};
+ghost use Rattle.std.specs.Io.KnownBytes.{IsAtEnd};
 ghost use Rattle.nfs_server.specs.Connection.{HasCourse};
 ghost use Rattle.nfs_server.specs.Once.{fault_of, status_of};
 ghost use Rattle.nfs_server.specs.declared.clock.Stopped.{Stopped};
@@ -26,6 +27,9 @@ pub fn run_once<R: Source, W: Sink, E: Write>(
     ensures { (lent : Lent) × (clock : Stopped) × (lent' : Lent) × (clock' : Stopped) × (outcome : Result ℕ ServeError)
         × (lent.core ≡ core) × (clock.moment ≡ 0)
         × HasCourse ⟦<Lent as Service>⟧.gives ⟦<Stopped as Clock>⟧.tells lent clock (R.remaining source.old) (W.contents sink.old) outcome lent' clock' (R.remaining source.new) (W.contents sink.new)
+        × OnOk outcome (IsAtEnd (R.remaining source.new))
+        × (IsErrOf outcome ServeError.Read → R.failures source.old < R.failures source.new)
+        × (IsErrOf outcome ServeError.Write → W.failures sink.old < W.failures sink.new)
         × (result ≡ status_of (fault_of outcome)) }
 {
     let mut lent = Lent::new(core);

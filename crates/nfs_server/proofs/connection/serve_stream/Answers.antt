@@ -1,42 +1,50 @@
-use Rattle.std.proofs.Common.{◌≡◌, ℕ, List, [], Err, length, take, Ok, refl, ap, sym, subst, ◌∙◌, arith}
+use Rattle.std.proofs.Common.{◌≡◌, ℕ, List, [], ◌++◌, Err, length, take, Ok, refl, ap, sym, subst, ◌∙◌, arith}
 use Rattle.std.specs.Io.KnownBytes.{Consumes}
 use Rattle.std.proofs.KnownBytes.{Consumes-nil, Consumes-kept}
-use Rattle.std.proofs.lemmas.List.{length-append, length-take}
+use Rattle.std.proofs.lemmas.List.{append-nil, length-append, length-take}
 use Rattle.std.proofs.lemmas.Result.{err_from_is_err_and}
 use Rattle.nfs_server.specs.declared.serve_error.ServeError.{ServeError}
 use Rattle.nfs_server.specs.declared.serve_error.ServeError.TheVariants as errors
-use Rattle.nfs_server.proofs.Courses.{starts, ends_answered, ready_within, ends_serving, more_served, ends_too_long, error_is}
+use Rattle.nfs_server.proofs.Courses.{starts, ends_answered, ready_within, ends_serving, more_served, ends_too_long, error_is, goes_on_from, still_stream}
 use Rattle.nfs_server.proofs.connection.serve_stream.Goals as goal
 
 pub loop-records-init : goal.loop-records-init
 loop-records-init g c = record {
   under_way = starts g.S.Service.gives g.C.Clock.tells c.args.service.now c.args.clock.now (g.R.Source.remaining c.args.source.now) (g.W.Sink.contents c.args.sink.now) c.args.records c.requires.empty c.requires.sound;
+  sound = c.requires.sound;
   reads = refl;
   writes = refl;
 }
 
 pub returns-in-Ok-eq0-clause-course : goal.returns-in-Ok-eq0-clause-course
 returns-in-Ok-eq0-clause-course g c =
+    let goes = goes_on_from c.loop-records.records (c.loop-records.invariant.under_way.text ++ []) c.loop-records.invariant.sound c.loop-records.invariant.under_way.goes
+      (c.loop-records.invariant.under_way.fed ∙ ap length (sym (append-nil c.loop-records.invariant.under_way.text))) in
     let none : Consumes (g.R.Source.remaining c.loop-records.source) (g.R.Source.remaining c.read.new.self) [] =
       subst (λ (n : ℕ). Consumes (g.R.Source.remaining c.loop-records.source) (g.R.Source.remaining c.read.new.self) (take n c.read.new.buffer)) c.in-Ok-eq0.field-0-test c.in-Ok-eq0.ensures.bytes.0 in
     ends_answered g.S.Service.gives g.C.Clock.tells c.args.service.now c.loop-records.service c.args.clock.now c.loop-records.clock
       (g.R.Source.remaining c.args.source.now) (g.W.Sink.contents c.args.sink.now) (g.R.Source.remaining c.loop-records.source) (g.R.Source.remaining c.read.new.self) (g.W.Sink.contents c.loop-records.sink)
-      c.loop-records.records [] (Ok c.rest.result) c.loop-records.invariant.under_way none ((refl, refl), refl, c.rest.ensures.value)
+      c.loop-records.records [] (Ok c.rest.result) c.loop-records.invariant.under_way none ((refl, refl), refl, goes, c.rest.ensures.value)
 
 pub returns-in-Err-clause-course : goal.returns-in-Err-clause-course
 returns-in-Err-clause-course g c =
+    let goes = goes_on_from c.loop-records.records (c.loop-records.invariant.under_way.text ++ []) c.loop-records.invariant.sound c.loop-records.invariant.under_way.goes
+      (c.loop-records.invariant.under_way.fed ∙ ap length (sym (append-nil c.loop-records.invariant.under_way.text))) in
     ends_answered g.S.Service.gives g.C.Clock.tells c.args.service.now c.loop-records.service c.args.clock.now c.loop-records.clock
       (g.R.Source.remaining c.args.source.now) (g.W.Sink.contents c.args.sink.now) (g.R.Source.remaining c.loop-records.source) (g.R.Source.remaining c.read.new.self) (g.W.Sink.contents c.loop-records.sink)
       c.loop-records.records [] (Err errors.Read) c.loop-records.invariant.under_way
       (Consumes-kept (g.R.Source.remaining c.loop-records.source) (g.R.Source.remaining c.loop-records.source) (g.R.Source.remaining c.read.new.self) [] (Consumes-nil (g.R.Source.remaining c.loop-records.source)) c.in-Err.ensures.bytes)
-      ((refl, refl), refl)
+      ((refl, refl), refl, goes)
 
 pub returns-then-count-fed-clause-course : goal.returns-then-count-fed-clause-course
 returns-then-count-fed-clause-course g c =
     ends_answered g.S.Service.gives g.C.Clock.tells c.args.service.now c.loop-records.service c.args.clock.now c.loop-records.clock
       (g.R.Source.remaining c.args.source.now) (g.W.Sink.contents c.args.sink.now) (g.R.Source.remaining c.loop-records.source) (g.R.Source.remaining c.read.new.self) (g.W.Sink.contents c.loop-records.sink)
       c.loop-records.records (take c.in-Ok.count c.read.new.buffer) (Err errors.TooMuch) c.loop-records.invariant.under_way c.in-Ok.ensures.bytes.0
-      ((refl, refl), omega (arith, length-append c.loop-records.invariant.under_way.text (take c.in-Ok.count c.read.new.buffer), length-take c.in-Ok.count c.read.new.buffer, c.loop-records.invariant.under_way.fed, c.fed.ensures.value, c.in-Ok.ensures.within, c.if-count-fed.true))
+      ( (refl, refl),
+        omega (arith, length-append c.loop-records.invariant.under_way.text (take c.in-Ok.count c.read.new.buffer), length-take c.in-Ok.count c.read.new.buffer, c.loop-records.invariant.under_way.fed, c.fed.ensures.value, c.in-Ok.ensures.within, c.if-count-fed.true),
+        omega (arith, c.loop-records.invariant.under_way.fed, c.loop-records.invariant.sound.bounded),
+        omega (arith, length-take c.in-Ok.count c.read.new.buffer, c.in-Ok.ensures.within) )
 
 pub returns-in_err-take_in-clause-course : goal.returns-in_err-take_in-clause-course
 returns-in_err-take_in-clause-course g c =
@@ -73,6 +81,7 @@ loop-records-preserved g c = record {
       c.loop-records.records c.take_in.new.records c.serve_ready.new.records (take c.in-Ok.count c.read.new.buffer)
       c.loop-records.invariant.under_way c.in-Ok.ensures.bytes.0 c.in_ok-take_in.ensures.ok c.in_ok-serve_ready.ensures.served c.in_ok-serve_ready.ensures.taken
       (sym c.is_too_long.ensures.value ∙ c.if-is_too_long.false);
+  sound = still_stream c.take_in.new.records c.serve_ready.new.records c.in_ok-serve_ready.ensures.taken c.in_ok-take_in.ensures.sound;
   reads = c.in-Ok.ensures.ok ∙ c.loop-records.invariant.reads;
   writes = c.in_ok-serve_ready.ensures.ok ∙ c.loop-records.invariant.writes;
 }
