@@ -1,5 +1,5 @@
 -- How one entry leads from a state to the next.
-use Rattle.std.specs.Prelude.{◌≡◌, ℕ, ◌<◌, Bool, true, false, length, Option, Some, None}
+use Rattle.std.specs.Prelude.{◌≡◌, ℕ, ◌<◌, length, Option, Some, None}
 use Rattle.nfs_xdr.specs.declared.op.Op.{Op}
 use Rattle.nfs_xdr.specs.declared.op.Op.TheVariants as ops
 use Rattle.nfs_xdr.specs.declared.op_result.OpResult.{OpResult}
@@ -50,14 +50,6 @@ StepOp journal old principal op answer new = ⊥
 abbrev pub Step : History → State → Entry → State → Type 0
 Step journal old (entries.Call call) new =
     (length journal.entries < JOURNAL_LIMIT) × StepOp journal old call.principal call.op call.answer new
-
--- the operation has a rule here, and an entry each time that it is answered by that rule
-abbrev pub has_entry : Op → Bool
-has_entry (ops.SetClientId args) = true
-has_entry (ops.SetClientIdConfirm args) = true
-has_entry (ops.BadArgs number) = false
-has_entry (ops.Unsupported number) = false
-has_entry (ops.Illegal number) = false
 
 -- NFS4ERR_RESOURCE as the operation's result; one without an entry has no such result, and keeps its own
 abbrev pub resource : Op → OpResult

@@ -1,7 +1,8 @@
 ghost use Rattle.std.specs.Prelude.{◌≡◌, ◌≤◌, [], IsTrue};
 ghost use Rattle.nfs_core.specs.Server.{Applies, IsLawful};
 ghost use Rattle.nfs_core.specs.State.{empty_server};
-ghost use Rattle.nfs_core.specs.Step.{has_entry, AtMostOneStep};
+ghost use Rattle.nfs_core.specs.Step.{AtMostOneStep};
+ghost use Rattle.nfs_xdr.specs.Op.{has_entry};
 
 use crate::set_client_id::set_client_id;
 use crate::set_client_id_confirm::set_client_id_confirm;
@@ -46,7 +47,7 @@ impl Core {
         }
     }
 
-    /// Answers an operation that has a rule here (`has_entry`), and gives its entry's number in the
+    /// Answers an operation that has a rule here (`Op::has_entry`), and gives its entry's number in the
     /// journal. With no number the answer is NFS4ERR_RESOURCE and nothing has changed: the journal is
     /// full, memory was refused, or a limit of the tables is met.
     pub fn apply(
@@ -114,13 +115,6 @@ impl Core {
     {
         &self.journal
     }
-}
-
-/// Whether an operation has a rule here, and an entry each time that it is answered by that rule.
-pub fn has_entry(op: &Op) -> bool
-    ensures { result ≡ has_entry op.now }
-{
-    matches!(op, Op::SetClientId(_) | Op::SetClientIdConfirm(_))
 }
 
 /// The law that an operation has at most one answer from a state, and leads to at most one state.

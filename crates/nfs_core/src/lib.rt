@@ -15,7 +15,7 @@ mod tables;
 mod tests;
 
 pub use client_record::{ADDRESS_LIMIT, CLIENT_LIMIT, ClientRecord, PathMark};
-pub use core_state::{Core, at_most_one_step, has_entry};
+pub use core_state::{Core, at_most_one_step};
 pub use entry::{Call, Entry, JOURNAL_LIMIT};
 pub use journal::{Journal, LEASE_MAX, LEASE_MIN};
 pub use moment::Moment;

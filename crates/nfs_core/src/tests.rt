@@ -1,7 +1,7 @@
 ghost use Rattle.std.specs.Prelude.{IsTrue, IfOk};
-ghost use Rattle.nfs_core.specs.Step.{has_entry};
+ghost use Rattle.nfs_xdr.specs.Op.{has_entry};
 
-use crate::{CLIENT_LIMIT, Core, LEASE_MAX, Moment, Principal, at_most_one_step, has_entry};
+use crate::{CLIENT_LIMIT, Core, LEASE_MAX, Moment, Principal, at_most_one_step};
 use nfs_xdr::{
     Address, Bytes, Callback, ClientId, Op, OpResult, SetClientId, SetClientIdConfirm,
     SetClientIdResult, Status, Verifier,
@@ -265,6 +265,6 @@ fn opens_empty(rt: HostRuntime) {
     assert_eq!(rt; journal.epoch(), EPOCH);
     assert_eq!(rt; journal.lease(), 86_400);
     assert!(rt; journal.entries().is_empty());
-    assert!(rt; !has_entry(&Op::BadArgs(35)));
+    assert!(rt; !Op::BadArgs(35).has_entry());
     at_most_one_step();
 }

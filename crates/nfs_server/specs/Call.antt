@@ -64,7 +64,7 @@ IsCompoundHeader xid (Err e) = ⊥
 abbrev pub IsCall : List ℕ → Call → Type 0
 IsCall message call = (call ≡ call_of message) ⊎ ((xid : ℕ) × (call ≡ Answer xid SystemError) × IsCompoundHeader xid (header_at message))
 
--- what `read_compound` promises of the lengths in a COMPOUND
+-- no more operations than a COMPOUND may have
 abbrev pub HasFewOperations : Request → Type 0
 HasFewOperations (MinorVersion minor) = Unit {0}
 HasFewOperations (TooMany count) = Unit {0}

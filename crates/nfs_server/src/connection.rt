@@ -21,7 +21,8 @@ pub const PIECE_LEN: usize = 65_536;
 /// Each record is answered before the next is looked at: the service is asked what the record's call asks, at the moment
 /// that the clock tells for it, and the reply goes out as one record of one fragment. `Read` and `Write` come only where a
 /// read or a write failed, `TooLong` where a record is above `RECORD_LIMIT`, `TooMuch` where more than `STREAM_LIMIT` bytes
-/// came, and `Memory` where memory was refused outside a call. What was done before an error stands.
+/// came, and `Memory` where memory was refused for a piece of the input, a record or its reply, of which nothing was run then.
+/// What was done before an error stands.
 pub fn serve_connection<R: Source, W: Sink, S: Service, C: Clock>(
     alloc: Global,
     source: &mut R,

@@ -1,5 +1,5 @@
 ghost use Rattle.std.specs.Prelude.{◌≡◌, ◌≤◌, IsTrue, length};
-ghost use Rattle.nfs_core.specs.Step.{has_entry};
+ghost use Rattle.nfs_xdr.specs.Op.{has_entry};
 ghost use Rattle.nfs_server.specs.Asking.{GivenByCore, Question};
 ghost use Rattle.nfs_server.specs.declared.service.TheConstants.{ANSWER_ROOM};
 ghost use Rattle.nfs_xdr.specs.declared.op_result.OpResult.{OpResult};

@@ -14,3 +14,5 @@ mod messages;
 mod refusals;
 #[cfg(test)]
 mod rows;
+#[cfg(test)]
+mod values;

@@ -1,4 +1,4 @@
--- Where and how a client is called back (RFC 7530, section 2.2.4; cb_client4).
+-- Where and how a client is called back (RFC 7530, section 2.2; clientaddr4, cb_client4).
 use Rattle.std.specs.Prelude.{ℕ, ◌^◌, ◌≤◌, ◌<◌, ◌⊎◌, List, ◌++◌, length}
 use Rattle.nfs_xdr.specs.declared.callback.Address.{Address}
 use Rattle.nfs_xdr.specs.declared.callback.Callback.{Callback}

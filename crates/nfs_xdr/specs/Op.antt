@@ -32,6 +32,15 @@ ends_list (Unsupported number) = true
 ends_list (Illegal number) = true
 ends_list op = false
 
+-- The operation changes or asks the state and is answered by a rule: each answer but NFS4ERR_RESOURCE is an entry of the
+-- journal.
+abbrev pub has_entry : Op → Bool
+has_entry (SetClientId args) = true
+has_entry (SetClientIdConfirm args) = true
+has_entry (BadArgs number) = false
+has_entry (Unsupported number) = false
+has_entry (Illegal number) = false
+
 -- the layout of the arguments of an operation with a rule
 abbrev pub AreArguments : Op → List ℕ → Type 0
 AreArguments (SetClientId args) = IsSetClientId args

@@ -24,7 +24,7 @@ abbrev pub written_set_client_id : SetClientId → List ℕ
 written_set_client_id a = a.verifier.0 ++ (written_opaque a.id ++ written_callback a.callback)
 
 abbrev pub IsSetClientIdTooLong : SetClientId → Type 0
-IsSetClientIdTooLong a = (2 ^ 32 ≤ length a.id) ⊎ IsAddressTooLong a.callback.address
+IsSetClientIdTooLong a = (ID_LIMIT < length a.id) ⊎ IsAddressTooLong a.callback.address
 
 -- The result: with NFS4_OK the clientid and the value to confirm, with NFS4ERR_CLID_INUSE an address, and
 -- with any other status nothing. NFS4ERR_BADXDR is that of arguments that can't be read.

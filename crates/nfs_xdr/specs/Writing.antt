@@ -21,8 +21,9 @@ zeros n = take n (0 ∷ 0 ∷ 0 ∷ 0 ∷ [])
 abbrev pub written_opaque : List ℕ → List ℕ
 written_opaque bytes = written_u32 (length bytes) ++ (bytes ++ zeros (padding_of (length bytes)))
 
--- What a writer did to the bytes so far. At Ok the spelling stands behind them. TooLong is told exactly where
--- the value has a part that is too long for its form, and Memory only where there was no room for the spelling.
+-- What a writer did to the bytes so far. At Ok the spelling stands behind them. TooLong is told only where
+-- the value has a part that is too long for its form, and Memory only where there was no room for the spelling. A value with
+-- such a part is never written.
 -- After an error a part of the spelling may stand behind them.
 abbrev pub Writes : {T : Type 0} → Vec ℕ → Vec ℕ → Result T WireError → List ℕ → Type 0 → Type 0
 Writes old new result spelling IsTooLong =

@@ -34,6 +34,14 @@ impl Bytes {
         })
     }
 
+    /// The bytes, taking no memory.
+    pub fn into_vec(self) -> Vec<u8>
+        ensures { result.items ≡ self }
+    {
+        let Bytes { items } = self;
+        items
+    }
+
     /// The bytes.
     pub fn as_slice(&self) -> &[u8]
         ensures { result.now ≡ self.now }

@@ -7,7 +7,7 @@ use crate::basic::{read_opaque_bytes, read_u32, write_opaque, write_u32};
 use crate::{Bytes, WireError};
 use std::alloc::Global;
 
-/// Where a client takes callbacks: a transport and an address on it (RFC 7530, section 2.2.4; netaddr4).
+/// Where a client takes callbacks: a transport and an address on it (RFC 7530, section 2.2; clientaddr4).
 #[derive(Clone, Debug, PartialEq, Drop)]
 pub struct Address {
     /// The transport's name, r_netid, as `tcp`.

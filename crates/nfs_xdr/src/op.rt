@@ -1,5 +1,5 @@
 ghost use Rattle.std.specs.Prelude.{◌≡◌, IfOk};
-ghost use Rattle.nfs_xdr.specs.Op.{IsOpTooLong, StandsAt, ends_list, op_at, op_number, op_of, or_bad_args, written_op};
+ghost use Rattle.nfs_xdr.specs.Op.{IsOpTooLong, StandsAt, ends_list, has_entry, op_at, op_number, op_of, or_bad_args, written_op};
 ghost use Rattle.nfs_xdr.specs.SetClientId.{set_client_id_at};
 ghost use Rattle.nfs_xdr.specs.SetClientIdConfirm.{set_client_id_confirm_at};
 ghost use Rattle.nfs_xdr.specs.Writing.{Writes, WritesWhole};
@@ -46,6 +46,13 @@ impl Op {
             Op::SetClientIdConfirm(_) => OP_SET_CLIENT_ID_CONFIRM,
             Op::BadArgs(number) | Op::Unsupported(number) | Op::Illegal(number) => *number,
         }
+    }
+
+    /// Whether it is answered by a rule over the state, so that each answer but NFS4ERR_RESOURCE is an entry of the journal.
+    pub fn has_entry(&self) -> bool
+        ensures { result ≡ has_entry self.now }
+    {
+        matches!(self, Op::SetClientId(_) | Op::SetClientIdConfirm(_))
     }
 
     /// Whether it ends the list of a COMPOUND: it isn't run, and nothing behind it is read.

@@ -55,6 +55,9 @@ pub(crate) fn read_set_client_id(
 pub(crate) fn write_set_client_id(out: &mut Vec<u8>, args: &SetClientId) -> Result<(), WireError>
     ensures { Writes out.old out.new result (written_set_client_id args.now) (IsSetClientIdTooLong args.now) }
 {
+    if args.id.as_slice().len() > ID_LIMIT as usize {
+        return Err(WireError::TooLong);
+    }
     write_fixed(out, &args.verifier.0)?;
     write_opaque(out, args.id.as_slice())?;
     write_callback(out, &args.callback)

@@ -1,0 +1,89 @@
+//! Values written and read again, with the bytes between them worked out by hand.
+
+use std::alloc::Global;
+use std::test::Fail;
+
+use nfs_xdr::{
+    Address, Bytes, ClientId, Op, OpResult, SetClientIdConfirm, SetClientIdResult, Status, WireError,
+    read_flag, read_op, read_result, write_flag, write_op, write_result,
+};
+
+use crate::messages::bytes_of;
+
+#[test]
+fn operations(rt: HostRuntime) -> Result<(), Fail> {
+    let alloc = rt.alloc();
+    let client = ClientId {
+        epoch: 1,
+        number: 2,
+    };
+    let op = Op::SetClientIdConfirm(SetClientIdConfirm { client, confirm: 3 });
+    let mut written = Vec::new(alloc);
+    write_op(&mut written, &op)?;
+    let expected = bytes_of(alloc, &[36, 1, 2, 0, 3])?;
+    assert_eq!(rt; written.as_slice(), expected.as_slice());
+    let (again, rest) = read_op(alloc, written.as_slice())?;
+    assert!(rt; again == op);
+    assert!(rt; rest.is_empty());
+    Ok(())
+}
+
+/// Results by their words.
+fn results(alloc: Global) -> Result<[(OpResult, Vec<u8>); 5], Fail> {
+    let client = ClientId {
+        epoch: 1,
+        number: 2,
+    };
+    let address = Address {
+        netid: Bytes::copied(alloc, b"tcp")?,
+        addr: Bytes::copied(alloc, b"1.2.3.4.8.1")?,
+    };
+    let in_use = [
+        35, 10017, 3, 0x7463_7000, 11, 0x312e_322e, 0x332e_342e, 0x382e_3100,
+    ];
+    Ok([
+        (
+            OpResult::SetClientId(SetClientIdResult::Done(client, 3)),
+            bytes_of(alloc, &[35, 0, 1, 2, 0, 3])?,
+        ),
+        (
+            OpResult::SetClientId(SetClientIdResult::ClidInUse(address)),
+            bytes_of(alloc, &in_use)?,
+        ),
+        (
+            OpResult::SetClientIdConfirm(Status::StaleClientId),
+            bytes_of(alloc, &[36, 10022])?,
+        ),
+        (OpResult::Unsupported(34), bytes_of(alloc, &[34, 10004, 0])?),
+        (OpResult::Illegal, bytes_of(alloc, &[10044, 10044])?),
+    ])
+}
+
+#[test]
+fn results_of_operations(rt: HostRuntime) -> Result<(), Fail> {
+    let alloc = rt.alloc();
+    for (answer, bytes) in &results(alloc)? {
+        let mut written = Vec::new(alloc);
+        write_result(&mut written, answer)?;
+        assert_eq!(rt; written.as_slice(), bytes.as_slice());
+        let (again, rest) = read_result(alloc, bytes.as_slice())?;
+        assert!(rt; again == *answer);
+        assert!(rt; rest.is_empty());
+    }
+    Ok(())
+}
+
+#[test]
+fn flags(rt: HostRuntime) -> Result<(), Fail> {
+    for (flag, word) in [(false, 0), (true, 1)] {
+        let mut written = Vec::new(rt.alloc());
+        write_flag(&mut written, flag)?;
+        let expected = bytes_of(rt.alloc(), &[word])?;
+        assert_eq!(rt; written.as_slice(), expected.as_slice());
+        let (again, _) = read_flag(written.as_slice())?;
+        assert_eq!(rt; again, flag);
+    }
+    let two = bytes_of(rt.alloc(), &[2])?;
+    assert!(rt; matches!(read_flag(two.as_slice()), Err(WireError::Short)));
+    Ok(())
+}
