@@ -9,3 +9,4 @@ pub mod Folding
 pub mod Replying
 pub mod Serving
 pub mod Courses
+pub mod JournalGains

@@ -3,6 +3,7 @@ pub mod Reply
 pub mod Call
 pub mod Answering
 pub mod Asking
+pub mod Entries
 pub mod Folding
 pub mod Connection
 pub mod Once

@@ -24,4 +24,4 @@ pub use once::run_once;
 pub use records::{RECORD_LIMIT, RecordError, Records, one_split, split_goes_on};
 pub use reply::{CompoundReply, Reply, write_reply};
 pub use serve_error::ServeError;
-pub use service::{ANSWER_ROOM, Lent, Service};
+pub use service::{ANSWER_ROOM, Lent, Service, questions_are_entries};

@@ -1,6 +1,7 @@
 ghost use Rattle.std.specs.Prelude.{◌≡◌, ◌≤◌, IsTrue, length};
 ghost use Rattle.nfs_xdr.specs.Op.{has_entry};
 ghost use Rattle.nfs_server.specs.Asking.{GivenByCore, Question};
+ghost use Rattle.nfs_server.specs.Entries.{QuestionsAreEntries};
 ghost use Rattle.nfs_server.specs.declared.service.TheConstants.{ANSWER_ROOM};
 ghost use Rattle.nfs_xdr.specs.declared.op_result.OpResult.{OpResult};
 ghost use Rattle.nfs_xdr.specs.OpResult.{written_result};
@@ -65,3 +66,9 @@ impl Service for Lent {
         answer
     }
 }
+
+/// The law that the questions to a lent core whose answer isn't `NFS4ERR_RESOURCE` are, with their
+/// answers and in order, the entries that its journal gained.
+pub fn questions_are_entries()
+    ensures { QuestionsAreEntries }
+{}

@@ -1,0 +1,28 @@
+-- What a lent core's journal gains by the questions that it is asked.
+use Rattle.std.specs.Prelude.{◌≡◌, ◌≢◌, ◌⊎◌, List, [], ◌∷◌, ◌++◌}
+use Rattle.nfs_core.specs.declared.entry.Entry.{Entry}
+use Rattle.nfs_core.specs.Step.{call_of, resource}
+use Rattle.nfs_server.specs.Asking.{Asks, GivenByCore, Question}
+use Rattle.nfs_server.specs.declared.service.Lent.{Lent}
+use Rattle.nfs_xdr.specs.declared.op_result.OpResult.{OpResult}
+
+-- the entries are the questions with their answers, in order, without those that were answered NFS4ERR_RESOURCE
+abbrev pub AreEntries : List Question → List OpResult → List Entry → Type 0
+AreEntries [] [] entries = entries ≡ []
+AreEntries (question ∷ questions) (answer ∷ answers) entries =
+    ((answer ≡ resource question.op) × AreEntries questions answers entries)
+    ⊎ ((answer ≢ resource question.op)
+    × (rest : List Entry)
+    × (entries ≡ call_of question.moment question.principal question.op question.filehandle answer ∷ rest)
+    × AreEntries questions answers rest)
+AreEntries [] (answer ∷ answers) entries = ⊥
+AreEntries (question ∷ questions) [] entries = ⊥
+
+-- By questions and their answers the journal gains their entries, and nothing else of it changes.
+abbrev pub QuestionsAreEntries : Type 0
+QuestionsAreEntries =
+    (old new : Lent) (questions : List Question) (answers : List OpResult)
+    → Asks (λ (before : Lent) question answer (after : Lent). GivenByCore before.core question answer after.core) old questions answers new
+    → (entries : List Entry)
+    × AreEntries questions answers entries
+    × (new.core.journal ≡ record old.core.journal { entries = old.core.journal.entries ++ entries })
