@@ -1,9 +1,8 @@
 -- The course of a connection, as far as it has come.
-use Rattle.std.proofs.Common.{◌≡◌, ℕ, ◌+◌, ◌-◌, ◌^◌, ◌<◌, ◌≤◌, Bool, true, false, List, [], ◌∷◌, ◌++◌, length, Option, Result, Ok, Err, refl, sym, ap, subst, ◌∙◌, append_assoc, arith}
-use Rattle.std.specs.Prelude.{OnOk, OnErr}
+use Rattle.std.proofs.Common.{◌≡◌, ℕ, ◌+◌, ◌≤◌, Bool, true, false, List, [], ◌∷◌, ◌++◌, length, Option, Result, Ok, Err, refl, sym, ap, subst, ◌∙◌, append_assoc, arith}
 use Rattle.std.specs.List.{AllByRecursion}
-use Rattle.std.specs.Io.KnownBytes.{Appends, Consumes, Keeps}
-use Rattle.std.proofs.KnownBytes.{Appends-nil, Appends-trans, Consumes-nil, Consumes-trans, Consumes-kept}
+use Rattle.std.specs.Io.KnownBytes.{Appends, Consumes}
+use Rattle.std.proofs.KnownBytes.{Appends-nil, Appends-trans, Consumes-nil, Consumes-trans}
 use Rattle.std.proofs.lemmas.List.{append-nil, length-append}
 use Rattle.std.proofs.lemmas.Grind.{flat_map-append}
 use Rattle.nfs_server.specs.declared.records.TheConstants.{RECORD_LIMIT}
@@ -11,8 +10,8 @@ use Rattle.nfs_server.specs.declared.connection.TheConstants.{STREAM_LIMIT}
 use Rattle.nfs_server.specs.declared.serve_error.ServeError.{ServeError}
 use Rattle.nfs_server.specs.declared.serve_error.ServeError.TheVariants as errors
 use Rattle.nfs_server.specs.Asking.{Question}
-use Rattle.nfs_server.specs.Connection.{Course, EndsWith, HasCourse, Exchange, AreExchanged, IsCourse, IsServed, HasWritten, messages_of, written_for, written_for_all}
-use Rattle.nfs_server.specs.Records.{AreRecords, IsRest, IsStream, IsTooLong, Splits, Stream, TakesPiece}
+use Rattle.nfs_server.specs.Connection.{EndsWith, HasCourse, Exchange, AreExchanged, IsCourse, IsServed, messages_of, written_for, written_for_all}
+use Rattle.nfs_server.specs.Records.{AreRecords, IsStream, IsTooLong, Splits, Stream, TakesPiece}
 use Rattle.nfs_server.proofs.Serving.{exchanged_then, messages-append}
 use Rattle.nfs_server.proofs.Splitting.{split_goes_on}
 use Rattle.nfs_xdr.specs.declared.op_result.OpResult.{OpResult}
@@ -32,10 +31,15 @@ pub record IsUnderWay {S C : Type 0} (gives : S → Question → OpResult → S 
 pub starts : {S C : Type 0} (gives : S → Question → OpResult → S → Type 0) (tells : C → ℕ → C → Type 0) (service : S) (clock : C) (unread unwritten : Option (List ℕ)) (stream : Stream) → stream ≡ record { ready = []; rest = []; fed = 0; is_too_long = false } → IsStream stream
     → IsUnderWay gives tells service clock unread unwritten stream service clock unread unwritten
 starts gives tells service clock unread unwritten stream empty sound = record {
-  text = []; exchanges = []; consumes = Consumes-nil unread;
+  text = [];
+  exchanges = [];
+  consumes = Consumes-nil unread;
   split = record { front = []; whole = sym (ap (λ (s : Stream). s.rest) empty); records = refl; none_left = sound.none_left };
-  exchanged = (refl, refl); appends = Appends-nil unwritten;
-  idle = ap (λ (s : Stream). s.ready) empty; goes = ap (λ (s : Stream). s.is_too_long) empty; fed = ap (λ (s : Stream). s.fed) empty;
+  exchanged = (refl, refl);
+  appends = Appends-nil unwritten;
+  idle = ap (λ (s : Stream). s.ready) empty;
+  goes = ap (λ (s : Stream). s.is_too_long) empty;
+  fed = ap (λ (s : Stream). s.fed) empty;
 }
 
 unanswered-nil : (messages : List (List ℕ)) (text rest : List ℕ) → Splits text messages rest → Splits text (messages ++ []) rest
@@ -46,10 +50,13 @@ pub ends_answered : {S C : Type 0} (gives : S → Question → OpResult → S �
     → (under_way : IsUnderWay gives tells service clock unread unwritten stream service' clock' unread' written') → Consumes unread' unread'' lost
     → EndsWith (record { text = under_way.text ++ lost; fed = under_way.text; lost = lost; exchanges = under_way.exchanges; unanswered = []; rest = stream.rest; written = written_for_all under_way.exchanges }) result
     → HasCourse gives tells service clock unread unwritten result service' clock' unread'' written'
-ends_answered gives tells service service' clock clock' unread unwritten unread' unread'' written' stream lost result u more ends =
-    ( record { text = u.text ++ lost; fed = u.text; lost = lost; exchanges = u.exchanges; unanswered = []; rest = stream.rest; written = written_for_all u.exchanges },
-      record { whole = refl; split = unanswered-nil (messages_of u.exchanges) u.text stream.rest u.split; exchanged = u.exchanged },
-      ends, Consumes-trans unread unread' unread'' u.text lost u.consumes more, u.appends )
+ends_answered gives tells service service' clock clock' unread unwritten unread' unread'' written' stream lost result u more ends = (
+  record { text = u.text ++ lost; fed = u.text; lost = lost; exchanges = u.exchanges; unanswered = []; rest = stream.rest; written = written_for_all u.exchanges },
+  record { whole = refl; split = unanswered-nil (messages_of u.exchanges) u.text stream.rest u.split; exchanged = u.exchanged },
+  ends,
+  Consumes-trans unread unread' unread'' u.text lost u.consumes more,
+  u.appends,
+)
 
 -- each record of a split is within the limit
 pub within_limit : (found : List (List ℕ)) (front : List ℕ) → AreRecords found front → AllByRecursion (λ message. length message ≤ RECORD_LIMIT) found
@@ -74,9 +81,9 @@ after_piece : {S C T : Type 0} (gives : S → Question → OpResult → S → Ty
 after_piece gives tells service mid service' clock between clock' unread unwritten unread' unread'' here after old new piece served u takes s =
     let goes_on = split_goes_on u.text piece (messages_of u.exchanges) takes.found old.rest new.rest u.split takes.split in
     let all : messages_of u.exchanges ++ takes.found ≡ messages_of (u.exchanges ++ s.exchanges) ++ s.left =
-      ap (λ (m : List (List ℕ)). messages_of u.exchanges ++ m) (sym (found_ready old new piece u.idle takes) ∙ s.served)
-      ∙ sym (append_assoc (messages_of u.exchanges) (messages_of s.exchanges) s.left)
-      ∙ ap (λ (m : List (List ℕ)). m ++ s.left) (sym (messages-append u.exchanges s.exchanges)) in
+    ap (λ (m : List (List ℕ)). messages_of u.exchanges ++ m) (sym (found_ready old new piece u.idle takes) ∙ s.served)
+    ∙ sym (append_assoc (messages_of u.exchanges) (messages_of s.exchanges) s.left)
+    ∙ ap (λ (m : List (List ℕ)). m ++ s.left) (sym (messages-append u.exchanges s.exchanges)) in
     record {
       whole = sym (append-nil (u.text ++ piece));
       split = subst (λ (m : List (List ℕ)). Splits (u.text ++ piece) m new.rest) all goes_on;
@@ -100,12 +107,13 @@ pub ends_serving : {S C : Type 0} (gives : S → Question → OpResult → S →
     → result ≡ Err error → IsUnderWay gives tells service clock unread unwritten old mid between unread' here → Consumes unread' unread'' piece → TakesPiece old new piece
     → IsServed {T = Unit {0}} gives tells mid between here new.ready (Err error) service' clock' after
     → HasCourse gives tells service clock unread unwritten result service' clock' unread'' after
-ends_serving gives tells service mid service' clock between clock' unread unwritten unread' unread'' here after old new piece error result failed u more takes s =
-    ( record { text = u.text ++ piece; fed = u.text ++ piece; lost = []; exchanges = u.exchanges ++ s.exchanges; unanswered = s.left; rest = new.rest; written = written_for_all u.exchanges ++ s.written },
-      after_piece gives tells service mid service' clock between clock' unread unwritten unread' unread'' here after old new piece (Err error) u takes s,
-      rw failed (ends_cut gives tells service mid service' clock between clock' unread unwritten unread' unread'' here after old new piece error u takes s),
-      Consumes-trans unread unread' unread'' u.text piece u.consumes more,
-      Appends-trans unwritten here after (written_for_all u.exchanges) s.written u.appends s.appends )
+ends_serving gives tells service mid service' clock between clock' unread unwritten unread' unread'' here after old new piece error result failed u more takes s = (
+  record { text = u.text ++ piece; fed = u.text ++ piece; lost = []; exchanges = u.exchanges ++ s.exchanges; unanswered = s.left; rest = new.rest; written = written_for_all u.exchanges ++ s.written },
+  after_piece gives tells service mid service' clock between clock' unread unwritten unread' unread'' here after old new piece (Err error) u takes s,
+  rw failed (ends_cut gives tells service mid service' clock between clock' unread unwritten unread' unread'' here after old new piece error u takes s),
+  Consumes-trans unread unread' unread'' u.text piece u.consumes more,
+  Appends-trans unwritten here after (written_for_all u.exchanges) s.written u.appends s.appends,
+)
 
 -- a piece was taken, and all its records were served
 served_piece : {S C : Type 0} (gives : S → Question → OpResult → S → Type 0) (tells : C → ℕ → C → Type 0) (service mid service' : S) (clock between clock' : C) (unread unwritten unread' unread'' here after : Option (List ℕ)) (old new last : Stream) (piece : List ℕ)
@@ -115,15 +123,17 @@ served_piece : {S C : Type 0} (gives : S → Question → OpResult → S → Typ
 served_piece gives tells service mid service' clock between clock' unread unwritten unread' unread'' here after old new last piece u more takes s same =
     let course = after_piece gives tells service mid service' clock between clock' unread unwritten unread' unread'' here after old new piece (Ok tt) u takes s in
     let messages : messages_of (u.exchanges ++ s.exchanges) ++ s.left ≡ messages_of (u.exchanges ++ s.exchanges) =
-      ap (λ (l : List (List ℕ)). messages_of (u.exchanges ++ s.exchanges) ++ l) s.outcome.1 ∙ append-nil (messages_of (u.exchanges ++ s.exchanges)) in
+    ap (λ (l : List (List ℕ)). messages_of (u.exchanges ++ s.exchanges) ++ l) s.outcome.1 ∙ append-nil (messages_of (u.exchanges ++ s.exchanges)) in
     let rest : new.rest ≡ last.rest = sym (ap (λ (x : Stream). x.rest) same) in
     record {
-      text = u.text ++ piece; exchanges = u.exchanges ++ s.exchanges;
+      text = u.text ++ piece;
+      exchanges = u.exchanges ++ s.exchanges;
       consumes = Consumes-trans unread unread' unread'' u.text piece u.consumes more;
       split = subst (λ (r : List ℕ). Splits (u.text ++ piece) (messages_of (u.exchanges ++ s.exchanges)) r) rest (subst (λ (m : List (List ℕ)). Splits (u.text ++ piece) m new.rest) messages course.split);
       exchanged = course.exchanged;
       appends = subst (λ (w : List ℕ). Appends unwritten after w) (ap (λ (w : List ℕ). written_for_all u.exchanges ++ w) s.outcome.0 ∙ sym (written-append u.exchanges s.exchanges)) (Appends-trans unwritten here after (written_for_all u.exchanges) s.written u.appends s.appends);
-      idle = ap (λ (x : Stream). x.ready) same; goes = refl;
+      idle = ap (λ (x : Stream). x.ready) same;
+      goes = refl;
       fed = ap (λ (x : Stream). x.fed) same ∙ takes.fed ∙ ap (λ (n : ℕ). n + length piece) u.fed ∙ sym (length-append u.text piece);
     }
 
@@ -133,7 +143,7 @@ pub more_served : {S C : Type 0} (gives : S → Question → OpResult → S → 
     → IsUnderWay gives tells service clock unread unwritten last service' clock' unread'' after
 more_served gives tells service mid service' clock between clock' unread unwritten unread' unread'' here after old new last piece u more takes s same goes =
     subst (λ (b : Bool). IsUnderWay gives tells service clock unread unwritten (record last { is_too_long = b }) service' clock' unread'' after) (sym goes)
-      (served_piece gives tells service mid service' clock between clock' unread unwritten unread' unread'' here after old new last piece u more takes s same)
+    (served_piece gives tells service mid service' clock between clock' unread unwritten unread' unread'' here after old new last piece u more takes s same)
 
 pub ends_too_long : {S C : Type 0} (gives : S → Question → OpResult → S → Type 0) (tells : C → ℕ → C → Type 0) (service mid service' : S) (clock between clock' : C) (unread unwritten unread' unread'' here after : Option (List ℕ)) (old new last : Stream) (piece : List ℕ)
     → IsUnderWay gives tells service clock unread unwritten old mid between unread' here → Consumes unread' unread'' piece → TakesPiece old new piece
@@ -141,15 +151,15 @@ pub ends_too_long : {S C : Type 0} (gives : S → Question → OpResult → S �
     → HasCourse gives tells service clock unread unwritten (Err errors.TooLong) service' clock' unread'' after
 ends_too_long gives tells service mid service' clock between clock' unread unwritten unread' unread'' here after old new last piece u more takes s same long =
     ends_answered gives tells service service' clock clock' unread unwritten unread'' unread'' after (record last { is_too_long = false }) [] (Err errors.TooLong)
-      (served_piece gives tells service mid service' clock between clock' unread unwritten unread' unread'' here after old new last piece u more takes s same)
-      (Consumes-nil unread'') ((refl, refl), refl, long)
+    (served_piece gives tells service mid service' clock between clock' unread unwritten unread' unread'' here after old new last piece u more takes s same)
+    (Consumes-nil unread'') ((refl, refl), refl, long)
 
 -- memory is refused before anything is read
 pub ends_at_once : {S C : Type 0} (gives : S → Question → OpResult → S → Type 0) (tells : C → ℕ → C → Type 0) (service : S) (clock : C) (unread unwritten : Option (List ℕ)) (stream : Stream) → stream ≡ record { ready = []; rest = []; fed = 0; is_too_long = false } → IsStream stream
     → HasCourse gives tells service clock unread unwritten (Err errors.Memory) service clock unread unwritten
 ends_at_once gives tells service clock unread unwritten stream empty sound =
     ends_answered gives tells service service clock clock unread unwritten unread unread unwritten stream [] (Err errors.Memory)
-      (starts gives tells service clock unread unwritten stream empty sound) (Consumes-nil unread) refl
+    (starts gives tells service clock unread unwritten stream empty sound) (Consumes-nil unread) refl
 
 abbrev pub errs : ServeError → Result (Unit {0}) ServeError
 errs e = Err e

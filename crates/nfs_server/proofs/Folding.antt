@@ -1,5 +1,5 @@
 -- Answering operations in turn, and what is asked and replied given the answers.
-use Rattle.std.proofs.Common.{◌≡◌, ℕ, suc, ◌+◌, ◌-◌, ◌<◌, ◌≤◌, Bool, true, false, cond, leb, max, List, [], ◌∷◌, ◌++◌, length, get_or, drop, map, refl, sym, ap, subst, ◌∙◌, append_assoc, arith, inl, inr, ◌⊎◌}
+use Rattle.std.proofs.Common.{◌≡◌, ℕ, suc, ◌+◌, ◌<◌, ◌≤◌, Bool, true, false, leb, List, [], ◌∷◌, ◌++◌, length, get_or, drop, refl, sym, ap, subst, ◌∙◌, append_assoc, arith, inl, inr, ◌⊎◌}
 use Rattle.std.specs.Prelude.{MatchBool}
 use Rattle.std.specs.List.{flat_map}
 use Rattle.std.proofs.lemmas.List.{append-nil, length-append}
@@ -9,8 +9,8 @@ use Rattle.std.proofs.Math.Seq.{drop-cons}
 use Rattle.std.proofs.Math.ListN.{drop_of_length-le}
 use Rattle.nfs_server.specs.declared.records.TheConstants.{RECORD_LIMIT}
 use Rattle.nfs_server.specs.declared.service.TheConstants.{ANSWER_ROOM}
-use Rattle.nfs_server.specs.Answering.{Outcome, asks, ends_with, ending_result, is_ok, outcome_of}
-use Rattle.nfs_server.specs.Asking.{Asks, Question, question_of}
+use Rattle.nfs_server.specs.Answering.{ends_with, ending_result, is_ok, outcome_of}
+use Rattle.nfs_server.specs.Asking.{Question, question_of}
 use Rattle.nfs_server.specs.Folding.{IsAnswer, AreAnswers, IsDetermined}
 use Rattle.nfs_core.specs.declared.principal.Principal.{Principal}
 use Rattle.nfs_core.specs.Step.{resource}
@@ -116,7 +116,7 @@ determined gives size moment principal (op ∷ ops) old (answer ∷ results) new
       | inr goes ↦ elim (decided (leb (size + ANSWER_ROOM) RECORD_LIMIT)) [
         | inl room ↦ determined_asked gives size moment principal op ops old are.0 new answer results (is_ok (result_status answer)) goes room (rw (goes, room) at are.1) refl
             (deeper (is_ok (result_status answer)) (AreAnswers gives (size + length (written_result answer)) moment principal ops are.0 results new) (IsDetermined gives (size + length (written_result answer)) moment principal ops are.0 results new) ((results ≡ []) × (new ≡ are.0))
-              (determined gives (size + length (written_result answer)) moment principal ops are.0 results new) are.2)
+            (determined gives (size + length (written_result answer)) moment principal ops are.0 results new) are.2)
         | inr full ↦ determined_unasked gives size moment principal op ops old are.0 new (resource op) answer results (AreAnswers gives (size + length (written_result answer)) moment principal ops are.0 results new)
             (rw (goes, full) refl) (refused_is_last op goes) (rw (goes, full) at are.1) are.2
       ]

@@ -1,5 +1,5 @@
 -- What stands in the layout of a COMPOUND has a tag and a list of operations of limited lengths.
-use Rattle.std.proofs.Common.{◌≡◌, ℕ, zero, suc, ◌+◌, ◌≤◌, ◌^◌, ◌<◌, Bool, true, false, cond, ltb, List, [], ◌∷◌, length, get_or, take, drop, Result, Ok, Err, refl, sym, ap, ◌∙◌, arith, inl, inr, ◌⊎◌}
+use Rattle.std.proofs.Common.{◌≡◌, ℕ, zero, suc, ◌+◌, ◌≤◌, ◌^◌, ◌<◌, Bool, true, false, cond, ltb, List, [], ◌∷◌, length, get_or, take, drop, Result, Ok, Err, refl, sym, ap, ◌∙◌, arith, inl, inr}
 use Rattle.std.specs.Prelude.{MatchBool, IfOk}
 use Rattle.std.specs.List.{flat_map}
 use Rattle.std.proofs.lemmas.List.Concat.{flat_map-cons}
@@ -113,12 +113,12 @@ pub shortens_header : (bytes : List ℕ) (header : Header) (rest : List ℕ) →
 unfolding header_at
 shortens_header =
     shortens_as _ (number_at 4 then number_at 4 then number_at 4 then number_at 4 then number_at 4 then number_at 4 then flavor_at then flavor_at)
-      (shortens_word (number_at 4 then number_at 4 then number_at 4 then number_at 4 then number_at 4 then flavor_at then flavor_at)
-        (shortens_word (number_at 4 then number_at 4 then number_at 4 then number_at 4 then flavor_at then flavor_at)
-          (shortens_word (number_at 4 then number_at 4 then number_at 4 then flavor_at then flavor_at)
-            (shortens_word (number_at 4 then number_at 4 then flavor_at then flavor_at)
-              (shortens_word (number_at 4 then flavor_at then flavor_at)
-                (shortens_word (flavor_at then flavor_at) (shortens_then flavor_at flavor_at shortens_flavor shortens_flavor)))))))
+    (shortens_word (number_at 4 then number_at 4 then number_at 4 then number_at 4 then number_at 4 then flavor_at then flavor_at)
+    (shortens_word (number_at 4 then number_at 4 then number_at 4 then number_at 4 then flavor_at then flavor_at)
+    (shortens_word (number_at 4 then number_at 4 then number_at 4 then flavor_at then flavor_at)
+    (shortens_word (number_at 4 then number_at 4 then flavor_at then flavor_at)
+    (shortens_word (number_at 4 then flavor_at then flavor_at)
+    (shortens_word (flavor_at then flavor_at) (shortens_then flavor_at flavor_at shortens_flavor shortens_flavor)))))))
 
 pub shorter_if_ok : {X : Type 0} (view : X → Header × List ℕ) (bytes : List ℕ) (r : Result X WireError) → Answers view r (header_at bytes) → IfOk r (λ x. length (view x).1 ≤ length bytes)
 shorter_if_ok view bytes (Ok x) e = shortens_header bytes (view x).0 (view x).1 e

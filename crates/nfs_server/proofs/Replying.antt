@@ -1,9 +1,8 @@
 -- The reply to a record.
-use Rattle.std.proofs.Common.{◌≡◌, ℕ, ◌+◌, ◌^◌, ◌<◌, ◌≤◌, max, List, [], ◌∷◌, ◌++◌, length, take, map, Result, Ok, Err, refl, sym, ap, subst, ◌∙◌, arith, inl, inr, ◌⊎◌}
-use Rattle.std.specs.Prelude.{OnOk, OnErr, IsOk, vec_capacity, vec_len}
+use Rattle.std.proofs.Common.{◌≡◌, ℕ, ◌+◌, ◌≤◌, max, List, [], ◌∷◌, length, map, Result, Ok, Err, refl, ap, ◌∙◌, arith}
+use Rattle.std.specs.Prelude.{OnOk, OnErr, IsOk}
 use Rattle.std.proofs.lemmas.List.{length-append, length-take}
 use Rattle.nfs_core.specs.declared.principal.Principal.{Principal}
-use Rattle.nfs_server.specs.declared.call.Call.{Call}
 use Rattle.nfs_server.specs.declared.call.Call.TheVariants as calls
 use Rattle.nfs_server.specs.declared.records.TheConstants.{RECORD_LIMIT}
 use Rattle.nfs_server.specs.declared.reply.CompoundReply.{CompoundReply}
@@ -17,7 +16,7 @@ use Rattle.nfs_server.specs.Connection.{Exchange, IsExchanged, written_for}
 use Rattle.nfs_server.specs.Reply.{written_accepted, written_compound_reply, written_no_verifier, written_record, written_reply, written_reply_head}
 use Rattle.nfs_xdr.specs.declared.compound.Compound.{Compound}
 use Rattle.nfs_xdr.specs.declared.op_result.OpResult.{OpResult}
-use Rattle.nfs_xdr.specs.Writing.{written_opaque, zeros}
+use Rattle.nfs_xdr.specs.Writing.{zeros}
 use Rattle.nfs_xdr.specs.Layout.{padding_of}
 
 pub length_accepted : (xid state : ℕ) → length (written_accepted xid state) ≡ ACCEPTED_LEN

@@ -1,8 +1,7 @@
 -- Records served one after the other.
-use Rattle.std.proofs.Common.{◌≡◌, ℕ, List, [], ◌∷◌, ◌++◌, length, take, drop, map, Option, Result, Ok, Err, refl, sym, ap, subst, ◌∙◌, append_assoc}
-use Rattle.std.specs.List.{flat_map}
+use Rattle.std.proofs.Common.{◌≡◌, ℕ, List, [], ◌∷◌, ◌++◌, take, drop, Option, Result, Ok, Err, refl, sym, ap, subst, ◌∙◌, append_assoc}
 use Rattle.std.specs.Io.KnownBytes.{Appends}
-use Rattle.std.proofs.KnownBytes.{Appends-nil, Appends-trans}
+use Rattle.std.proofs.KnownBytes.{Appends-trans}
 use Rattle.std.proofs.lemmas.List.{append-nil, take-append-drop}
 use Rattle.std.proofs.lemmas.List.Concat.{flat_map-cons}
 use Rattle.std.proofs.lemmas.Grind.{flat_map-append}
@@ -22,7 +21,7 @@ pub exchanged_more : {S C : Type 0} (gives : S → Question → OpResult → S �
     → AreExchanged gives tells s c es mid between → IsExchanged gives tells mid between e new after → AreExchanged gives tells s c (es ++ e ∷ []) new after
 exchanged_more {S = S} {C = C} gives tells [] e s mid new c between after so_far one =
     let here : IsExchanged gives tells s c e new after =
-      subst (λ (x : S). IsExchanged gives tells x c e new after) so_far.0 (subst (λ (y : C). IsExchanged gives tells mid y e new after) so_far.1 one) in
+    subst (λ (x : S). IsExchanged gives tells x c e new after) so_far.0 (subst (λ (y : C). IsExchanged gives tells mid y e new after) so_far.1 one) in
     (new, after, here, (refl, refl))
 exchanged_more gives tells (f ∷ es) e s mid new c between after so_far one =
     (so_far.0, so_far.1, so_far.2, exchanged_more gives tells es e so_far.0 mid new so_far.1 between after so_far.3 one)
@@ -52,18 +51,24 @@ pub served_more : {S C : Type 0} (gives : S → Question → OpResult → S → 
     → HasServed gives tells service clock before messages left service' clock' after
 served_more gives tells service mid service' clock between clock' before here after messages left message so_far one =
     let es = so_far.0 in
-    let e = one.0 in
-    ( es ++ e ∷ [],
+    let e = one.0 in (
+      es ++ e ∷ [],
       so_far.1 ∙ ap (λ (m : List ℕ). messages_of es ++ (m ∷ left)) (sym one.1) ∙ messages-more es e left,
       exchanged_more gives tells es e service mid service' clock between clock' so_far.2 one.2,
-      subst (λ (w : List ℕ). Appends before after w) (sym (written-more es e)) (Appends-trans before here after (written_for_all es) (written_for e) so_far.3 one.3) )
+      subst (λ (w : List ℕ). Appends before after w) (sym (written-more es e)) (Appends-trans before here after (written_for_all es) (written_for e) so_far.3 one.3),
+    )
 
 -- all records were served
 pub served_all : {S C T : Type 0} (gives : S → Question → OpResult → S → Type 0) (tells : C → ℕ → C → Type 0) (service service' : S) (clock clock' : C) (before after : Option (List ℕ)) (messages left : List (List ℕ)) (x : T)
     → left ≡ [] → HasServed gives tells service clock before messages left service' clock' after → IsServed {T = T} gives tells service clock before messages (Ok x) service' clock' after
 served_all gives tells service service' clock clock' before after messages left x none so_far = record {
-  exchanges = so_far.0; left = []; written = written_for_all so_far.0;
-  served = so_far.1 ∙ ap (λ (l : List (List ℕ)). messages_of so_far.0 ++ l) none; exchanged = so_far.2; appends = so_far.3; outcome = (refl, refl);
+  exchanges = so_far.0;
+  left = [];
+  written = written_for_all so_far.0;
+  served = so_far.1 ∙ ap (λ (l : List (List ℕ)). messages_of so_far.0 ++ l) none;
+  exchanged = so_far.2;
+  appends = so_far.3;
+  outcome = (refl, refl);
 }
 
 -- serving stopped at a record
@@ -77,7 +82,9 @@ served_until {T = T} gives tells service mid service' clock between clock' befor
 served_until {S = S} {C = C} {T = T} gives tells service mid service' clock between clock' before here after messages left message r errors.Memory failed so_far one =
     let es = so_far.0 in
     rw failed (record {
-      exchanges = es; left = message ∷ left; written = written_for_all es;
+      exchanges = es;
+      left = message ∷ left;
+      written = written_for_all es;
       served = so_far.1;
       exchanged = subst (λ (x : S). AreExchanged gives tells service clock es x clock') (sym one.0) (subst (λ (y : C). AreExchanged gives tells service clock es mid y) (sym one.1) so_far.2);
       appends = subst (λ (o : Option (List ℕ)). Appends before o (written_for_all es)) (sym one.2) so_far.3;
@@ -89,7 +96,9 @@ served_until {T = T} gives tells service mid service' clock between clock' befor
     let cut = one.3 in
     let written = written_for_all es ++ cut.0 in
     rw failed (record {
-      exchanges = es ++ e ∷ []; left = left; written = written;
+      exchanges = es ++ e ∷ [];
+      left = left;
+      written = written;
       served = so_far.1 ∙ ap (λ (m : List ℕ). messages_of es ++ (m ∷ left)) (sym one.1) ∙ messages-more es e left;
       exchanged = exchanged_more gives tells es e service mid service' clock between clock' so_far.2 one.2;
       appends = Appends-trans before here after (written_for_all es) cut.0 so_far.3 cut.3;
@@ -103,7 +112,8 @@ same_more old now next message same taken = ap (λ (s : Stream). record s { read
 -- more of the bytes went out
 pub goes_out : (before here after : Option (List ℕ)) (bytes rest : List ℕ) (n : ℕ) → (front : List ℕ) × (bytes ≡ front ++ rest) × Appends before here front → Appends here after (take n rest)
     → (front : List ℕ) × (bytes ≡ front ++ drop n rest) × Appends before after front
-goes_out before here after bytes rest n so_far more =
-    ( so_far.0 ++ take n rest,
-      so_far.1 ∙ ap (λ (x : List ℕ). so_far.0 ++ x) (sym (take-append-drop n rest)) ∙ sym (append_assoc so_far.0 (take n rest) (drop n rest)),
-      Appends-trans before here after so_far.0 (take n rest) so_far.2 more )
+goes_out before here after bytes rest n so_far more = (
+  so_far.0 ++ take n rest,
+  so_far.1 ∙ ap (λ (x : List ℕ). so_far.0 ++ x) (sym (take-append-drop n rest)) ∙ sym (append_assoc so_far.0 (take n rest) (drop n rest)),
+  Appends-trans before here after so_far.0 (take n rest) so_far.2 more,
+)

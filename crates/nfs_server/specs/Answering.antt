@@ -1,5 +1,5 @@
 -- A COMPOUND (RFC 7530, section 16.2): a fold over its operations, given the answers of the service.
-use Rattle.std.specs.Prelude.{◌≡◌, ℕ, ◌+◌, ◌-◌, slice_get, Bool, true, false, nat_le, List, [], ◌∷◌, ◌++◌, length, Option, Some, None, if◌then◌else◌}
+use Rattle.std.specs.Prelude.{ℕ, ◌+◌, ◌-◌, slice_get, Bool, true, false, nat_le, List, [], ◌∷◌, length, Option, Some, None, if◌then◌else◌}
 use Rattle.nfs_server.specs.declared.call.Call.{Call}
 use Rattle.nfs_server.specs.declared.call.Call.TheVariants as calls
 use Rattle.nfs_server.specs.declared.records.TheConstants.{RECORD_LIMIT}

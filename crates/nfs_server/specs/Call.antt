@@ -1,5 +1,5 @@
 -- RPC calls (RFC 5531, section 9). NULL and COMPOUND under AUTH_NONE are served; to all else nothing is said.
-use Rattle.std.specs.Prelude.{◌≡◌, ℕ, ◌<◌, ◌^◌, ◌≤◌, Bool, true, false, ◌&&◌, ◌==◌, ◌⊎◌, List, length, Result, Ok, Err, IsTrue, if◌then◌else◌}
+use Rattle.std.specs.Prelude.{◌≡◌, ℕ, ◌≤◌, Bool, ◌&&◌, ◌==◌, ◌⊎◌, List, length, Result, Ok, Err, IsTrue, if◌then◌else◌}
 use Rattle.nfs_server.specs.declared.call.Call.{Call}
 use Rattle.nfs_server.specs.declared.call.Call.TheVariants.{Silent, Null, Compound, Answer}
 use Rattle.nfs_server.specs.declared.call.Header.{Header}
@@ -15,7 +15,7 @@ use Rattle.nfs_xdr.specs.declared.compound.Compound.{Compound as CompoundArgs}
 use Rattle.nfs_xdr.specs.declared.compound.Request.{Request}
 use Rattle.nfs_xdr.specs.declared.compound.Request.TheVariants.{MinorVersion, TooMany, Operations}
 use Rattle.nfs_xdr.specs.declared.compound.TheConstants.{OPERATION_LIMIT}
-use Rattle.nfs_xdr.specs.Reading.{Read, ◌>>=◌, ◌then◌, as_value, number_at, opaque_at}
+use Rattle.nfs_xdr.specs.Reading.{Read, ◌then◌, as_value, number_at, opaque_at}
 
 -- a credential or a verifier: its flavor, which is kept, and a body
 abbrev pub flavor_at : List ℕ → Read ℕ
@@ -25,7 +25,7 @@ flavor_at = as_value (λ p. p.0) (number_at 4 then opaque_at BODY_LIMIT)
 unfoldable pub header_at : List ℕ → Read Header
 header_at =
     as_value (λ p. record { xid = p.0; message_type = p.1.0; rpc_version = p.1.1.0; program = p.1.1.1.0; version = p.1.1.1.1.0; procedure = p.1.1.1.1.1.0; flavor = p.1.1.1.1.1.1.0 })
-      (number_at 4 then number_at 4 then number_at 4 then number_at 4 then number_at 4 then number_at 4 then flavor_at then flavor_at)
+    (number_at 4 then number_at 4 then number_at 4 then number_at 4 then number_at 4 then number_at 4 then flavor_at then flavor_at)
 
 -- a call of this program in this version under AUTH_NONE, with any verifier
 abbrev pub is_served : Header → Bool

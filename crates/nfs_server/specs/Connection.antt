@@ -1,7 +1,7 @@
 -- A connection: what was read, what was asked at which moment, and what was written.
-use Rattle.std.specs.Prelude.{◌≡◌, ℕ, ◌+◌, ◌^◌, ◌<◌, ◌≤◌, List, [], ◌∷◌, ◌++◌, length, map, Option, Some, None, Result, Ok, Err}
+use Rattle.std.specs.Prelude.{◌≡◌, ℕ, ◌<◌, ◌≤◌, List, [], ◌∷◌, ◌++◌, length, map, Option, Some, None, Result, Ok, Err}
 use Rattle.std.specs.List.{flat_map}
-use Rattle.std.specs.Io.KnownBytes.{Appends, Consumes, IsAtEnd}
+use Rattle.std.specs.Io.KnownBytes.{Appends, Consumes}
 use Rattle.nfs_core.specs.declared.principal.Principal.{Principal}
 use Rattle.nfs_core.specs.declared.principal.Principal.TheVariants.{AuthNone}
 use Rattle.nfs_server.specs.declared.call.Call.{Call}

@@ -1,5 +1,5 @@
 -- A COMPOUND's operations answered in turn, with the state of the service between them.
-use Rattle.std.specs.Prelude.{◌≡◌, ℕ, ◌+◌, nat_le, Bool, List, [], ◌∷◌, length, map, MatchBool}
+use Rattle.std.specs.Prelude.{◌≡◌, ℕ, ◌+◌, nat_le, List, [], ◌∷◌, length, map, MatchBool}
 use Rattle.nfs_server.specs.declared.records.TheConstants.{RECORD_LIMIT}
 use Rattle.nfs_server.specs.declared.service.TheConstants.{ANSWER_ROOM}
 use Rattle.nfs_server.specs.Answering.{compound_outcome, ending_result, is_ok, outcome_of}
@@ -16,7 +16,7 @@ use Rattle.nfs_xdr.specs.OpResult.{result_status, written_result}
 abbrev pub IsAnswer : {S : Type 0} → (S → Question → OpResult → S → Type 0) → ℕ → ℕ → Principal → Op → S → OpResult → S → Type 0
 IsAnswer gives size moment principal op old answer new =
     MatchBool (ends_list op) ((answer ≡ ending_result op) × (new ≡ old))
-      (MatchBool (nat_le (size + ANSWER_ROOM) RECORD_LIMIT) (gives old (question_of moment principal op) answer new) ((answer ≡ resource op) × (new ≡ old)))
+    (MatchBool (nat_le (size + ANSWER_ROOM) RECORD_LIMIT) (gives old (question_of moment principal op) answer new) ((answer ≡ resource op) × (new ≡ old)))
 
 -- the operations are answered so in turn, up to the first answer other than NFS4_OK
 abbrev pub AreAnswers : {S : Type 0} → (S → Question → OpResult → S → Type 0) → ℕ → ℕ → Principal → List Op → S → List OpResult → S → Type 0

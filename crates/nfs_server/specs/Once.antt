@@ -1,12 +1,9 @@
 -- One run over an input and an output.
-use Rattle.std.specs.Prelude.{◌≡◌, ℕ, ◌<◌, List, Option, Some, None, Result, Ok, Err, zero, suc}
-use Rattle.nfs_core.specs.Server.{Server}
+use Rattle.std.specs.Prelude.{ℕ, Option, Some, None, Result, Ok, Err, zero, suc}
 use Rattle.nfs_server.specs.declared.fault.Fault.{Fault}
 use Rattle.nfs_server.specs.declared.fault.Fault.TheVariants.{InputNotRead, OutputNotWritten, RecordTooLong, InputTooLong, EndsInsideRecord, NoMemory}
 use Rattle.nfs_server.specs.declared.serve_error.ServeError.{ServeError}
 use Rattle.nfs_server.specs.declared.serve_error.ServeError.TheVariants as errors
-use Rattle.nfs_server.specs.Asking.{GivenByCore}
-use Rattle.nfs_server.specs.Connection.{HasCourse}
 
 -- the fault of a connection that ended so
 abbrev pub fault_of : Result ℕ ServeError → Option Fault

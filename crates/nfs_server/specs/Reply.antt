@@ -1,5 +1,5 @@
 -- RPC replies (RFC 5531, section 9).
-use Rattle.std.specs.Prelude.{◌≡◌, ℕ, ◌+◌, ◌^◌, ◌⊎◌, List, [], ◌∷◌, ◌++◌, length}
+use Rattle.std.specs.Prelude.{ℕ, ◌+◌, ◌^◌, List, ◌++◌, length}
 use Rattle.nfs_server.specs.declared.reply.CompoundReply.{CompoundReply}
 use Rattle.nfs_server.specs.declared.reply.Reply.{Reply}
 use Rattle.nfs_server.specs.declared.reply.Reply.TheVariants.{Null, Compound, SystemError}

@@ -2,17 +2,19 @@ ghost use Rattle.std.specs.Prelude.{◌≡◌, ◌≤◌, IfOk, length};
 ghost use Rattle.nfs_server.specs.Call.{IsCall, IsCallWithinLimits, IsCompoundCall, flavor_at, header_at, is_served};
 ghost use Rattle.nfs_xdr.specs.Reading.{Answers};
 
+use crate::Reply;
 use nfs_core::Principal;
 use nfs_xdr::{Compound, WireError, read_compound, read_opaque, read_u32};
 use std::alloc::Global;
 
-use crate::Reply;
-
 pub const RPC_VERSION: u32 = 2;
 /// The RPC program of NFS, and its version.
 pub const NFS_PROGRAM: u32 = 100_003;
+
 pub const NFS_VERSION: u32 = 4;
+
 pub const PROC_NULL: u32 = 0;
+
 pub const PROC_COMPOUND: u32 = 1;
 
 /// The most bytes of the body of a credential or a verifier.

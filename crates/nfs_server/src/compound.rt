@@ -10,15 +10,15 @@ ghost use Rattle.nfs_xdr.specs.Compound.{AreResultsTooLong};
 ghost use Rattle.nfs_xdr.specs.declared.op_result.OpResult.{OpResult};
 ghost use Rattle.nfs_xdr.specs.OpResult.{result_status, written_result};
 
-use nfs_core::{Moment, Principal};
-use nfs_xdr::{
-    Compound, OPERATION_LIMIT, Op, OpResult, Request, Sequence, SetClientIdResult, Status, padding_of,
-};
-
 use crate::records::RECORD_LIMIT;
 use crate::reply::ACCEPTED_LEN;
 use crate::service::ANSWER_ROOM;
 use crate::{CompoundReply, Service};
+use nfs_core::{Moment, Principal};
+use nfs_xdr::{
+    Compound, OPERATION_LIMIT, Op, OpResult, Request, Sequence, SetClientIdResult, Status,
+    padding_of,
+};
 
 /// Answers a COMPOUND (RFC 7530, section 16.2), operation by operation, up to the first answer other than NFS4_OK. It takes
 /// no memory: `results` is empty, with room for as many results as there may be operations.

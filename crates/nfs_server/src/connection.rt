@@ -4,11 +4,10 @@ ghost use Rattle.std.specs.Io.KnownBytes.{Appends, Consumes, IsAtEnd};
 ghost use Rattle.nfs_server.specs.Connection.{HasCourse, IsServed, IsServedOne};
 ghost use Rattle.nfs_server.specs.Records.{IsStream, TakesPiece};
 
-use std::alloc::Global;
-
 use crate::answer::answer;
 use crate::records::RECORD_LIMIT;
 use crate::{Clock, DeviceFailed, RecordError, Records, ServeError, Service, Sink, Source};
+use std::alloc::Global;
 
 /// The most bytes of a stream.
 pub const STREAM_LIMIT: u64 = 1 << 40;

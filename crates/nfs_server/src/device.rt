@@ -66,7 +66,10 @@ impl<D> Counted<D> {
     pub fn into_device(self) -> D
         ensures { result ≡ self.device }
     {
-        let Counted { device, failures: _ } = self;
+        let Counted {
+            device,
+            failures: _,
+        } = self;
         device
     }
 }

@@ -1,9 +1,8 @@
 ghost use Rattle.std.specs.Prelude.{◌≡◌};
 ghost use Rattle.nfs_server.specs.Once.{fault_of};
 
-use thiserror::Error;
-
 use crate::ServeError;
+use thiserror::Error;
 
 /// Why a run of the program failed, as the line that it writes on standard error.
 #[derive(Clone, Copy, Debug, PartialEq, Eq, Error)]

@@ -6,11 +6,10 @@ ghost use Rattle.nfs_server.specs.declared.clock.Stopped.{Stopped};
 ghost use Rattle.nfs_server.specs.declared.serve_error.ServeError.{ServeError};
 ghost use Rattle.nfs_server.specs.declared.service.Lent.{Lent};
 
+use crate::{Clock, Fault, Lent, Service, Sink, Source, Stopped, serve_connection};
 use nfs_core::{Core, Moment};
 use std::alloc::Global;
 use std::io::Write;
-
-use crate::{Clock, Fault, Lent, Service, Sink, Source, Stopped, serve_connection};
 
 /// Serves one input to its end, over a core that it is lent, at moment 0. It gives the program's status: 0, or 1 after a
 /// fault, whose line is written on `errors`.

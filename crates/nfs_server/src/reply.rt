@@ -7,6 +7,7 @@ use nfs_xdr::{Bytes, OpResult, Sequence, Status, WireError, write_results, write
 
 /// The states of an accepted reply (RFC 5531, section 9; accept_stat).
 pub const ACCEPTED_SUCCESS: u32 = 0;
+
 pub const ACCEPTED_SYSTEM_ERR: u32 = 5;
 
 /// The bytes of an accepted reply up to its state.

@@ -1,14 +1,12 @@
 //! Devices that give or take a byte at a time, and fail.
 
-use std::alloc::AllocError;
-use std::io::{ErrorKind, Read, Write};
-use std::io;
-use std::test::Fail;
-
+use crate::messages::{bytes_of, call, reply};
 use nfs_core::{Core, Moment};
 use nfs_server::{Counted, Lent, ServeError, Stopped, serve_connection};
-
-use crate::messages::{bytes_of, call, reply};
+use std::alloc::AllocError;
+use std::io;
+use std::io::{ErrorKind, Read, Write};
+use std::test::Fail;
 
 /// Gives its bytes one at a time; then it is at its end, or fails.
 #[derive(Drop)]

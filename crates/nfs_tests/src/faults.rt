@@ -1,12 +1,10 @@
 //! The status and the line that a run ends with.
 
-use std::alloc::Global;
-use std::test::Fail;
-
+use crate::messages::{bytes_of, call, reply};
 use nfs_core::Core;
 use nfs_server::{Counted, Fault, ServeError, run_once};
-
-use crate::messages::{bytes_of, call, reply};
+use std::alloc::Global;
+use std::test::Fail;
 
 /// What a run writes, what it writes of faults, and its status.
 fn run(alloc: Global, input: &[u8]) -> (Vec<u8>, Vec<u8>, u8) {
@@ -30,7 +28,10 @@ fn runs(rt: HostRuntime) -> Result<(), Fail> {
     let inside = bytes_of(alloc, &[0x8000_0028, 7, 0, 2, 0x0001_86a3, 4])?;
     let (output, errors, status) = run(alloc, inside.as_slice());
     assert_eq!(rt; output.as_slice(), b"".as_slice());
-    assert_eq!(rt; errors.as_slice(), b"fault: input ends inside a record\n".as_slice());
+    assert_eq!(rt;
+        errors.as_slice(),
+        b"fault: input ends inside a record\n".as_slice()
+    );
     assert_eq!(rt; status, 1);
 
     let long = bytes_of(alloc, &[0x8004_0001])?;

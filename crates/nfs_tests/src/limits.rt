@@ -1,11 +1,9 @@
 //! What is met at its very limit, and missed by one.
 
+use crate::messages::{bytes_of, call, reply, served};
+use nfs_server::ServeError;
 use std::alloc::{AllocError, Global};
 use std::test::Fail;
-
-use nfs_server::ServeError;
-
-use crate::messages::{bytes_of, call, reply, served};
 
 /// The arguments of a COMPOUND with a tag of so many zero bytes, and one confirmation of a client that isn't there.
 fn tagged(alloc: Global, tag_words: usize) -> Result<Vec<u32>, AllocError> {
@@ -29,7 +27,10 @@ fn room_for_an_answer(rt: HostRuntime) -> Result<(), Fail> {
         result.extend_from_slice(&[1, 36, status])?;
         let expected = reply(alloc, 1, result.as_slice())?;
         let (output, outcome) = served(alloc, input.as_slice());
-        assert!(rt; output.as_slice() == expected.as_slice(), "{tag_words} words");
+        assert!(rt;
+            output.as_slice() == expected.as_slice(),
+            "{tag_words} words"
+        );
         assert_eq!(rt; outcome, Ok(0), "{tag_words} words");
     }
     Ok(())
@@ -46,7 +47,11 @@ fn operations(rt: HostRuntime) -> Result<(), Fail> {
         arguments.insert(0, 0)?;
         arguments.insert(0, 0)?;
         let (output, _) = served(alloc, call(alloc, 1, 1, arguments.as_slice())?.as_slice());
-        assert_eq!(rt; output.as_slice(), reply(alloc, 1, result)?.as_slice(), "{count}");
+        assert_eq!(rt;
+            output.as_slice(),
+            reply(alloc, 1, result)?.as_slice(),
+            "{count}"
+        );
     }
     Ok(())
 }

@@ -1,9 +1,8 @@
 //! Messages in words of four bytes, and a server over memory to send them to.
 
-use std::alloc::{AllocError, Global};
-
 use nfs_core::{Core, Moment};
 use nfs_server::{Counted, Lent, ServeError, Stopped, serve_connection};
+use std::alloc::{AllocError, Global};
 
 /// The words, big-endian.
 pub fn bytes_of(alloc: Global, words: &[u32]) -> Result<Vec<u8>, AllocError> {

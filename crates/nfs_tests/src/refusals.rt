@@ -1,14 +1,12 @@
 //! Refused memory: a call gets the stated refusal and nothing else, and its answer when it is sent again. The gate runs
 //! this with ample memory, and `tools/refuse_growths` with each growth refused in turn.
 
-use std::alloc::{AllocError, Global};
-use std::test::Fail;
-
-use nfs_core::{Core, Moment};
-use nfs_server::{Counted, Lent, ServeError, Stopped, serve_connection};
-
 use crate::messages::{call, record, reply};
 use crate::rows::SET_CLIENT_ID;
+use nfs_core::{Core, Moment};
+use nfs_server::{Counted, Lent, ServeError, Stopped, serve_connection};
+use std::alloc::{AllocError, Global};
+use std::test::Fail;
 
 /// A call, its reply, and the replies that refuse it.
 #[derive(Drop)]
@@ -85,7 +83,10 @@ fn refused_once(rt: HostRuntime) -> Result<(), Fail> {
             output.clear();
             continue;
         }
-        assert!(rt; line.refuses(first.as_slice(), outcome), "{first:?} {outcome:?}");
+        assert!(rt;
+            line.refuses(first.as_slice(), outcome),
+            "{first:?} {outcome:?}"
+        );
         output = first;
         output.clear();
         let (second, outcome) = sent(alloc, &mut lent, line.message.as_slice(), output);

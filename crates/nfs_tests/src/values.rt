@@ -1,14 +1,12 @@
 //! Values written and read again, with the bytes between them worked out by hand.
 
+use crate::messages::bytes_of;
+use nfs_xdr::{
+    Address, Bytes, ClientId, Op, OpResult, SetClientIdConfirm, SetClientIdResult, Status,
+    WireError, read_flag, read_op, read_result, write_flag, write_op, write_result,
+};
 use std::alloc::Global;
 use std::test::Fail;
-
-use nfs_xdr::{
-    Address, Bytes, ClientId, Op, OpResult, SetClientIdConfirm, SetClientIdResult, Status, WireError,
-    read_flag, read_op, read_result, write_flag, write_op, write_result,
-};
-
-use crate::messages::bytes_of;
 
 #[test]
 fn operations(rt: HostRuntime) -> Result<(), Fail> {
@@ -39,7 +37,14 @@ fn results(alloc: Global) -> Result<[(OpResult, Vec<u8>); 5], Fail> {
         addr: Bytes::copied(alloc, b"1.2.3.4.8.1")?,
     };
     let in_use = [
-        35, 10017, 3, 0x7463_7000, 11, 0x312e_322e, 0x332e_342e, 0x382e_3100,
+        35,
+        10017,
+        3,
+        0x7463_7000,
+        11,
+        0x312e_322e,
+        0x332e_342e,
+        0x382e_3100,
     ];
     Ok([
         (

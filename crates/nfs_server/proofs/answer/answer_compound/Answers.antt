@@ -1,4 +1,4 @@
-use Rattle.std.proofs.Common.{ap, length, arith}
+use Rattle.std.proofs.Common.{arith}
 use Rattle.nfs_server.proofs.Replying.{reply_fits, on_ok, no_err, compound_answered}
 use Rattle.nfs_server.proofs.answer.answer_compound.Goals as goal
 
@@ -9,8 +9,8 @@ put_record-requires-clause-short g c =
 pub returns-clause-ok : goal.returns-clause-ok
 returns-clause-ok g c =
     on_ok c.put_record.result _ _
-      (compound_answered g.S.Service.gives g.C.Clock.tells c.args.service.now c.run_compound-reply.new.service c.args.clock.now c.now-moment.new.self c.args.xid c.now-moment.result c.args.principal c.args.compound c.put_record.new.out.items c.run_compound-reply.result
-        c.now-moment.ensures c.run_compound-reply.ensures.answers) c.put_record.ensures.ok
+    (compound_answered g.S.Service.gives g.C.Clock.tells c.args.service.now c.run_compound-reply.new.service c.args.clock.now c.now-moment.new.self c.args.xid c.now-moment.result c.args.principal c.args.compound c.put_record.new.out.items c.run_compound-reply.result
+    c.now-moment.ensures c.run_compound-reply.ensures.answers) c.put_record.ensures.ok
 
 pub returns-clause-err : goal.returns-clause-err
 returns-clause-err g c =

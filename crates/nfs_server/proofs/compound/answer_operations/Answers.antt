@@ -1,21 +1,17 @@
-use Rattle.std.proofs.Common.{◌∙◌, sym, ap, length, ◌++◌, ◌+◌, arith, rules}
-use Rattle.std.proofs.lemmas.List.{length-append}
-use Rattle.std.proofs.lemmas.Grind.{common_steps, flat_map-append}
-use Rattle.nfs_xdr.specs.OpResult.{written_result}
-use Rattle.std.specs.List.{flat_map}
+use Rattle.std.proofs.Common.{◌∙◌, sym, arith}
 use Rattle.nfs_server.proofs.Folding.{completes_more, completes_last, completes_none, length_with}
 use Rattle.nfs_server.proofs.compound.answer_operations.Goals as goal
 
 pub returns-then-not-goes_on-clause-answers : goal.returns-then-not-goes_on-clause-answers
 returns-then-not-goes_on-clause-answers g c =
     rw c.push_reserved.ensures.items
-      (completes_last g.S.Service.gives c.args.start c.loop-op.size c.args.moment c.args.principal c.args.ops.now c.loop-op.op-index c.op-item.result c.args.service.now c.loop-op.service c.answer_one-answer.new.service c.loop-op.results.items
-        c.answer_one-answer.result c.loop-op-test.true c.op-item.is c.answer_one-answer.ensures.answer (sym c.is_ok-goes_on.ensures ∙ c.if-not-goes_on.true) c.loop-op.invariant.completes)
+    (completes_last g.S.Service.gives c.args.start c.loop-op.size c.args.moment c.args.principal c.args.ops.now c.loop-op.op-index c.op-item.result c.args.service.now c.loop-op.service c.answer_one-answer.new.service c.loop-op.results.items
+    c.answer_one-answer.result c.loop-op-test.true c.op-item.is c.answer_one-answer.ensures.answer (sym c.is_ok-goes_on.ensures ∙ c.if-not-goes_on.true) c.loop-op.invariant.completes)
 
 pub loop-op-preserved : goal.loop-op-preserved
 loop-op-preserved g c = record {
   completes = rw (c.push_reserved.ensures.items, c.written_len-size.ensures)
-    (completes_more g.S.Service.gives c.args.start c.loop-op.size c.args.moment c.args.principal c.args.ops.now c.loop-op.op-index c.op-item.result c.args.service.now c.loop-op.service c.answer_one-answer.new.service c.loop-op.results.items
+      (completes_more g.S.Service.gives c.args.start c.loop-op.size c.args.moment c.args.principal c.args.ops.now c.loop-op.op-index c.op-item.result c.args.service.now c.loop-op.service c.answer_one-answer.new.service c.loop-op.results.items
       c.answer_one-answer.result c.loop-op-test.true c.op-item.is c.answer_one-answer.ensures.answer (sym c.is_ok-goes_on.ensures ∙ c.if-not-goes_on.false) c.loop-op.invariant.completes);
   count = omega (arith, c.push_reserved.ensures.len);
   room = c.push_reserved.ensures.capacity ∙ c.loop-op.invariant.room;

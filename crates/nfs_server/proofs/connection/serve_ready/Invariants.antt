@@ -1,4 +1,4 @@
-use Rattle.std.proofs.Common.{◌≡◌, ℕ, List, ◌++◌, ◌≤◌, length}
+use Rattle.std.proofs.Common.{◌≡◌, ◌≤◌, length}
 use Rattle.std.specs.List.{AllByRecursion}
 use Rattle.nfs_server.specs.declared.records.TheConstants.{RECORD_LIMIT}
 use Rattle.nfs_server.proofs.Serving.{HasServed}

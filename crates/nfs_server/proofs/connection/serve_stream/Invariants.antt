@@ -1,4 +1,4 @@
-use Rattle.std.proofs.Common.{◌≡◌, ◌-◌, ◌^◌, ◌<◌, length}
+use Rattle.std.proofs.Common.{◌≡◌, ◌-◌, ◌^◌}
 use Rattle.nfs_server.specs.Records.{IsStream}
 use Rattle.nfs_server.proofs.Courses.{IsUnderWay}
 use Rattle.nfs_server.proofs.connection.serve_stream.Given as goal
