@@ -9,7 +9,7 @@ use Rattle.nfs_xdr.specs.declared.set_client_id.SetClientIdResult.{SetClientIdRe
 use Rattle.nfs_xdr.specs.declared.status.Status.{Status}
 use Rattle.nfs_core.specs.declared.entry.Entry.{Entry}
 use Rattle.nfs_core.specs.declared.entry.Entry.TheVariants as entries
-use Rattle.nfs_core.specs.declared.principal.Principal.{Principal}
+use Rattle.nfs_xdr.specs.declared.principal.Principal.{Principal}
 use Rattle.nfs_core.specs.Registry.{Registry}
 use Rattle.nfs_core.specs.SetClientId.{Finding, InUse, Again, Arrival, SetsBy}
 use Rattle.nfs_core.specs.SetClientIdConfirm.{Confirmation, Stale, Refused, Before, Becomes, ConfirmsBy}

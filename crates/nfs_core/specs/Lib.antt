@@ -1,4 +1,3 @@
-pub mod Principal
 pub mod Registry
 pub mod SetClientId
 pub mod SetClientIdConfirm

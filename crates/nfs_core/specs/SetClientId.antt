@@ -9,8 +9,8 @@ use Rattle.nfs_xdr.specs.declared.set_client_id.SetClientIdResult.TheVariants as
 use Rattle.nfs_core.specs.declared.client_record.ClientRecord.{ClientRecord}
 use Rattle.nfs_core.specs.declared.client_record.PathMark.TheVariants.{Unknown}
 use Rattle.nfs_core.specs.declared.client_record.TheConstants.{CLIENT_LIMIT}
-use Rattle.nfs_core.specs.declared.principal.Principal.{Principal}
-use Rattle.nfs_core.specs.Principal.{is_same_principal}
+use Rattle.nfs_xdr.specs.declared.principal.Principal.{Principal}
+use Rattle.nfs_xdr.specs.Principal.{is_same_principal}
 use Rattle.nfs_core.specs.Registry.{Registry, confirmed_of, is_unconfirmed_of, IsWithinLimit, IsAboveLimit}
 
 -- What the call finds among the records of its id.

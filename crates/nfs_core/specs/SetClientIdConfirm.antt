@@ -5,8 +5,8 @@ use Rattle.nfs_xdr.specs.declared.status.Status.{Status}
 use Rattle.nfs_xdr.specs.declared.status.Status.TheVariants as status
 use Rattle.nfs_core.specs.declared.client_record.ClientRecord.{ClientRecord}
 use Rattle.nfs_core.specs.declared.client_record.PathMark.TheVariants.{Unknown}
-use Rattle.nfs_core.specs.declared.principal.Principal.{Principal}
-use Rattle.nfs_core.specs.Principal.{is_same_principal}
+use Rattle.nfs_xdr.specs.declared.principal.Principal.{Principal}
+use Rattle.nfs_xdr.specs.Principal.{is_same_principal}
 use Rattle.nfs_core.specs.Registry.{Registry, confirmed_of, unconfirmed_with, confirmed_with, is_of, is_same_client}
 
 -- What the call finds.

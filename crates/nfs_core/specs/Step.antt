@@ -15,7 +15,7 @@ use Rattle.nfs_core.specs.declared.entry.Entry.{Entry}
 use Rattle.nfs_core.specs.declared.entry.Entry.TheVariants as entries
 use Rattle.nfs_core.specs.declared.entry.Call.{Call}
 use Rattle.nfs_core.specs.declared.entry.TheConstants.{JOURNAL_LIMIT}
-use Rattle.nfs_core.specs.declared.principal.Principal.{Principal}
+use Rattle.nfs_xdr.specs.declared.principal.Principal.{Principal}
 use Rattle.nfs_core.specs.Registry.{confirmed_of, unconfirmed_with}
 use Rattle.nfs_core.specs.SetClientId.{Sets}
 use Rattle.nfs_core.specs.SetClientIdConfirm.{Confirms}

@@ -1,5 +1,4 @@
-use crate::Principal;
-use nfs_xdr::{Bytes, Callback, ClientId, SetClientIdConfirm, Verifier};
+use nfs_xdr::{Bytes, Callback, ClientId, Principal, SetClientIdConfirm, Verifier};
 
 /// What the server keeps of a SETCLIENTID: RFC 7530, section 16.33.5, writes it { v, x, c, l, s }.
 #[derive(Debug, Drop)]

@@ -7,8 +7,10 @@ ghost use Rattle.nfs_xdr.specs.Op.{has_entry};
 use crate::set_client_id::set_client_id;
 use crate::set_client_id_confirm::set_client_id_confirm;
 use crate::tables::Tables;
-use crate::{Journal, LEASE_MAX, LEASE_MIN, Moment, Principal};
-use nfs_xdr::{Op, OpResult, SetClientId, SetClientIdConfirm, SetClientIdResult, Status};
+use crate::{Journal, LEASE_MAX, LEASE_MIN, Moment};
+use nfs_xdr::{
+    Op, OpResult, Principal, SetClientId, SetClientIdConfirm, SetClientIdResult, Status,
+};
 use std::alloc::Global;
 use std::marker::Model;
 

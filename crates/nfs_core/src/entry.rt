@@ -1,5 +1,5 @@
-use crate::{Moment, Principal};
-use nfs_xdr::{Op, OpResult};
+use crate::Moment;
+use nfs_xdr::{Op, OpResult, Principal};
 
 /// One change of the state, as the journal keeps it.
 #[derive(Debug, Drop)]

@@ -4,8 +4,8 @@ ghost use Rattle.nfs_core.specs.Step.{call_of};
 
 use crate::journal::{make_room, push_call};
 use crate::tables::Tables;
-use crate::{Call, Journal, Moment, Principal};
-use nfs_xdr::{Op, OpResult, SetClientIdConfirm, Status};
+use crate::{Call, Journal, Moment};
+use nfs_xdr::{Op, OpResult, Principal, SetClientIdConfirm, Status};
 
 /// Answers SETCLIENTID_CONFIRM and enters it: the answer and its entry's number, or none and no change
 /// where the journal or memory refuses it.

@@ -1,9 +1,9 @@
 ghost use Rattle.std.specs.Prelude.{IsTrue, IfOk};
 ghost use Rattle.nfs_xdr.specs.Op.{has_entry};
 
-use crate::{CLIENT_LIMIT, Core, LEASE_MAX, Moment, Principal, at_most_one_step};
+use crate::{CLIENT_LIMIT, Core, LEASE_MAX, Moment, at_most_one_step};
 use nfs_xdr::{
-    Address, Bytes, Callback, ClientId, Op, OpResult, SetClientId, SetClientIdConfirm,
+    Address, Bytes, Callback, ClientId, Op, OpResult, Principal, SetClientId, SetClientIdConfirm,
     SetClientIdResult, Status, Verifier,
 };
 use std::alloc::{AllocError, Global};

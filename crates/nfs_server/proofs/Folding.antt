@@ -12,7 +12,7 @@ use Rattle.nfs_server.specs.declared.service.TheConstants.{ANSWER_ROOM}
 use Rattle.nfs_server.specs.Answering.{ends_with, ending_result, is_ok, outcome_of}
 use Rattle.nfs_server.specs.Asking.{Question, question_of}
 use Rattle.nfs_server.specs.Folding.{IsAnswer, AreAnswers, IsDetermined}
-use Rattle.nfs_core.specs.declared.principal.Principal.{Principal}
+use Rattle.nfs_xdr.specs.declared.principal.Principal.{Principal}
 use Rattle.nfs_core.specs.Step.{resource}
 use Rattle.nfs_xdr.specs.declared.op.Op.{Op}
 use Rattle.nfs_xdr.specs.declared.op.Op.TheVariants as ops

@@ -2,7 +2,7 @@
 use Rattle.std.proofs.Common.{◌≡◌, ◌≢◌, ℕ, Option, Some, None, List, [], ◌∷◌, ◌++◌, refl, sym, ap, ◌∙◌, inl, inr, append_assoc}
 use Rattle.std.proofs.lemmas.List.{append-nil}
 use Rattle.nfs_core.specs.declared.entry.Entry.{Entry}
-use Rattle.nfs_core.specs.declared.principal.Principal.{Principal}
+use Rattle.nfs_xdr.specs.declared.principal.Principal.{Principal}
 use Rattle.nfs_core.specs.Registry.{Registry}
 use Rattle.nfs_core.specs.Server.{Server, Applies}
 use Rattle.nfs_core.specs.SetClientId.{Finding, InUse, Again, Arrival, SetsBy}

@@ -2,7 +2,7 @@
 use Rattle.std.proofs.Common.{◌≡◌, ℕ, ◌+◌, ◌≤◌, max, List, [], ◌∷◌, length, map, Result, Ok, Err, refl, ap, ◌∙◌, arith}
 use Rattle.std.specs.Prelude.{OnOk, OnErr, IsOk}
 use Rattle.std.proofs.lemmas.List.{length-append, length-take}
-use Rattle.nfs_core.specs.declared.principal.Principal.{Principal}
+use Rattle.nfs_xdr.specs.declared.principal.Principal.{Principal}
 use Rattle.nfs_server.specs.declared.call.Call.TheVariants as calls
 use Rattle.nfs_server.specs.declared.records.TheConstants.{RECORD_LIMIT}
 use Rattle.nfs_server.specs.declared.reply.CompoundReply.{CompoundReply}

@@ -8,7 +8,7 @@ use Rattle.nfs_server.specs.declared.reply.Reply.{Reply}
 use Rattle.nfs_server.specs.declared.reply.Reply.TheVariants.{SystemError}
 use Rattle.nfs_server.specs.declared.reply.TheConstants.{ACCEPTED_LEN}
 use Rattle.nfs_server.specs.Reply.{IsReplyTooLong, written_reply}
-use Rattle.nfs_core.specs.declared.principal.Principal.TheVariants.{AuthNone}
+use Rattle.nfs_xdr.specs.declared.principal.Principal.TheVariants.{AuthNone}
 use Rattle.nfs_xdr.specs.declared.wire_error.WireError.{WireError}
 use Rattle.nfs_xdr.specs.Compound.{compound_at}
 use Rattle.nfs_xdr.specs.declared.compound.Compound.{Compound as CompoundArgs}

@@ -2,8 +2,8 @@
 use Rattle.std.specs.Prelude.{◌≡◌, ℕ, ◌<◌, ◌≤◌, List, [], ◌∷◌, ◌++◌, length, map, Option, Some, None, Result, Ok, Err}
 use Rattle.std.specs.List.{flat_map}
 use Rattle.std.specs.Io.KnownBytes.{Appends, Consumes}
-use Rattle.nfs_core.specs.declared.principal.Principal.{Principal}
-use Rattle.nfs_core.specs.declared.principal.Principal.TheVariants.{AuthNone}
+use Rattle.nfs_xdr.specs.declared.principal.Principal.{Principal}
+use Rattle.nfs_xdr.specs.declared.principal.Principal.TheVariants.{AuthNone}
 use Rattle.nfs_server.specs.declared.call.Call.{Call}
 use Rattle.nfs_server.specs.declared.call.Call.TheVariants as calls
 use Rattle.nfs_server.specs.declared.serve_error.ServeError.{ServeError}

@@ -5,7 +5,7 @@ use Rattle.nfs_server.specs.declared.service.TheConstants.{ANSWER_ROOM}
 use Rattle.nfs_server.specs.Answering.{compound_outcome, ending_result, is_ok, outcome_of}
 use Rattle.nfs_xdr.specs.declared.compound.Compound.{Compound}
 use Rattle.nfs_server.specs.Asking.{Asks, Question, question_of}
-use Rattle.nfs_core.specs.declared.principal.Principal.{Principal}
+use Rattle.nfs_xdr.specs.declared.principal.Principal.{Principal}
 use Rattle.nfs_core.specs.Step.{resource}
 use Rattle.nfs_xdr.specs.declared.op.Op.{Op}
 use Rattle.nfs_xdr.specs.declared.op_result.OpResult.{OpResult}

@@ -9,8 +9,7 @@ ghost use Rattle.nfs_xdr.specs.declared.op_result.OpResult.{OpResult};
 use crate::records::{HEADER_LEN, LAST_FRAGMENT, RECORD_LIMIT};
 use crate::{Call, Clock, Reply, Service, read_call, run_compound, write_reply};
 use byteorder::{BigEndian, ByteOrder};
-use nfs_core::Principal;
-use nfs_xdr::{Compound, OPERATION_LIMIT, write_u32};
+use nfs_xdr::{Compound, OPERATION_LIMIT, Principal, write_u32};
 use std::alloc::{AllocError, Global};
 
 /// Room for any reply to a COMPOUND, with its header.

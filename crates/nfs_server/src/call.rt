@@ -3,8 +3,7 @@ ghost use Rattle.nfs_server.specs.Call.{IsCall, IsCallWithinLimits, IsCompoundCa
 ghost use Rattle.nfs_xdr.specs.Reading.{Answers};
 
 use crate::Reply;
-use nfs_core::Principal;
-use nfs_xdr::{Compound, WireError, read_compound, read_opaque, read_u32};
+use nfs_xdr::{Compound, Principal, WireError, read_compound, read_opaque, read_u32};
 use std::alloc::Global;
 
 pub const RPC_VERSION: u32 = 2;

@@ -14,10 +14,10 @@ use crate::records::RECORD_LIMIT;
 use crate::reply::ACCEPTED_LEN;
 use crate::service::ANSWER_ROOM;
 use crate::{CompoundReply, Service};
-use nfs_core::{Moment, Principal};
+use nfs_core::Moment;
 use nfs_xdr::{
-    Compound, OPERATION_LIMIT, Op, OpResult, Request, Sequence, SetClientIdResult, Status,
-    padding_of,
+    Compound, OPERATION_LIMIT, Op, OpResult, Principal, Request, Sequence, SetClientIdResult,
+    Status, padding_of,
 };
 
 /// Answers a COMPOUND (RFC 7530, section 16.2), operation by operation, up to the first answer other than NFS4_OK. It takes

@@ -6,8 +6,8 @@ ghost use Rattle.nfs_server.specs.declared.service.TheConstants.{ANSWER_ROOM};
 ghost use Rattle.nfs_xdr.specs.declared.op_result.OpResult.{OpResult};
 ghost use Rattle.nfs_xdr.specs.OpResult.{written_result};
 
-use nfs_core::{Core, Moment, Principal};
-use nfs_xdr::{Op, OpResult};
+use nfs_core::{Core, Moment};
+use nfs_xdr::{Op, OpResult, Principal};
 
 /// The most bytes of a service's answer in a reply.
 pub const ANSWER_ROOM: usize = 2048;

@@ -3,6 +3,7 @@ pub mod Reading
 pub mod Writing
 pub mod Callback
 pub mod ClientId
+pub mod Principal
 pub mod Status
 pub mod SetClientId
 pub mod SetClientIdConfirm

@@ -8,6 +8,7 @@ mod client_id;
 mod compound;
 mod op;
 mod op_result;
+mod principal;
 mod round_trip;
 mod sequence;
 mod set_client_id;
@@ -29,6 +30,7 @@ pub use op::{
     OP_SET_CLIENT_ID_CONFIRM, Op, read_op, write_op,
 };
 pub use op_result::{OpResult, read_result, write_result};
+pub use principal::Principal;
 pub use round_trip::{
     basic_forms_are_read_again, one_value_stands, operations_and_results_are_read_again,
 };

@@ -4,8 +4,8 @@ ghost use Rattle.nfs_core.specs.Registry.{IsWithinLimit, IsAboveLimit};
 ghost use Rattle.nfs_core.specs.SetClientId.{Again, Arrival, Sets, SetsBy, IsFull, IsFullBy, arriving, with_arriving};
 
 use super::{Clients, ClientsError};
-use crate::{ADDRESS_LIMIT, CLIENT_LIMIT, ClientRecord, PathMark, Principal};
-use nfs_xdr::{Address, ClientId, SetClientId, SetClientIdResult};
+use crate::{ADDRESS_LIMIT, CLIENT_LIMIT, ClientRecord, PathMark};
+use nfs_xdr::{Address, ClientId, Principal, SetClientId, SetClientIdResult};
 use std::alloc::AllocError;
 
 impl Clients {

@@ -5,8 +5,8 @@ ghost use Rattle.nfs_core.specs.Registry.{is_of, has_both, confirmed_of, confirm
 ghost use Rattle.nfs_core.specs.SetClientIdConfirm.{Refused, Becomes, Confirms, ConfirmsBy, confirmation_again, confirmation_beside, with_confirmed};
 
 use super::Clients;
-use crate::{ClientRecord, PathMark, Principal};
-use nfs_xdr::{SetClientIdConfirm, Status};
+use crate::{ClientRecord, PathMark};
+use nfs_xdr::{Principal, SetClientIdConfirm, Status};
 
 impl Clients {
     /// SETCLIENTID_CONFIRM (RFC 7530, section 16.34.5); `has_state` is whether the client of the

@@ -10,7 +10,7 @@ pub enum Principal {
 }
 
 impl Principal {
-    ghost use Rattle.nfs_core.specs.Principal.{is_same_principal};
+    ghost use Rattle.nfs_xdr.specs.Principal.{is_same_principal};
 
     /// Whether the two are one principal.
     pub fn is(self, other: Principal) -> bool

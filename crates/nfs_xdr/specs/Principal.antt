@@ -1,7 +1,7 @@
 -- Who sends a call (RFC 5531, section 8.2): the flavor, and under AUTH_SYS the uid.
 use Rattle.std.specs.Prelude.{Bool, true, false, ◌==◌}
-use Rattle.nfs_core.specs.declared.principal.Principal.{Principal}
-use Rattle.nfs_core.specs.declared.principal.Principal.TheVariants.{AuthNone, AuthSys}
+use Rattle.nfs_xdr.specs.declared.principal.Principal.{Principal}
+use Rattle.nfs_xdr.specs.declared.principal.Principal.TheVariants.{AuthNone, AuthSys}
 
 -- the two are one principal
 abbrev pub is_same_principal : Principal → Principal → Bool
