@@ -2,10 +2,12 @@
 #![tactic(auto)]
 
 mod basic;
+mod bitmap;
 mod bytes;
 mod callback;
 mod client_id;
 mod compound;
+mod fattr;
 mod op;
 mod op_result;
 mod principal;
@@ -21,10 +23,12 @@ pub use basic::{
     padding_of, read_fixed, read_flag, read_opaque, read_opaque_bytes, read_u32, read_u64,
     write_fixed, write_flag, write_opaque, write_u32, write_u64,
 };
+pub use bitmap::Bitmap;
 pub use bytes::Bytes;
 pub use callback::{Address, Callback};
 pub use client_id::ClientId;
 pub use compound::{Compound, OPERATION_LIMIT, Request, read_compound, write_results};
+pub use fattr::Fattr;
 pub use op::{
     FIRST_OPERATION, LAST_OPERATION, OP_ILLEGAL, OP_SET_ATTR, OP_SET_CLIENT_ID,
     OP_SET_CLIENT_ID_CONFIRM, Op, read_op, write_op,

@@ -1,0 +1,59 @@
+ghost use Rattle.std.specs.Prelude.{◌≡◌};
+
+use std::alloc::AllocError;
+use std::marker::Model;
+
+/// A set of attributes (bitmap4): bit b is bit b mod 32 of word b / 32. Contracts see the list of the words, so that
+/// other zero words at the end are another value.
+#[derive(Debug, Drop)]
+pub struct Bitmap {
+    words: Vec<u32>,
+}
+
+impl Model for Bitmap {
+    ghost use Rattle.std.specs.Prelude.{List, ℕ};
+
+    ghost Value = { List ℕ };
+
+    ghost view = { λ b. b.words.items };
+}
+
+impl Bitmap {
+    /// These words, taking no memory.
+    pub fn new(words: Vec<u32>) -> Bitmap
+        ensures { result ≡ words.items }
+    {
+        Bitmap { words }
+    }
+
+    /// The words.
+    pub fn as_slice(&self) -> &[u32]
+        ensures { result.now ≡ self.now }
+    {
+        self.words.as_slice()
+    }
+}
+
+impl PartialEq for Bitmap {
+    ghost use Rattle.std.specs.Str.{bytes_eq};
+    ghost use Rattle.std.specs.Cmp.Rules.{comparing};
+    ghost use Rattle.std.proofs.Common.{rules};
+
+    ghost eq = { bytes_eq };
+
+    ghost laws = { Prim.search (comparing, rules) };
+
+    fn eq(&self, other: &Bitmap) -> bool {
+        self.as_slice() == other.as_slice()
+    }
+}
+
+impl Clone for Bitmap {
+    ghost is_clone = { λ x y. y ≡ x };
+
+    fn clone(&self) -> Result<Bitmap, AllocError> {
+        Ok(Bitmap {
+            words: self.words.clone()?,
+        })
+    }
+}
