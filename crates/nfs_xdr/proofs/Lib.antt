@@ -1,4 +1,5 @@
 pub mod BasicForms
+pub mod Words
 pub mod Operations
 pub mod CompoundLists
 pub mod WritingLists

@@ -1,4 +1,4 @@
--- COMPOUND (RFC 7530, section 16.2; RFC 7531, COMPOUND4args and COMPOUND4res).
+-- COMPOUND (RFC 7530, section 15.2; RFC 7531, COMPOUND4args and COMPOUND4res).
 use Rattle.std.specs.Prelude.{◌≡◌, ℕ, zero, suc, ◌^◌, ◌≤◌, ◌⊎◌, ◌==◌, nat_le, List, [], ◌∷◌, ◌++◌, length, Result, Ok, IsFalse, MatchBool, if◌then◌else◌}
 use Rattle.std.specs.List.{flat_map, Any}
 use Rattle.nfs_xdr.specs.declared.compound.Compound.{Compound}

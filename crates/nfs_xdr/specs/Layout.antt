@@ -1,11 +1,15 @@
 -- Which bytes stand for a value (RFC 4506, RFC 7531). Numbers are big-endian.
-use Rattle.std.specs.Prelude.{◌≡◌, ℕ, ◌-◌, ◌^◌, ◌%◌, ◌≤◌, Bool, List, ◌++◌, length, if◌then◌else◌}
+use Rattle.std.specs.Prelude.{◌≡◌, ℕ, ◌-◌, ◌^◌, ◌%◌, ◌≤◌, Bool, List, [], ◌++◌, length, if◌then◌else◌}
 use Rattle.byteorder.specs.Endian.{big_number}
 
 -- the front of the bytes stands in the one layout, and the back in the other
 infixr 5 ◌⨾◌
 abbrev pub ◌⨾◌ : (List ℕ → Type 0) → (List ℕ → Type 0) → List ℕ → Type 0
 (P ⨾ Q) bytes = (front : List ℕ) × (back : List ℕ) × (bytes ≡ front ++ back) × P front × Q back
+
+-- no bytes
+abbrev pub Nothing : List ℕ → Type 0
+Nothing bytes = bytes ≡ []
 
 -- a number of so many bytes
 abbrev pub Number : ℕ → ℕ → List ℕ → Type 0

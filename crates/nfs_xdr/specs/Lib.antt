@@ -5,6 +5,12 @@ pub mod Callback
 pub mod ClientId
 pub mod Principal
 pub mod Status
+pub mod Access
+pub mod Bitmap
+pub mod Fattr
+pub mod FileHandle
+pub mod GetAttr
+pub mod GetFh
 pub mod SetClientId
 pub mod SetClientIdConfirm
 pub mod Op

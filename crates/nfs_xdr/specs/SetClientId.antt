@@ -8,9 +8,9 @@ use Rattle.nfs_xdr.specs.declared.status.Status.{Status}
 use Rattle.nfs_xdr.specs.declared.status.Status.TheVariants as status
 use Rattle.nfs_xdr.specs.Callback.{AddressFits, CallbackFits, IsAddress, IsAddressTooLong, IsCallback, address_at, callback_at, written_address, written_callback}
 use Rattle.nfs_xdr.specs.ClientId.{ClientIdFits, IsClientId, client_id_at, written_client_id}
-use Rattle.nfs_xdr.specs.Layout.{◌⨾◌, U64, Fixed, Opaque}
+use Rattle.nfs_xdr.specs.Layout.{◌⨾◌, Nothing, U64, Fixed, Opaque}
 use Rattle.nfs_xdr.specs.Reading.{Read, ◌then◌, as_value, number_at, fixed_at, opaque_at}
-use Rattle.nfs_xdr.specs.Status.{IsStatus, written_status}
+use Rattle.nfs_xdr.specs.Status.{IsRefusal, written_status}
 use Rattle.nfs_xdr.specs.Writing.{written_u64, written_opaque}
 
 -- the arguments
@@ -26,14 +26,18 @@ written_set_client_id a = a.verifier.0 ++ (written_opaque a.id ++ written_callba
 abbrev pub IsSetClientIdTooLong : SetClientId → Type 0
 IsSetClientIdTooLong a = (ID_LIMIT < length a.id) ⊎ IsAddressTooLong a.callback.address
 
--- The result: with NFS4_OK the clientid and the value to confirm, with NFS4ERR_CLID_INUSE an address, and
--- with any other status nothing. NFS4ERR_BADXDR is that of arguments that can't be read.
-abbrev pub IsSetClientIdResult : SetClientIdResult → List ℕ → Type 0
-IsSetClientIdResult (Done client confirm) = IsStatus status.Ok ⨾ IsClientId client ⨾ U64 confirm
-IsSetClientIdResult (ClidInUse address) = IsStatus status.ClidInUse ⨾ IsAddress address
-IsSetClientIdResult (Refused s) = λ bytes. (s ≢ status.Ok) × (s ≢ status.ClidInUse) × (s ≢ status.BadXdr) × IsStatus s bytes
+abbrev pub set_client_id_status : SetClientIdResult → Status
+set_client_id_status (Done client confirm) = status.Ok
+set_client_id_status (ClidInUse address) = status.ClidInUse
+set_client_id_status (Refused s) = s
 
--- behind the status
+-- Behind the status: with NFS4_OK the clientid and the value to confirm, with NFS4ERR_CLID_INUSE an address, and with any
+-- other status nothing.
+abbrev pub IsSetClientIdRest : SetClientIdResult → List ℕ → Type 0
+IsSetClientIdRest (Done client confirm) = IsClientId client ⨾ U64 confirm
+IsSetClientIdRest (ClidInUse address) = IsAddress address
+IsSetClientIdRest (Refused s) = Nothing
+
 unfoldable pub set_client_id_result_at : Status → List ℕ → Read SetClientIdResult
 set_client_id_result_at status.Ok = as_value (λ p. Done p.0 p.1) (client_id_at then number_at 8)
 set_client_id_result_at status.ClidInUse = as_value ClidInUse address_at
@@ -53,8 +57,14 @@ IsSetClientIdResultTooLong (Refused s) = ⊥
 abbrev pub SetClientIdFits : SetClientId → Type 0
 SetClientIdFits a = (length a.verifier.0 ≡ 8) × (length a.id ≤ ID_LIMIT) × CallbackFits a.callback
 
--- The same of a result, and it says by Refused only what has no form of its own.
-abbrev pub SetClientIdResultFits : SetClientIdResult → Type 0
-SetClientIdResultFits (Done client confirm) = ClientIdFits client × (confirm < 2 ^ 64)
-SetClientIdResultFits (ClidInUse address) = AddressFits address
-SetClientIdResultFits (Refused s) = (s ≢ status.Ok) × (s ≢ status.ClidInUse) × (s ≢ status.BadXdr)
+-- Refused says only a status that has no form of its own.
+abbrev pub SetClientIdHasForm : SetClientIdResult → Type 0
+SetClientIdHasForm (Done client confirm) = Unit {0}
+SetClientIdHasForm (ClidInUse address) = Unit {0}
+SetClientIdHasForm (Refused s) = IsRefusal s × (s ≢ status.ClidInUse)
+
+-- what stands behind the status fits its form
+abbrev pub SetClientIdRestFits : SetClientIdResult → Type 0
+SetClientIdRestFits (Done client confirm) = ClientIdFits client × (confirm < 2 ^ 64)
+SetClientIdRestFits (ClidInUse address) = AddressFits address
+SetClientIdRestFits (Refused s) = Unit {0}

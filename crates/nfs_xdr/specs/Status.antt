@@ -1,12 +1,12 @@
 -- The numbers of the statuses (RFC 7530, section 13; RFC 7531, nfsstat4).
-use Rattle.std.specs.Prelude.{ℕ, List, ◌==◌, Option, Some, None, Ok, Err}
+use Rattle.std.specs.Prelude.{◌≢◌, ℕ, List, ◌==◌, Option, Some, None, Ok, Err}
 use Rattle.std.specs.List.{find}
 use Rattle.nfs_xdr.specs.declared.status.Status.{Status}
 use Rattle.nfs_xdr.specs.declared.status.Status.TheVariants as status
 use Rattle.nfs_xdr.specs.declared.status.TheConstants.{STATUSES}
 use Rattle.nfs_xdr.specs.declared.wire_error.WireError.TheVariants as errors
 use Rattle.nfs_xdr.specs.Layout.{U32}
-use Rattle.nfs_xdr.specs.Reading.{Read, ◌>>=◌, number_at}
+use Rattle.nfs_xdr.specs.Reading.{Read, ◌>>=◌, as_value, number_at}
 use Rattle.nfs_xdr.specs.Writing.{written_u32}
 
 abbrev pub number_of : Status → ℕ
@@ -58,3 +58,13 @@ status_at bytes = number_at 4 bytes >>= λ n. status_or_short (status_of n.0) n.
 
 abbrev pub written_status : Status → List ℕ
 written_status s = written_u32 (number_of s)
+
+-- A result that has something behind NFS4_OK says any other status by itself, but for NFS4ERR_BADXDR: that is the status of
+-- arguments that can't be read.
+abbrev pub IsRefusal : Status → Type 0
+IsRefusal s = (s ≢ status.Ok) × (s ≢ status.BadXdr)
+
+-- what stands behind the status of such a result
+abbrev pub done_or_refused : {A R : Type 0} → (List ℕ → Read A) → (A → R) → (Status → R) → Status → List ℕ → Read R
+done_or_refused read done refused status.Ok = as_value done read
+done_or_refused read done refused s = λ rest. Ok (refused s, rest)

@@ -16,7 +16,7 @@ use std::alloc::{AllocError, Global};
 /// The most operations of a COMPOUND.
 pub const OPERATION_LIMIT: u32 = 64;
 
-/// The arguments of a COMPOUND (RFC 7530, section 16.2.2).
+/// The arguments of a COMPOUND (RFC 7530, section 15.2).
 #[derive(Debug, Drop)]
 pub struct Compound {
     /// The client's label, which the reply repeats.

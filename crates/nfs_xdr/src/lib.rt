@@ -1,6 +1,7 @@
 //! The operations of NFSv4.0 and their results, as values and as bytes (RFC 7530, section 16; RFC 7531).
 #![tactic(auto)]
 
+mod access;
 mod basic;
 mod bitmap;
 mod bytes;
@@ -8,6 +9,9 @@ mod callback;
 mod client_id;
 mod compound;
 mod fattr;
+mod file_handle;
+mod get_attr;
+mod get_fh;
 mod op;
 mod op_result;
 mod principal;
@@ -19,6 +23,7 @@ mod status;
 mod verifier;
 mod wire_error;
 
+pub use access::{AccessBits, AccessResult};
 pub use basic::{
     padding_of, read_fixed, read_flag, read_opaque, read_opaque_bytes, read_u32, read_u64,
     write_fixed, write_flag, write_opaque, write_u32, write_u64,
@@ -29,8 +34,12 @@ pub use callback::{Address, Callback};
 pub use client_id::ClientId;
 pub use compound::{Compound, OPERATION_LIMIT, Request, read_compound, write_results};
 pub use fattr::Fattr;
+pub use file_handle::{FILE_HANDLE_LIMIT, FileHandle};
+pub use get_attr::GetAttrResult;
+pub use get_fh::GetFhResult;
 pub use op::{
-    FIRST_OPERATION, LAST_OPERATION, OP_ILLEGAL, OP_SET_ATTR, OP_SET_CLIENT_ID,
+    FIRST_OPERATION, LAST_OPERATION, OP_ACCESS, OP_GET_ATTR, OP_GET_FH, OP_ILLEGAL, OP_LOOKUP,
+    OP_PUT_FH, OP_PUT_ROOT_FH, OP_RESTORE_FH, OP_SAVE_FH, OP_SET_ATTR, OP_SET_CLIENT_ID,
     OP_SET_CLIENT_ID_CONFIRM, Op, read_op, write_op,
 };
 pub use op_result::{OpResult, read_result, write_result};

@@ -1,6 +1,6 @@
 ghost use Rattle.std.specs.Prelude.{◌≡◌};
 ghost use Rattle.nfs_xdr.specs.Reading.{Gives};
-ghost use Rattle.nfs_xdr.specs.SetClientId.{IsSetClientIdResultTooLong, IsSetClientIdTooLong, set_client_id_at, set_client_id_result_at, written_set_client_id, written_set_client_id_result};
+ghost use Rattle.nfs_xdr.specs.SetClientId.{IsSetClientIdResultTooLong, IsSetClientIdTooLong, set_client_id_at, set_client_id_result_at, set_client_id_status, written_set_client_id, written_set_client_id_result};
 ghost use Rattle.nfs_xdr.specs.Writing.{Writes};
 
 use crate::basic::{read_fixed, read_opaque_bytes, read_u64, write_fixed, write_opaque, write_u64};
@@ -32,6 +32,18 @@ pub enum SetClientIdResult {
     ClidInUse(Address),
     /// Any other status.
     Refused(Status),
+}
+
+impl SetClientIdResult {
+    pub fn status(&self) -> Status
+        ensures { result ≡ set_client_id_status self.now }
+    {
+        match self {
+            SetClientIdResult::Done(..) => Status::Ok,
+            SetClientIdResult::ClidInUse(_) => Status::ClidInUse,
+            SetClientIdResult::Refused(status) => *status,
+        }
+    }
 }
 
 #[tactic(auto, unfolding(crate::specs::SetClientId::set_client_id_at))]

@@ -1,4 +1,4 @@
-ghost use Rattle.std.specs.Prelude.{◌≡◌, ◌<◌, ◌≤◌, ◌^◌, length, IsErrOf, IsOk};
+ghost use Rattle.std.specs.Prelude.{◌≡◌, ◌<◌, ◌≤◌, ◌^◌, length, IfOk, IsErrOf, IsOk};
 ghost use Rattle.nfs_xdr.specs.Layout as layout;
 ghost use Rattle.nfs_xdr.specs.Reading.{Answers, Gives, opaque_at};
 ghost use Rattle.nfs_xdr.specs.Writing.{Writes, written_opaque};
@@ -19,7 +19,8 @@ pub fn padding_of(len: usize) -> usize
 /// the length is above `limit`, Short where bytes are missing, those of the padding too.
 #[tactic(auto, unfolding(crate::specs::Reading::opaque_at))]
 pub fn read_opaque(bytes: &[u8], limit: u32) -> Result<(&[u8], &[u8]), WireError>
-    ensures { Answers (λ x. (x.0.now, x.1.now)) result (opaque_at limit bytes.now) }
+    ensures reads { Answers (λ x. (x.0.now, x.1.now)) result (opaque_at limit bytes.now) }
+    ensures within { IfOk result (λ x. length x.0.now ≤ limit) }
 {
     let (len, rest) = read_u32(bytes)?;
     if len > limit {
@@ -45,6 +46,14 @@ pub fn read_opaque_bytes(
 {
     let (value, rest) = read_opaque(bytes, limit)?;
     Ok((Bytes::copied(alloc, value)?, rest))
+}
+
+/// How many bytes they take as they are written.
+pub(crate) fn opaque_len(bytes: &[u8]) -> usize
+    requires { length (written_opaque bytes.now) ≤ 2 ^ 32 }
+    ensures { result ≡ length (written_opaque bytes.now) }
+{
+    4 + bytes.len() + padding_of(bytes.len())
 }
 
 /// Writes the length, the bytes and zeros to a multiple of 4 at the end. TooLong from 2^32 bytes on.
