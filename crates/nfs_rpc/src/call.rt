@@ -1,0 +1,150 @@
+ghost use Rattle.std.specs.Prelude.{◌≡◌, ◌+◌, ◌≤◌, ◌⊎◌, IfOk, length};
+ghost use Rattle.nfs_rpc.specs.Call.{IsCall, IsCallWithinLimits, header_at, read_arguments, refused_arguments, start_at};
+ghost use Rattle.nfs_xdr.specs.Reading.{Answers};
+
+use crate::Reply;
+use crate::credential::{read_credential, read_opaque_auth};
+use nfs_xdr::{Compound, Principal, WireError, read_compound, read_u32};
+use std::alloc::Global;
+
+/// The type of a message that is a call (RFC 5531, section 9).
+pub const MESSAGE_CALL: u32 = 0;
+
+pub const RPC_VERSION: u32 = 2;
+
+/// The RPC program of NFS, and its version.
+pub const NFS_PROGRAM: u32 = 100_003;
+
+pub const NFS_VERSION: u32 = 4;
+
+pub const PROC_NULL: u32 = 0;
+
+pub const PROC_COMPOUND: u32 = 1;
+
+/// What a record calls for.
+#[derive(Debug, Drop)]
+pub enum Call {
+    /// Nothing that is answered.
+    Silent,
+    /// NULL, with the call's xid.
+    Null(u32),
+    /// COMPOUND, with the call's xid.
+    Compound(u32, Principal, Compound),
+    /// An answer that needs no service, with the call's xid.
+    Answer(u32, Reply),
+}
+
+/// What a call begins with (RFC 5531, section 9), which is judged whatever follows it.
+#[derive(Clone, Copy)]
+struct Start {
+    xid: u32,
+    message_type: u32,
+    rpc_version: u32,
+}
+
+/// What stands between this and the arguments.
+#[derive(Clone, Copy)]
+struct Header {
+    program: u32,
+    version: u32,
+    procedure: u32,
+    /// Who calls, or `None` where the credential isn't served or can't be read.
+    principal: Option<Principal>,
+}
+
+/// Reads a record (RFC 5531, section 9).
+///
+/// A call is refused by the first of these that is so: another RPC version, a credential that isn't served or can't be read,
+/// another program, another version of it, no such procedure, arguments of COMPOUND that can't be read. Nothing is said where
+/// a record isn't a call, or ends before its verifier does, but for the RPC version, which is judged at once. Where memory
+/// is refused while a COMPOUND is read, it is to be answered SYSTEM_ERR.
+pub fn read_call(alloc: Global, message: &[u8]) -> Call
+    ensures call { IsCall message.now result }
+    ensures limits { IsCallWithinLimits (length message.now) result }
+{
+    let Ok((start, rest)) = read_start(message) else {
+        return Call::Silent;
+    };
+    if start.message_type != MESSAGE_CALL {
+        return Call::Silent;
+    }
+    if start.rpc_version != RPC_VERSION {
+        return Call::Answer(start.xid, Reply::RpcMismatch);
+    }
+    let Ok((header, arguments)) = read_header(rest) else {
+        return Call::Silent;
+    };
+    let Some(principal) = header.principal else {
+        return Call::Answer(start.xid, Reply::AuthError);
+    };
+    if header.program != NFS_PROGRAM {
+        return Call::Answer(start.xid, Reply::ProgUnavail);
+    }
+    if header.version != NFS_VERSION {
+        return Call::Answer(start.xid, Reply::ProgMismatch);
+    }
+    match header.procedure {
+        PROC_NULL => Call::Null(start.xid),
+        PROC_COMPOUND => compound_call(alloc, start.xid, principal, arguments),
+        _ => Call::Answer(start.xid, Reply::ProcUnavail),
+    }
+}
+
+// The call of COMPOUND with these arguments, behind a header of at least 40 bytes.
+fn compound_call(alloc: Global, xid: u32, principal: Principal, bytes: &[u8]) -> Call
+    ensures call { (result ≡ read_arguments xid principal bytes.now) ⊎ (result ≡ refused_arguments xid principal bytes.now) }
+    ensures limits { IsCallWithinLimits (40 + length bytes.now) result }
+{
+    match read_compound(alloc, bytes) {
+        Ok(compound) => Call::Compound(xid, principal, compound),
+        Err(WireError::Memory) => Call::Answer(xid, Reply::SystemError),
+        Err(_) => Call::Answer(xid, Reply::GarbageArgs),
+    }
+}
+
+fn read_start(bytes: &[u8]) -> Result<(Start, &[u8]), WireError>
+    ensures start { Answers (λ x. (x.0, x.1.now)) result (start_at bytes.now) }
+    ensures shorter { IfOk result (λ x. length x.1.now + 12 ≤ length bytes.now) }
+{
+    start_from(bytes)
+}
+
+#[tactic(auto, unfolding(crate::specs::Call::start_at))]
+fn start_from(bytes: &[u8]) -> Result<(Start, &[u8]), WireError>
+    ensures { Answers (λ x. (x.0, x.1.now)) result (start_at bytes.now) }
+{
+    let (xid, rest) = read_u32(bytes)?;
+    let (message_type, rest) = read_u32(rest)?;
+    let (rpc_version, rest) = read_u32(rest)?;
+    let start = Start {
+        xid,
+        message_type,
+        rpc_version,
+    };
+    Ok((start, rest))
+}
+
+fn read_header(bytes: &[u8]) -> Result<(Header, &[u8]), WireError>
+    ensures header { Answers (λ x. (x.0, x.1.now)) result (header_at bytes.now) }
+    ensures shorter { IfOk result (λ x. length x.1.now + 28 ≤ length bytes.now) }
+{
+    header_from(bytes)
+}
+
+#[tactic(auto, unfolding(crate::specs::Call::header_at))]
+fn header_from(bytes: &[u8]) -> Result<(Header, &[u8]), WireError>
+    ensures { Answers (λ x. (x.0, x.1.now)) result (header_at bytes.now) }
+{
+    let (program, rest) = read_u32(bytes)?;
+    let (version, rest) = read_u32(rest)?;
+    let (procedure, rest) = read_u32(rest)?;
+    let (principal, rest) = read_credential(rest)?;
+    let (_, rest) = read_opaque_auth(rest)?;
+    let header = Header {
+        program,
+        version,
+        procedure,
+        principal,
+    };
+    Ok((header, rest))
+}

@@ -1,0 +1,22 @@
+//! RPC over a stream (RFC 5531): records of bytes, the calls that they are, and the replies to them.
+#![tactic(auto)]
+
+mod auth_sys;
+mod call;
+mod credential;
+mod records;
+mod reply;
+
+pub use auth_sys::{GID_LIMIT, MACHINE_NAME_LIMIT, auth_sys_is_read};
+pub use call::{
+    Call, MESSAGE_CALL, NFS_PROGRAM, NFS_VERSION, PROC_COMPOUND, PROC_NULL, RPC_VERSION, read_call,
+};
+pub use credential::{AUTH_NONE, AUTH_SYS, BODY_LIMIT};
+pub use records::{
+    HEADER_LEN, LAST_FRAGMENT, RECORD_LIMIT, RecordError, Records, one_split, split_goes_on,
+};
+pub use reply::{
+    ACCEPTED_GARBAGE_ARGS, ACCEPTED_LEN, ACCEPTED_PROC_UNAVAIL, ACCEPTED_PROG_MISMATCH,
+    ACCEPTED_PROG_UNAVAIL, ACCEPTED_SUCCESS, ACCEPTED_SYSTEM_ERR, AUTH_BADCRED, CompoundReply,
+    DENIED_AUTH_ERROR, DENIED_RPC_MISMATCH, Reply, SHORT_REPLY_LEN, write_reply,
+};

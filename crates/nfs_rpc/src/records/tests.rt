@@ -1,0 +1,141 @@
+use super::*;
+use std::process::Abort;
+
+/// A call of the procedure NULL of NFSv4 with no credential (RFC 5531, section 9).
+const NULL_CALL: [u8; 40] = [
+    0, 0, 0, 1, 0, 0, 0, 0, 0, 0, 0, 2, 0, 1, 0x86, 0xa3, 0, 0, 0, 4, 0, 0, 0, 0, 0, 0, 0, 0, 0, 0,
+    0, 0, 0, 0, 0, 0, 0, 0, 0, 0,
+];
+
+const ZEROS: [u8; 4096] = [0; 4096];
+
+fn feed_if_few(rt: &impl Abort, records: &mut Records, piece: &[u8]) -> Result<(), RecordError> {
+    assert!(rt; records.fed() + piece.len() as u64 <= 1 << 40);
+    records.feed(piece)
+}
+
+/// Feeds a piece, and once more where memory was refused, which must have left all as it was.
+fn feed(rt: &impl Abort, records: &mut Records, piece: &[u8]) -> Result<(), RecordError> {
+    let (rest, fed) = (records.rest(), records.fed());
+    let answer = feed_if_few(rt, records, piece);
+    if answer != Err(RecordError::Memory) {
+        return answer;
+    }
+    assert_eq!(rt; records.rest(), rest);
+    assert_eq!(rt; records.fed(), fed);
+    feed_if_few(rt, records, piece)
+}
+
+fn feed_all(rt: &impl Abort, records: &mut Records, pieces: &[&[u8]]) {
+    for piece in pieces {
+        assert_eq!(rt; feed(rt, records, piece), Ok(()));
+    }
+}
+
+fn assert_next(rt: &impl Abort, records: &mut Records, want: &[u8]) {
+    match records.next() {
+        Some(message) => assert_eq!(rt; message.as_slice(), want),
+        None => panic!(rt; "a record is missing"),
+    }
+}
+
+fn assert_no_next(rt: &impl Abort, records: &mut Records) {
+    assert!(rt; records.next().is_none());
+}
+
+#[test]
+fn takes_a_call_in_one_fragment(rt: HostRuntime) {
+    let mut records = Records::new(rt.alloc());
+    feed_all(&rt, &mut records, &[&[0x80, 0, 0, 40], &NULL_CALL]);
+    assert_next(&rt, &mut records, &NULL_CALL);
+    assert_no_next(&rt, &mut records);
+    assert_eq!(rt; records.rest(), 0);
+    assert_eq!(rt; records.fed(), 44);
+}
+
+#[test]
+fn takes_a_call_byte_by_byte(rt: HostRuntime) {
+    let mut records = Records::new(rt.alloc());
+    let pieces: [&[u8]; 4] = [
+        &[0, 0, 0, 20],
+        &NULL_CALL[..20],
+        &[0x80, 0, 0, 20],
+        &NULL_CALL[20..],
+    ];
+    for piece in pieces {
+        for byte in piece {
+            assert_no_next(&rt, &mut records);
+            feed_all(&rt, &mut records, &[&[*byte]]);
+        }
+    }
+    assert_next(&rt, &mut records, &NULL_CALL);
+    assert_no_next(&rt, &mut records);
+}
+
+#[test]
+fn refuses_a_record_at_its_second_header(rt: HostRuntime) {
+    let mut records = Records::new(rt.alloc());
+    feed_all(&rt, &mut records, &[&[0x80, 0, 0, 1, 7], &[0, 2, 0, 0]]);
+    for _ in 0..32 {
+        feed_all(&rt, &mut records, &[&ZEROS]);
+    }
+    assert_eq!(rt;
+        feed(&rt, &mut records, &[0x80, 2, 0, 1]),
+        Err(RecordError::TooLong)
+    );
+    assert!(rt; records.is_too_long());
+    assert_eq!(rt; feed(&rt, &mut records, &[0]), Err(RecordError::TooLong));
+    assert_next(&rt, &mut records, &[7]);
+    assert_no_next(&rt, &mut records);
+}
+
+#[test]
+fn refuses_a_record_at_its_first_header(rt: HostRuntime) {
+    let mut records = Records::new(rt.alloc());
+    feed_all(&rt, &mut records, &[&[0x80, 4, 0]]);
+    assert_eq!(rt; records.rest(), 3);
+    assert!(rt; !records.is_too_long());
+    assert_eq!(rt; feed(&rt, &mut records, &[1]), Err(RecordError::TooLong));
+}
+
+#[test]
+fn takes_a_record_at_the_limit(rt: HostRuntime) {
+    let mut records = Records::new(rt.alloc());
+    feed_all(&rt, &mut records, &[&[0x80, 4, 0, 0]]);
+    for _ in 0..64 {
+        assert_no_next(&rt, &mut records);
+        feed_all(&rt, &mut records, &[&ZEROS]);
+    }
+    assert_eq!(rt;
+        records.next().map(|message| message.len()),
+        Some(RECORD_LIMIT)
+    );
+}
+
+#[test]
+fn takes_empty_fragments(rt: HostRuntime) {
+    let mut records = Records::new(rt.alloc());
+    feed_all(
+        &rt,
+        &mut records,
+        &[&[0, 0, 0, 0], &[0x80, 0, 0, 1, 7], &[0x80, 0, 0, 0]],
+    );
+    assert_next(&rt, &mut records, &[7]);
+    assert_next(&rt, &mut records, &[]);
+    assert_no_next(&rt, &mut records);
+}
+
+#[test]
+fn takes_two_records_and_a_half(rt: HostRuntime) {
+    let mut records = Records::new(rt.alloc());
+    let piece = [
+        0x80, 0, 0, 1, 1, 0, 0, 0, 1, 2, 0x80, 0, 0, 1, 3, 0x80, 0, 0, 2, 4,
+    ];
+    feed_all(&rt, &mut records, &[&piece]);
+    assert_eq!(rt; records.rest(), 5);
+    assert_next(&rt, &mut records, &[1]);
+    assert_next(&rt, &mut records, &[2, 3]);
+    assert_no_next(&rt, &mut records);
+    feed_all(&rt, &mut records, &[&[5]]);
+    assert_next(&rt, &mut records, &[4, 5]);
+}
