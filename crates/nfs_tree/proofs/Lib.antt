@@ -1,0 +1,5 @@
+pub mod Builds
+pub mod Documents
+pub mod Growing
+pub mod Nodes
+pub mod Paths

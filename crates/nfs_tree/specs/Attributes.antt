@@ -1,0 +1,85 @@
+-- The attributes of a node (RFC 7530, section 5), and the bits of ACCESS (section 16.1).
+use Rattle.std.specs.Prelude.{ℕ, ◌+◌, ◌^◌, ◌==◌, Bool, true, false, not, if◌then◌else◌, List, [], ◌∷◌, ◌++◌, bit_and}
+use Rattle.nfs_xdr.specs.declared.fattr.Fattr.{Fattr}
+use Rattle.nfs_xdr.specs.Writing.{written_u32, written_u64, written_flag, written_opaque}
+use Rattle.nfs_tree.specs.declared.attribute.Attribute.{Attribute}
+use Rattle.nfs_tree.specs.declared.attribute.Attribute.TheVariants as attributes
+use Rattle.nfs_tree.specs.declared.attribute.Subject.{Subject}
+use Rattle.nfs_tree.specs.Tree.{handle_of}
+
+-- the number of an attribute: its bit in the first word of a bitmap
+abbrev pub number_of : Attribute → ℕ
+number_of attributes.SupportedAttrs = 0
+number_of attributes.Type = 1
+number_of attributes.FhExpireType = 2
+number_of attributes.Change = 3
+number_of attributes.Size = 4
+number_of attributes.LinkSupport = 5
+number_of attributes.SymlinkSupport = 6
+number_of attributes.NamedAttr = 7
+number_of attributes.Fsid = 8
+number_of attributes.UniqueHandles = 9
+number_of attributes.LeaseTime = 10
+number_of attributes.RdattrError = 11
+number_of attributes.Filehandle = 19
+number_of attributes.Fileid = 20
+
+-- all of them, in rising order of their numbers
+abbrev pub all_attributes : List Attribute
+all_attributes =
+    attributes.SupportedAttrs ∷ attributes.Type ∷ attributes.FhExpireType ∷ attributes.Change ∷ attributes.Size
+    ∷ attributes.LinkSupport ∷ attributes.SymlinkSupport ∷ attributes.NamedAttr ∷ attributes.Fsid ∷ attributes.UniqueHandles
+    ∷ attributes.LeaseTime ∷ attributes.RdattrError ∷ attributes.Filehandle ∷ attributes.Fileid ∷ []
+
+-- the word whose bits are their numbers
+abbrev pub supported : ℕ
+supported = 0x00180fff
+
+-- an attribute's value in its form
+abbrev pub value_of : Subject → Attribute → List ℕ
+value_of s attributes.SupportedAttrs = written_u32 1 ++ written_u32 supported
+value_of s attributes.Type = written_u32 (if s.is_directory then 2 else 1)
+value_of s attributes.FhExpireType = written_u32 0
+value_of s attributes.Change = written_u64 (if s.is_directory then 0 else s.change)
+value_of s attributes.Size = written_u64 (if s.is_directory then 0 else s.size)
+value_of s attributes.LinkSupport = written_flag false
+value_of s attributes.SymlinkSupport = written_flag false
+value_of s attributes.NamedAttr = written_flag false
+value_of s attributes.Fsid = written_u64 1 ++ written_u64 0
+value_of s attributes.UniqueHandles = written_flag true
+value_of s attributes.LeaseTime = written_u32 s.lease
+value_of s attributes.RdattrError = written_u32 0
+value_of s attributes.Filehandle = written_opaque (handle_of s.node)
+value_of s attributes.Fileid = written_u64 (s.node + 1)
+
+-- the attribute's bit stands in the word
+abbrev pub has : ℕ → Attribute → Bool
+has word attribute = not (bit_and word (2 ^ number_of attribute) == 0)
+
+-- the values of those attributes that the word asks for, one after the other
+abbrev pub value_asked : Subject → ℕ → Attribute → List ℕ
+value_asked s word attribute = if has word attribute then value_of s attribute else []
+
+abbrev pub values_of : Subject → ℕ → List Attribute → List ℕ
+values_of s word [] = []
+values_of s word (attribute ∷ more) = value_asked s word attribute ++ values_of s word more
+
+-- what a bitmap asks for among the attributes that there are: a bitmap's first word has their bits
+abbrev pub asked : List ℕ → ℕ
+asked [] = 0
+asked (word ∷ words) = bit_and word supported
+
+-- a bitmap of this one word, or of none where it is 0
+abbrev pub mask_of : ℕ → List ℕ
+mask_of word = if word == 0 then [] else word ∷ []
+
+-- the attributes that a bitmap asks for
+abbrev pub attributes_of : Subject → List ℕ → Fattr
+attributes_of s mask = record { mask = mask_of (asked mask); values = values_of s (asked mask) all_attributes }
+
+-- the bits of ACCESS that there are, and those that are allowed
+abbrev pub all_access : ℕ
+all_access = 63
+
+abbrev pub allowed_access : Bool → ℕ
+allowed_access is_directory = if is_directory then 3 else 13

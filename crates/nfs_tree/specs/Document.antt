@@ -1,0 +1,109 @@
+-- A document of a tree: what a TOML document of its keys says.
+use Rattle.std.specs.Prelude.{codes, ◌≡◌, ℕ, Bool, true, false, ◌&&◌, if◌then◌else◌, List, [], ◌∷◌, ◌++◌, Option, Some, None, Result, Ok, Err}
+use Rattle.std.specs.List.{list_any}
+use Rattle.std.specs.Str.{bytes_eq}
+use Rattle.toml.specs.Data.{Data, Items, no_items, item, Members, no_members, member, get_member, as_str, as_array, as_table}
+use Rattle.toml.specs.Parse.{parse_document}
+use Rattle.nfs_tree.specs.declared.document.Document.{Document}
+use Rattle.nfs_tree.specs.declared.document.Listing.{Listing}
+use Rattle.nfs_tree.specs.declared.document.Listing.TheVariants as listings
+use Rattle.nfs_tree.specs.declared.node.Entry.{Entry}
+use Rattle.nfs_tree.specs.declared.node.NodeKind.TheVariants.{Directory, File}
+use Rattle.nfs_tree.specs.declared.policy.Callbacks.{Callbacks}
+use Rattle.nfs_tree.specs.declared.policy.Callbacks.TheVariants as callbacks
+use Rattle.nfs_tree.specs.declared.policy.Delegations.{Delegations}
+use Rattle.nfs_tree.specs.declared.policy.Delegations.TheVariants as delegations
+use Rattle.nfs_tree.specs.declared.policy.Policy.{Policy}
+use Rattle.nfs_tree.specs.declared.tree_error.TreeError.{TreeError}
+use Rattle.nfs_tree.specs.declared.tree_error.TreeError.TheVariants as errors
+
+-- with the value, if there is one
+infixl 10 ◌>>=◌
+abbrev pub ◌>>=◌ : {A B : Type 0} → Option A → (A → Option B) → Option B
+None >>= f = None
+(Some x) >>= f = f x
+
+-- a value that may be absent: this one then
+abbrev pub or_absent : {A : Type 0} → A → (Data → Option A) → Option Data → Option A
+or_absent absent read None = Some absent
+or_absent absent read (Some value) = read value
+
+-- a value that may not be absent
+abbrev pub or_missing : {A : Type 0} → (Data → Option A) → Option Data → Option A
+or_missing read value = value >>= read
+
+-- a table has none but these keys
+abbrev pub has_only : List (List ℕ) → Members → Bool
+has_only keys no_members = true
+has_only keys (member key value more) = list_any (bytes_eq key) keys && has_only keys more
+
+-- the members of a table that has none but these keys
+abbrev pub table_of : List (List ℕ) → Data → Option Members
+table_of keys value = as_table value >>= λ members. if has_only keys members then Some members else None
+
+-- the array's tables are entries: of directories, which have a path, or of files, which may have a text beside it
+abbrev pub entry_of : Listing → Data → Option Entry
+entry_of listings.Directories value =
+    table_of (codes "path" ∷ []) value >>= λ table.
+    get_member (codes "path") table >>= as_str >>= λ path.
+    Some (record { path = path; kind = Directory })
+entry_of listings.Files value =
+    table_of (codes "path" ∷ codes "text" ∷ []) value >>= λ table.
+    get_member (codes "path") table >>= as_str >>= λ path.
+    or_absent [] as_str (get_member (codes "text") table) >>= λ text.
+    Some (record { path = path; kind = File text })
+
+abbrev pub entries_of : Listing → Items → Option (List Entry)
+entries_of listing no_items = Some []
+entries_of listing (item value more) = entry_of listing value >>= λ entry. entries_of listing more >>= λ entries. Some (entry ∷ entries)
+
+abbrev pub listed : Listing → Data → Option (List Entry)
+listed listing value = as_array value >>= entries_of listing
+
+-- the words of a policy
+abbrev pub delegations_of : Data → Option Delegations
+delegations_of value = as_str value >>= λ word.
+    if bytes_eq word (codes "none") then Some delegations.None
+    else if bytes_eq word (codes "read") then Some delegations.Read
+    else if bytes_eq word (codes "all") then Some delegations.All
+    else None
+
+abbrev pub callbacks_of : Data → Option Callbacks
+callbacks_of value = as_str value >>= λ word.
+    if bytes_eq word (codes "probe") then Some callbacks.Probe
+    else if bytes_eq word (codes "assume") then Some callbacks.Assume
+    else None
+
+abbrev pub default_policy : Policy
+default_policy = record { delegations = delegations.All; callbacks = callbacks.Probe }
+
+abbrev pub policy_of : Data → Option Policy
+policy_of value =
+    table_of (codes "delegations" ∷ codes "callbacks" ∷ []) value >>= λ table.
+    or_absent delegations.All delegations_of (get_member (codes "delegations") table) >>= λ delegations.
+    or_absent callbacks.Probe callbacks_of (get_member (codes "callbacks") table) >>= λ callbacks.
+    Some (record { delegations = delegations; callbacks = callbacks })
+
+-- The document that a TOML document is, if it is one: its entries are those of directories, and then those of files.
+abbrev pub document_of : Members → Option Document
+document_of members =
+    (if has_only (codes "directory" ∷ codes "file" ∷ codes "policy" ∷ []) members then Some members else None) >>= λ members.
+    or_absent [] (listed listings.Directories) (get_member (codes "directory") members) >>= λ directories.
+    or_absent [] (listed listings.Files) (get_member (codes "file") members) >>= λ files.
+    or_absent default_policy policy_of (get_member (codes "policy") members) >>= λ policy.
+    Some (record { entries = directories ++ files; policy = policy })
+
+-- The document of a text, if it has one.
+unfoldable pub document_at : List ℕ → Option Document
+document_at text = parse_document text >>= document_of
+
+-- What a function answered is what was to be read: Syntax where there is nothing to read. Where memory is refused, nothing is
+-- known.
+abbrev pub FailsToRead : {A : Type 0} → TreeError → Option A → Type 0
+FailsToRead errors.Memory read = Unit {0}
+FailsToRead errors.Syntax read = read ≡ None
+FailsToRead e read = ⊥
+
+abbrev pub Reads : {A : Type 0} → Result A TreeError → Option A → Type 0
+Reads (Ok x) read = read ≡ Some x
+Reads (Err e) read = FailsToRead e read

@@ -1,0 +1,4 @@
+pub mod Tree
+pub mod Attributes
+pub mod Document
+pub mod Building

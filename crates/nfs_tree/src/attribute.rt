@@ -1,0 +1,210 @@
+ghost use Rattle.std.specs.Prelude.{◌≡◌, ◌<◌, ◌^◌, ◌++◌, IfOk, OnOk, if◌then◌else◌};
+ghost use Rattle.nfs_tree.specs.Attributes.{asked, attributes_of, number_of, supported, value_asked, value_of, values_of};
+ghost use Rattle.nfs_tree.specs.Tree.{is_directory, node_count};
+ghost use Rattle.nfs_xdr.specs.Writing.{written_u32, written_u64};
+
+use crate::Tree;
+use nfs_xdr::{Bitmap, Bytes, Fattr, WireError, write_flag, write_opaque, write_u32, write_u64};
+use std::alloc::{AllocError, Global};
+
+/// The attributes that the server answers (RFC 7530, section 5), each with its number.
+#[derive(Clone, Copy, Debug, PartialEq, Eq)]
+pub enum Attribute {
+    SupportedAttrs = 0,
+    Type = 1,
+    FhExpireType = 2,
+    Change = 3,
+    Size = 4,
+    LinkSupport = 5,
+    SymlinkSupport = 6,
+    NamedAttr = 7,
+    Fsid = 8,
+    UniqueHandles = 9,
+    LeaseTime = 10,
+    RdattrError = 11,
+    Filehandle = 19,
+    Fileid = 20,
+}
+
+/// The attributes in rising order of their numbers.
+pub const ATTRIBUTES: [Attribute; 14] = [
+    Attribute::SupportedAttrs,
+    Attribute::Type,
+    Attribute::FhExpireType,
+    Attribute::Change,
+    Attribute::Size,
+    Attribute::LinkSupport,
+    Attribute::SymlinkSupport,
+    Attribute::NamedAttr,
+    Attribute::Fsid,
+    Attribute::UniqueHandles,
+    Attribute::LeaseTime,
+    Attribute::RdattrError,
+    Attribute::Filehandle,
+    Attribute::Fileid,
+];
+
+/// The word whose bits are the numbers of the attributes.
+const SUPPORTED: u32 = 0x0018_0fff;
+
+/// The type of a file (NF4REG).
+const REGULAR_FILE: u32 = 1;
+
+/// The type of a directory (NF4DIR).
+const DIRECTORY: u32 = 2;
+
+/// A node as its attributes tell it.
+#[derive(Clone, Copy, Debug)]
+pub struct Subject {
+    pub node: u32,
+    pub is_directory: bool,
+    /// How many writes changed the file.
+    pub change: u64,
+    /// Its bytes.
+    pub size: u64,
+    /// The lease in seconds.
+    pub lease: u32,
+}
+
+impl Attribute {
+    /// Its bit in the first word of a bitmap.
+    pub fn bit(self) -> u32
+        ensures { result ≡ 2 ^ number_of self }
+    {
+        1 << self as u32
+    }
+}
+
+impl Tree {
+    /// The attributes of a node that a bitmap asks for. `change` is the number of writes that changed the file and `size` is
+    /// its bytes, as they are now, and for a directory neither is looked at; `lease` is in seconds.
+    pub fn attributes(
+        &self,
+        alloc: Global,
+        node: u32,
+        mask: &[u32],
+        change: u64,
+        size: u64,
+        lease: u32,
+    ) -> Result<Fattr, AllocError>
+        requires { node < node_count self.now.nodes }
+        ensures { IfOk result (λ f. f ≡ attributes_of (record {
+          node = node;
+          is_directory = is_directory self.now.nodes node;
+          change = change;
+          size = size;
+          lease = lease;
+        }) mask.now) }
+    {
+        let subject = Subject {
+            node,
+            is_directory: self.is_directory(node),
+            change,
+            size,
+            lease,
+        };
+        let word = asked(mask);
+        let mut words = Vec::new(alloc);
+        if word != 0 {
+            words.push(word)?;
+        }
+        Ok(Fattr {
+            mask: Bitmap::new(words),
+            values: Bytes::new(values_of(alloc, subject, word, &ATTRIBUTES)?),
+        })
+    }
+}
+
+// What a bitmap asks for among the attributes that there are.
+fn asked(mask: &[u32]) -> u32
+    ensures { result ≡ asked mask.now }
+{
+    match mask.first() {
+        Some(word) => *word & SUPPORTED,
+        None => 0,
+    }
+}
+
+// The values of those among these attributes that the word asks for.
+fn values_of(
+    alloc: Global,
+    subject: Subject,
+    word: u32,
+    attributes: &[Attribute],
+) -> Result<Vec<u8>, AllocError>
+    ensures { IfOk result (λ v. v.items ≡ values_of subject word attributes.now) }
+{
+    let mut values = Vec::new(alloc);
+    for attribute in attributes {
+        if write_asked(&mut values, subject, word, *attribute).is_err() {
+            return Err(AllocError);
+        }
+    }
+    Ok(values)
+}
+
+// Writes an attribute's value at the end, if the word asks for it.
+fn write_asked(
+    out: &mut Vec<u8>,
+    subject: Subject,
+    word: u32,
+    attribute: Attribute,
+) -> Result<(), WireError>
+    ensures { OnOk result (out.new.items ≡ out.old.items ++ value_asked subject word attribute) }
+{
+    if word & attribute.bit() == 0 {
+        return Ok(());
+    }
+    write_value(out, subject, attribute)
+}
+
+// Writes an attribute's value at the end.
+fn write_value(out: &mut Vec<u8>, subject: Subject, attribute: Attribute) -> Result<(), WireError>
+    ensures { OnOk result (out.new.items ≡ out.old.items ++ value_of subject attribute) }
+{
+    match attribute {
+        Attribute::SupportedAttrs => write_supported(out),
+        Attribute::Type => write_u32(
+            out,
+            if subject.is_directory {
+                DIRECTORY
+            } else {
+                REGULAR_FILE
+            },
+        ),
+        Attribute::Change => write_of_file(out, subject, subject.change),
+        Attribute::Size => write_of_file(out, subject, subject.size),
+        Attribute::LinkSupport | Attribute::SymlinkSupport | Attribute::NamedAttr => {
+            write_flag(out, false)
+        }
+        Attribute::Fsid => write_fsid(out),
+        Attribute::UniqueHandles => write_flag(out, true),
+        Attribute::LeaseTime => write_u32(out, subject.lease),
+        Attribute::FhExpireType | Attribute::RdattrError => write_u32(out, 0),
+        Attribute::Filehandle => write_opaque(out, &Tree::handle_of(subject.node)),
+        Attribute::Fileid => write_u64(out, u64::from(subject.node) + 1),
+    }
+}
+
+// Writes the attributes that there are, as a bitmap.
+fn write_supported(out: &mut Vec<u8>) -> Result<(), WireError>
+    ensures { OnOk result (out.new.items ≡ out.old.items ++ (written_u32 1 ++ written_u32 supported)) }
+{
+    write_u32(out, 1)?;
+    write_u32(out, SUPPORTED)
+}
+
+// Writes a number of a file, which is 0 of a directory.
+fn write_of_file(out: &mut Vec<u8>, subject: Subject, number: u64) -> Result<(), WireError>
+    ensures { OnOk result (out.new.items ≡ out.old.items ++ written_u64 (if subject.is_directory then 0 else number)) }
+{
+    write_u64(out, if subject.is_directory { 0 } else { number })
+}
+
+// Writes the number of the one file system, major and minor.
+fn write_fsid(out: &mut Vec<u8>) -> Result<(), WireError>
+    ensures { OnOk result (out.new.items ≡ out.old.items ++ (written_u64 1 ++ written_u64 0)) }
+{
+    write_u64(out, 1)?;
+    write_u64(out, 0)
+}

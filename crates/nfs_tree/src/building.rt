@@ -1,0 +1,150 @@
+ghost use Rattle.std.specs.Prelude.{◌≡◌, ◌≤◌, ◌<◌, ◌+◌, ◌^◌, IfErr, IfOk, OnOk, Ok, if◌then◌else◌, length};
+ghost use Rattle.nfs_tree.specs.declared.node.NodeKind.TheVariants.{Directory};
+ghost use Rattle.nfs_tree.specs.Building.{FailsToMake, Makes, added, chain, is_too_many, tree_of, way};
+ghost use Rattle.nfs_tree.specs.Tree.{directories, files};
+
+use crate::document::read_document;
+use crate::path::names_of;
+use crate::{
+    DIRECTORY_LIMIT, Entry, FILE_LIMIT, Node, NodeKind, PATH_LIMIT, TEXT_LIMIT, Tree, TreeError,
+};
+use nfs_xdr::Bytes;
+use std::alloc::{AllocError, Global};
+
+/// The document of the tree that a server has without one of its own.
+pub const DEFAULT_TREE: &str = "[[file]]
+path = \"a\"
+text = \"hello\"
+[[file]]
+path = \"b\"
+[[file]]
+path = \"d/c\"
+";
+
+impl Tree {
+    /// The tree of a TOML document. Its keys are `directory`, an array of tables with a `path`; `file`, an array of tables
+    /// with a `path` and, if wished, a `text`; and `policy`, a table with, if wished, `delegations` ("none", "read" or
+    /// "all", as where it is absent) and `callbacks` ("probe", as where it is absent, or "assume").
+    ///
+    /// Syntax where the text is no such document; else the first entry that is refused decides, those of directories
+    /// first: Name where its path isn't 1 to `PATH_LIMIT` names; TooMany where its text, the files or the directories
+    /// come above their limit; Duplicate where a file's path is there already, a directory's path is a file, or a file
+    /// is on the way.
+    pub fn from_toml(alloc: Global, text: &str) -> Result<Tree, TreeError>
+        ensures { Makes result (tree_of text.now) }
+    {
+        let document = read_document(alloc, text)?;
+        let mut tree = Tree {
+            nodes: Vec::new(alloc),
+            policy: document.policy,
+        };
+        for entry in document.entries.as_slice() {
+            tree.add(alloc, entry)?;
+        }
+        Ok(tree)
+    }
+
+    // Puts an entry into the tree.
+    fn add(&mut self, alloc: Global, entry: &Entry) -> Result<(), TreeError>
+        ensures ok { OnOk result (added self.old entry.now ≡ Ok self.new) }
+        ensures err { IfErr result (λ e. FailsToMake e (added self.old entry.now)) }
+    {
+        let names = names_of(alloc, entry.path.as_slice())?;
+        let (end, missing) = self.way(names.as_slice());
+        if self.is_too_many(&entry.kind, missing.len()) {
+            return Err(TreeError::TooMany);
+        }
+        if !self.is_directory(end) || (missing.is_empty() && !entry.kind.is_directory()) {
+            return Err(TreeError::Duplicate);
+        }
+        let mut chain = chain_of(alloc, end, self.len(), missing, &entry.kind)?;
+        self.nodes.append(&mut chain)?;
+        Ok(())
+    }
+
+    // How far these names lead from the root, and which are missing.
+    fn way<'a>(&self, names: &'a [Bytes]) -> (u32, &'a [Bytes])
+        ensures way { way self.now.nodes 0 names.now ≡ record { end = result.0; missing = result.1.now } }
+        ensures few { length result.1.now ≤ length names.now }
+    {
+        let mut end = 0;
+        for (found, name) in names.iter().enumerate() {
+            match self.lookup(end, name.as_slice()) {
+                Some(node) => end = node,
+                None => return (end, &names[found..]),
+            }
+        }
+        (end, &[])
+    }
+
+    // Whether an entry of this kind, of whose path so many names are missing, comes above a limit.
+    fn is_too_many(&self, kind: &NodeKind, missing: usize) -> bool
+        requires { missing ≤ PATH_LIMIT }
+        ensures { result ≡ is_too_many self.now.nodes kind.now missing }
+    {
+        match kind {
+            NodeKind::Directory => self.directories() + missing > DIRECTORY_LIMIT,
+            NodeKind::File(text) => {
+                text.as_slice().len() > TEXT_LIMIT
+                    || files_among(self.nodes()) >= FILE_LIMIT
+                    || self.directories() + missing.saturating_sub(1) > DIRECTORY_LIMIT
+            }
+        }
+    }
+
+    fn directories(&self) -> usize
+        ensures count { result ≡ directories self.now.nodes }
+        ensures few { result ≤ DIRECTORY_LIMIT }
+    {
+        directories_among(self.nodes.as_slice())
+    }
+}
+
+fn directories_among(nodes: &[Node]) -> usize
+    ensures { result ≡ directories nodes.now }
+{
+    nodes.iter().filter(|n| n.kind.is_directory()).count()
+}
+
+fn files_among(nodes: &[Node]) -> usize
+    ensures { result ≡ files nodes.now }
+{
+    nodes.iter().filter(|n| !n.kind.is_directory()).count()
+}
+
+// Nodes for these names, each in the one before it, numbered from `number` on.
+fn chain_of(
+    alloc: Global,
+    parent: u32,
+    number: u32,
+    names: &[Bytes],
+    kind: &NodeKind,
+) -> Result<Vec<Node>, AllocError>
+    requires { number + length names.now < 2 ^ 32 }
+    ensures { IfOk result (λ nodes. nodes.items ≡ chain parent number names.now kind.now) }
+{
+    let mut nodes = Vec::with_capacity(alloc, names.len())?;
+    let mut parent = parent;
+    let mut number = number;
+    for (place, name) in names.iter().enumerate() {
+        nodes.push(Node {
+            parent,
+            name: name.clone()?,
+            kind: kind_at(kind, place + 1 == names.len())?,
+        })?;
+        parent = number;
+        number += 1;
+    }
+    Ok(nodes)
+}
+
+// The kind of a node of a chain, by whether it is the last one.
+fn kind_at(kind: &NodeKind, is_last: bool) -> Result<NodeKind, AllocError>
+    ensures { IfOk result (λ k. k ≡ (if is_last then kind.now else Directory)) }
+{
+    if is_last {
+        kind.clone()
+    } else {
+        Ok(NodeKind::Directory)
+    }
+}

@@ -1,0 +1,220 @@
+ghost use Rattle.std.specs.Prelude.{◌≡◌, ◌∷◌, [], codes, map, option_map};
+ghost use Rattle.std.specs.List.{list_any};
+ghost use Rattle.std.specs.Str.{bytes_eq};
+ghost use Rattle.nfs_tree.specs.Document.{Reads, callbacks_of, delegations_of, document_at, document_of, entries_of, entry_of, has_only, listed, or_absent, or_missing, policy_of, table_of};
+ghost use Rattle.toml.specs.Data.{as_str, get_member};
+ghost use Rattle.toml.specs.View.{items_view, table_view, view};
+
+use crate::{Callbacks, DEFAULT_POLICY, Delegations, Entry, NodeKind, Policy, TreeError};
+use nfs_xdr::{Bytes, Sequence};
+use std::alloc::Global;
+use toml::{Table, Value};
+
+/// An array of a document: that of its directories, or that of its files.
+#[derive(Clone, Copy, Debug)]
+pub enum Listing {
+    Directories,
+    Files,
+}
+
+/// What a document says: its entries, those of directories first, and its policy.
+#[derive(Debug, Drop)]
+pub struct Document {
+    pub entries: Sequence<Entry>,
+    pub policy: Policy,
+}
+
+/// The document of a text; Syntax where it has none.
+pub(crate) fn read_document(alloc: Global, text: &str) -> Result<Document, TreeError>
+    ensures { Reads result (document_at text.now) }
+{
+    match toml::table_from_str(alloc, text) {
+        Ok(table) => document_of(alloc, &table),
+        Err(refused) if refused.is_memory() => Err(TreeError::Memory),
+        Err(_) => Err(TreeError::Syntax),
+    }
+}
+
+// The document that a TOML document is.
+fn document_of(alloc: Global, table: &Table) -> Result<Document, TreeError>
+    ensures { Reads result (document_of (table_view table.now)) }
+{
+    if !has_only(table, &["directory", "file", "policy"]) {
+        return Err(TreeError::Syntax);
+    }
+    let directories = read_listing(alloc, Listing::Directories, member(table, "directory"))?;
+    let files = read_listing(alloc, Listing::Files, member(table, "file"))?;
+    let policy = match member(table, "policy") {
+        None => DEFAULT_POLICY,
+        Some(policy) => read_policy(policy)?,
+    };
+    let mut entries = directories.into_vec();
+    entries.append(&mut files.into_vec())?;
+    Ok(Document {
+        entries: Sequence::new(entries),
+        policy,
+    })
+}
+
+// The entries of an array that may be absent.
+fn read_listing(
+    alloc: Global,
+    listing: Listing,
+    value: Option<&Value>,
+) -> Result<Sequence<Entry>, TreeError>
+    ensures { Reads result (or_absent [] (listed listing) (option_map (λ v. view v.now) value.entry)) }
+{
+    let Some(value) = value else {
+        return Ok(Sequence::new(Vec::new(alloc)));
+    };
+    match value.as_array() {
+        Some(array) => read_entries(alloc, listing, array),
+        None => Err(TreeError::Syntax),
+    }
+}
+
+fn read_entries(
+    alloc: Global,
+    listing: Listing,
+    array: &[Value],
+) -> Result<Sequence<Entry>, TreeError>
+    ensures { Reads result (entries_of listing (items_view array.now)) }
+{
+    let mut entries = Vec::new(alloc);
+    for value in array {
+        let entry = read_entry(alloc, listing, value)?;
+        entries.reserve(1)?;
+        entries.push_reserved(entry);
+    }
+    Ok(Sequence::new(entries))
+}
+
+fn read_entry(alloc: Global, listing: Listing, value: &Value) -> Result<Entry, TreeError>
+    ensures { Reads result (entry_of listing (view value.now)) }
+{
+    match listing {
+        Listing::Directories => read_directory(alloc, value),
+        Listing::Files => read_file(alloc, value),
+    }
+}
+
+fn read_directory(alloc: Global, value: &Value) -> Result<Entry, TreeError>
+    ensures { Reads result (entry_of Listing.Directories (view value.now)) }
+{
+    let Some(table) = table_of(value, &["path"]) else {
+        return Err(TreeError::Syntax);
+    };
+    let path = read_bytes(alloc, member(table, "path"))?;
+    Ok(Entry {
+        path,
+        kind: NodeKind::Directory,
+    })
+}
+
+fn read_file(alloc: Global, value: &Value) -> Result<Entry, TreeError>
+    ensures { Reads result (entry_of Listing.Files (view value.now)) }
+{
+    let Some(table) = table_of(value, &["path", "text"]) else {
+        return Err(TreeError::Syntax);
+    };
+    let path = read_bytes(alloc, member(table, "path"))?;
+    let text = match member(table, "text") {
+        None => Bytes::new(Vec::new(alloc)),
+        text => read_bytes(alloc, text)?,
+    };
+    Ok(Entry {
+        path,
+        kind: NodeKind::File(text),
+    })
+}
+
+fn read_policy(value: &Value) -> Result<Policy, TreeError>
+    ensures { Reads result (policy_of (view value.now)) }
+{
+    let Some(table) = table_of(value, &["delegations", "callbacks"]) else {
+        return Err(TreeError::Syntax);
+    };
+    let delegations = match member(table, "delegations") {
+        None => Delegations::All,
+        Some(word) => read_delegations(word)?,
+    };
+    let callbacks = match member(table, "callbacks") {
+        None => Callbacks::Probe,
+        Some(word) => read_callbacks(word)?,
+    };
+    Ok(Policy {
+        delegations,
+        callbacks,
+    })
+}
+
+fn read_delegations(value: &Value) -> Result<Delegations, TreeError>
+    ensures { Reads result (delegations_of (view value.now)) }
+{
+    match value.as_str() {
+        Some("none") => Ok(Delegations::None),
+        Some("read") => Ok(Delegations::Read),
+        Some("all") => Ok(Delegations::All),
+        _ => Err(TreeError::Syntax),
+    }
+}
+
+fn read_callbacks(value: &Value) -> Result<Callbacks, TreeError>
+    ensures { Reads result (callbacks_of (view value.now)) }
+{
+    match value.as_str() {
+        Some("probe") => Ok(Callbacks::Probe),
+        Some("assume") => Ok(Callbacks::Assume),
+        _ => Err(TreeError::Syntax),
+    }
+}
+
+// The bytes of a string.
+fn read_bytes(alloc: Global, value: Option<&Value>) -> Result<Bytes, TreeError>
+    ensures { Reads result (or_missing as_str (option_map (λ v. view v.now) value.entry)) }
+{
+    match value.and_then(Value::as_str) {
+        Some(text) => Ok(Bytes::copied(alloc, text.as_bytes())?),
+        None => Err(TreeError::Syntax),
+    }
+}
+
+// The table that a value is, if it has none but these keys.
+fn table_of<'a>(value: &'a Value, keys: &[&str]) -> Option<&'a Table>
+    ensures { option_map (λ t. table_view t.now) result ≡ table_of (map (λ k. k.now) keys.now) (view value.now) }
+{
+    match value.as_table() {
+        Some(table) if has_only(table, keys) => Some(table),
+        _ => None,
+    }
+}
+
+// Whether a table has none but these keys.
+fn has_only(table: &Table, keys: &[&str]) -> bool
+    ensures { result ≡ has_only (map (λ k. k.now) keys.now) (table_view table.now) }
+{
+    for (key, _value) in table.iter() {
+        if !is_among(keys, key.as_str()) {
+            return false;
+        }
+    }
+    true
+}
+
+fn is_among(keys: &[&str], key: &str) -> bool
+    ensures { result ≡ list_any (bytes_eq key.now) (map (λ k. k.now) keys.now) }
+{
+    for k in keys {
+        if key == *k {
+            return true;
+        }
+    }
+    false
+}
+
+// What a table has at a key.
+fn member<'a>(table: &'a Table, key: &str) -> Option<&'a Value>
+    ensures { option_map (λ v. view v.now) result ≡ get_member key.now (table_view table.now) }
+{
+    table.get(key)
+}

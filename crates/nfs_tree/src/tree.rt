@@ -1,0 +1,142 @@
+ghost use Rattle.std.specs.Prelude.{◌≡◌, ◌<◌, ◌≤◌, ◌+◌, ℕ, true, Some, IfSome, OnSome, option_map, position};
+ghost use Rattle.std.specs.Option.{option_copied};
+ghost use Rattle.nfs_tree.specs.Tree.{child, handle_of, is_child, is_directory, node_at, node_count, node_of, text_of};
+
+use crate::{Node, NodeKind, Policy};
+use byteorder::{BigEndian, ByteOrder};
+use std::alloc::AllocError;
+use std::marker::Model;
+
+/// The number of the root.
+pub const ROOT: u32 = 0;
+
+/// The most files.
+pub const FILE_LIMIT: usize = 64;
+
+/// The most directories beside the root.
+pub const DIRECTORY_LIMIT: usize = 64;
+
+/// The most bytes of a file's text.
+pub const TEXT_LIMIT: usize = 65_536;
+
+/// The bytes of a filehandle.
+pub const HANDLE_LEN: usize = 8;
+
+/// A tree of directories and files. Its root is node 0 and a directory; the other nodes have the numbers from 1 on.
+#[derive(Debug, Drop)]
+pub struct Tree {
+    pub(crate) nodes: Vec<Node>,
+    pub(crate) policy: Policy,
+}
+
+impl Model for Tree {
+    ghost use Rattle.nfs_tree.specs.Tree.{Files, IsTree};
+
+    ghost Value = { Files };
+
+    ghost view = { λ t. record { nodes = t.nodes.items; policy = t.policy } };
+
+    ghost invariant = { λ t. IsTree t.nodes.items };
+}
+
+impl Clone for Tree {
+    ghost is_clone = { λ x y. y ≡ x };
+
+    fn clone(&self) -> Result<Tree, AllocError> {
+        let Tree { nodes, policy } = self;
+        Ok(Tree {
+            nodes: nodes.clone()?,
+            policy: *policy,
+        })
+    }
+}
+
+impl Tree {
+    /// How many nodes there are, the root among them: each lower number is a node.
+    pub fn len(&self) -> u32
+        ensures count { result ≡ node_count self.now.nodes }
+        ensures few { result ≤ FILE_LIMIT + DIRECTORY_LIMIT + 1 }
+    {
+        self.nodes.len() as u32 + 1
+    }
+
+    /// The nodes beside the root in order of their numbers, the first of them number 1.
+    pub fn nodes(&self) -> &[Node]
+        ensures { result.now ≡ self.now.nodes }
+    {
+        &self.nodes
+    }
+
+    /// The server's choices.
+    pub fn policy(&self) -> Policy
+        ensures { result ≡ self.now.policy }
+    {
+        self.policy
+    }
+
+    // The node of a number, if it is one beside the root.
+    fn node(&self, node: u32) -> Option<&Node>
+        ensures { option_copied result ≡ node_at self.now.nodes node }
+    {
+        let place = node.checked_sub(1)?;
+        self.nodes.get(place as usize)
+    }
+
+    /// Whether this is the root or another directory.
+    pub fn is_directory(&self, node: u32) -> bool
+        ensures { result ≡ is_directory self.now.nodes node }
+    {
+        node == 0 || self.node(node).is_some_and(|n| n.kind.is_directory())
+    }
+
+    /// The text that a file holds when the server opens; none of a directory or of no node.
+    pub fn text(&self, node: u32) -> Option<&[u8]>
+        ensures { option_map (λ t. t.now) result ≡ text_of self.now.nodes node }
+    {
+        match &self.node(node)?.kind {
+            NodeKind::Directory => None,
+            NodeKind::File(text) => Some(text.as_slice()),
+        }
+    }
+
+    /// The node of this name in a directory. Names are compared as bytes; in a file and in no node there is none.
+    pub fn lookup(&self, node: u32, name: &[u8]) -> Option<u32>
+        ensures child { result ≡ child self.now.nodes node name.now }
+        ensures within { IfSome result (λ n. n < node_count self.now.nodes) }
+        ensures parent { OnSome result (is_directory self.now.nodes node ≡ true) }
+    {
+        let place = place_of(self.nodes.as_slice(), node, name)?;
+        Some(place as u32 + 1)
+    }
+
+    /// The filehandle of a node.
+    pub fn handle_of(node: u32) -> [u8; HANDLE_LEN]
+        ensures { result ≡ handle_of node }
+    {
+        let mut handle = *b"nfh1\0\0\0\0";
+        BigEndian::write_u32(&mut handle[4..], node);
+        handle
+    }
+
+    /// The node of a filehandle, if it is one of a node of this tree.
+    pub fn node_of(&self, handle: &[u8]) -> Option<u32>
+        ensures value { result ≡ node_of self.now.nodes handle.now }
+        ensures found { IfSome result (λ n. (n < node_count self.now.nodes) × (handle.now ≡ handle_of n)) }
+        ensures each { (n : ℕ) → n < node_count self.now.nodes → handle.now ≡ handle_of n → result ≡ Some n }
+    {
+        if handle.len() != HANDLE_LEN {
+            return None;
+        }
+        let number = BigEndian::read_u32(&handle[4..]);
+        (number < self.len() && handle == Tree::handle_of(number).as_slice()).then_some(number)
+    }
+}
+
+// The place of the first node with this parent and name.
+fn place_of(nodes: &[Node], parent: u32, name: &[u8]) -> Option<usize>
+    ensures { result ≡ position (is_child parent name.now) nodes.now }
+{
+    nodes
+        .iter()
+        .position(|n| n.parent == parent && n.name.as_slice() == name)
+}
