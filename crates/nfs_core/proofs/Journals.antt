@@ -21,7 +21,7 @@ Leads-append journal old mid new (first ∷ entries) entry leads step =
 pub Lawful-enters : (old new : Server) (entry : Entry) → IsLawful old → Enters old new entry → IsLawful new
 Lawful-enters old new entry lawful enters =
     let P : History → Type 0 = λ journal. Lawful journal new.state in
-    subst P (sym enters.journal) (Leads-append (record old.journal { entries = [] }) empty_server old.state new.state old.journal.entries entry lawful enters.step)
+    subst P (sym enters.journal) (Leads-append (record old.journal { entries = [] }) (empty_server old.journal.tree.nodes) old.state new.state old.journal.entries entry lawful enters.step)
 
 -- each entry raises the confirm value by one at most
 Leads-confirm : (journal : History) (old new : State) (entries : List Entry) → Leads journal old entries new → new.clients.last_confirm ≤ old.clients.last_confirm + length entries
@@ -31,4 +31,4 @@ Leads-confirm journal old new (entry ∷ entries) leads =
 
 -- no more confirm values were given than there are entries
 pub Lawful-confirm : (journal : History) (state : State) → Lawful journal state → state.clients.last_confirm ≤ length journal.entries
-Lawful-confirm journal state lawful = omega (arith, Leads-confirm (record journal { entries = [] }) empty_server state journal.entries lawful)
+Lawful-confirm journal state lawful = omega (arith, Leads-confirm (record journal { entries = [] }) (empty_server journal.tree.nodes) state journal.entries lawful)

@@ -10,6 +10,6 @@ Leads journal old [] new = new ≡ old
 Leads journal old (entry ∷ entries) new =
     (mid : State) × Step journal old entry mid × Leads (record journal { entries = journal.entries ++ entry ∷ [] }) mid entries new
 
--- the journal leads from the empty server to the state
+-- the journal leads from the empty server of its tree to the state
 abbrev pub Lawful : History → State → Type 0
-Lawful journal state = Leads (record journal { entries = [] }) empty_server journal.entries state
+Lawful journal state = Leads (record journal { entries = [] }) (empty_server journal.tree.nodes) journal.entries state

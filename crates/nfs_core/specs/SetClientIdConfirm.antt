@@ -4,7 +4,7 @@ use Rattle.nfs_xdr.specs.declared.set_client_id_confirm.SetClientIdConfirm.{SetC
 use Rattle.nfs_xdr.specs.declared.status.Status.{Status}
 use Rattle.nfs_xdr.specs.declared.status.Status.TheVariants as status
 use Rattle.nfs_core.specs.declared.client_record.ClientRecord.{ClientRecord}
-use Rattle.nfs_core.specs.declared.client_record.PathMark.TheVariants.{Unknown}
+use Rattle.nfs_core.specs.declared.client_record.PathMark.{PathMark}
 use Rattle.nfs_xdr.specs.declared.principal.Principal.{Principal}
 use Rattle.nfs_xdr.specs.Principal.{is_same_principal}
 use Rattle.nfs_core.specs.Registry.{Registry, confirmed_of, unconfirmed_with, confirmed_with, is_of, is_same_client}
@@ -46,17 +46,18 @@ abbrev pub confirmation : Registry → Bool → Principal → SetClientIdConfirm
 confirmation registry has_state principal args =
     confirmation_at registry (unconfirmed_with registry args.client args.confirm) has_state principal args
 
--- the record is confirmed, nothing is known of its path, and it stands alone for its id
-abbrev pub with_confirmed : List ClientRecord → ClientRecord → List ClientRecord
-with_confirmed records r =
-    filter (λ s. not (is_of r.id s)) records ++ record r { confirmed = true; path = Unknown } ∷ []
+-- the record is confirmed, its path has this mark, and it stands alone for its id
+abbrev pub with_confirmed : PathMark → List ClientRecord → ClientRecord → List ClientRecord
+with_confirmed path records r =
+    filter (λ s. not (is_of r.id s)) records ++ record r { confirmed = true; path = path } ∷ []
 
 -- From old, the call may be answered so and lead to new.
-abbrev pub ConfirmsBy : Confirmation → Registry → Status → Registry → Type 0
-ConfirmsBy Stale old answer new = (answer ≡ status.StaleClientId) × (new ≡ old)
-ConfirmsBy Refused old answer new = (answer ≡ status.ClidInUse) × (new ≡ old)
-ConfirmsBy Before old answer new = (answer ≡ status.Ok) × (new ≡ old)
-ConfirmsBy (Becomes r) old answer new = (answer ≡ status.Ok) × (new ≡ record old { records = with_confirmed old.records r })
+abbrev pub ConfirmsBy : PathMark → Confirmation → Registry → Status → Registry → Type 0
+ConfirmsBy path Stale old answer new = (answer ≡ status.StaleClientId) × (new ≡ old)
+ConfirmsBy path Refused old answer new = (answer ≡ status.ClidInUse) × (new ≡ old)
+ConfirmsBy path Before old answer new = (answer ≡ status.Ok) × (new ≡ old)
+ConfirmsBy path (Becomes r) old answer new = (answer ≡ status.Ok) × (new ≡ record old { records = with_confirmed path old.records r })
 
-abbrev pub Confirms : Bool → Registry → Principal → SetClientIdConfirm → Status → Registry → Type 0
-Confirms has_state old principal args answer new = ConfirmsBy (confirmation old has_state principal args) old answer new
+-- `path`: what is taken of the path of a client that is confirmed now.
+abbrev pub Confirms : PathMark → Bool → Registry → Principal → SetClientIdConfirm → Status → Registry → Type 0
+Confirms path has_state old principal args answer new = ConfirmsBy path (confirmation old has_state principal args) old answer new

@@ -1,23 +1,48 @@
 -- What the server keeps, and the journal of its changes.
-use Rattle.std.specs.Prelude.{ℕ, Bool, false, List, Option, Some, None}
+use Rattle.std.specs.Prelude.{ℕ, zero, suc, Bool, false, ◌==◌, List, [], ◌∷◌, ◌++◌, length, find, Option, Some, None}
 use Rattle.nfs_xdr.specs.declared.client_id.ClientId.{ClientId}
 use Rattle.nfs_core.specs.declared.client_record.ClientRecord.{ClientRecord}
 use Rattle.nfs_core.specs.declared.entry.Entry.{Entry}
 use Rattle.nfs_core.specs.Registry.{Registry, no_clients}
+use Rattle.nfs_core.specs.declared.stored_file.StoredFile.{StoredFile}
+use Rattle.nfs_tree.specs.declared.node.Node.{Node}
+use Rattle.nfs_tree.specs.declared.policy.Policy.{Policy}
+use Rattle.nfs_tree.specs.Tree.{Files, node_count, text_of}
 
 pub record State : Type 0 where
   pub clients : Registry
+  -- in order of the numbers of their nodes
+  pub files : List StoredFile
 
--- a server that no client has come to
-abbrev pub empty_server : State
-empty_server = record { clients = no_clients }
+-- the node of this number, as a file that no client has changed, if it has a text
+abbrev pub opening_file : ℕ → Option (List ℕ) → List StoredFile
+opening_file node None = []
+opening_file node (Some text) = record { node = node; bytes = text; change = 0 } ∷ []
+
+-- the files among the nodes of lower numbers
+abbrev pub files_below : List Node → ℕ → List StoredFile
+files_below nodes zero = []
+files_below nodes (suc node) = files_below nodes node ++ opening_file node (text_of nodes node)
+
+abbrev pub opening_files : List Node → List StoredFile
+opening_files nodes = files_below nodes (node_count nodes)
+
+-- the file of a node
+abbrev pub file_of : List StoredFile → ℕ → Option StoredFile
+file_of files node = find (λ f. f.node == node) files
+
+-- a server of these nodes that no client has come to
+abbrev pub empty_server : List Node → State
+empty_server nodes = record { clients = no_clients; files = opening_files nodes }
 
 -- What the server was opened with, and its entries in order, the first of them number 0.
 pub record History : Type 0 where
+  pub tree : Files
   -- the run, the upper half of each clientid
   pub epoch : ℕ
   -- the lease in seconds
   pub lease : ℕ
+  pub policy : Policy
   pub entries : List Entry
 
 -- the client has state (RFC 7530, section 9.1.1): there are no opens, lock states or delegations yet

@@ -1,3 +1,4 @@
+use nfs_tree::Callbacks;
 use nfs_xdr::{Bytes, Callback, ClientId, Principal, SetClientIdConfirm, Verifier};
 
 /// What the server keeps of a SETCLIENTID: RFC 7530, section 16.33.5, writes it { v, x, c, l, s }.
@@ -30,6 +31,21 @@ pub enum PathMark {
     Up,
     /// A callback was not answered, or the address is no address.
     Down,
+}
+
+impl PathMark {
+    ghost use Rattle.std.specs.Prelude.{◌≡◌};
+    ghost use Rattle.nfs_core.specs.Step.{path_of};
+
+    /// The mark of a client that is confirmed now.
+    pub(crate) fn at_first(callbacks: Callbacks) -> PathMark
+        ensures { result ≡ path_of callbacks }
+    {
+        match callbacks {
+            Callbacks::Probe => PathMark::Unknown,
+            Callbacks::Assume => PathMark::Up,
+        }
+    }
 }
 
 /// The most bytes of r_netid, and of r_addr, of a client's record.

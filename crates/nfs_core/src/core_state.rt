@@ -1,23 +1,31 @@
-ghost use Rattle.std.specs.Prelude.{◌≡◌, ◌≤◌, [], IsTrue};
+ghost use Rattle.std.specs.Prelude.{◌≡◌, ◌≤◌, [], IfOk, IsTrue, length};
 ghost use Rattle.nfs_core.specs.Server.{Applies, IsLawful};
 ghost use Rattle.nfs_core.specs.State.{empty_server};
-ghost use Rattle.nfs_core.specs.Step.{AtMostOneStep};
+ghost use Rattle.nfs_core.specs.Step.{AtMostOneStep, IsFilehandle};
 ghost use Rattle.nfs_xdr.specs.Op.{has_entry};
+ghost use Rattle.nfs_xdr.specs.OpResult.{written_result};
 
+use crate::get_attr::get_attr;
 use crate::set_client_id::set_client_id;
 use crate::set_client_id_confirm::set_client_id_confirm;
 use crate::tables::Tables;
-use crate::{Journal, LEASE_MAX, LEASE_MIN, Moment};
+use crate::{CoreError, Journal, LEASE_MAX, LEASE_MIN, Moment};
+use nfs_tree::{Policy, Tree};
 use nfs_xdr::{
-    Op, OpResult, Principal, SetClientId, SetClientIdConfirm, SetClientIdResult, Status,
+    Bitmap, GetAttrResult, Op, OpResult, Principal, SetClientId, SetClientIdConfirm,
+    SetClientIdResult, Status,
 };
 use std::alloc::Global;
 use std::marker::Model;
+
+/// The most bytes of an answer in a reply.
+pub const ANSWER_LIMIT: usize = 2036;
 
 /// The state of a server (RFC 7530, section 9) and the journal of its changes, which leads to that
 /// state.
 #[derive(Debug, Drop)]
 pub struct Core {
+    alloc: Global,
     tables: Tables,
     journal: Journal,
 }
@@ -34,24 +42,31 @@ impl Model for Core {
 }
 
 impl Core {
-    /// A server that no client has come to, opened for the run `epoch` with this lease in seconds. It
-    /// takes no memory.
-    pub fn new(alloc: Global, lease: u32, epoch: u32) -> Core
+    /// A server of this tree's files that no client has come to, opened for the run `epoch` with this lease
+    /// in seconds. Memory where a growth was refused for its copy of the tree.
+    pub fn new(
+        alloc: Global,
+        tree: &Tree,
+        lease: u32,
+        epoch: u32,
+        policy: Policy,
+    ) -> Result<Core, CoreError>
         requires { (LEASE_MIN ≤ lease) × (lease ≤ LEASE_MAX) }
-        ensures { result ≡ record {
-          journal = record { epoch = epoch; lease = lease; entries = [] };
-          state = empty_server;
-        } }
+        ensures { IfOk result (λ core. core ≡ record {
+          journal = record { tree = tree.now; epoch = epoch; lease = lease; policy = policy; entries = [] };
+          state = empty_server tree.now.nodes;
+        }) }
     {
-        Core {
-            tables: Tables::new(alloc),
-            journal: Journal::new(alloc, lease, epoch),
-        }
+        Ok(Core {
+            alloc,
+            tables: Tables::opened(alloc, tree)?,
+            journal: Journal::new(alloc, tree.clone()?, lease, epoch, policy),
+        })
     }
 
     /// Answers an operation that has a rule here (`Op::has_entry`), and gives its entry's number in the
     /// journal. With no number the answer is NFS4ERR_RESOURCE and nothing has changed: the journal is
-    /// full, memory was refused, or a limit of the tables is met.
+    /// full, memory was refused, or a limit of the tables is met. `filehandle` is a node of the tree.
     pub fn apply(
         &mut self,
         moment: Moment,
@@ -59,16 +74,44 @@ impl Core {
         op: &Op,
         filehandle: Option<u32>,
     ) -> (OpResult, Option<u32>)
-        requires { IsTrue (has_entry op.now) }
+        requires entry { IsTrue (has_entry op.now) }
+        requires node { IsFilehandle self.old.journal filehandle }
         ensures applies { Applies self.old self.new moment principal op.now filehandle result.0 result.1 }
+        ensures short { length (written_result result.0) ≤ ANSWER_LIMIT }
         ensures lawful { IsLawful self.new }
     {
         match op {
+            Op::GetAttr(mask) => self.get_attr(moment, principal, mask, filehandle),
             Op::SetClientId(args) => self.set_client_id(moment, principal, args, filehandle),
             Op::SetClientIdConfirm(args) => {
                 self.set_client_id_confirm(moment, principal, args, filehandle)
             }
-            Op::BadArgs(_) | Op::Unsupported(_) | Op::Illegal(_) => unreachable!(),
+            _ => unreachable!(),
+        }
+    }
+
+    fn get_attr(
+        &mut self,
+        moment: Moment,
+        principal: Principal,
+        mask: &Bitmap,
+        filehandle: Option<u32>,
+    ) -> (OpResult, Option<u32>)
+        requires node { IsFilehandle self.old.journal filehandle }
+        ensures applies { Applies self.old self.new moment principal (Op.GetAttr mask.now) filehandle result.0 result.1 }
+        ensures short { length (written_result result.0) ≤ ANSWER_LIMIT }
+        ensures lawful { IsLawful self.new }
+    {
+        let tables = &self.tables;
+        let journal = &mut self.journal;
+        match get_attr(
+            self.alloc, tables, journal, moment, principal, mask, filehandle,
+        ) {
+            Some((answer, number)) => (OpResult::GetAttr(answer), Some(number)),
+            None => (
+                OpResult::GetAttr(GetAttrResult::Refused(Status::Resource)),
+                None,
+            ),
         }
     }
 
@@ -79,7 +122,9 @@ impl Core {
         args: &SetClientId,
         filehandle: Option<u32>,
     ) -> (OpResult, Option<u32>)
+        requires node { IsFilehandle self.old.journal filehandle }
         ensures applies { Applies self.old self.new moment principal (Op.SetClientId args.now) filehandle result.0 result.1 }
+        ensures short { length (written_result result.0) ≤ ANSWER_LIMIT }
         ensures lawful { IsLawful self.new }
     {
         let tables = &mut self.tables;
@@ -100,7 +145,9 @@ impl Core {
         args: &SetClientIdConfirm,
         filehandle: Option<u32>,
     ) -> (OpResult, Option<u32>)
+        requires node { IsFilehandle self.old.journal filehandle }
         ensures applies { Applies self.old self.new moment principal (Op.SetClientIdConfirm args.now) filehandle result.0 result.1 }
+        ensures short { length (written_result result.0) ≤ ANSWER_LIMIT }
         ensures lawful { IsLawful self.new }
     {
         let tables = &mut self.tables;

@@ -2,6 +2,7 @@ ghost use Rattle.std.specs.Prelude.{◌≡◌, ◌<◌, ◌≤◌, [], ◌∷◌
 ghost use Rattle.std.specs.Vec.{vec_len, vec_capacity};
 
 use crate::{Call, Entry, JOURNAL_LIMIT};
+use nfs_tree::{Policy, Tree};
 use std::alloc::Global;
 use std::marker::Model;
 
@@ -14,8 +15,10 @@ pub const LEASE_MAX: u32 = 86_400;
 /// What the server was opened with, and its entries in order, the first of them number 0.
 #[derive(Debug, Drop)]
 pub struct Journal {
+    tree: Tree,
     epoch: u32,
     lease: u32,
+    policy: Policy,
     // The operations reach it, since they make room here before they change the state.
     pub(crate) entries: Vec<Entry>,
 }
@@ -27,22 +30,38 @@ impl Model for Journal {
 
     ghost Value = { History };
 
-    ghost view = { λ j. record { epoch = j.epoch; lease = j.lease; entries = j.entries.items } };
+    ghost view = { λ j. record { tree = j.tree; epoch = j.epoch; lease = j.lease; policy = j.policy; entries = j.entries.items } };
 
     ghost invariant = { λ j. (LEASE_MIN ≤ j.lease) × (j.lease ≤ LEASE_MAX) };
 }
 
 impl Journal {
     /// An empty journal, taking no memory.
-    pub(crate) fn new(alloc: Global, lease: u32, epoch: u32) -> Journal
+    pub(crate) fn new(alloc: Global, tree: Tree, lease: u32, epoch: u32, policy: Policy) -> Journal
         requires { (LEASE_MIN ≤ lease) × (lease ≤ LEASE_MAX) }
-        ensures { result ≡ record { epoch = epoch; lease = lease; entries = [] } }
+        ensures { result ≡ record { tree = tree; epoch = epoch; lease = lease; policy = policy; entries = [] } }
     {
         Journal {
+            tree,
             epoch,
             lease,
+            policy,
             entries: Vec::new(alloc),
         }
+    }
+
+    /// The tree that the server was opened with.
+    pub fn tree(&self) -> &Tree
+        ensures { result.now ≡ self.now.tree }
+    {
+        &self.tree
+    }
+
+    /// The server's choices.
+    pub fn policy(&self) -> Policy
+        ensures { result ≡ self.now.policy }
+    {
+        self.policy
     }
 
     /// The server's run, the upper half of each clientid that it gives.

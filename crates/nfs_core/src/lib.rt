@@ -3,18 +3,24 @@
 
 mod client_record;
 mod clients;
+mod core_error;
 mod core_state;
 mod entry;
+mod get_attr;
 mod journal;
 mod moment;
 mod set_client_id;
 mod set_client_id_confirm;
+mod stored_file;
+mod stored_files;
 mod tables;
 #[cfg(test)]
 mod tests;
 
 pub use client_record::{ADDRESS_LIMIT, CLIENT_LIMIT, ClientRecord, PathMark};
-pub use core_state::{Core, at_most_one_step};
+pub use core_error::CoreError;
+pub use core_state::{ANSWER_LIMIT, Core, at_most_one_step};
 pub use entry::{Call, Entry, JOURNAL_LIMIT};
 pub use journal::{Journal, LEASE_MAX, LEASE_MIN};
 pub use moment::Moment;
+pub use stored_file::StoredFile;

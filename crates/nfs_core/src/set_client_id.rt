@@ -1,6 +1,6 @@
 ghost use Rattle.std.specs.Prelude.{◌≡◌, ◌≤◌, IfSome, IfNone, length};
 ghost use Rattle.nfs_core.specs.Server.{Enters};
-ghost use Rattle.nfs_core.specs.Step.{call_of};
+ghost use Rattle.nfs_core.specs.Step.{IsFilehandle, call_of};
 
 use crate::journal::{make_room, push_call};
 use crate::tables::Tables;
@@ -17,7 +17,8 @@ pub(crate) fn set_client_id(
     args: &SetClientId,
     filehandle: Option<u32>,
 ) -> Option<(SetClientIdResult, u32)>
-    requires { tables.old.clients.last_confirm ≤ length journal.old.entries }
+    requires confirm { tables.old.clients.last_confirm ≤ length journal.old.entries }
+    requires node { IsFilehandle journal.old filehandle }
     ensures entered { IfSome result (λ r. Enters
         (record { journal = journal.old; state = tables.old })
         (record { journal = journal.new; state = tables.new })

@@ -1,10 +1,10 @@
 ghost use Rattle.std.specs.Prelude.{◌≡◌, IfSome, IfNone, length};
 ghost use Rattle.nfs_core.specs.Server.{Enters};
-ghost use Rattle.nfs_core.specs.Step.{call_of};
+ghost use Rattle.nfs_core.specs.Step.{IsFilehandle, call_of};
 
 use crate::journal::{make_room, push_call};
 use crate::tables::Tables;
-use crate::{Call, Journal, Moment};
+use crate::{Call, Journal, Moment, PathMark};
 use nfs_xdr::{Op, OpResult, Principal, SetClientIdConfirm, Status};
 
 /// Answers SETCLIENTID_CONFIRM and enters it: the answer and its entry's number, or none and no change
@@ -17,6 +17,7 @@ pub(crate) fn set_client_id_confirm(
     args: &SetClientIdConfirm,
     filehandle: Option<u32>,
 ) -> Option<(Status, u32)>
+    requires node { IsFilehandle journal.old filehandle }
     ensures entered { IfSome result (λ r. Enters
         (record { journal = journal.old; state = tables.old })
         (record { journal = journal.new; state = tables.new })
@@ -26,7 +27,8 @@ pub(crate) fn set_client_id_confirm(
 {
     make_room(&mut journal.entries)?;
     let has_state = tables.record_has_state(tables.clients.rival_of(args));
-    let answer = tables.clients.confirm(principal, args, has_state);
+    let path = PathMark::at_first(journal.policy().callbacks);
+    let answer = tables.clients.confirm(principal, args, has_state, path);
     let call = Call {
         moment,
         principal,

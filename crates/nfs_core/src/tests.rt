@@ -1,10 +1,11 @@
-ghost use Rattle.std.specs.Prelude.{IsTrue, IfOk};
+ghost use Rattle.std.specs.Prelude.{IsTrue, IfOk, ◌≤◌};
 ghost use Rattle.nfs_xdr.specs.Op.{has_entry};
 
-use crate::{CLIENT_LIMIT, Core, LEASE_MAX, Moment, at_most_one_step};
+use crate::{CLIENT_LIMIT, Core, LEASE_MAX, LEASE_MIN, Moment, at_most_one_step};
+use nfs_tree::{Callbacks, Delegations, Policy, Tree};
 use nfs_xdr::{
-    Address, Bytes, Callback, ClientId, Op, OpResult, Principal, SetClientId, SetClientIdConfirm,
-    SetClientIdResult, Status, Verifier,
+    Address, Bitmap, Bytes, Callback, ClientId, GetAttrResult, Op, OpResult, Principal,
+    SetClientId, SetClientIdConfirm, SetClientIdResult, Status, Verifier,
 };
 use std::alloc::{AllocError, Global};
 use std::test::Fail;
@@ -103,6 +104,18 @@ fn op_of(alloc: Global, ask: Ask) -> Result<Op, AllocError>
     }
 }
 
+/// A server of a tree with one file, under a policy of callbacks.
+fn opened(alloc: Global, lease: u32, callbacks: Callbacks) -> Result<Core, Fail>
+    requires { (LEASE_MIN ≤ lease) × (lease ≤ LEASE_MAX) }
+{
+    let tree = Tree::from_toml(alloc, "file = [{ path = \"a\", text = \"hello\" }]")?;
+    let policy = Policy {
+        delegations: Delegations::All,
+        callbacks,
+    };
+    Ok(Core::new(alloc, &tree, lease, EPOCH, policy)?)
+}
+
 fn start() -> Moment {
     Moment::new(0).unwrap()
 }
@@ -167,7 +180,7 @@ const TABLE: [(Principal, Ask, Want); 32] = [
 
 #[test]
 fn answers(rt: HostRuntime) -> Result<(), Fail> {
-    let mut core = Core::new(rt.alloc(), 90, EPOCH);
+    let mut core = opened(rt.alloc(), 90, Callbacks::Probe)?;
     for (i, (principal, ask, want)) in TABLE.iter().enumerate() {
         let right = gives(
             &mut core,
@@ -211,7 +224,7 @@ fn gives_again(
 // Run with each allocation failing in turn: rt try --test --fail-alloc N.
 #[test]
 fn answers_again(rt: HostRuntime) -> Result<(), Fail> {
-    let mut core = Core::new(rt.alloc(), 90, EPOCH);
+    let mut core = opened(rt.alloc(), 90, Callbacks::Probe)?;
     for (i, (principal, ask, want)) in TABLE.iter().enumerate() {
         let right = gives_again(&mut core, rt.alloc(), *principal, *ask, *want, i as u32)?;
         assert!(rt; right, "row {i}");
@@ -221,7 +234,7 @@ fn answers_again(rt: HostRuntime) -> Result<(), Fail> {
 
 #[test]
 fn limits_addresses(rt: HostRuntime) -> Result<(), Fail> {
-    let mut core = Core::new(rt.alloc(), 90, EPOCH);
+    let mut core = opened(rt.alloc(), 90, Callbacks::Probe)?;
     for (ask, want, number) in [
         (Ask::SetAt(129, 1), Want::Refused, None),
         (Ask::SetAt(1, 129), Want::Refused, None),
@@ -239,7 +252,7 @@ fn limits_addresses(rt: HostRuntime) -> Result<(), Fail> {
 
 #[test]
 fn limits_numbers(rt: HostRuntime) -> Result<(), Fail> {
-    let mut core = Core::new(rt.alloc(), 90, EPOCH);
+    let mut core = opened(rt.alloc(), 90, Callbacks::Probe)?;
     let ask = Ask::Set(b'a', 1);
     for number in 1..=CLIENT_LIMIT {
         let want = Want::Given(number, u64::from(number));
@@ -259,12 +272,57 @@ fn limits_numbers(rt: HostRuntime) -> Result<(), Fail> {
 }
 
 #[test]
-fn opens_empty(rt: HostRuntime) {
-    let core = Core::new(rt.alloc(), LEASE_MAX, EPOCH);
+fn opens_empty(rt: HostRuntime) -> Result<(), Fail> {
+    let core = opened(rt.alloc(), LEASE_MAX, Callbacks::Probe)?;
     let journal = core.journal();
     assert_eq!(rt; journal.epoch(), EPOCH);
     assert_eq!(rt; journal.lease(), 86_400);
     assert!(rt; journal.entries().is_empty());
+    assert_eq!(rt; journal.tree().nodes().len(), 1);
     assert!(rt; !Op::BadArgs(35).has_entry());
     at_most_one_step();
+    Ok(())
+}
+
+/// What GETATTR of type, change and size answers under the filehandle of a node.
+fn attributes_of(
+    core: &mut Core,
+    alloc: Global,
+    node: u32,
+) -> Result<(OpResult, Option<u32>), Fail> {
+    if node >= core.journal().tree().len() {
+        return Err("no such node".into());
+    }
+    let op = Op::GetAttr(Bitmap::new(vec![in alloc; 0x1a_u32; 1]?));
+    Ok(core.apply(start(), NONE, &op, Some(node)))
+}
+
+/// Whether these are the values of type, change and size, and no others.
+fn tells(answer: &OpResult, values: &[u8]) -> bool {
+    match answer {
+        OpResult::GetAttr(GetAttrResult::Done(told)) => {
+            told.mask.as_slice() == [0x1a_u32].as_slice() && told.values.as_slice() == values
+        }
+        _ => false,
+    }
+}
+
+/// The attributes of the root and of a file, and none without a filehandle: each answer is an entry.
+#[test]
+fn attributes(rt: HostRuntime) -> Result<(), Fail> {
+    let alloc = rt.alloc();
+    let mut core = opened(alloc, 90, Callbacks::Probe)?;
+    let root: [u8; 20] = [0, 0, 0, 2, 0, 0, 0, 0, 0, 0, 0, 0, 0, 0, 0, 0, 0, 0, 0, 0];
+    let (answer, number) = attributes_of(&mut core, alloc, 0)?;
+    assert!(rt; tells(&answer, root.as_slice()));
+    assert_eq!(rt; number, Some(0));
+    let file: [u8; 20] = [0, 0, 0, 1, 0, 0, 0, 0, 0, 0, 0, 0, 0, 0, 0, 0, 0, 0, 0, 5];
+    let (answer, number) = attributes_of(&mut core, alloc, 1)?;
+    assert!(rt; tells(&answer, file.as_slice()));
+    assert_eq!(rt; number, Some(1));
+    let op = Op::GetAttr(Bitmap::new(vec![in alloc; 0x1a_u32; 1]?));
+    let (answer, number) = core.apply(start(), NONE, &op, None);
+    assert!(rt; answer == OpResult::GetAttr(GetAttrResult::Refused(Status::NoFileHandle)));
+    assert_eq!(rt; number, Some(2));
+    Ok(())
 }

@@ -2,6 +2,7 @@ ghost use Rattle.std.specs.Prelude.{◌≡◌, ◌<◌, ◌≤◌, length, filte
 ghost use Rattle.std.specs.Option.{ForSome, option_copied};
 ghost use Rattle.std.specs.Vec.{vec_len, vec_capacity};
 ghost use Rattle.nfs_core.specs.Registry.{is_of, has_both, confirmed_of, confirmed_with, unconfirmed_with};
+ghost use Rattle.nfs_core.specs.declared.client_record.PathMark.{PathMark};
 ghost use Rattle.nfs_core.specs.SetClientIdConfirm.{Refused, Becomes, Confirms, ConfirmsBy, confirmation_again, confirmation_beside, with_confirmed};
 
 use super::Clients;
@@ -10,14 +11,16 @@ use nfs_xdr::{Principal, SetClientIdConfirm, Status};
 
 impl Clients {
     /// SETCLIENTID_CONFIRM (RFC 7530, section 16.34.5); `has_state` is whether the client of the
-    /// confirmed record of the same id has state. It takes no memory.
+    /// confirmed record of the same id has state, and `path` the mark of the path of a client that is
+    /// confirmed now. It takes no memory.
     pub(crate) fn confirm(
         &mut self,
         principal: Principal,
         args: &SetClientIdConfirm,
         has_state: bool,
+        path: PathMark,
     ) -> Status
-        ensures { Confirms has_state self.old principal args.now result self.new }
+        ensures { Confirms path has_state self.old principal args.now result self.new }
     {
         let Some(place) = self.unconfirmed_with(args) else {
             return self.confirm_again(principal, args);
@@ -26,7 +29,7 @@ impl Clients {
         if !candidate.principal.is(principal) || self.is_held_from(candidate, has_state) {
             return Status::ClidInUse;
         }
-        confirm_at(&mut self.records, place);
+        confirm_at(&mut self.records, place, path);
         Status::Ok
     }
 
@@ -40,7 +43,7 @@ impl Clients {
 
     // Answers where no unconfirmed record has both.
     fn confirm_again(&self, principal: Principal, args: &SetClientIdConfirm) -> Status
-        ensures { ConfirmsBy (confirmation_again (confirmed_with self.now args.now.client args.now.confirm) principal) self.now result self.now }
+        ensures { (path : PathMark) → ConfirmsBy path (confirmation_again (confirmed_with self.now args.now.client args.now.confirm) principal) self.now result self.now }
     {
         match self.confirmed_with(args) {
             None => Status::StaleClientId,
@@ -93,14 +96,14 @@ fn unconfirmed_place(records: &[ClientRecord], args: &SetClientIdConfirm) -> Opt
 }
 
 // Confirms the record at this place: it goes to the end, and the other records of its id are dropped.
-fn confirm_at(records: &mut Vec<ClientRecord>, place: usize)
+fn confirm_at(records: &mut Vec<ClientRecord>, place: usize, path: PathMark)
     requires { place < vec_len records.old }
-    ensures { ForSome (slice_get records.old.items place) (λ r. records.new.items ≡ with_confirmed records.old.items r) }
+    ensures { ForSome (slice_get records.old.items place) (λ r. records.new.items ≡ with_confirmed path records.old.items r) }
 {
     let mut confirmed = records.remove(place);
     drop_records_of(records, confirmed.id.as_slice());
     confirmed.confirmed = true;
-    confirmed.path = PathMark::Unknown;
+    confirmed.path = path;
     records.push_reserved(confirmed);
 }
 

@@ -2,8 +2,8 @@ use Rattle.nfs_core.proofs.Journals.{Lawful-confirm, Lawful-enters}
 use Rattle.nfs_core.proofs.core_state.Core.set_client_id.Goals as goal
 use Rattle.nfs_core.proofs.core_state.Core.set_client_id.Goals.{in-Some, in-None}
 
-pub set_client_id-requires : goal.set_client_id-requires
-set_client_id-requires c = Lawful-confirm c.self.inside.journal c.self.inside.tables c.self.invariant
+pub set_client_id-requires-clause-confirm : goal.set_client_id-requires-clause-confirm
+set_client_id-requires-clause-confirm c = Lawful-confirm c.self.inside.journal c.self.inside.tables c.self.invariant
 
 pub invariant_of-self : goal.invariant_of-self
 invariant_of-self c =

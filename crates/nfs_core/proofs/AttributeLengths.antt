@@ -1,0 +1,63 @@
+-- How long the attributes of a node are at most.
+use Rattle.std.proofs.Common.{◌≡◌, ℕ, ◌+◌, ◌*◌, ◌≤◌, Bool, true, false, List, [], ◌∷◌, ◌++◌, length, arith}
+use Rattle.std.specs.Prelude.{if◌then◌else◌}
+use Rattle.std.specs.List.{flat_map}
+use Rattle.std.proofs.lemmas.List.{length-append, length-take}
+use Rattle.nfs_xdr.specs.declared.fattr.Fattr.{Fattr}
+use Rattle.nfs_xdr.specs.declared.get_attr.GetAttrResult.TheVariants.{Done}
+use Rattle.nfs_xdr.specs.GetAttr.{written_get_attr_result}
+use Rattle.nfs_xdr.specs.Layout.{padding_of}
+use Rattle.nfs_xdr.specs.Writing.{written_u32, zeros}
+use Rattle.nfs_tree.specs.declared.attribute.Attribute.{Attribute}
+use Rattle.nfs_tree.specs.declared.attribute.Attribute.TheVariants as attributes
+use Rattle.nfs_tree.specs.declared.attribute.Subject.{Subject}
+use Rattle.nfs_tree.specs.Attributes.{all_attributes, asked, attributes_of, has, mask_of, value_asked, value_of, values_of}
+
+value_len : (s : Subject) (a : Attribute) → length (value_of s a) ≤ 16
+value_len s attributes.SupportedAttrs = omega arith
+value_len s attributes.Type = omega arith
+value_len s attributes.FhExpireType = omega arith
+value_len s attributes.Change = omega arith
+value_len s attributes.Size = omega arith
+value_len s attributes.LinkSupport = omega arith
+value_len s attributes.SymlinkSupport = omega arith
+value_len s attributes.NamedAttr = omega arith
+value_len s attributes.Fsid = omega arith
+value_len s attributes.UniqueHandles = omega arith
+value_len s attributes.LeaseTime = omega arith
+value_len s attributes.RdattrError = omega arith
+value_len s attributes.Filehandle = omega arith
+value_len s attributes.Fileid = omega arith
+
+either_len : (b : Bool) (value : List ℕ) → length value ≤ 16 → length (if b then value else []) ≤ 16
+either_len true value short = short
+either_len false value short = omega arith
+
+values_len : (s : Subject) (word : ℕ) (all : List Attribute) → length (values_of s word all) ≤ 16 * length all
+values_len s word [] = omega arith
+values_len s word (a ∷ all) =
+    omega (arith, length-append (value_asked s word a) (values_of s word all), either_len (has word a) (value_of s a) (value_len s a), values_len s word all)
+
+all_len : (s : Subject) (word : ℕ) → length (values_of s word all_attributes) ≤ 224
+all_len s word = values_len s word all_attributes
+
+either_mask : (b : Bool) (word : ℕ) → length (if b then [] else word ∷ []) ≤ 1
+either_mask true word = omega arith
+either_mask false word = omega arith
+
+mask_len : (words : List ℕ) → length (mask_of (asked words)) ≤ 1
+mask_len words = either_mask _ _
+
+mask_written : (words : List ℕ) → length words ≤ 1 → length (flat_map written_u32 words) ≤ 4
+mask_written [] few = omega arith
+mask_written (word ∷ []) few = omega arith
+mask_written (word ∷ next ∷ words) few = omega (arith, few)
+
+told_len : (f : Fattr) → length f.mask ≤ 1 → length f.values ≤ 224 → length (written_get_attr_result (Done f)) ≤ 2032
+told_len f mask values =
+    let pad : length (zeros (padding_of (length f.values))) ≤ 4 = omega (arith, length-take {A = ℕ} (padding_of (length f.values)) (0 ∷ 0 ∷ 0 ∷ 0 ∷ [])) in
+    simp length-append (omega (arith, mask_written f.mask mask, values, pad))
+
+-- the result of GETATTR
+pub attributes_len : (f : Fattr) (s : Subject) (words : List ℕ) → f ≡ attributes_of s words → length (written_get_attr_result (Done f)) ≤ 2032
+attributes_len f s words is = rw is (told_len (attributes_of s words) (mask_len words) (all_len s (asked words)))

@@ -1,0 +1,50 @@
+ghost use Rattle.std.specs.Prelude.{◌≡◌, IfOk};
+ghost use Rattle.std.specs.Option.{option_copied};
+ghost use Rattle.nfs_core.specs.State.{file_of, opening_files};
+
+use crate::StoredFile;
+use nfs_tree::Tree;
+use nfs_xdr::Bytes;
+use std::alloc::{AllocError, Global};
+use std::marker::Model;
+
+/// The files as they are now, in order of the numbers of their nodes.
+#[derive(Debug, Drop)]
+pub(crate) struct StoredFiles {
+    files: Vec<StoredFile>,
+}
+
+impl Model for StoredFiles {
+    ghost use Rattle.std.specs.Prelude.{List};
+    ghost use Rattle.nfs_core.specs.declared.stored_file.StoredFile.{StoredFile};
+
+    ghost Value = { List StoredFile };
+
+    ghost view = { λ f. f.files.items };
+}
+
+impl StoredFiles {
+    /// The tree's files with the texts that it gives them.
+    pub(crate) fn opened(alloc: Global, tree: &Tree) -> Result<StoredFiles, AllocError>
+        ensures { IfOk result (λ f. f ≡ opening_files tree.now.nodes) }
+    {
+        let mut files = Vec::new(alloc);
+        for node in 0..tree.len() {
+            if let Some(text) = tree.text(node) {
+                files.push(StoredFile {
+                    node,
+                    bytes: Bytes::copied(alloc, text)?,
+                    change: 0,
+                })?;
+            }
+        }
+        Ok(StoredFiles { files })
+    }
+
+    /// The file of a node, if it is one.
+    pub(crate) fn find(&self, node: u32) -> Option<&StoredFile>
+        ensures { option_copied result ≡ file_of self.now node }
+    {
+        self.files.iter().find(|f| f.node == node)
+    }
+}
