@@ -1,0 +1,120 @@
+-- The command line of the program: what its words ask for.
+use Rattle.std.specs.Prelude.{◌≡◌, ◌≢◌, ◌≤◌, ◌⊎◌, ◌∷◌, [], ℕ, List, Option, Some, None, codes, option_map, true, ⊤}
+use Rattle.std.specs.Borrow.{Bor}
+use Rattle.std.specs.Str.Parse.{IsNumeral, digits_value}
+use Rattle.clap.specs.Words.{App, Row, Rule, Text, fault_of, first_of, new_app, new_rule, subcommand_of, with_rule, with_subcommand, IsAmong, Kinds}
+use Rattle.clap.specs.Simple.{on_top}
+use Rattle.clap.specs.declared.error.kind.ErrorKind.{ErrorKind}
+use Rattle.clap.specs.declared.error.kind.ErrorKind.TheVariants.{DisplayHelp, OutOfMemory}
+use Rattle.nfs_options.specs.declared.declined.Declined.{Declined}
+use Rattle.nfs_options.specs.declared.declined.Declined.TheVariants as declined
+use Rattle.nfs_options.specs.declared.once_options.OnceOptions.{OnceOptions}
+use Rattle.nfs_options.specs.declared.command_line.Subcommand.{Subcommand}
+use Rattle.nfs_options.specs.declared.command_line.Subcommand.TheVariants as subcommand
+use Rattle.nfs_core.specs.declared.journal.TheConstants.{LEASE_MIN, LEASE_MAX}
+
+-- ---- the command, as clap reads words by it
+
+-- `--NAME VALUE` or `--NAME=VALUE`, at most once
+abbrev pub option_rule : Text → Rule
+option_rule name = record (new_rule name) { long = Some name; value_names = 1 }
+
+-- `once`, with its options
+abbrev pub once : App
+once =
+    with_rule (with_rule (with_rule (new_app (codes "once")) (option_rule (codes "tree")))
+    (option_rule (codes "lease"))) (option_rule (codes "epoch"))
+
+-- the program: its subcommands, no options of its own but help's, and no subcommand `help`
+abbrev pub program : App
+program = with_subcommand (on_top (λ s. record s { disable_help_subcommand = true }) (new_app (codes "nfs4state"))) once.top
+
+-- the text of an option's value, if it is given
+abbrev pub text_of : Option (Bor Text) → Option Text
+text_of = option_map (λ s. s.now)
+
+-- ---- numbers
+
+-- n is what the text spells in decimal digits alone, within the limits
+abbrev pub SpellsWithin : ℕ → ℕ → Text → ℕ → Type 0
+SpellsWithin least most text n = IsNumeral 10 text × (digits_value 10 text ≡ n) × (least ≤ n) × (n ≤ most)
+
+-- n is an option's number: what its value spells, or the default where it isn't given
+abbrev pub IsNumber : ℕ → ℕ → ℕ → Option Text → ℕ → Type 0
+IsNumber least most default None n = n ≡ default
+IsNumber least most default (Some text) n = SpellsWithin least most text n
+
+-- an option is given, and its value spells no number within the limits
+abbrev pub IsNoNumber : ℕ → ℕ → Option Text → Type 0
+IsNoNumber least most None = ⊥
+IsNoNumber least most (Some text) = (n : ℕ) → SpellsWithin least most text n → ⊥
+
+abbrev pub lease_default : ℕ
+lease_default = 90
+
+abbrev pub epoch_default : ℕ
+epoch_default = 1
+
+abbrev pub epoch_max : ℕ
+epoch_max = 4294967295
+
+-- ---- what the words ask for
+
+-- the options that the subcommand was given; no subcommand is `once` with none
+abbrev pub given_rows : Option (Text × List Row) → List Row
+given_rows None = []
+given_rows (Some s) = s.1
+
+abbrev pub once_rows : List Text → List Row
+once_rows words = given_rows (subcommand_of program words)
+
+-- the options are those that were given, as text
+abbrev pub IsOnce : List Row → OnceOptions → Type 0
+IsOnce rows o =
+    (text_of o.tree ≡ first_of (codes "tree") rows)
+    × IsNumber LEASE_MIN LEASE_MAX lease_default (first_of (codes "lease") rows) o.lease
+    × IsNumber 0 epoch_max epoch_default (first_of (codes "epoch") rows) o.epoch
+
+-- an option has a value that is no number within its limits
+abbrev pub HasNoNumber : List Row → Type 0
+HasNoNumber rows = IsNoNumber LEASE_MIN LEASE_MAX (first_of (codes "lease") rows)
+    ⊎ IsNoNumber 0 epoch_max (first_of (codes "epoch") rows)
+
+abbrev pub AsksOnce : List Row → Subcommand → Type 0
+AsksOnce rows (subcommand.Once o) = IsOnce rows o
+
+-- clap takes the words, and this is what they ask for
+abbrev pub Asks : List Text → Subcommand → Type 0
+Asks words s = (fault_of program words ≡ []) × AsksOnce (once_rows words) s
+
+-- the numbers are within their limits
+abbrev pub IsOnceWithinLimits : OnceOptions → Type 0
+IsOnceWithinLimits o = (LEASE_MIN ≤ o.lease) × (o.lease ≤ LEASE_MAX) × (o.epoch ≤ epoch_max)
+
+abbrev pub IsWithinLimits : Subcommand → Type 0
+IsWithinLimits (subcommand.Once o) = IsOnceWithinLimits o
+
+-- clap refuses words with these kinds, and not to show help
+abbrev pub Refuses : Kinds → Type 0
+Refuses kinds = (k : ErrorKind) × IsAmong k kinds × (k ≢ DisplayHelp)
+
+-- memory was refused, or the words are at fault as P says
+abbrev pub IsMemoryOr : Type 0 → Declined → Type 0
+IsMemoryOr P declined.Memory = ⊤
+IsMemoryOr P (declined.Usage text) = P
+IsMemoryOr P (declined.Help text) = ⊥
+
+-- why the words ask for nothing: they ask for help, clap refuses them, or a value is no number within its limits
+abbrev pub IsDeclined : List Text → Declined → Type 0
+IsDeclined words declined.Memory = ⊤
+IsDeclined words (declined.Help text) = IsAmong DisplayHelp (fault_of program words)
+IsDeclined words (declined.Usage text) = Refuses (fault_of program words)
+    ⊎ ((fault_of program words ≡ []) × HasNoNumber (once_rows words))
+
+-- ---- clap's errors
+
+-- what an error of clap's of this kind is here
+abbrev pub IsDeclinedFor : ErrorKind → Declined → Type 0
+IsDeclinedFor k declined.Memory = ⊤
+IsDeclinedFor k (declined.Help text) = k ≡ DisplayHelp
+IsDeclinedFor k (declined.Usage text) = (k ≢ DisplayHelp) × (k ≢ OutOfMemory)

@@ -1,0 +1,15 @@
+//! The command line of `nfs4state`.
+#![tactic(auto)]
+
+mod command_line;
+mod commands;
+mod declined;
+mod number_option;
+mod once_options;
+
+pub use command_line::{Subcommand, options};
+pub use declined::Declined;
+pub use once_options::OnceOptions;
+
+#[cfg(test)]
+mod tests;

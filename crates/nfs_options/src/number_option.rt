@@ -1,0 +1,79 @@
+ghost use Rattle.std.specs.Prelude.{◌<◌, ◌^◌, IfErr, IfOk, MatchOption, SomeIff, ⊤, ℕ};
+ghost use Rattle.std.specs.Str.Parse.{IsNumeral, digits_value};
+ghost use Rattle.nfs_options.specs.CommandLine.{IsMemoryOr, IsNoNumber, IsNumber, SpellsWithin, text_of};
+
+use crate::Declined;
+use crate::commands::value_error;
+use std::alloc::{AllocError, Global};
+
+/// An option of `once` whose value is a number, in decimal digits without a sign.
+#[derive(Clone, Copy, Debug)]
+pub(crate) struct NumberOption {
+    pub(crate) name: &'static str,
+    /// What help calls the value.
+    pub(crate) value_name: &'static str,
+    pub(crate) least: u32,
+    pub(crate) most: u32,
+    /// The number where the option isn't given.
+    pub(crate) default: u32,
+}
+
+impl NumberOption {
+    /// The number that the option's value spells, or the default.
+    pub(crate) fn number(&self, alloc: Global, value: Option<&str>) -> Result<u32, Declined>
+        ensures ok { IfOk result (IsNumber self.now.least self.now.most self.now.default (text_of value.entry)) }
+        ensures err { IfErr result (IsMemoryOr (IsNoNumber self.now.least self.now.most (text_of value.entry))) }
+    {
+        let Some(text) = value else {
+            return Ok(self.default);
+        };
+        match number_within(text, self.least, self.most) {
+            Some(number) => Ok(number),
+            None => Err(self.refusal(alloc, text)),
+        }
+    }
+
+    // That the text is no number within the limits.
+    fn refusal(&self, alloc: Global, text: &str) -> Declined
+        ensures { IsMemoryOr ⊤ result }
+    {
+        match self.refusal_text(alloc, text) {
+            Ok(text) => Declined::Usage(text),
+            Err(_) => Declined::Memory,
+        }
+    }
+
+    fn refusal_text(&self, alloc: Global, text: &str) -> Result<String, AllocError> {
+        let name = self.name;
+        let value_name = self.value_name;
+        let least = self.least;
+        let most = self.most;
+        let message = format!(in alloc;
+            "invalid value '{text}' for '--{name} <{value_name}>': not a number from {least} to {most}"
+        )?;
+        let error = value_error(alloc, message.as_str())?;
+        format!(in alloc; "{error}")
+    }
+}
+
+// The number that decimal digits alone spell, where it lies from `least` to `most`.
+fn number_within(text: &str, least: u32, most: u32) -> Option<u32>
+    ensures { MatchOption result ((n : ℕ) → SpellsWithin least most text.now n → ⊥) (SpellsWithin least most text.now) }
+{
+    let number = decimal(text)?;
+    if least <= number && number <= most {
+        Some(number)
+    } else {
+        None
+    }
+}
+
+// The number that decimal digits alone spell. Unlike `parse` it takes no plus sign.
+fn decimal(text: &str) -> Option<u32>
+    ensures { SomeIff result (IsNumeral 10 text.now × (digits_value 10 text.now < 2 ^ 32)) (digits_value 10 text.now) }
+{
+    if text.starts_with('+') {
+        return None;
+    }
+    text.parse::<u32>().ok()
+}

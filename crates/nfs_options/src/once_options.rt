@@ -1,0 +1,56 @@
+ghost use Rattle.std.specs.Prelude.{IfErr, IfOk};
+ghost use Rattle.clap.specs.Words.{found_of, rows_of};
+ghost use Rattle.nfs_options.specs.CommandLine.{HasNoNumber, IsMemoryOr, IsOnce, IsOnceWithinLimits};
+
+use crate::Declined;
+use crate::number_option::NumberOption;
+use clap::ArgMatches;
+use nfs_core::{LEASE_MAX, LEASE_MIN};
+use std::alloc::Global;
+
+/// The options of `once`.
+#[derive(Clone, Copy, Debug, PartialEq, Eq)]
+pub struct OnceOptions<'a> {
+    /// The file that says which files are served, if one is named.
+    pub tree: Option<&'a str>,
+    /// The lease in seconds, from `LEASE_MIN` to `LEASE_MAX`.
+    pub lease: u32,
+    /// The server's run, the upper half of each clientid.
+    pub epoch: u32,
+}
+
+impl<'a> OnceOptions<'a> {
+    /// What holds where no option is given.
+    pub const DEFAULT: OnceOptions<'static> = OnceOptions {
+        tree: None,
+        lease: 90,
+        epoch: 1,
+    };
+
+    /// The options that clap found.
+    pub(crate) fn of(alloc: Global, matches: &ArgMatches<'a>) -> Result<OnceOptions<'a>, Declined>
+        ensures ok { IfOk result (IsOnce (rows_of (found_of matches.now))) }
+        ensures limits { IfOk result IsOnceWithinLimits }
+        ensures err { IfErr result (IsMemoryOr (HasNoNumber (rows_of (found_of matches.now)))) }
+    {
+        let lease = NumberOption {
+            name: "lease",
+            value_name: "SECONDS",
+            least: LEASE_MIN,
+            most: LEASE_MAX,
+            default: OnceOptions::DEFAULT.lease,
+        };
+        let epoch = NumberOption {
+            name: "epoch",
+            value_name: "NUMBER",
+            least: 0,
+            most: u32::MAX,
+            default: OnceOptions::DEFAULT.epoch,
+        };
+        Ok(OnceOptions {
+            tree: matches.get_str("tree"),
+            lease: lease.number(alloc, matches.get_str(lease.name))?,
+            epoch: epoch.number(alloc, matches.get_str(epoch.name))?,
+        })
+    }
+}
