@@ -1,48 +1,79 @@
 //! A server of NFSv4.0's state, whose journal explains every reply.
 #![tactic(auto)]
 
+ghost use Rattle.nfs_options.specs.CommandLine.{IsOnceWithinLimits};
+
 use nfs_core::Core;
-use nfs_server::{Counted, Fault, run_once};
-use std::env::Env;
+use nfs_options::{Declined, OnceOptions, Subcommand, options};
+use nfs_server::{Counted, Fault, read_tree, run_once};
+use nfs_tree::{DEFAULT_TREE, Tree};
 use std::process::ExitCode;
-use std::{env, io};
+use std::{env, fs, io};
 
-/// The lease in seconds.
-const LEASE: u32 = 90;
-
-/// The run, the upper half of each clientid.
-const EPOCH: u32 = 1;
-
-const USAGE: &str = "usage: nfs4state [once]";
-
-/// `nfs4state once`, or no word at all: records from standard input, replies to standard output.
+/// What the words of the command line ask for: see `nfs4state --help`.
 fn main(rt: HostRuntime) -> ExitCode {
-    match is_once(&rt) {
-        Ok(true) => ExitCode::from(once(&rt)),
-        Ok(false) => {
-            let _ = rt.eprintln(USAGE);
-            ExitCode::from(2)
+    let words = match words(&rt) {
+        Ok(words) => words,
+        Err(error) if error.kind() == io::ErrorKind::OutOfMemory => {
+            return ExitCode::from(told(&rt, Fault::NoMemory));
         }
-        Err(_) => {
-            let _ = rt.eprintln(Fault::NoMemory);
-            ExitCode::from(1)
-        }
+        Err(_) => return refused(&rt, "error: a word isn't UTF-8\n"),
+    };
+    match options(rt.alloc(), words.as_slice()) {
+        Ok(Subcommand::Once(options)) => ExitCode::from(once(&rt, &options)),
+        Err(Declined::Help(text)) => helped(&rt, text.as_str()),
+        Err(Declined::Usage(text)) => refused(&rt, text.as_str()),
+        Err(Declined::Memory) => ExitCode::from(told(&rt, Fault::NoMemory)),
     }
 }
 
-// Whether the words behind the program's name are none, or `once`. It fails where there is no memory for them.
-fn is_once(rt: &(impl Env + Alloc)) -> io::Result<bool> {
-    let mut words = env::args(rt)?.skip(1);
-    Ok(match words.next() {
-        None => true,
-        Some(word) => word.as_str() == "once" && words.next().is_none(),
-    })
+fn words(rt: &HostRuntime) -> io::Result<Vec<String>> {
+    Ok(env::args(rt)?.collect(rt.alloc())?)
 }
 
-fn once(rt: &HostRuntime) -> u8 {
+// `nfs4state once`: records from standard input, replies to standard output. Nothing is read or written before the core stands.
+fn once(rt: &HostRuntime, options: &OnceOptions<'_>) -> u8
+    requires { IsOnceWithinLimits options.now }
+{
+    let tree = match tree(rt, options.tree) {
+        Ok(tree) => tree,
+        Err(fault) => return told(rt, fault),
+    };
+    let policy = tree.policy();
+    let Ok(core) = Core::new(rt.alloc(), &tree, options.lease, options.epoch, policy) else {
+        return told(rt, Fault::NoMemory);
+    };
     let mut source = Counted::new(rt.stdin());
     let mut sink = Counted::new(rt.stdout());
     let mut errors = rt.stderr();
-    let core = Core::new(rt.alloc(), LEASE, EPOCH);
-    run_once(rt.alloc(), core, &mut source, &mut sink, &mut errors)
+    run_once(rt.alloc(), core, &tree, &mut source, &mut sink, &mut errors)
+}
+
+// The tree of the file, or the one without a file.
+fn tree(rt: &HostRuntime, path: Option<&str>) -> Result<Tree, Fault> {
+    let Some(path) = path else {
+        return Tree::from_toml(rt.alloc(), DEFAULT_TREE).map_err(Fault::from);
+    };
+    match fs::read(rt, path) {
+        Ok(bytes) => read_tree(rt.alloc(), bytes.as_slice()).map_err(Fault::from),
+        Err(error) if error.kind() == io::ErrorKind::OutOfMemory => Err(Fault::NoMemory),
+        Err(_) => Err(Fault::FileNotRead),
+    }
+}
+
+// Nobody is left to tell where these can't be written either.
+
+fn helped(rt: &HostRuntime, text: &str) -> ExitCode {
+    let _ = rt.print(text);
+    ExitCode::from(0)
+}
+
+fn refused(rt: &HostRuntime, text: &str) -> ExitCode {
+    let _ = rt.eprint(text);
+    ExitCode::from(2)
+}
+
+fn told(rt: &HostRuntime, fault: Fault) -> u8 {
+    let _ = rt.eprintln(fault);
+    1
 }

@@ -5,32 +5,32 @@ use Rattle.std.specs.Io.KnownBytes.{Appends, Consumes}
 use Rattle.std.proofs.KnownBytes.{Appends-nil, Appends-trans, Consumes-nil, Consumes-trans}
 use Rattle.std.proofs.lemmas.List.{append-nil, length-append}
 use Rattle.std.proofs.lemmas.Grind.{flat_map-append}
-use Rattle.nfs_server.specs.declared.records.TheConstants.{RECORD_LIMIT}
+use Rattle.nfs_rpc.specs.declared.records.TheConstants.{RECORD_LIMIT}
+use Rattle.nfs_tree.specs.Tree.{Files}
 use Rattle.nfs_server.specs.declared.connection.TheConstants.{STREAM_LIMIT}
 use Rattle.nfs_server.specs.declared.serve_error.ServeError.{ServeError}
 use Rattle.nfs_server.specs.declared.serve_error.ServeError.TheVariants as errors
 use Rattle.nfs_server.specs.Asking.{Question}
 use Rattle.nfs_server.specs.Connection.{EndsWith, HasCourse, Exchange, AreExchanged, IsCourse, IsServed, messages_of, written_for, written_for_all}
-use Rattle.nfs_server.specs.Records.{AreRecords, IsStream, IsTooLong, Splits, Stream, TakesPiece}
+use Rattle.nfs_rpc.specs.Records.{AreRecords, IsStream, IsTooLong, SplitGoesOn, Splits, Stream, TakesPiece}
 use Rattle.nfs_server.proofs.Serving.{exchanged_then, messages-append}
-use Rattle.nfs_server.proofs.Splitting.{split_goes_on}
 use Rattle.nfs_xdr.specs.declared.op_result.OpResult.{OpResult}
 
 -- Every record of what was read so far was answered.
-pub record IsUnderWay {S C : Type 0} (gives : S → Question → OpResult → S → Type 0) (tells : C → ℕ → C → Type 0) (service : S) (clock : C) (unread unwritten : Option (List ℕ)) (stream : Stream) (service' : S) (clock' : C) (unread' written' : Option (List ℕ)) : Type 0 where
+pub record IsUnderWay {S C : Type 0} (tree : Files) (gives : S → Question → OpResult → S → Type 0) (tells : C → ℕ → C → Type 0) (service : S) (clock : C) (unread unwritten : Option (List ℕ)) (stream : Stream) (service' : S) (clock' : C) (unread' written' : Option (List ℕ)) : Type 0 where
   pub text : List ℕ
   pub exchanges : List Exchange
   pub consumes : Consumes unread unread' text
   pub split : Splits text (messages_of exchanges) stream.rest
-  pub exchanged : AreExchanged gives tells service clock exchanges service' clock'
-  pub appends : Appends unwritten written' (written_for_all exchanges)
+  pub exchanged : AreExchanged tree gives tells service clock exchanges service' clock'
+  pub appends : Appends unwritten written' (written_for_all tree exchanges)
   pub idle : stream.ready ≡ []
   pub goes : stream.is_too_long ≡ false
   pub fed : stream.fed ≡ length text
 
-pub starts : {S C : Type 0} (gives : S → Question → OpResult → S → Type 0) (tells : C → ℕ → C → Type 0) (service : S) (clock : C) (unread unwritten : Option (List ℕ)) (stream : Stream) → stream ≡ record { ready = []; rest = []; fed = 0; is_too_long = false } → IsStream stream
-    → IsUnderWay gives tells service clock unread unwritten stream service clock unread unwritten
-starts gives tells service clock unread unwritten stream empty sound = record {
+pub starts : {S C : Type 0} (tree : Files) (gives : S → Question → OpResult → S → Type 0) (tells : C → ℕ → C → Type 0) (service : S) (clock : C) (unread unwritten : Option (List ℕ)) (stream : Stream) → stream ≡ record { ready = []; rest = []; fed = 0; is_too_long = false } → IsStream stream
+    → IsUnderWay tree gives tells service clock unread unwritten stream service clock unread unwritten
+starts tree gives tells service clock unread unwritten stream empty sound = record {
   text = [];
   exchanges = [];
   consumes = Consumes-nil unread;
@@ -46,12 +46,12 @@ unanswered-nil : (messages : List (List ℕ)) (text rest : List ℕ) → Splits 
 unanswered-nil messages text rest split = subst (λ (m : List (List ℕ)). Splits text m rest) (sym (append-nil messages)) split
 
 -- the connection ends where all that was read is answered
-pub ends_answered : {S C : Type 0} (gives : S → Question → OpResult → S → Type 0) (tells : C → ℕ → C → Type 0) (service service' : S) (clock clock' : C) (unread unwritten unread' unread'' written' : Option (List ℕ)) (stream : Stream) (lost : List ℕ) (result : Result ℕ ServeError)
-    → (under_way : IsUnderWay gives tells service clock unread unwritten stream service' clock' unread' written') → Consumes unread' unread'' lost
-    → EndsWith (record { text = under_way.text ++ lost; fed = under_way.text; lost = lost; exchanges = under_way.exchanges; unanswered = []; rest = stream.rest; written = written_for_all under_way.exchanges }) result
-    → HasCourse gives tells service clock unread unwritten result service' clock' unread'' written'
-ends_answered gives tells service service' clock clock' unread unwritten unread' unread'' written' stream lost result u more ends = (
-  record { text = u.text ++ lost; fed = u.text; lost = lost; exchanges = u.exchanges; unanswered = []; rest = stream.rest; written = written_for_all u.exchanges },
+pub ends_answered : {S C : Type 0} (tree : Files) (gives : S → Question → OpResult → S → Type 0) (tells : C → ℕ → C → Type 0) (service service' : S) (clock clock' : C) (unread unwritten unread' unread'' written' : Option (List ℕ)) (stream : Stream) (lost : List ℕ) (result : Result ℕ ServeError)
+    → (under_way : IsUnderWay tree gives tells service clock unread unwritten stream service' clock' unread' written') → Consumes unread' unread'' lost
+    → EndsWith tree (record { text = under_way.text ++ lost; fed = under_way.text; lost = lost; exchanges = under_way.exchanges; unanswered = []; rest = stream.rest; written = written_for_all tree under_way.exchanges }) result
+    → HasCourse tree gives tells service clock unread unwritten result service' clock' unread'' written'
+ends_answered tree gives tells service service' clock clock' unread unwritten unread' unread'' written' stream lost result u more ends = (
+  record { text = u.text ++ lost; fed = u.text; lost = lost; exchanges = u.exchanges; unanswered = []; rest = stream.rest; written = written_for_all tree u.exchanges },
   record { whole = refl; split = unanswered-nil (messages_of u.exchanges) u.text stream.rest u.split; exchanged = u.exchanged },
   ends,
   Consumes-trans unread unread' unread'' u.text lost u.consumes more,
@@ -70,58 +70,58 @@ found_ready old new piece idle takes = takes.ready ∙ ap (λ (r : List (List �
 pub ready_within : (old new : Stream) (piece : List ℕ) → old.ready ≡ [] → TakesPiece old new piece → AllByRecursion (λ message. length message ≤ RECORD_LIMIT) new.ready
 ready_within old new piece idle takes = rw (found_ready old new piece idle takes) (within_limit takes.found takes.split.front takes.split.records)
 
-written-append : (es fs : List Exchange) → written_for_all (es ++ fs) ≡ written_for_all es ++ written_for_all fs
-written-append es fs = flat_map-append written_for es fs
+written-append : (tree : Files) (es fs : List Exchange) → written_for_all tree (es ++ fs) ≡ written_for_all tree es ++ written_for_all tree fs
+written-append tree es fs = flat_map-append (written_for tree) es fs
 
 -- a piece was taken and its records were served, but for some
-after_piece : {S C T : Type 0} (gives : S → Question → OpResult → S → Type 0) (tells : C → ℕ → C → Type 0) (service mid service' : S) (clock between clock' : C) (unread unwritten unread' unread'' here after : Option (List ℕ)) (old new : Stream) (piece : List ℕ) (served : Result T ServeError)
-    → (u : IsUnderWay gives tells service clock unread unwritten old mid between unread' here) → (takes : TakesPiece old new piece)
-    → (s : IsServed {T = T} gives tells mid between here new.ready served service' clock' after)
-    → IsCourse gives tells service clock (record { text = u.text ++ piece; fed = u.text ++ piece; lost = []; exchanges = u.exchanges ++ s.exchanges; unanswered = s.left; rest = new.rest; written = written_for_all u.exchanges ++ s.written }) service' clock'
-after_piece gives tells service mid service' clock between clock' unread unwritten unread' unread'' here after old new piece served u takes s =
-    let goes_on = split_goes_on u.text piece (messages_of u.exchanges) takes.found old.rest new.rest u.split takes.split in
+after_piece : {S C T : Type 0} (goes_on : SplitGoesOn) (tree : Files) (gives : S → Question → OpResult → S → Type 0) (tells : C → ℕ → C → Type 0) (service mid service' : S) (clock between clock' : C) (unread unwritten unread' unread'' here after : Option (List ℕ)) (old new : Stream) (piece : List ℕ) (served : Result T ServeError)
+    → (u : IsUnderWay tree gives tells service clock unread unwritten old mid between unread' here) → (takes : TakesPiece old new piece)
+    → (s : IsServed {T = T} tree gives tells mid between here new.ready served service' clock' after)
+    → IsCourse tree gives tells service clock (record { text = u.text ++ piece; fed = u.text ++ piece; lost = []; exchanges = u.exchanges ++ s.exchanges; unanswered = s.left; rest = new.rest; written = written_for_all tree u.exchanges ++ s.written }) service' clock'
+after_piece goes_on tree gives tells service mid service' clock between clock' unread unwritten unread' unread'' here after old new piece served u takes s =
+    let split = goes_on u.text piece (messages_of u.exchanges) takes.found old.rest new.rest u.split takes.split in
     let all : messages_of u.exchanges ++ takes.found ≡ messages_of (u.exchanges ++ s.exchanges) ++ s.left =
     ap (λ (m : List (List ℕ)). messages_of u.exchanges ++ m) (sym (found_ready old new piece u.idle takes) ∙ s.served)
     ∙ sym (append_assoc (messages_of u.exchanges) (messages_of s.exchanges) s.left)
     ∙ ap (λ (m : List (List ℕ)). m ++ s.left) (sym (messages-append u.exchanges s.exchanges)) in
     record {
       whole = sym (append-nil (u.text ++ piece));
-      split = subst (λ (m : List (List ℕ)). Splits (u.text ++ piece) m new.rest) all goes_on;
-      exchanged = exchanged_then gives tells u.exchanges s.exchanges service mid service' clock between clock' u.exchanged s.exchanged;
+      split = subst (λ (m : List (List ℕ)). Splits (u.text ++ piece) m new.rest) all split;
+      exchanged = exchanged_then tree gives tells u.exchanges s.exchanges service mid service' clock between clock' u.exchanged s.exchanged;
     }
 
-ends_cut : {S C : Type 0} (gives : S → Question → OpResult → S → Type 0) (tells : C → ℕ → C → Type 0) (service mid service' : S) (clock between clock' : C) (unread unwritten unread' unread'' here after : Option (List ℕ)) (old new : Stream) (piece : List ℕ) (error : ServeError)
-    → (u : IsUnderWay gives tells service clock unread unwritten old mid between unread' here) → (takes : TakesPiece old new piece)
-    → (s : IsServed {T = Unit {0}} gives tells mid between here new.ready (Err error) service' clock' after)
-    → EndsWith (record { text = u.text ++ piece; fed = u.text ++ piece; lost = []; exchanges = u.exchanges ++ s.exchanges; unanswered = s.left; rest = new.rest; written = written_for_all u.exchanges ++ s.written }) (Err error)
-ends_cut gives tells service mid service' clock between clock' unread unwritten unread' unread'' here after old new piece errors.Read u takes s = absurd s.outcome
-ends_cut gives tells service mid service' clock between clock' unread unwritten unread' unread'' here after old new piece errors.TooLong u takes s = absurd s.outcome
-ends_cut gives tells service mid service' clock between clock' unread unwritten unread' unread'' here after old new piece errors.TooMuch u takes s = absurd s.outcome
-ends_cut gives tells service mid service' clock between clock' unread unwritten unread' unread'' here after old new piece errors.Memory u takes s =
-    ap (λ (w : List ℕ). written_for_all u.exchanges ++ w) s.outcome ∙ sym (written-append u.exchanges s.exchanges)
-ends_cut gives tells service mid service' clock between clock' unread unwritten unread' unread'' here after old new piece errors.Write u takes s =
-    (refl, (s.outcome.0, written-append u.exchanges s.exchanges ∙ ap (λ (w : List ℕ). written_for_all u.exchanges ++ w) s.outcome.1 ∙ sym (append_assoc (written_for_all u.exchanges) s.written s.outcome.0)))
+ends_cut : {S C : Type 0} (tree : Files) (gives : S → Question → OpResult → S → Type 0) (tells : C → ℕ → C → Type 0) (service mid service' : S) (clock between clock' : C) (unread unwritten unread' unread'' here after : Option (List ℕ)) (old new : Stream) (piece : List ℕ) (error : ServeError)
+    → (u : IsUnderWay tree gives tells service clock unread unwritten old mid between unread' here) → (takes : TakesPiece old new piece)
+    → (s : IsServed {T = Unit {0}} tree gives tells mid between here new.ready (Err error) service' clock' after)
+    → EndsWith tree (record { text = u.text ++ piece; fed = u.text ++ piece; lost = []; exchanges = u.exchanges ++ s.exchanges; unanswered = s.left; rest = new.rest; written = written_for_all tree u.exchanges ++ s.written }) (Err error)
+ends_cut tree gives tells service mid service' clock between clock' unread unwritten unread' unread'' here after old new piece errors.Read u takes s = absurd s.outcome
+ends_cut tree gives tells service mid service' clock between clock' unread unwritten unread' unread'' here after old new piece errors.TooLong u takes s = absurd s.outcome
+ends_cut tree gives tells service mid service' clock between clock' unread unwritten unread' unread'' here after old new piece errors.TooMuch u takes s = absurd s.outcome
+ends_cut tree gives tells service mid service' clock between clock' unread unwritten unread' unread'' here after old new piece errors.Memory u takes s =
+    ap (λ (w : List ℕ). written_for_all tree u.exchanges ++ w) s.outcome ∙ sym (written-append tree u.exchanges s.exchanges)
+ends_cut tree gives tells service mid service' clock between clock' unread unwritten unread' unread'' here after old new piece errors.Write u takes s =
+    (refl, (s.outcome.0, written-append tree u.exchanges s.exchanges ∙ ap (λ (w : List ℕ). written_for_all tree u.exchanges ++ w) s.outcome.1 ∙ sym (append_assoc (written_for_all tree u.exchanges) s.written s.outcome.0)))
 
 -- the connection ends while the records of a piece are served
-pub ends_serving : {S C : Type 0} (gives : S → Question → OpResult → S → Type 0) (tells : C → ℕ → C → Type 0) (service mid service' : S) (clock between clock' : C) (unread unwritten unread' unread'' here after : Option (List ℕ)) (old new : Stream) (piece : List ℕ) (error : ServeError) (result : Result ℕ ServeError)
-    → result ≡ Err error → IsUnderWay gives tells service clock unread unwritten old mid between unread' here → Consumes unread' unread'' piece → TakesPiece old new piece
-    → IsServed {T = Unit {0}} gives tells mid between here new.ready (Err error) service' clock' after
-    → HasCourse gives tells service clock unread unwritten result service' clock' unread'' after
-ends_serving gives tells service mid service' clock between clock' unread unwritten unread' unread'' here after old new piece error result failed u more takes s = (
-  record { text = u.text ++ piece; fed = u.text ++ piece; lost = []; exchanges = u.exchanges ++ s.exchanges; unanswered = s.left; rest = new.rest; written = written_for_all u.exchanges ++ s.written },
-  after_piece gives tells service mid service' clock between clock' unread unwritten unread' unread'' here after old new piece (Err error) u takes s,
-  rw failed (ends_cut gives tells service mid service' clock between clock' unread unwritten unread' unread'' here after old new piece error u takes s),
+pub ends_serving : {S C : Type 0} (goes_on : SplitGoesOn) (tree : Files) (gives : S → Question → OpResult → S → Type 0) (tells : C → ℕ → C → Type 0) (service mid service' : S) (clock between clock' : C) (unread unwritten unread' unread'' here after : Option (List ℕ)) (old new : Stream) (piece : List ℕ) (error : ServeError) (result : Result ℕ ServeError)
+    → result ≡ Err error → IsUnderWay tree gives tells service clock unread unwritten old mid between unread' here → Consumes unread' unread'' piece → TakesPiece old new piece
+    → IsServed {T = Unit {0}} tree gives tells mid between here new.ready (Err error) service' clock' after
+    → HasCourse tree gives tells service clock unread unwritten result service' clock' unread'' after
+ends_serving goes_on tree gives tells service mid service' clock between clock' unread unwritten unread' unread'' here after old new piece error result failed u more takes s = (
+  record { text = u.text ++ piece; fed = u.text ++ piece; lost = []; exchanges = u.exchanges ++ s.exchanges; unanswered = s.left; rest = new.rest; written = written_for_all tree u.exchanges ++ s.written },
+  after_piece goes_on tree gives tells service mid service' clock between clock' unread unwritten unread' unread'' here after old new piece (Err error) u takes s,
+  rw failed (ends_cut tree gives tells service mid service' clock between clock' unread unwritten unread' unread'' here after old new piece error u takes s),
   Consumes-trans unread unread' unread'' u.text piece u.consumes more,
-  Appends-trans unwritten here after (written_for_all u.exchanges) s.written u.appends s.appends,
+  Appends-trans unwritten here after (written_for_all tree u.exchanges) s.written u.appends s.appends,
 )
 
 -- a piece was taken, and all its records were served
-served_piece : {S C : Type 0} (gives : S → Question → OpResult → S → Type 0) (tells : C → ℕ → C → Type 0) (service mid service' : S) (clock between clock' : C) (unread unwritten unread' unread'' here after : Option (List ℕ)) (old new last : Stream) (piece : List ℕ)
-    → IsUnderWay gives tells service clock unread unwritten old mid between unread' here → Consumes unread' unread'' piece → TakesPiece old new piece
-    → IsServed {T = Unit {0}} gives tells mid between here new.ready (Ok tt) service' clock' after → last ≡ record new { ready = [] }
-    → IsUnderWay gives tells service clock unread unwritten (record last { is_too_long = false }) service' clock' unread'' after
-served_piece gives tells service mid service' clock between clock' unread unwritten unread' unread'' here after old new last piece u more takes s same =
-    let course = after_piece gives tells service mid service' clock between clock' unread unwritten unread' unread'' here after old new piece (Ok tt) u takes s in
+served_piece : {S C : Type 0} (goes_on : SplitGoesOn) (tree : Files) (gives : S → Question → OpResult → S → Type 0) (tells : C → ℕ → C → Type 0) (service mid service' : S) (clock between clock' : C) (unread unwritten unread' unread'' here after : Option (List ℕ)) (old new last : Stream) (piece : List ℕ)
+    → IsUnderWay tree gives tells service clock unread unwritten old mid between unread' here → Consumes unread' unread'' piece → TakesPiece old new piece
+    → IsServed {T = Unit {0}} tree gives tells mid between here new.ready (Ok tt) service' clock' after → last ≡ record new { ready = [] }
+    → IsUnderWay tree gives tells service clock unread unwritten (record last { is_too_long = false }) service' clock' unread'' after
+served_piece goes_on tree gives tells service mid service' clock between clock' unread unwritten unread' unread'' here after old new last piece u more takes s same =
+    let course = after_piece goes_on tree gives tells service mid service' clock between clock' unread unwritten unread' unread'' here after old new piece (Ok tt) u takes s in
     let messages : messages_of (u.exchanges ++ s.exchanges) ++ s.left ≡ messages_of (u.exchanges ++ s.exchanges) =
     ap (λ (l : List (List ℕ)). messages_of (u.exchanges ++ s.exchanges) ++ l) s.outcome.1 ∙ append-nil (messages_of (u.exchanges ++ s.exchanges)) in
     let rest : new.rest ≡ last.rest = sym (ap (λ (x : Stream). x.rest) same) in
@@ -131,35 +131,35 @@ served_piece gives tells service mid service' clock between clock' unread unwrit
       consumes = Consumes-trans unread unread' unread'' u.text piece u.consumes more;
       split = subst (λ (r : List ℕ). Splits (u.text ++ piece) (messages_of (u.exchanges ++ s.exchanges)) r) rest (subst (λ (m : List (List ℕ)). Splits (u.text ++ piece) m new.rest) messages course.split);
       exchanged = course.exchanged;
-      appends = subst (λ (w : List ℕ). Appends unwritten after w) (ap (λ (w : List ℕ). written_for_all u.exchanges ++ w) s.outcome.0 ∙ sym (written-append u.exchanges s.exchanges)) (Appends-trans unwritten here after (written_for_all u.exchanges) s.written u.appends s.appends);
+      appends = subst (λ (w : List ℕ). Appends unwritten after w) (ap (λ (w : List ℕ). written_for_all tree u.exchanges ++ w) s.outcome.0 ∙ sym (written-append tree u.exchanges s.exchanges)) (Appends-trans unwritten here after (written_for_all tree u.exchanges) s.written u.appends s.appends);
       idle = ap (λ (x : Stream). x.ready) same;
       goes = refl;
       fed = ap (λ (x : Stream). x.fed) same ∙ takes.fed ∙ ap (λ (n : ℕ). n + length piece) u.fed ∙ sym (length-append u.text piece);
     }
 
-pub more_served : {S C : Type 0} (gives : S → Question → OpResult → S → Type 0) (tells : C → ℕ → C → Type 0) (service mid service' : S) (clock between clock' : C) (unread unwritten unread' unread'' here after : Option (List ℕ)) (old new last : Stream) (piece : List ℕ)
-    → IsUnderWay gives tells service clock unread unwritten old mid between unread' here → Consumes unread' unread'' piece → TakesPiece old new piece
-    → IsServed {T = Unit {0}} gives tells mid between here new.ready (Ok tt) service' clock' after → last ≡ record new { ready = [] } → last.is_too_long ≡ false
-    → IsUnderWay gives tells service clock unread unwritten last service' clock' unread'' after
-more_served gives tells service mid service' clock between clock' unread unwritten unread' unread'' here after old new last piece u more takes s same goes =
-    subst (λ (b : Bool). IsUnderWay gives tells service clock unread unwritten (record last { is_too_long = b }) service' clock' unread'' after) (sym goes)
-    (served_piece gives tells service mid service' clock between clock' unread unwritten unread' unread'' here after old new last piece u more takes s same)
+pub more_served : {S C : Type 0} (goes_on : SplitGoesOn) (tree : Files) (gives : S → Question → OpResult → S → Type 0) (tells : C → ℕ → C → Type 0) (service mid service' : S) (clock between clock' : C) (unread unwritten unread' unread'' here after : Option (List ℕ)) (old new last : Stream) (piece : List ℕ)
+    → IsUnderWay tree gives tells service clock unread unwritten old mid between unread' here → Consumes unread' unread'' piece → TakesPiece old new piece
+    → IsServed {T = Unit {0}} tree gives tells mid between here new.ready (Ok tt) service' clock' after → last ≡ record new { ready = [] } → last.is_too_long ≡ false
+    → IsUnderWay tree gives tells service clock unread unwritten last service' clock' unread'' after
+more_served goes_on tree gives tells service mid service' clock between clock' unread unwritten unread' unread'' here after old new last piece u more takes s same goes =
+    subst (λ (b : Bool). IsUnderWay tree gives tells service clock unread unwritten (record last { is_too_long = b }) service' clock' unread'' after) (sym goes)
+    (served_piece goes_on tree gives tells service mid service' clock between clock' unread unwritten unread' unread'' here after old new last piece u more takes s same)
 
-pub ends_too_long : {S C : Type 0} (gives : S → Question → OpResult → S → Type 0) (tells : C → ℕ → C → Type 0) (service mid service' : S) (clock between clock' : C) (unread unwritten unread' unread'' here after : Option (List ℕ)) (old new last : Stream) (piece : List ℕ)
-    → IsUnderWay gives tells service clock unread unwritten old mid between unread' here → Consumes unread' unread'' piece → TakesPiece old new piece
-    → IsServed {T = Unit {0}} gives tells mid between here new.ready (Ok tt) service' clock' after → last ≡ record new { ready = [] } → IsTooLong last.rest
-    → HasCourse gives tells service clock unread unwritten (Err errors.TooLong) service' clock' unread'' after
-ends_too_long gives tells service mid service' clock between clock' unread unwritten unread' unread'' here after old new last piece u more takes s same long =
-    ends_answered gives tells service service' clock clock' unread unwritten unread'' unread'' after (record last { is_too_long = false }) [] (Err errors.TooLong)
-    (served_piece gives tells service mid service' clock between clock' unread unwritten unread' unread'' here after old new last piece u more takes s same)
+pub ends_too_long : {S C : Type 0} (goes_on : SplitGoesOn) (tree : Files) (gives : S → Question → OpResult → S → Type 0) (tells : C → ℕ → C → Type 0) (service mid service' : S) (clock between clock' : C) (unread unwritten unread' unread'' here after : Option (List ℕ)) (old new last : Stream) (piece : List ℕ)
+    → IsUnderWay tree gives tells service clock unread unwritten old mid between unread' here → Consumes unread' unread'' piece → TakesPiece old new piece
+    → IsServed {T = Unit {0}} tree gives tells mid between here new.ready (Ok tt) service' clock' after → last ≡ record new { ready = [] } → IsTooLong last.rest
+    → HasCourse tree gives tells service clock unread unwritten (Err errors.TooLong) service' clock' unread'' after
+ends_too_long goes_on tree gives tells service mid service' clock between clock' unread unwritten unread' unread'' here after old new last piece u more takes s same long =
+    ends_answered tree gives tells service service' clock clock' unread unwritten unread'' unread'' after (record last { is_too_long = false }) [] (Err errors.TooLong)
+    (served_piece goes_on tree gives tells service mid service' clock between clock' unread unwritten unread' unread'' here after old new last piece u more takes s same)
     (Consumes-nil unread'') ((refl, refl), refl, long)
 
 -- memory is refused before anything is read
-pub ends_at_once : {S C : Type 0} (gives : S → Question → OpResult → S → Type 0) (tells : C → ℕ → C → Type 0) (service : S) (clock : C) (unread unwritten : Option (List ℕ)) (stream : Stream) → stream ≡ record { ready = []; rest = []; fed = 0; is_too_long = false } → IsStream stream
-    → HasCourse gives tells service clock unread unwritten (Err errors.Memory) service clock unread unwritten
-ends_at_once gives tells service clock unread unwritten stream empty sound =
-    ends_answered gives tells service service clock clock unread unwritten unread unread unwritten stream [] (Err errors.Memory)
-    (starts gives tells service clock unread unwritten stream empty sound) (Consumes-nil unread) refl
+pub ends_at_once : {S C : Type 0} (tree : Files) (gives : S → Question → OpResult → S → Type 0) (tells : C → ℕ → C → Type 0) (service : S) (clock : C) (unread unwritten : Option (List ℕ)) (stream : Stream) → stream ≡ record { ready = []; rest = []; fed = 0; is_too_long = false } → IsStream stream
+    → HasCourse tree gives tells service clock unread unwritten (Err errors.Memory) service clock unread unwritten
+ends_at_once tree gives tells service clock unread unwritten stream empty sound =
+    ends_answered tree gives tells service service clock clock unread unwritten unread unread unwritten stream [] (Err errors.Memory)
+    (starts tree gives tells service clock unread unwritten stream empty sound) (Consumes-nil unread) refl
 
 abbrev pub errs : ServeError → Result (Unit {0}) ServeError
 errs e = Err e

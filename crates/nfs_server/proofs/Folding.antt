@@ -7,17 +7,20 @@ use Rattle.std.proofs.lemmas.List.Concat.{flat_map-cons}
 use Rattle.std.proofs.lemmas.Grind.{flat_map-append}
 use Rattle.std.proofs.Math.Seq.{drop-cons}
 use Rattle.std.proofs.Math.ListN.{drop_of_length-le}
-use Rattle.nfs_server.specs.declared.records.TheConstants.{RECORD_LIMIT}
+use Rattle.nfs_rpc.specs.declared.records.TheConstants.{RECORD_LIMIT}
 use Rattle.nfs_server.specs.declared.service.TheConstants.{ANSWER_ROOM}
-use Rattle.nfs_server.specs.Answering.{ends_with, ending_result, is_ok, outcome_of}
-use Rattle.nfs_server.specs.Asking.{Question, question_of}
+use Rattle.nfs_server.specs.declared.filehandles.Filehandles.{Filehandles}
+use Rattle.nfs_server.specs.Answering.{Outcome, ends_with, ending_result, goes_on, is_ok, outcome_of}
+use Rattle.nfs_server.specs.Asking.{Asks, Question, question_of}
+use Rattle.nfs_server.specs.Filehandles.{Answered, no_filehandles, on_tree}
+use Rattle.nfs_tree.specs.Tree.{Files}
 use Rattle.nfs_server.specs.Folding.{IsAnswer, AreAnswers, IsDetermined}
 use Rattle.nfs_xdr.specs.declared.principal.Principal.{Principal}
 use Rattle.nfs_core.specs.Step.{resource}
 use Rattle.nfs_xdr.specs.declared.op.Op.{Op}
 use Rattle.nfs_xdr.specs.declared.op.Op.TheVariants as ops
 use Rattle.nfs_xdr.specs.declared.op_result.OpResult.{OpResult}
-use Rattle.nfs_xdr.specs.Op.{ends_list}
+use Rattle.nfs_xdr.specs.Op.{ends_list, is_on_tree}
 use Rattle.nfs_xdr.specs.OpResult.{result_status, written_result}
 
 -- a test went one way or the other
@@ -26,64 +29,73 @@ decided true = inl refl
 decided false = inr refl
 
 -- whatever answers the rest of the operations completes the whole
-abbrev pub Completes : {S : Type 0} → (S → Question → OpResult → S → Type 0) → ℕ → ℕ → ℕ → Principal → List Op → List Op → S → S → List OpResult → Type 0
-Completes {S = S} gives start size moment principal ops rest first now so_far =
-    (answers : List OpResult) (new : S) → AreAnswers gives size moment principal rest now answers new → AreAnswers gives start moment principal ops first (so_far ++ answers) new
+abbrev pub Completes : {S : Type 0} → (S → Question → OpResult → S → Type 0) → Files → ℕ → ℕ → ℕ → Principal → List Op → Filehandles → List Op → S → S → List OpResult → Type 0
+Completes {S = S} gives tree start size moment principal ops handles rest first now so_far =
+    (answers : List OpResult) (new : S) → AreAnswers gives tree size moment principal handles rest now answers new → AreAnswers gives tree start moment principal no_filehandles ops first (so_far ++ answers) new
 
 -- one operation was answered, and others follow
-pub completes_more : {S : Type 0} (gives : S → Question → OpResult → S → Type 0) (start size moment : ℕ) (principal : Principal) (ops : List Op) (i : ℕ) (op : Op) (first now mid : S) (so_far : List OpResult) (answer : OpResult)
-    → i < length ops → op ≡ get_or ops i op → IsAnswer gives size moment principal op now answer mid → is_ok (result_status answer) ≡ true
-    → Completes gives start size moment principal ops (drop i ops) first now so_far
-    → Completes gives start (size + length (written_result answer)) moment principal ops (drop (i + 1) ops) first mid (so_far ++ answer ∷ [])
-completes_more {S = S} gives start size moment principal ops i op first now mid so_far answer lt is answered ok completes answers new rest =
+pub completes_more : {S : Type 0} (gives : S → Question → OpResult → S → Type 0) (tree : Files) (start size moment : ℕ) (principal : Principal) (ops : List Op) (handles after : Filehandles) (i : ℕ) (op : Op) (first now mid : S) (so_far : List OpResult) (answer : OpResult)
+    → i < length ops → op ≡ get_or ops i op → IsAnswer gives tree size moment principal handles op now answer after mid → is_ok (result_status answer) ≡ true
+    → Completes gives tree start size moment principal ops handles (drop i ops) first now so_far
+    → Completes gives tree start (size + length (written_result answer)) moment principal ops after (drop (i + 1) ops) first mid (so_far ++ answer ∷ [])
+completes_more {S = S} gives tree start size moment principal ops handles after i op first now mid so_far answer lt is answered ok completes answers new rest =
     let next : suc i ≡ i + 1 = omega arith in
     let k : drop i ops ≡ op ∷ drop (i + 1) ops = drop-cons ops i op lt ∙ ap (λ (o : Op). o ∷ drop (suc i) ops) (sym is) ∙ ap (λ (n : ℕ). op ∷ drop n ops) next in
-    let now_on : AreAnswers gives size moment principal (op ∷ drop (i + 1) ops) now (answer ∷ answers) new = (mid, answered, rw ok rest) in
-    let all = completes (answer ∷ answers) new (subst (λ (o : List Op). AreAnswers gives size moment principal o now (answer ∷ answers) new) (sym k) now_on) in
-    subst (λ (r : List OpResult). AreAnswers gives start moment principal ops first r new) (sym (append_assoc so_far (answer ∷ []) answers)) all
+    let now_on : AreAnswers gives tree size moment principal handles (op ∷ drop (i + 1) ops) now (answer ∷ answers) new = (mid, after, answered, rw ok rest) in
+    let all = completes (answer ∷ answers) new (subst (λ (o : List Op). AreAnswers gives tree size moment principal handles o now (answer ∷ answers) new) (sym k) now_on) in
+    subst (λ (r : List OpResult). AreAnswers gives tree start moment principal no_filehandles ops first r new) (sym (append_assoc so_far (answer ∷ []) answers)) all
 
 -- one operation was answered, and that answer is the last
-pub completes_last : {S : Type 0} (gives : S → Question → OpResult → S → Type 0) (start size moment : ℕ) (principal : Principal) (ops : List Op) (i : ℕ) (op : Op) (first now mid : S) (so_far : List OpResult) (answer : OpResult)
-    → i < length ops → op ≡ get_or ops i op → IsAnswer gives size moment principal op now answer mid → is_ok (result_status answer) ≡ false
-    → Completes gives start size moment principal ops (drop i ops) first now so_far
-    → AreAnswers gives start moment principal ops first (so_far ++ answer ∷ []) mid
-completes_last {S = S} gives start size moment principal ops i op first now mid so_far answer lt is answered bad completes =
+pub completes_last : {S : Type 0} (gives : S → Question → OpResult → S → Type 0) (tree : Files) (start size moment : ℕ) (principal : Principal) (ops : List Op) (handles after : Filehandles) (i : ℕ) (op : Op) (first now mid : S) (so_far : List OpResult) (answer : OpResult)
+    → i < length ops → op ≡ get_or ops i op → IsAnswer gives tree size moment principal handles op now answer after mid → is_ok (result_status answer) ≡ false
+    → Completes gives tree start size moment principal ops handles (drop i ops) first now so_far
+    → AreAnswers gives tree start moment principal no_filehandles ops first (so_far ++ answer ∷ []) mid
+completes_last {S = S} gives tree start size moment principal ops handles after i op first now mid so_far answer lt is answered bad completes =
     let k : drop i ops ≡ op ∷ drop (suc i) ops = drop-cons ops i op lt ∙ ap (λ (o : Op). o ∷ drop (suc i) ops) (sym is) in
-    let now_on : AreAnswers gives size moment principal (op ∷ drop (suc i) ops) now (answer ∷ []) mid = (mid, answered, rw bad (refl, refl)) in
-    completes (answer ∷ []) mid (subst (λ (o : List Op). AreAnswers gives size moment principal o now (answer ∷ []) mid) (sym k) now_on)
+    let now_on : AreAnswers gives tree size moment principal handles (op ∷ drop (suc i) ops) now (answer ∷ []) mid = (mid, after, answered, rw bad (refl, refl)) in
+    completes (answer ∷ []) mid (subst (λ (o : List Op). AreAnswers gives tree size moment principal handles o now (answer ∷ []) mid) (sym k) now_on)
 
 -- no operation is left
-pub completes_none : {S : Type 0} (gives : S → Question → OpResult → S → Type 0) (start size moment : ℕ) (principal : Principal) (ops : List Op) (i : ℕ) (first now : S) (so_far : List OpResult)
-    → length ops ≤ i → Completes gives start size moment principal ops (drop i ops) first now so_far → AreAnswers gives start moment principal ops first so_far now
-completes_none {S = S} gives start size moment principal ops i first now so_far le completes =
+pub completes_none : {S : Type 0} (gives : S → Question → OpResult → S → Type 0) (tree : Files) (start size moment : ℕ) (principal : Principal) (ops : List Op) (handles : Filehandles) (i : ℕ) (first now : S) (so_far : List OpResult)
+    → length ops ≤ i → Completes gives tree start size moment principal ops handles (drop i ops) first now so_far → AreAnswers gives tree start moment principal no_filehandles ops first so_far now
+completes_none {S = S} gives tree start size moment principal ops handles i first now so_far le completes =
     let none : drop i ops ≡ [] = drop_of_length-le ops le in
-    let all = completes [] now (subst (λ (o : List Op). AreAnswers gives size moment principal o now [] now) (sym none) (refl, refl)) in
-    subst (λ (r : List OpResult). AreAnswers gives start moment principal ops first r now) (append-nil so_far) all
+    let all = completes [] now (subst (λ (o : List Op). AreAnswers gives tree size moment principal handles o now [] now) (sym none) (refl, refl)) in
+    subst (λ (r : List OpResult). AreAnswers gives tree start moment principal no_filehandles ops first r now) (append-nil so_far) all
 
-determined_asked : {S : Type 0} (gives : S → Question → OpResult → S → Type 0) (size moment : ℕ) (principal : Principal) (op : Op) (ops : List Op) (old mid new : S) (answer : OpResult) (results : List OpResult) (b : Bool)
-    → ends_list op ≡ false → leb (size + ANSWER_ROOM) RECORD_LIMIT ≡ true → gives old (question_of moment principal op) answer mid → is_ok (result_status answer) ≡ b
-    → MatchBool b (IsDetermined gives (size + length (written_result answer)) moment principal ops mid results new) ((results ≡ []) × (new ≡ mid))
-    → IsDetermined gives size moment principal (op ∷ ops) old (answer ∷ results) new
+determined_asked : {S : Type 0} (gives : S → Question → OpResult → S → Type 0) (tree : Files) (size moment : ℕ) (principal : Principal) (handles : Filehandles) (op : Op) (ops : List Op) (old mid new : S) (answer : OpResult) (results : List OpResult) (b : Bool)
+    → ends_list op ≡ false → leb (size + ANSWER_ROOM) RECORD_LIMIT ≡ true → is_on_tree op ≡ false → gives old (question_of moment principal (record { op = op; filehandle = handles.current })) answer mid → is_ok (result_status answer) ≡ b
+    → MatchBool b (IsDetermined gives tree (size + length (written_result answer)) moment principal handles ops mid results new) ((results ≡ []) × (new ≡ mid))
+    → IsDetermined gives tree size moment principal handles (op ∷ ops) old (answer ∷ results) new
 unfolding outcome_of
-determined_asked gives size moment principal op ops old mid new answer results true goes room given ok rest =
-    (answer ∷ rest.0, rw (goes, room, ok) (mid, given, rest.1), rw (goes, room, ok) (ap (λ (r : List OpResult). answer ∷ r) rest.2))
-determined_asked gives size moment principal op ops old mid new answer results false goes room given bad rest =
-    (answer ∷ [], rw (goes, room, bad) (mid, given, rest.1), rw (goes, room, bad) (ap (λ (r : List OpResult). answer ∷ r) rest.0))
+determined_asked gives tree size moment principal handles op ops old mid new answer results true goes room asked given ok rest =
+    (answer ∷ rest.0, rw (goes, room, asked, ok) (mid, given, rest.1), rw (goes, room, asked, ok) (ap (λ (r : List OpResult). answer ∷ r) rest.2))
+determined_asked gives tree size moment principal handles op ops old mid new answer results false goes room asked given bad rest =
+    (answer ∷ [], rw (goes, room, asked, bad) (mid, given, rest.1), rw (goes, room, asked, bad) (ap (λ (r : List OpResult). answer ∷ r) rest.0))
 
--- an answer without the service is the last
+-- the tree answers alone
+determined_told : {S : Type 0} (gives : S → Question → OpResult → S → Type 0) (tree : Files) (size moment : ℕ) (principal : Principal) (handles after : Filehandles) (op : Op) (ops : List Op) (old mid new : S) (answer : OpResult) (results : List OpResult) (b : Bool)
+    → ends_list op ≡ false → leb (size + ANSWER_ROOM) RECORD_LIMIT ≡ true → is_on_tree op ≡ true → on_tree tree handles op ≡ record { answer = answer; after = after } → mid ≡ old → is_ok (result_status answer) ≡ b
+    → MatchBool b (IsDetermined gives tree (size + length (written_result answer)) moment principal after ops mid results new) ((results ≡ []) × (new ≡ mid))
+    → IsDetermined gives tree size moment principal handles (op ∷ ops) old (answer ∷ results) new
+unfolding outcome_of
+determined_told gives tree size moment principal handles after op ops old mid new answer results true goes room told is same ok rest =
+    (rest.0, rw (goes, room, told, is, ok) (rw (← same) rest.1), rw (goes, room, told, is, ok) (ap (λ (r : List OpResult). answer ∷ r) rest.2))
+determined_told gives tree size moment principal handles after op ops old mid new answer results false goes room told is same bad rest =
+    ([], rw (goes, room, told, is, bad) (rest.1 ∙ same), rw (goes, room, told, is, bad) (ap (λ (r : List OpResult). answer ∷ r) rest.0))
+
+-- an answer that ends the list is the last
 ending_is_last : (op : Op) → ends_list op ≡ true → is_ok (result_status (ending_result op)) ≡ false
-ending_is_last (ops.SetClientId args) ends = absurd cc
-ending_is_last (ops.SetClientIdConfirm args) ends = absurd cc
 ending_is_last (ops.BadArgs number) ends = refl
 ending_is_last (ops.Unsupported number) ends = refl
 ending_is_last (ops.Illegal number) ends = refl
+ending_is_last op ends = absurd cc
 
 refused_is_last : (op : Op) → ends_list op ≡ false → is_ok (result_status (resource op)) ≡ false
-refused_is_last (ops.SetClientId args) goes = refl
-refused_is_last (ops.SetClientIdConfirm args) goes = refl
 refused_is_last (ops.BadArgs number) goes = absurd cc
 refused_is_last (ops.Unsupported number) goes = absurd cc
 refused_is_last (ops.Illegal number) goes = absurd cc
+refused_is_last op goes = refl
 
 deeper : (b : Bool) (P Q R : Type 0) → (P → Q) → MatchBool b P R → MatchBool b Q R
 deeper true P Q R f p = f p
@@ -94,31 +106,43 @@ on_false : (b : Bool) (P Q : Type 0) → b ≡ false → MatchBool b P Q → Q
 on_false true P Q e m = absurd cc
 on_false false P Q e m = m
 
--- an answer without the service, which is not NFS4_OK
-determined_unasked : {S : Type 0} (gives : S → Question → OpResult → S → Type 0) (size moment : ℕ) (principal : Principal) (op : Op) (ops : List Op) (old mid new : S) (told answer : OpResult) (results : List OpResult) (P : Type 0)
-    → outcome_of size (op ∷ ops) [] ≡ ends_with told → is_ok (result_status told) ≡ false → (answer ≡ told) × (mid ≡ old)
+-- an answer without a run, which is not NFS4_OK
+determined_unasked : {S : Type 0} (gives : S → Question → OpResult → S → Type 0) (tree : Files) (size moment : ℕ) (principal : Principal) (handles after : Filehandles) (op : Op) (ops : List Op) (old mid new : S) (told answer : OpResult) (results : List OpResult) (P : Type 0)
+    → outcome_of tree handles size (op ∷ ops) [] ≡ ends_with told → is_ok (result_status told) ≡ false → (answer ≡ told) × (after ≡ handles) × (mid ≡ old)
     → MatchBool (is_ok (result_status answer)) P ((results ≡ []) × (new ≡ mid))
-    → IsDetermined gives size moment principal (op ∷ ops) old (answer ∷ results) new
-determined_unasked gives size moment principal op ops old mid new told answer results P out bad is rest =
+    → IsDetermined gives tree size moment principal handles (op ∷ ops) old (answer ∷ results) new
+determined_unasked gives tree size moment principal handles after op ops old mid new told answer results P out bad is rest =
     let last : is_ok (result_status answer) ≡ false = ap (λ (a : OpResult). is_ok (result_status a)) is.0 ∙ bad in
     let ended = on_false (is_ok (result_status answer)) P ((results ≡ []) × (new ≡ mid)) last rest in
-    ([], rw out (ended.1 ∙ is.1), rw out (ap (λ (r : List OpResult). answer ∷ r) ended.0 ∙ ap (λ (a : OpResult). a ∷ []) is.0))
+    ([], rw out (ended.1 ∙ is.2), rw out (ap (λ (r : List OpResult). answer ∷ r) ended.0 ∙ ap (λ (a : OpResult). a ∷ []) is.0))
 
-pub determined : {S : Type 0} (gives : S → Question → OpResult → S → Type 0) (size moment : ℕ) (principal : Principal) (ops : List Op) (old : S) (results : List OpResult) (new : S)
-    → AreAnswers gives size moment principal ops old results new → IsDetermined gives size moment principal ops old results new
+pub determined : {S : Type 0} (gives : S → Question → OpResult → S → Type 0) (tree : Files) (size moment : ℕ) (principal : Principal) (handles : Filehandles) (ops : List Op) (old : S) (results : List OpResult) (new : S)
+    → AreAnswers gives tree size moment principal handles ops old results new → IsDetermined gives tree size moment principal handles ops old results new
 unfolding outcome_of
-determined gives size moment principal [] old results new are = ([], are.1, are.0)
-determined gives size moment principal (op ∷ ops) old [] new are = absurd are
-determined gives size moment principal (op ∷ ops) old (answer ∷ results) new are =
+determined gives tree size moment principal handles [] old results new are = ([], are.1, are.0)
+determined gives tree size moment principal handles (op ∷ ops) old [] new are = absurd are
+determined gives tree size moment principal handles (op ∷ ops) old (answer ∷ results) new are =
+    let mid = are.0 in
+    let after = are.1 in
+    let size' = size + length (written_result answer) in
+    let Rest : Filehandles → Type 0 = λ h. AreAnswers gives tree size' moment principal h ops mid results new in
+    let more : (h : Filehandles) → MatchBool (is_ok (result_status answer)) (Rest h) ((results ≡ []) × (new ≡ mid)) → MatchBool (is_ok (result_status answer)) (IsDetermined gives tree size' moment principal h ops mid results new) ((results ≡ []) × (new ≡ mid)) =
+    λ h. deeper (is_ok (result_status answer)) (Rest h) (IsDetermined gives tree size' moment principal h ops mid results new) ((results ≡ []) × (new ≡ mid)) (determined gives tree size' moment principal h ops mid results new) in
     elim (decided (ends_list op)) [
-      | inl ends ↦ determined_unasked gives size moment principal op ops old are.0 new (ending_result op) answer results (AreAnswers gives (size + length (written_result answer)) moment principal ops are.0 results new)
-          (rw ends refl) (ending_is_last op ends) (rw ends at are.1) are.2
+      | inl ends ↦ determined_unasked gives tree size moment principal handles after op ops old mid new (ending_result op) answer results (Rest after)
+          (rw ends refl) (ending_is_last op ends) (rw ends at are.2) are.3
       | inr goes ↦ elim (decided (leb (size + ANSWER_ROOM) RECORD_LIMIT)) [
-        | inl room ↦ determined_asked gives size moment principal op ops old are.0 new answer results (is_ok (result_status answer)) goes room (rw (goes, room) at are.1) refl
-            (deeper (is_ok (result_status answer)) (AreAnswers gives (size + length (written_result answer)) moment principal ops are.0 results new) (IsDetermined gives (size + length (written_result answer)) moment principal ops are.0 results new) ((results ≡ []) × (new ≡ are.0))
-            (determined gives (size + length (written_result answer)) moment principal ops are.0 results new) are.2)
-        | inr full ↦ determined_unasked gives size moment principal op ops old are.0 new (resource op) answer results (AreAnswers gives (size + length (written_result answer)) moment principal ops are.0 results new)
-            (rw (goes, full) refl) (refused_is_last op goes) (rw (goes, full) at are.1) are.2
+        | inl room ↦ elim (decided (is_on_tree op)) [
+          | inl told ↦
+              let is = rw (goes, room, told) at are.2 in
+              determined_told gives tree size moment principal handles after op ops old mid new answer results (is_ok (result_status answer)) goes room told (sym is.0) is.1 refl (more after are.3)
+          | inr asked ↦
+              let is = rw (goes, room, asked) at are.2 in
+              determined_asked gives tree size moment principal handles op ops old mid new answer results (is_ok (result_status answer)) goes room asked is.0 refl
+              (more handles (subst (λ (h : Filehandles). MatchBool (is_ok (result_status answer)) (Rest h) ((results ≡ []) × (new ≡ mid))) is.1 are.3))
+        ]
+        | inr full ↦ determined_unasked gives tree size moment principal handles after op ops old mid new (resource op) answer results (Rest after)
+            (rw (goes, full) refl) (refused_is_last op goes) (rw (goes, full) at are.2) are.3
       ]
     ]
 

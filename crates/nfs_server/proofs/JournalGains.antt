@@ -3,6 +3,8 @@ use Rattle.std.proofs.Common.{◌≡◌, ◌≢◌, ℕ, Option, Some, None, Lis
 use Rattle.std.proofs.lemmas.List.{append-nil}
 use Rattle.nfs_core.specs.declared.entry.Entry.{Entry}
 use Rattle.nfs_xdr.specs.declared.principal.Principal.{Principal}
+use Rattle.nfs_core.specs.declared.client_record.PathMark.{PathMark}
+use Rattle.nfs_core.specs.GetAttr.{got_attributes}
 use Rattle.nfs_core.specs.Registry.{Registry}
 use Rattle.nfs_core.specs.Server.{Server, Applies}
 use Rattle.nfs_core.specs.SetClientId.{Finding, InUse, Again, Arrival, SetsBy}
@@ -12,6 +14,7 @@ use Rattle.nfs_core.specs.Step.{StepOp, call_of, resource}
 use Rattle.nfs_server.specs.Asking.{Question}
 use Rattle.nfs_server.specs.Entries.{AreEntries, QuestionsAreEntries}
 use Rattle.nfs_server.specs.declared.service.Lent.{Lent}
+use Rattle.nfs_xdr.specs.declared.get_attr.GetAttrResult.{GetAttrResult}
 use Rattle.nfs_xdr.specs.declared.op.Op.{Op}
 use Rattle.nfs_xdr.specs.declared.op.Op.TheVariants as ops
 use Rattle.nfs_xdr.specs.declared.op_result.OpResult.{OpResult}
@@ -25,19 +28,25 @@ SetsBy-not_resource (InUse address) epoch old principal args answer new s same =
 SetsBy-not_resource (Again client) epoch old principal args answer new s same = let e = s.1 in cc
 SetsBy-not_resource Arrival epoch old principal args answer new s same = let e = s.2 in cc
 
-ConfirmsBy-not_resource : (found : Confirmation) (old : Registry) (args : _) (answer : Status) (new : Registry) → ConfirmsBy found old answer new → results.SetClientIdConfirm answer ≢ resource (ops.SetClientIdConfirm args)
-ConfirmsBy-not_resource Stale old args answer new s same = let e = s.0 in cc
-ConfirmsBy-not_resource Refused old args answer new s same = let e = s.0 in cc
-ConfirmsBy-not_resource Before old args answer new s same = let e = s.0 in cc
-ConfirmsBy-not_resource (Becomes r) old args answer new s same = let e = s.0 in cc
+ConfirmsBy-not_resource : (path : PathMark) (found : Confirmation) (old : Registry) (args : _) (answer : Status) (new : Registry) → ConfirmsBy path found old answer new → results.SetClientIdConfirm answer ≢ resource (ops.SetClientIdConfirm args)
+ConfirmsBy-not_resource path Stale old args answer new s same = let e = s.0 in cc
+ConfirmsBy-not_resource path Refused old args answer new s same = let e = s.0 in cc
+ConfirmsBy-not_resource path Before old args answer new s same = let e = s.0 in cc
+ConfirmsBy-not_resource path (Becomes r) old args answer new s same = let e = s.0 in cc
+
+GotAttributes-not_resource : (journal : History) (old : State) (filehandle : Option ℕ) (mask : List ℕ) (answer : GetAttrResult) → answer ≡ got_attributes journal old filehandle mask → results.GetAttr answer ≢ resource (ops.GetAttr mask)
+GotAttributes-not_resource journal old None mask answer told same = cc
+GotAttributes-not_resource journal old (Some node) mask answer told same = cc
 
 -- an entry's answer is not NFS4ERR_RESOURCE
-StepOp-not_resource : (journal : History) (old : State) (principal : Principal) (op : Op) (answer : OpResult) (new : State) → StepOp journal old principal op answer new → answer ≢ resource op
-StepOp-not_resource journal old principal (ops.SetClientId args) (results.SetClientId answer) new s =
+StepOp-not_resource : (journal : History) (old : State) (principal : Principal) (filehandle : Option ℕ) (op : Op) (answer : OpResult) (new : State) → StepOp journal old principal filehandle op answer new → answer ≢ resource op
+StepOp-not_resource journal old principal filehandle (ops.GetAttr mask) (results.GetAttr answer) new s =
+    GotAttributes-not_resource journal old filehandle mask answer s.0
+StepOp-not_resource journal old principal filehandle (ops.SetClientId args) (results.SetClientId answer) new s =
     SetsBy-not_resource _ journal.epoch old.clients principal args answer s.0 s.1
-StepOp-not_resource journal old principal (ops.SetClientIdConfirm args) (results.SetClientIdConfirm answer) new s =
-    ConfirmsBy-not_resource _ old.clients args answer s.0 s.1
-StepOp-not_resource journal old principal op answer new s = absurd s
+StepOp-not_resource journal old principal filehandle (ops.SetClientIdConfirm args) (results.SetClientIdConfirm answer) new s =
+    ConfirmsBy-not_resource _ _ old.clients args answer s.0 s.1
+StepOp-not_resource journal old principal filehandle op answer new s = absurd s
 
 -- after one question the entries of the others, and before them its own, unless it was answered NFS4ERR_RESOURCE
 gains_first : (old mid new : Server) (question : Question) (questions : List Question) (answer : OpResult) (answers : List OpResult) (number : Option ℕ)
@@ -53,7 +62,7 @@ gains_first old mid new question questions answer answers (Some number) applies 
     let entry = call_of question.moment question.principal question.op question.filehandle answer in
     let enters = applies.1 in (
       entry ∷ others.0,
-      inr (StepOp-not_resource old.journal old.state question.principal question.op answer mid.state enters.step.1, others.0, refl, others.1),
+      inr (StepOp-not_resource old.journal old.state question.principal question.filehandle question.op answer mid.state enters.step.2, others.0, refl, others.1),
       others.2
           ∙ ap (λ (j : History). record j { entries = j.entries ++ others.0 }) enters.journal
           ∙ ap (λ (es : List Entry). record old.journal { entries = es }) (append_assoc old.journal.entries (entry ∷ []) others.0),

@@ -1,10 +1,4 @@
-pub mod Fragments
-pub mod Places
-pub mod Gathering
-pub mod Splitting
-pub mod Taking
 pub mod Limits
-pub mod Writing
 pub mod Folding
 pub mod Replying
 pub mod Serving

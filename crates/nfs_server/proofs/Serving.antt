@@ -5,33 +5,34 @@ use Rattle.std.proofs.KnownBytes.{Appends-trans}
 use Rattle.std.proofs.lemmas.List.{append-nil, take-append-drop}
 use Rattle.std.proofs.lemmas.List.Concat.{flat_map-cons}
 use Rattle.std.proofs.lemmas.Grind.{flat_map-append}
+use Rattle.nfs_tree.specs.Tree.{Files}
 use Rattle.nfs_server.specs.declared.serve_error.ServeError.{ServeError}
 use Rattle.nfs_server.specs.declared.serve_error.ServeError.TheVariants as errors
 use Rattle.nfs_server.specs.Asking.{Question}
 use Rattle.nfs_server.specs.Connection.{Exchange, IsExchanged, AreExchanged, IsServed, IsServedOne, messages_of, written_for, written_for_all}
-use Rattle.nfs_server.specs.Records.{Stream}
+use Rattle.nfs_rpc.specs.Records.{Stream}
 use Rattle.nfs_xdr.specs.declared.op_result.OpResult.{OpResult}
 
 -- the records so far, with all that was written for them
-abbrev pub HasServed : {S C : Type 0} → (S → Question → OpResult → S → Type 0) → (C → ℕ → C → Type 0) → S → C → Option (List ℕ) → List (List ℕ) → List (List ℕ) → S → C → Option (List ℕ) → Type 0
-HasServed gives tells service clock before messages left service' clock' after =
-    (es : List Exchange) × (messages ≡ messages_of es ++ left) × AreExchanged gives tells service clock es service' clock' × Appends before after (written_for_all es)
+abbrev pub HasServed : {S C : Type 0} → Files → (S → Question → OpResult → S → Type 0) → (C → ℕ → C → Type 0) → S → C → Option (List ℕ) → List (List ℕ) → List (List ℕ) → S → C → Option (List ℕ) → Type 0
+HasServed tree gives tells service clock before messages left service' clock' after =
+    (es : List Exchange) × (messages ≡ messages_of es ++ left) × AreExchanged tree gives tells service clock es service' clock' × Appends before after (written_for_all tree es)
 
-pub exchanged_more : {S C : Type 0} (gives : S → Question → OpResult → S → Type 0) (tells : C → ℕ → C → Type 0) (es : List Exchange) (e : Exchange) (s mid new : S) (c between after : C)
-    → AreExchanged gives tells s c es mid between → IsExchanged gives tells mid between e new after → AreExchanged gives tells s c (es ++ e ∷ []) new after
-exchanged_more {S = S} {C = C} gives tells [] e s mid new c between after so_far one =
-    let here : IsExchanged gives tells s c e new after =
-    subst (λ (x : S). IsExchanged gives tells x c e new after) so_far.0 (subst (λ (y : C). IsExchanged gives tells mid y e new after) so_far.1 one) in
+pub exchanged_more : {S C : Type 0} (tree : Files) (gives : S → Question → OpResult → S → Type 0) (tells : C → ℕ → C → Type 0) (es : List Exchange) (e : Exchange) (s mid new : S) (c between after : C)
+    → AreExchanged tree gives tells s c es mid between → IsExchanged tree gives tells mid between e new after → AreExchanged tree gives tells s c (es ++ e ∷ []) new after
+exchanged_more {S = S} {C = C} tree gives tells [] e s mid new c between after so_far one =
+    let here : IsExchanged tree gives tells s c e new after =
+    subst (λ (x : S). IsExchanged tree gives tells x c e new after) so_far.0 (subst (λ (y : C). IsExchanged tree gives tells mid y e new after) so_far.1 one) in
     (new, after, here, (refl, refl))
-exchanged_more gives tells (f ∷ es) e s mid new c between after so_far one =
-    (so_far.0, so_far.1, so_far.2, exchanged_more gives tells es e so_far.0 mid new so_far.1 between after so_far.3 one)
+exchanged_more tree gives tells (f ∷ es) e s mid new c between after so_far one =
+    (so_far.0, so_far.1, so_far.2, exchanged_more tree gives tells es e so_far.0 mid new so_far.1 between after so_far.3 one)
 
-pub exchanged_then : {S C : Type 0} (gives : S → Question → OpResult → S → Type 0) (tells : C → ℕ → C → Type 0) (es fs : List Exchange) (s mid new : S) (c between after : C)
-    → AreExchanged gives tells s c es mid between → AreExchanged gives tells mid between fs new after → AreExchanged gives tells s c (es ++ fs) new after
-exchanged_then {S = S} {C = C} gives tells [] fs s mid new c between after first second =
-    subst (λ (x : S). AreExchanged gives tells x c fs new after) first.0 (subst (λ (y : C). AreExchanged gives tells mid y fs new after) first.1 second)
-exchanged_then gives tells (f ∷ es) fs s mid new c between after first second =
-    (first.0, first.1, first.2, exchanged_then gives tells es fs first.0 mid new first.1 between after first.3 second)
+pub exchanged_then : {S C : Type 0} (tree : Files) (gives : S → Question → OpResult → S → Type 0) (tells : C → ℕ → C → Type 0) (es fs : List Exchange) (s mid new : S) (c between after : C)
+    → AreExchanged tree gives tells s c es mid between → AreExchanged tree gives tells mid between fs new after → AreExchanged tree gives tells s c (es ++ fs) new after
+exchanged_then {S = S} {C = C} tree gives tells [] fs s mid new c between after first second =
+    subst (λ (x : S). AreExchanged tree gives tells x c fs new after) first.0 (subst (λ (y : C). AreExchanged tree gives tells mid y fs new after) first.1 second)
+exchanged_then tree gives tells (f ∷ es) fs s mid new c between after first second =
+    (first.0, first.1, first.2, exchanged_then tree gives tells es fs first.0 mid new first.1 between after first.3 second)
 
 pub messages-more : (es : List Exchange) (e : Exchange) (left : List (List ℕ)) → messages_of es ++ (e.message ∷ left) ≡ messages_of (es ++ e ∷ []) ++ left
 messages-more [] e left = refl
@@ -41,30 +42,30 @@ pub messages-append : (es fs : List Exchange) → messages_of (es ++ fs) ≡ mes
 messages-append [] fs = refl
 messages-append (e ∷ es) fs = ap (λ (x : List (List ℕ)). e.message ∷ x) (messages-append es fs)
 
-pub written-more : (es : List Exchange) (e : Exchange) → written_for_all (es ++ e ∷ []) ≡ written_for_all es ++ written_for e
-written-more es e = flat_map-append written_for es (e ∷ []) ∙ ap (λ (x : List ℕ). written_for_all es ++ x) (flat_map-cons written_for e [] ∙ append-nil (written_for e))
+pub written-more : (tree : Files) (es : List Exchange) (e : Exchange) → written_for_all tree (es ++ e ∷ []) ≡ written_for_all tree es ++ written_for tree e
+written-more tree es e = flat_map-append (written_for tree) es (e ∷ []) ∙ ap (λ (x : List ℕ). written_for_all tree es ++ x) (flat_map-cons (written_for tree) e [] ∙ append-nil (written_for tree e))
 
 -- one more record was served
-pub served_more : {S C : Type 0} (gives : S → Question → OpResult → S → Type 0) (tells : C → ℕ → C → Type 0) (service mid service' : S) (clock between clock' : C) (before here after : Option (List ℕ)) (messages left : List (List ℕ)) (message : List ℕ)
-    → HasServed gives tells service clock before messages (message ∷ left) mid between here
-    → (e : Exchange) × (e.message ≡ message) × IsExchanged gives tells mid between e service' clock' × Appends here after (written_for e)
-    → HasServed gives tells service clock before messages left service' clock' after
-served_more gives tells service mid service' clock between clock' before here after messages left message so_far one =
+pub served_more : {S C : Type 0} (tree : Files) (gives : S → Question → OpResult → S → Type 0) (tells : C → ℕ → C → Type 0) (service mid service' : S) (clock between clock' : C) (before here after : Option (List ℕ)) (messages left : List (List ℕ)) (message : List ℕ)
+    → HasServed tree gives tells service clock before messages (message ∷ left) mid between here
+    → (e : Exchange) × (e.message ≡ message) × IsExchanged tree gives tells mid between e service' clock' × Appends here after (written_for tree e)
+    → HasServed tree gives tells service clock before messages left service' clock' after
+served_more tree gives tells service mid service' clock between clock' before here after messages left message so_far one =
     let es = so_far.0 in
     let e = one.0 in (
       es ++ e ∷ [],
       so_far.1 ∙ ap (λ (m : List ℕ). messages_of es ++ (m ∷ left)) (sym one.1) ∙ messages-more es e left,
-      exchanged_more gives tells es e service mid service' clock between clock' so_far.2 one.2,
-      subst (λ (w : List ℕ). Appends before after w) (sym (written-more es e)) (Appends-trans before here after (written_for_all es) (written_for e) so_far.3 one.3),
+      exchanged_more tree gives tells es e service mid service' clock between clock' so_far.2 one.2,
+      subst (λ (w : List ℕ). Appends before after w) (sym (written-more tree es e)) (Appends-trans before here after (written_for_all tree es) (written_for tree e) so_far.3 one.3),
     )
 
 -- all records were served
-pub served_all : {S C T : Type 0} (gives : S → Question → OpResult → S → Type 0) (tells : C → ℕ → C → Type 0) (service service' : S) (clock clock' : C) (before after : Option (List ℕ)) (messages left : List (List ℕ)) (x : T)
-    → left ≡ [] → HasServed gives tells service clock before messages left service' clock' after → IsServed {T = T} gives tells service clock before messages (Ok x) service' clock' after
-served_all gives tells service service' clock clock' before after messages left x none so_far = record {
+pub served_all : {S C T : Type 0} (tree : Files) (gives : S → Question → OpResult → S → Type 0) (tells : C → ℕ → C → Type 0) (service service' : S) (clock clock' : C) (before after : Option (List ℕ)) (messages left : List (List ℕ)) (x : T)
+    → left ≡ [] → HasServed tree gives tells service clock before messages left service' clock' after → IsServed {T = T} tree gives tells service clock before messages (Ok x) service' clock' after
+served_all tree gives tells service service' clock clock' before after messages left x none so_far = record {
   exchanges = so_far.0;
   left = [];
-  written = written_for_all so_far.0;
+  written = written_for_all tree so_far.0;
   served = so_far.1 ∙ ap (λ (l : List (List ℕ)). messages_of so_far.0 ++ l) none;
   exchanged = so_far.2;
   appends = so_far.3;
@@ -72,37 +73,37 @@ served_all gives tells service service' clock clock' before after messages left 
 }
 
 -- serving stopped at a record
-pub served_until : {S C T : Type 0} (gives : S → Question → OpResult → S → Type 0) (tells : C → ℕ → C → Type 0) (service mid service' : S) (clock between clock' : C) (before here after : Option (List ℕ)) (messages left : List (List ℕ)) (message : List ℕ) (r : Result T ServeError) (error : ServeError)
-    → r ≡ Err error → HasServed gives tells service clock before messages (message ∷ left) mid between here
-    → IsServedOne {T = T} gives tells mid between here message (Err error) service' clock' after
-    → IsServed gives tells service clock before messages r service' clock' after
-served_until {T = T} gives tells service mid service' clock between clock' before here after messages left message r errors.Read failed so_far one = absurd one
-served_until {T = T} gives tells service mid service' clock between clock' before here after messages left message r errors.TooLong failed so_far one = absurd one
-served_until {T = T} gives tells service mid service' clock between clock' before here after messages left message r errors.TooMuch failed so_far one = absurd one
-served_until {S = S} {C = C} {T = T} gives tells service mid service' clock between clock' before here after messages left message r errors.Memory failed so_far one =
+pub served_until : {S C T : Type 0} (tree : Files) (gives : S → Question → OpResult → S → Type 0) (tells : C → ℕ → C → Type 0) (service mid service' : S) (clock between clock' : C) (before here after : Option (List ℕ)) (messages left : List (List ℕ)) (message : List ℕ) (r : Result T ServeError) (error : ServeError)
+    → r ≡ Err error → HasServed tree gives tells service clock before messages (message ∷ left) mid between here
+    → IsServedOne {T = T} tree gives tells mid between here message (Err error) service' clock' after
+    → IsServed tree gives tells service clock before messages r service' clock' after
+served_until {T = T} tree gives tells service mid service' clock between clock' before here after messages left message r errors.Read failed so_far one = absurd one
+served_until {T = T} tree gives tells service mid service' clock between clock' before here after messages left message r errors.TooLong failed so_far one = absurd one
+served_until {T = T} tree gives tells service mid service' clock between clock' before here after messages left message r errors.TooMuch failed so_far one = absurd one
+served_until {S = S} {C = C} {T = T} tree gives tells service mid service' clock between clock' before here after messages left message r errors.Memory failed so_far one =
     let es = so_far.0 in
     rw failed (record {
       exchanges = es;
       left = message ∷ left;
-      written = written_for_all es;
+      written = written_for_all tree es;
       served = so_far.1;
-      exchanged = subst (λ (x : S). AreExchanged gives tells service clock es x clock') (sym one.0) (subst (λ (y : C). AreExchanged gives tells service clock es mid y) (sym one.1) so_far.2);
-      appends = subst (λ (o : Option (List ℕ)). Appends before o (written_for_all es)) (sym one.2) so_far.3;
+      exchanged = subst (λ (x : S). AreExchanged tree gives tells service clock es x clock') (sym one.0) (subst (λ (y : C). AreExchanged tree gives tells service clock es mid y) (sym one.1) so_far.2);
+      appends = subst (λ (o : Option (List ℕ)). Appends before o (written_for_all tree es)) (sym one.2) so_far.3;
       outcome = refl;
     })
-served_until {T = T} gives tells service mid service' clock between clock' before here after messages left message r errors.Write failed so_far one =
+served_until {T = T} tree gives tells service mid service' clock between clock' before here after messages left message r errors.Write failed so_far one =
     let es = so_far.0 in
     let e = one.0 in
     let cut = one.3 in
-    let written = written_for_all es ++ cut.0 in
+    let written = written_for_all tree es ++ cut.0 in
     rw failed (record {
       exchanges = es ++ e ∷ [];
       left = left;
       written = written;
       served = so_far.1 ∙ ap (λ (m : List ℕ). messages_of es ++ (m ∷ left)) (sym one.1) ∙ messages-more es e left;
-      exchanged = exchanged_more gives tells es e service mid service' clock between clock' so_far.2 one.2;
-      appends = Appends-trans before here after (written_for_all es) cut.0 so_far.3 cut.3;
-      outcome = (cut.1, written-more es e ∙ ap (λ (w : List ℕ). written_for_all es ++ w) cut.2 ∙ sym (append_assoc (written_for_all es) cut.0 cut.1));
+      exchanged = exchanged_more tree gives tells es e service mid service' clock between clock' so_far.2 one.2;
+      appends = Appends-trans before here after (written_for_all tree es) cut.0 so_far.3 cut.3;
+      outcome = (cut.1, written-more tree es e ∙ ap (λ (w : List ℕ). written_for_all tree es ++ w) cut.2 ∙ sym (append_assoc (written_for_all tree es) cut.0 cut.1));
     })
 
 -- a record is taken from a stream

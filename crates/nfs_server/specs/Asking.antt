@@ -1,6 +1,7 @@
 -- What a service is asked, and what it answers.
-use Rattle.std.specs.Prelude.{◌≡◌, ℕ, List, [], ◌∷◌, Option, None}
+use Rattle.std.specs.Prelude.{◌≡◌, ℕ, List, [], ◌∷◌, Option}
 use Rattle.nfs_xdr.specs.declared.principal.Principal.{Principal}
+use Rattle.nfs_server.specs.Answering.{Asked}
 use Rattle.nfs_core.specs.Server.{Server, Applies}
 use Rattle.nfs_xdr.specs.declared.op.Op.{Op}
 use Rattle.nfs_xdr.specs.declared.op_result.OpResult.{OpResult}
@@ -12,9 +13,9 @@ pub record Question : Type 0 where
   pub op : Op
   pub filehandle : Option ℕ
 
--- the question of an operation where there is no current filehandle
-abbrev pub question_of : ℕ → Principal → Op → Question
-question_of moment principal op = record { moment = moment; principal = principal; op = op; filehandle = None }
+-- what is asked of a COMPOUND, as a question
+abbrev pub question_of : ℕ → Principal → Asked → Question
+question_of moment principal asked = record { moment = moment; principal = principal; op = asked.op; filehandle = asked.filehandle }
 
 -- From old, the service may answer these questions so, one after the other, and go on to new. `gives` is one question.
 abbrev pub Asks : {S : Type 0} → (S → Question → OpResult → S → Type 0) → S → List Question → List OpResult → S → Type 0

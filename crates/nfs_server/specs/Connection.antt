@@ -4,16 +4,17 @@ use Rattle.std.specs.List.{flat_map}
 use Rattle.std.specs.Io.KnownBytes.{Appends, Consumes}
 use Rattle.nfs_xdr.specs.declared.principal.Principal.{Principal}
 use Rattle.nfs_xdr.specs.declared.principal.Principal.TheVariants.{AuthNone}
-use Rattle.nfs_server.specs.declared.call.Call.{Call}
-use Rattle.nfs_server.specs.declared.call.Call.TheVariants as calls
+use Rattle.nfs_rpc.specs.declared.call.Call.{Call}
+use Rattle.nfs_rpc.specs.declared.call.Call.TheVariants as calls
+use Rattle.nfs_tree.specs.Tree.{Files}
 use Rattle.nfs_server.specs.declared.serve_error.ServeError.{ServeError}
 use Rattle.nfs_server.specs.declared.serve_error.ServeError.TheVariants as errors
 use Rattle.nfs_server.specs.declared.connection.TheConstants.{PIECE_LEN, STREAM_LIMIT}
 use Rattle.nfs_server.specs.Answering.{asked, reply}
 use Rattle.nfs_server.specs.Asking.{Asks, Question, question_of}
-use Rattle.nfs_server.specs.Call.{IsCall}
-use Rattle.nfs_server.specs.Records.{IsTooLong, Splits}
-use Rattle.nfs_server.specs.Reply.{written_record}
+use Rattle.nfs_rpc.specs.Call.{IsCall}
+use Rattle.nfs_rpc.specs.Records.{IsTooLong, Splits}
+use Rattle.nfs_rpc.specs.Reply.{written_record}
 use Rattle.nfs_xdr.specs.declared.op_result.OpResult.{OpResult}
 
 -- A record, the call that it is, the moment read for it, and the answers of the service.
@@ -28,16 +29,16 @@ principal_of (calls.Compound xid principal compound) = principal
 principal_of call = AuthNone
 
 -- what the service is asked for it
-abbrev pub questions_of : Exchange → List Question
-questions_of e = map (question_of e.moment (principal_of e.call)) (asked e.call e.answers)
+abbrev pub questions_of : Files → Exchange → List Question
+questions_of tree e = map (question_of e.moment (principal_of e.call)) (asked tree e.call e.answers)
 
 -- what is written for it: the reply as one record of one fragment, or nothing
 abbrev pub written_or_nothing : Option (List ℕ) → List ℕ
 written_or_nothing None = []
 written_or_nothing (Some message) = written_record message
 
-abbrev pub written_for : Exchange → List ℕ
-written_for e = written_or_nothing (reply e.call e.answers)
+abbrev pub written_for : Files → Exchange → List ℕ
+written_for tree e = written_or_nothing (reply tree e.call e.answers)
 
 -- The clock is read once for a COMPOUND, and for nothing else.
 abbrev pub ReadsClock : {C : Type 0} → (C → ℕ → C → Type 0) → C → Call → ℕ → C → Type 0
@@ -45,57 +46,57 @@ ReadsClock tells old (calls.Compound xid principal compound) moment new = tells 
 ReadsClock tells old call moment new = new ≡ old
 
 -- One record was read as its call, and the service was asked what the call asks at that moment, given the answers.
-abbrev pub IsExchanged : {S C : Type 0} → (S → Question → OpResult → S → Type 0) → (C → ℕ → C → Type 0) → S → C → Exchange → S → C → Type 0
-IsExchanged gives tells service clock e service' clock' =
-    IsCall e.message e.call × Asks gives service (questions_of e) e.answers service' × ReadsClock tells clock e.call e.moment clock'
+abbrev pub IsExchanged : {S C : Type 0} → Files → (S → Question → OpResult → S → Type 0) → (C → ℕ → C → Type 0) → S → C → Exchange → S → C → Type 0
+IsExchanged tree gives tells service clock e service' clock' =
+    IsCall e.message e.call × Asks gives service (questions_of tree e) e.answers service' × ReadsClock tells clock e.call e.moment clock'
 
 -- the exchanges follow one another
-abbrev pub AreExchanged : {S C : Type 0} → (S → Question → OpResult → S → Type 0) → (C → ℕ → C → Type 0) → S → C → List Exchange → S → C → Type 0
-AreExchanged gives tells service clock [] service' clock' = (service' ≡ service) × (clock' ≡ clock)
-AreExchanged {S = S} {C = C} gives tells service clock (e ∷ es) service' clock' =
-    (s : S) × (c : C) × IsExchanged gives tells service clock e s c × AreExchanged gives tells s c es service' clock'
+abbrev pub AreExchanged : {S C : Type 0} → Files → (S → Question → OpResult → S → Type 0) → (C → ℕ → C → Type 0) → S → C → List Exchange → S → C → Type 0
+AreExchanged tree gives tells service clock [] service' clock' = (service' ≡ service) × (clock' ≡ clock)
+AreExchanged {S = S} {C = C} tree gives tells service clock (e ∷ es) service' clock' =
+    (s : S) × (c : C) × IsExchanged tree gives tells service clock e s c × AreExchanged tree gives tells s c es service' clock'
 
 abbrev pub messages_of : List Exchange → List (List ℕ)
 messages_of es = map (λ e. e.message) es
 
-abbrev pub written_for_all : List Exchange → List ℕ
-written_for_all es = flat_map written_for es
+abbrev pub written_for_all : Files → List Exchange → List ℕ
+written_for_all tree es = flat_map (written_for tree) es
 
 -- some of the replies went out, and then a write failed
-abbrev pub IsCut : List ℕ → List Exchange → Type 0
-IsCut written es = (more : List ℕ) × (written_for_all es ≡ written ++ more)
+abbrev pub IsCut : Files → List ℕ → List Exchange → Type 0
+IsCut tree written es = (more : List ℕ) × (written_for_all tree es ≡ written ++ more)
 
 -- what was written while records were served
-abbrev pub HasWritten : {T : Type 0} → Result T ServeError → List Exchange → List (List ℕ) → List ℕ → Type 0
-HasWritten (Ok x) es left written = (written ≡ written_for_all es) × (left ≡ [])
-HasWritten (Err errors.Write) es left written = IsCut written es
-HasWritten (Err errors.Memory) es left written = written ≡ written_for_all es
-HasWritten (Err errors.Read) es left written = ⊥
-HasWritten (Err errors.TooLong) es left written = ⊥
-HasWritten (Err errors.TooMuch) es left written = ⊥
+abbrev pub HasWritten : {T : Type 0} → Files → Result T ServeError → List Exchange → List (List ℕ) → List ℕ → Type 0
+HasWritten tree (Ok x) es left written = (written ≡ written_for_all tree es) × (left ≡ [])
+HasWritten tree (Err errors.Write) es left written = IsCut tree written es
+HasWritten tree (Err errors.Memory) es left written = written ≡ written_for_all tree es
+HasWritten tree (Err errors.Read) es left written = ⊥
+HasWritten tree (Err errors.TooLong) es left written = ⊥
+HasWritten tree (Err errors.TooMuch) es left written = ⊥
 
 -- Records that are whole were served in their order: those of the exchanges. At an error some are left.
-pub record IsServed {S C T : Type 0} (gives : S → Question → OpResult → S → Type 0) (tells : C → ℕ → C → Type 0) (service : S) (clock : C) (before : Option (List ℕ)) (messages : List (List ℕ)) (result : Result T ServeError) (service' : S) (clock' : C) (after : Option (List ℕ)) : Type 0 where
+pub record IsServed {S C T : Type 0} (tree : Files) (gives : S → Question → OpResult → S → Type 0) (tells : C → ℕ → C → Type 0) (service : S) (clock : C) (before : Option (List ℕ)) (messages : List (List ℕ)) (result : Result T ServeError) (service' : S) (clock' : C) (after : Option (List ℕ)) : Type 0 where
   pub exchanges : List Exchange
   pub left : List (List ℕ)
   pub written : List ℕ
   pub served : messages ≡ messages_of exchanges ++ left
-  pub exchanged : AreExchanged gives tells service clock exchanges service' clock'
+  pub exchanged : AreExchanged tree gives tells service clock exchanges service' clock'
   pub appends : Appends before after written
-  pub outcome : HasWritten result exchanges left written
+  pub outcome : HasWritten tree result exchanges left written
 
 -- one record was served, or, where memory was refused, left
-abbrev pub IsServedOne : {S C T : Type 0} → (S → Question → OpResult → S → Type 0) → (C → ℕ → C → Type 0) → S → C → Option (List ℕ) → List ℕ → Result T ServeError → S → C → Option (List ℕ) → Type 0
-IsServedOne gives tells service clock before message (Ok x) service' clock' after =
-    (e : Exchange) × (e.message ≡ message) × IsExchanged gives tells service clock e service' clock' × Appends before after (written_for e)
-IsServedOne gives tells service clock before message (Err errors.Write) service' clock' after =
-    (e : Exchange) × (e.message ≡ message) × IsExchanged gives tells service clock e service' clock'
-    × ((front : List ℕ) × (back : List ℕ) × (written_for e ≡ front ++ back) × Appends before after front)
-IsServedOne gives tells service clock before message (Err errors.Memory) service' clock' after =
+abbrev pub IsServedOne : {S C T : Type 0} → Files → (S → Question → OpResult → S → Type 0) → (C → ℕ → C → Type 0) → S → C → Option (List ℕ) → List ℕ → Result T ServeError → S → C → Option (List ℕ) → Type 0
+IsServedOne tree gives tells service clock before message (Ok x) service' clock' after =
+    (e : Exchange) × (e.message ≡ message) × IsExchanged tree gives tells service clock e service' clock' × Appends before after (written_for tree e)
+IsServedOne tree gives tells service clock before message (Err errors.Write) service' clock' after =
+    (e : Exchange) × (e.message ≡ message) × IsExchanged tree gives tells service clock e service' clock'
+    × ((front : List ℕ) × (back : List ℕ) × (written_for tree e ≡ front ++ back) × Appends before after front)
+IsServedOne tree gives tells service clock before message (Err errors.Memory) service' clock' after =
     (service' ≡ service) × (clock' ≡ clock) × (after ≡ before)
-IsServedOne gives tells service clock before message (Err errors.Read) service' clock' after = ⊥
-IsServedOne gives tells service clock before message (Err errors.TooLong) service' clock' after = ⊥
-IsServedOne gives tells service clock before message (Err errors.TooMuch) service' clock' after = ⊥
+IsServedOne tree gives tells service clock before message (Err errors.Read) service' clock' after = ⊥
+IsServedOne tree gives tells service clock before message (Err errors.TooLong) service' clock' after = ⊥
+IsServedOne tree gives tells service clock before message (Err errors.TooMuch) service' clock' after = ⊥
 
 -- What came of a connection. The text that was read is `fed` and what was lost of it; `fed` is the records of the
 -- exchanges, records to which nothing was said any more, and a rest.
@@ -109,41 +110,41 @@ pub record Course : Type 0 where
   pub written : List ℕ
 
 -- what is so of every course
-pub record IsCourse {S C : Type 0} (gives : S → Question → OpResult → S → Type 0) (tells : C → ℕ → C → Type 0) (service : S) (clock : C) (course : Course) (service' : S) (clock' : C) : Type 0 where
+pub record IsCourse {S C : Type 0} (tree : Files) (gives : S → Question → OpResult → S → Type 0) (tells : C → ℕ → C → Type 0) (service : S) (clock : C) (course : Course) (service' : S) (clock' : C) : Type 0 where
   pub whole : course.text ≡ course.fed ++ course.lost
   pub split : Splits course.fed (messages_of course.exchanges ++ course.unanswered) course.rest
-  pub exchanged : AreExchanged gives tells service clock course.exchanges service' clock'
+  pub exchanged : AreExchanged tree gives tells service clock course.exchanges service' clock'
 
 -- all replies to the exchanges were written, and nothing else
-abbrev pub IsAnswered : Course → Type 0
-IsAnswered course = course.written ≡ written_for_all course.exchanges
+abbrev pub IsAnswered : Files → Course → Type 0
+IsAnswered tree course = course.written ≡ written_for_all tree course.exchanges
 
 -- no record that came was left without a word
-abbrev pub IsComplete : Course → Type 0
-IsComplete course = IsAnswered course × (course.unanswered ≡ [])
+abbrev pub IsComplete : Files → Course → Type 0
+IsComplete tree course = IsAnswered tree course × (course.unanswered ≡ [])
 
 -- more could have come: no record is too long, and the stream isn't
 abbrev pub GoesOn : Course → Type 0
 GoesOn course = (IsTooLong course.rest → ⊥) × (length course.text ≤ STREAM_LIMIT)
 
 -- How a connection ends.
-abbrev pub EndsWith : Course → Result ℕ ServeError → Type 0
+abbrev pub EndsWith : Files → Course → Result ℕ ServeError → Type 0
 -- at the end of the input: the number is the length of the rest
-EndsWith course (Ok len) = IsComplete course × (course.lost ≡ []) × GoesOn course × (len ≡ length course.rest)
+EndsWith tree course (Ok len) = IsComplete tree course × (course.lost ≡ []) × GoesOn course × (len ≡ length course.rest)
 -- a read failed
-EndsWith course (Err errors.Read) = IsComplete course × (course.lost ≡ []) × GoesOn course
+EndsWith tree course (Err errors.Read) = IsComplete tree course × (course.lost ≡ []) × GoesOn course
 -- a write failed: what went out is a beginning of the replies
-EndsWith course (Err errors.Write) = (course.lost ≡ []) × IsCut course.written course.exchanges
+EndsWith tree course (Err errors.Write) = (course.lost ≡ []) × IsCut tree course.written course.exchanges
 -- the records before the one that is too long were answered
-EndsWith course (Err errors.TooLong) = IsComplete course × (course.lost ≡ []) × IsTooLong course.rest
+EndsWith tree course (Err errors.TooLong) = IsComplete tree course × (course.lost ≡ []) × IsTooLong course.rest
 -- memory was refused
-EndsWith course (Err errors.Memory) = IsAnswered course
+EndsWith tree course (Err errors.Memory) = IsAnswered tree course
 -- more came than a stream may have: the records before the last read were answered
-EndsWith course (Err errors.TooMuch) =
-    IsComplete course × (STREAM_LIMIT < length course.text) × (length course.fed ≤ STREAM_LIMIT) × (length course.lost ≤ PIECE_LEN)
+EndsWith tree course (Err errors.TooMuch) =
+    IsComplete tree course × (STREAM_LIMIT < length course.text) × (length course.fed ≤ STREAM_LIMIT) × (length course.lost ≤ PIECE_LEN)
 
 -- There is a course of the connection from where service, clock and devices were to where they are: what was read, what
 -- was asked of the service at which moment, what it answered, and what was written.
-abbrev pub HasCourse : {S C : Type 0} → (S → Question → OpResult → S → Type 0) → (C → ℕ → C → Type 0) → S → C → Option (List ℕ) → Option (List ℕ) → Result ℕ ServeError → S → C → Option (List ℕ) → Option (List ℕ) → Type 0
-HasCourse gives tells service clock unread unwritten result service' clock' unread' written' =
-    (course : Course) × IsCourse gives tells service clock course service' clock' × EndsWith course result × Consumes unread unread' course.text × Appends unwritten written' course.written
+abbrev pub HasCourse : {S C : Type 0} → Files → (S → Question → OpResult → S → Type 0) → (C → ℕ → C → Type 0) → S → C → Option (List ℕ) → Option (List ℕ) → Result ℕ ServeError → S → C → Option (List ℕ) → Option (List ℕ) → Type 0
+HasCourse tree gives tells service clock unread unwritten result service' clock' unread' written' =
+    (course : Course) × IsCourse tree gives tells service clock course service' clock' × EndsWith tree course result × Consumes unread unread' course.text × Appends unwritten written' course.written

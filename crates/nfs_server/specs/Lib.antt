@@ -1,6 +1,4 @@
-pub mod Records
-pub mod Reply
-pub mod Call
+pub mod Filehandles
 pub mod Answering
 pub mod Asking
 pub mod Entries

@@ -1,9 +1,11 @@
 -- One run over an input and an output.
 use Rattle.std.specs.Prelude.{ℕ, Option, Some, None, Result, Ok, Err, zero, suc}
 use Rattle.nfs_server.specs.declared.fault.Fault.{Fault}
-use Rattle.nfs_server.specs.declared.fault.Fault.TheVariants.{InputNotRead, OutputNotWritten, RecordTooLong, InputTooLong, EndsInsideRecord, NoMemory}
+use Rattle.nfs_server.specs.declared.fault.Fault.TheVariants.{TreeRefused, InputNotRead, OutputNotWritten, RecordTooLong, InputTooLong, EndsInsideRecord, NoMemory}
 use Rattle.nfs_server.specs.declared.serve_error.ServeError.{ServeError}
 use Rattle.nfs_server.specs.declared.serve_error.ServeError.TheVariants as errors
+use Rattle.nfs_tree.specs.declared.tree_error.TreeError.{TreeError}
+use Rattle.nfs_tree.specs.Building.{number_of}
 
 -- the fault of a connection that ended so
 abbrev pub fault_of : Result ℕ ServeError → Option Fault
@@ -14,6 +16,10 @@ fault_of (Err errors.Write) = Some OutputNotWritten
 fault_of (Err errors.TooLong) = Some RecordTooLong
 fault_of (Err errors.Memory) = Some NoMemory
 fault_of (Err errors.TooMuch) = Some InputTooLong
+
+-- the fault of a tree's file that says no tree
+abbrev pub fault_of_tree : TreeError → Fault
+fault_of_tree refused = TreeRefused (number_of refused)
 
 -- the program's status
 abbrev pub status_of : Option Fault → ℕ

@@ -1,14 +1,15 @@
 ghost use Rattle.std.specs.Prelude.{◌≡◌, ◌+◌, ℕ, List, ◌^◌, ◌<◌, ◌≤◌, [], map, length, vec_capacity, IsOk, OnOk, OnErr};
 ghost use Rattle.nfs_server.specs.Answering.{compound_outcome, compound_reply};
 ghost use Rattle.nfs_server.specs.Asking.{Asks, question_of};
-ghost use Rattle.nfs_server.specs.Call.{IsWithinLimits};
+ghost use Rattle.nfs_rpc.specs.Call.{IsWithinLimits};
 ghost use Rattle.nfs_server.specs.Connection.{Exchange, IsExchanged, written_for};
-ghost use Rattle.nfs_server.specs.Reply.{IsReplyTooLong, written_record, written_reply};
+ghost use Rattle.nfs_rpc.specs.Reply.{IsReplyTooLong, written_record, written_reply};
 ghost use Rattle.nfs_xdr.specs.declared.op_result.OpResult.{OpResult};
 
-use crate::records::{HEADER_LEN, LAST_FRAGMENT, RECORD_LIMIT};
-use crate::{Call, Clock, Reply, Service, read_call, run_compound, write_reply};
+use crate::{Clock, Service, run_compound};
 use byteorder::{BigEndian, ByteOrder};
+use nfs_rpc::{Call, HEADER_LEN, LAST_FRAGMENT, RECORD_LIMIT, Reply, read_call, write_reply};
+use nfs_tree::Tree;
 use nfs_xdr::{Compound, OPERATION_LIMIT, Principal, write_u32};
 use std::alloc::{AllocError, Global};
 
@@ -20,21 +21,24 @@ const REPLY_ROOM: usize = RECORD_LIMIT + 64;
 pub(crate) fn answer<S: Service, C: Clock>(
     alloc: Global,
     message: &[u8],
+    tree: &Tree,
     service: &mut S,
     clock: &mut C,
     out: &mut Vec<u8>,
 ) -> Result<(), AllocError>
     requires limit { length message.now ≤ RECORD_LIMIT }
     requires empty { out.old.items ≡ [] }
+    requires serves { S.serves service.old ≡ tree.now }
     ensures ok { OnOk result ((e : Exchange) × (e.message ≡ message.now)
-        × IsExchanged S.gives C.tells service.old clock.old e service.new clock.new × (out.new.items ≡ written_for e)) }
+        × IsExchanged tree.now S.gives C.tells service.old clock.old e service.new clock.new × (out.new.items ≡ written_for tree.now e)) }
     ensures err { OnErr result ((service.new ≡ service.old) × (clock.new ≡ clock.old)) }
+    ensures serves { S.serves service.new ≡ tree.now }
 {
     match read_call(alloc, message) {
         Call::Silent => Ok(()),
         Call::Null(xid) => put_record(out, xid, &Reply::Null),
         Call::Compound(xid, principal, compound) => {
-            answer_compound(alloc, xid, principal, compound, service, clock, out)
+            answer_compound(alloc, xid, principal, compound, tree, service, clock, out)
         }
         Call::Answer(xid, reply) => put_record(out, xid, &reply),
     }
@@ -46,21 +50,24 @@ fn answer_compound<S: Service, C: Clock>(
     xid: u32,
     principal: Principal,
     compound: Compound,
+    tree: &Tree,
     service: &mut S,
     clock: &mut C,
     out: &mut Vec<u8>,
 ) -> Result<(), AllocError>
     requires limits { IsWithinLimits RECORD_LIMIT compound }
     requires empty { out.old.items ≡ [] }
+    requires serves { S.serves service.old ≡ tree.now }
     ensures ok { OnOk result ((moment : ℕ) × (answers : List OpResult) × C.tells clock.old moment clock.new
-        × Asks S.gives service.old (map (question_of moment principal) (compound_outcome compound answers).asked) answers service.new
-        × (out.new.items ≡ written_record (written_reply xid (Reply.Compound (compound_reply compound answers))))) }
+        × Asks S.gives service.old (map (question_of moment principal) (compound_outcome tree.now compound answers).asked) answers service.new
+        × (out.new.items ≡ written_record (written_reply xid (Reply.Compound (compound_reply tree.now compound answers))))) }
     ensures err { OnErr result ((service.new ≡ service.old) × (clock.new ≡ clock.old)) }
+    ensures serves { S.serves service.new ≡ tree.now }
 {
     out.reserve(REPLY_ROOM)?;
     let results = Vec::with_capacity(alloc, OPERATION_LIMIT as usize)?;
     let moment = clock.now();
-    let reply = run_compound(service, moment, principal, compound, results);
+    let reply = run_compound(service, tree, moment, principal, compound, results);
     put_record(out, xid, &Reply::Compound(reply))
 }
 

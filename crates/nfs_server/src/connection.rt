@@ -2,11 +2,12 @@ ghost use Rattle.std.specs.Prelude.{◌≡◌, ◌+◌, ◌-◌, ◌^◌, ◌<�
 ghost use Rattle.std.specs.List.{AllByRecursion};
 ghost use Rattle.std.specs.Io.KnownBytes.{Appends, Consumes, IsAtEnd};
 ghost use Rattle.nfs_server.specs.Connection.{HasCourse, IsServed, IsServedOne};
-ghost use Rattle.nfs_server.specs.Records.{IsStream, TakesPiece};
+ghost use Rattle.nfs_rpc.specs.Records.{IsStream, TakesPiece};
 
 use crate::answer::answer;
-use crate::records::RECORD_LIMIT;
-use crate::{Clock, DeviceFailed, RecordError, Records, ServeError, Service, Sink, Source};
+use crate::{Clock, DeviceFailed, ServeError, Service, Sink, Source};
+use nfs_rpc::{RECORD_LIMIT, RecordError, Records, split_goes_on};
+use nfs_tree::Tree;
 use std::alloc::Global;
 
 /// The most bytes of a stream.
@@ -27,12 +28,15 @@ pub fn serve_connection<R: Source, W: Sink, S: Service, C: Clock>(
     source: &mut R,
     sink: &mut W,
     service: &mut S,
+    tree: &Tree,
     clock: &mut C,
 ) -> Result<usize, ServeError>
     requires reads { R.failures source.old < 2 ^ 64 - 1 }
     requires writes { W.failures sink.old < 2 ^ 64 - 1 }
+    requires serves { S.serves service.old ≡ tree.now }
     // What was read, what was asked of the service at which moment, what it answered and what was written is one course.
-    ensures course { HasCourse S.gives C.tells service.old clock.old (R.remaining source.old) (W.contents sink.old) result service.new clock.new (R.remaining source.new) (W.contents sink.new) }
+    ensures serves { S.serves service.new ≡ tree.now }
+    ensures course { HasCourse tree.now S.gives C.tells service.old clock.old (R.remaining source.old) (W.contents sink.old) result service.new clock.new (R.remaining source.new) (W.contents sink.new) }
     ensures end { OnOk result (IsAtEnd (R.remaining source.new)) }
     ensures read_failed { IsErrOf result ServeError.Read → R.failures source.old < R.failures source.new }
     ensures write_failed { IsErrOf result ServeError.Write → W.failures sink.old < W.failures sink.new }
@@ -41,7 +45,16 @@ pub fn serve_connection<R: Source, W: Sink, S: Service, C: Clock>(
     let Ok(mut buffer) = vec![in alloc; 0; PIECE_LEN] else {
         return Err(ServeError::Memory);
     };
-    serve_stream(alloc, records, source, sink, service, clock, &mut buffer)
+    serve_stream(
+        alloc,
+        records,
+        source,
+        sink,
+        service,
+        tree,
+        clock,
+        &mut buffer,
+    )
 }
 
 // The same, with records of which none has come, and a buffer for what is read.
@@ -51,19 +64,24 @@ fn serve_stream<R: Source, W: Sink, S: Service, C: Clock>(
     source: &mut R,
     sink: &mut W,
     service: &mut S,
+    tree: &Tree,
     clock: &mut C,
     buffer: &mut [u8],
 ) -> Result<usize, ServeError>
     requires reads { R.failures source.old < 2 ^ 64 - 1 }
     requires writes { W.failures sink.old < 2 ^ 64 - 1 }
+    requires serves { S.serves service.old ≡ tree.now }
     requires empty { records ≡ record { ready = []; rest = []; fed = 0; is_too_long = false } }
     requires sound { IsStream records }
     requires piece { length buffer.old ≡ PIECE_LEN }
-    ensures course { HasCourse S.gives C.tells service.old clock.old (R.remaining source.old) (W.contents sink.old) result service.new clock.new (R.remaining source.new) (W.contents sink.new) }
+    ensures serves { S.serves service.new ≡ tree.now }
+    ensures course { HasCourse tree.now S.gives C.tells service.old clock.old (R.remaining source.old) (W.contents sink.old) result service.new clock.new (R.remaining source.new) (W.contents sink.new) }
     ensures end { OnOk result (IsAtEnd (R.remaining source.new)) }
     ensures read_failed { IsErrOf result ServeError.Read → R.failures source.old < R.failures source.new }
     ensures write_failed { IsErrOf result ServeError.Write → W.failures sink.old < W.failures sink.new }
 {
+    // The law by which the records of one piece after the other are those of the whole.
+    split_goes_on();
     let mut out = Vec::new(alloc);
     loop {
         let count = match source.read(buffer) {
@@ -75,7 +93,7 @@ fn serve_stream<R: Source, W: Sink, S: Service, C: Clock>(
             return Err(ServeError::TooMuch);
         }
         take_in(&mut records, &buffer[..count])?;
-        serve_ready(alloc, &mut records, sink, service, clock, &mut out)?;
+        serve_ready(alloc, &mut records, sink, service, tree, clock, &mut out)?;
         if records.is_too_long() {
             return Err(ServeError::TooLong);
         }
@@ -103,18 +121,21 @@ fn serve_ready<S: Service, W: Sink, C: Clock>(
     records: &mut Records,
     sink: &mut W,
     service: &mut S,
+    tree: &Tree,
     clock: &mut C,
     out: &mut Vec<u8>,
 ) -> Result<(), ServeError>
+    requires serves { S.serves service.old ≡ tree.now }
     requires limits { AllByRecursion (λ message. length message ≤ RECORD_LIMIT) records.old.ready }
     requires room { W.failures sink.old < 2 ^ 64 - 1 }
-    ensures served { IsServed S.gives C.tells service.old clock.old (W.contents sink.old) records.old.ready result service.new clock.new (W.contents sink.new) }
+    ensures serves { S.serves service.new ≡ tree.now }
+    ensures served { IsServed tree.now S.gives C.tells service.old clock.old (W.contents sink.old) records.old.ready result service.new clock.new (W.contents sink.new) }
     ensures taken { OnOk result (records.new ≡ record records.old { ready = [] }) }
     ensures ok { OnOk result (W.failures sink.new ≡ W.failures sink.old) }
     ensures write_failed { IsErrOf result ServeError.Write → W.failures sink.old < W.failures sink.new }
 {
     while let Some(message) = records.next() {
-        serve_one(alloc, message.as_slice(), sink, service, clock, out)?;
+        serve_one(alloc, message.as_slice(), sink, service, tree, clock, out)?;
     }
     Ok(())
 }
@@ -125,17 +146,20 @@ fn serve_one<S: Service, W: Sink, C: Clock>(
     message: &[u8],
     sink: &mut W,
     service: &mut S,
+    tree: &Tree,
     clock: &mut C,
     out: &mut Vec<u8>,
 ) -> Result<(), ServeError>
+    requires serves { S.serves service.old ≡ tree.now }
     requires limit { length message.now ≤ RECORD_LIMIT }
     requires room { W.failures sink.old < 2 ^ 64 - 1 }
-    ensures served { IsServedOne S.gives C.tells service.old clock.old (W.contents sink.old) message.now result service.new clock.new (W.contents sink.new) }
+    ensures serves { S.serves service.new ≡ tree.now }
+    ensures served { IsServedOne tree.now S.gives C.tells service.old clock.old (W.contents sink.old) message.now result service.new clock.new (W.contents sink.new) }
     ensures ok { OnOk result (W.failures sink.new ≡ W.failures sink.old) }
     ensures write_failed { IsErrOf result ServeError.Write → W.failures sink.old < W.failures sink.new }
 {
     out.clear();
-    match answer(alloc, message, service, clock, out) {
+    match answer(alloc, message, tree, service, clock, out) {
         Ok(()) => send(sink, out.as_slice()),
         Err(_) => Err(ServeError::Memory),
     }

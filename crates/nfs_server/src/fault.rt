@@ -2,11 +2,18 @@ ghost use Rattle.std.specs.Prelude.{◌≡◌};
 ghost use Rattle.nfs_server.specs.Once.{fault_of};
 
 use crate::ServeError;
+use nfs_tree::TreeError;
 use thiserror::Error;
 
 /// Why a run of the program failed, as the line that it writes on standard error.
 #[derive(Clone, Copy, Debug, PartialEq, Eq, Error)]
 pub enum Fault {
+    /// The tree's file says no tree, by the number of its refusal.
+    #[error("fault: tree refused ({0})")]
+    TreeRefused(u32),
+    /// The tree's file can't be read.
+    #[error("fault: file not read")]
+    FileNotRead,
     #[error("fault: input not read")]
     InputNotRead,
     #[error("fault: output not written")]
@@ -19,6 +26,16 @@ pub enum Fault {
     EndsInsideRecord,
     #[error("fault: no memory")]
     NoMemory,
+}
+
+impl From<TreeError> for Fault {
+    ghost use Rattle.nfs_server.specs.Once.{fault_of_tree};
+
+    ghost from_gives = { λ e f. f ≡ fault_of_tree e };
+
+    fn from(refused: TreeError) -> Fault {
+        Fault::TreeRefused(refused.number())
+    }
 }
 
 impl Fault {

@@ -8,24 +8,27 @@ ghost use Rattle.nfs_server.specs.declared.service.Lent.{Lent};
 
 use crate::{Clock, Fault, Lent, Service, Sink, Source, Stopped, serve_connection};
 use nfs_core::{Core, Moment};
+use nfs_tree::Tree;
 use std::alloc::Global;
 use std::io::Write;
 
-/// Serves one input to its end, over a core that it is lent, at moment 0. It gives the program's status: 0, or 1 after a
+/// Serves one input to its end, over a core that it is lent and the core's tree, at moment 0. It gives the program's status: 0, or 1 after a
 /// fault, whose line is written on `errors`.
 pub fn run_once<R: Source, W: Sink, E: Write>(
     alloc: Global,
     core: Core,
+    tree: &Tree,
     source: &mut R,
     sink: &mut W,
     errors: &mut E,
 ) -> u8
     requires reads { R.failures source.old < 2 ^ 64 - 1 }
     requires writes { W.failures sink.old < 2 ^ 64 - 1 }
+    requires tree { core.journal.tree ≡ tree.now }
     // The input was served as a connection from this core on, and the status says how that ended.
     ensures { (lent : Lent) × (clock : Stopped) × (lent' : Lent) × (clock' : Stopped) × (outcome : Result ℕ ServeError)
         × (lent.core ≡ core) × (clock.moment ≡ 0)
-        × HasCourse ⟦<Lent as Service>⟧.gives ⟦<Stopped as Clock>⟧.tells lent clock (R.remaining source.old) (W.contents sink.old) outcome lent' clock' (R.remaining source.new) (W.contents sink.new)
+        × HasCourse tree.now ⟦<Lent as Service>⟧.gives ⟦<Stopped as Clock>⟧.tells lent clock (R.remaining source.old) (W.contents sink.old) outcome lent' clock' (R.remaining source.new) (W.contents sink.new)
         × OnOk outcome (IsAtEnd (R.remaining source.new))
         × (IsErrOf outcome ServeError.Read → R.failures source.old < R.failures source.new)
         × (IsErrOf outcome ServeError.Write → W.failures sink.old < W.failures sink.new)
@@ -33,7 +36,7 @@ pub fn run_once<R: Source, W: Sink, E: Write>(
 {
     let mut lent = Lent::new(core);
     let mut clock = Stopped::at(Moment::new(0).unwrap());
-    let outcome = serve_connection(alloc, source, sink, &mut lent, &mut clock);
+    let outcome = serve_connection(alloc, source, sink, &mut lent, tree, &mut clock);
     match Fault::of(outcome) {
         None => 0,
         Some(fault) => {

@@ -1,23 +1,26 @@
-ghost use Rattle.std.specs.Prelude.{◌≡◌, ◌≤◌, IsTrue, length};
+ghost use Rattle.std.specs.Prelude.{◌≡◌, ◌<◌, ◌≤◌, IsTrue, IfSome, length};
 ghost use Rattle.nfs_xdr.specs.Op.{has_entry};
 ghost use Rattle.nfs_server.specs.Asking.{GivenByCore, Question};
 ghost use Rattle.nfs_server.specs.Entries.{QuestionsAreEntries};
-ghost use Rattle.nfs_server.specs.declared.service.TheConstants.{ANSWER_ROOM};
+ghost use Rattle.nfs_core.specs.declared.core_state.TheConstants.{ANSWER_LIMIT};
+ghost use Rattle.nfs_tree.specs.Tree.{Files, node_count};
 ghost use Rattle.nfs_xdr.specs.declared.op_result.OpResult.{OpResult};
 ghost use Rattle.nfs_xdr.specs.OpResult.{written_result};
 
 use nfs_core::{Core, Moment};
 use nfs_xdr::{Op, OpResult, Principal};
 
-/// The most bytes of a service's answer in a reply.
+/// The room of a reply that an operation asks for before it is run.
 pub const ANSWER_ROOM: usize = 2048;
 
 /// What answers the operations that need the state.
 pub trait Service {
     /// From a state, the service may answer a question so and go on to a state.
     ghost gives: { Self → Question → OpResult → Self → Type 0 };
+    /// The tree of its files.
+    ghost serves: { Self → Files };
 
-    /// Answers an operation that has an entry.
+    /// Answers an operation that has an entry, under a filehandle of its tree.
     fn call(
         &mut self,
         moment: Moment,
@@ -25,9 +28,11 @@ pub trait Service {
         op: &Op,
         filehandle: Option<u32>,
     ) -> OpResult
-        requires { IsTrue (has_entry op.now) }
+        requires entry { IsTrue (has_entry op.now) }
+        requires node { IfSome filehandle (λ node. node < node_count (serves self.old).nodes) }
         ensures gives { gives self.old (record { moment = moment; principal = principal; op = op.now; filehandle = filehandle }) result self.new }
-        ensures fits { length (written_result result) ≤ ANSWER_ROOM };
+        ensures serves { serves self.new ≡ serves self.old }
+        ensures fits { length (written_result result) ≤ ANSWER_LIMIT };
 }
 
 /// A core that is lent to one connection after another.
@@ -54,6 +59,8 @@ impl Lent {
 
 impl Service for Lent {
     ghost gives = { λ old question answer new. GivenByCore old.core question answer new.core };
+
+    ghost serves = { λ l. l.core.journal.tree };
 
     fn call(
         &mut self,

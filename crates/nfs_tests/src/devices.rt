@@ -1,7 +1,7 @@
 //! Devices that give or take a byte at a time, and fail.
 
-use crate::messages::{bytes_of, call, reply};
-use nfs_core::{Core, Moment};
+use crate::messages::{bytes_of, call, opened, reply};
+use nfs_core::Moment;
 use nfs_server::{Counted, Lent, ServeError, Stopped, serve_connection};
 use std::alloc::AllocError;
 use std::io;
@@ -68,9 +68,10 @@ fn fragments(rt: HostRuntime) -> Result<(), Fail> {
         taken: Vec::new(alloc),
         room: 1000,
     });
-    let mut lent = Lent::new(Core::new(alloc, 90, 1));
+    let (tree, core) = opened(alloc)?;
+    let mut lent = Lent::new(core);
     let mut clock = Stopped::at(Moment::new(0).unwrap());
-    let outcome = serve_connection(alloc, &mut source, &mut sink, &mut lent, &mut clock);
+    let outcome = serve_connection(alloc, &mut source, &mut sink, &mut lent, &tree, &mut clock);
     let expected = bytes_of(alloc, &[0x8000_0018, 7, 1, 0, 0, 0, 0])?;
     assert_eq!(rt; outcome, Ok(0));
     assert_eq!(rt; sink.into_device().taken.as_slice(), expected.as_slice());
@@ -88,9 +89,10 @@ fn read_fails(rt: HostRuntime) -> Result<(), Fail> {
         fails: true,
     });
     let mut sink = Counted::new(Vec::new(alloc));
-    let mut lent = Lent::new(Core::new(alloc, 90, 1));
+    let (tree, core) = opened(alloc)?;
+    let mut lent = Lent::new(core);
     let mut clock = Stopped::at(Moment::new(0).unwrap());
-    let outcome = serve_connection(alloc, &mut source, &mut sink, &mut lent, &mut clock);
+    let outcome = serve_connection(alloc, &mut source, &mut sink, &mut lent, &tree, &mut clock);
     let expected = reply(alloc, 7, &[])?;
     assert_eq!(rt; outcome, Err(ServeError::Read));
     assert_eq!(rt; sink.into_device().as_slice(), expected.as_slice());
@@ -110,9 +112,10 @@ fn write_fails(rt: HostRuntime) -> Result<(), Fail> {
         taken: Vec::new(alloc),
         room: 40,
     });
-    let mut lent = Lent::new(Core::new(alloc, 90, 1));
+    let (tree, core) = opened(alloc)?;
+    let mut lent = Lent::new(core);
     let mut clock = Stopped::at(Moment::new(0).unwrap());
-    let outcome = serve_connection(alloc, &mut source, &mut sink, &mut lent, &mut clock);
+    let outcome = serve_connection(alloc, &mut source, &mut sink, &mut lent, &tree, &mut clock);
     expected.truncate(40);
     assert_eq!(rt; outcome, Err(ServeError::Write));
     assert_eq!(rt; sink.into_device().taken.as_slice(), expected.as_slice());

@@ -26,7 +26,7 @@ fn room_for_an_answer(rt: HostRuntime) -> Result<(), Fail> {
         result.extend_from_slice(vec![in alloc; 0u32; tag_words]?.as_slice())?;
         result.extend_from_slice(&[1, 36, status])?;
         let expected = reply(alloc, 1, result.as_slice())?;
-        let (output, outcome) = served(alloc, input.as_slice());
+        let (output, outcome) = served(alloc, input.as_slice())?;
         assert!(rt;
             output.as_slice() == expected.as_slice(),
             "{tag_words} words"
@@ -36,22 +36,50 @@ fn room_for_an_answer(rt: HostRuntime) -> Result<(), Fail> {
     Ok(())
 }
 
-/// 64 operations are run up to the first that isn't answered NFS4_OK, and 65 are not looked at.
+/// The same behind the first of two operations, whose result takes 8 bytes.
+#[test]
+fn room_for_a_second_answer(rt: HostRuntime) -> Result<(), Fail> {
+    for (tag_words, status) in [(65_013, 0), (65_014, 10018)] {
+        let alloc = rt.alloc();
+        let tag = vec![in alloc; 0u32; tag_words]?;
+        let mut arguments = vec![in alloc; tag_words as u32 * 4; 1]?;
+        arguments.extend_from_slice(tag.as_slice())?;
+        arguments.extend_from_slice(&[0, 2, 24, 24])?;
+        let mut answer = vec![in alloc; status; 1]?;
+        answer.push(tag_words as u32 * 4)?;
+        answer.extend_from_slice(tag.as_slice())?;
+        answer.extend_from_slice(&[2, 24, 0, 24, status])?;
+        let (output, _) = served(alloc, call(alloc, 1, 1, arguments.as_slice())?.as_slice())?;
+        let expected = reply(alloc, 1, answer.as_slice())?;
+        assert!(rt;
+            output.as_slice() == expected.as_slice(),
+            "{tag_words} words"
+        );
+    }
+    Ok(())
+}
+
+/// 64 operations are run, and of 65 none is looked at.
 #[test]
 fn operations(rt: HostRuntime) -> Result<(), Fail> {
-    let table: [(u32, &[u32]); 2] = [(64, &[10004, 0, 1, 24, 10004]), (65, &[10018, 0, 0])];
-    for (count, result) in table {
-        let alloc = rt.alloc();
+    let alloc = rt.alloc();
+    for count in [64, 65] {
         let mut arguments = vec![in alloc; 24u32; 65]?;
         arguments.insert(0, count)?;
         arguments.insert(0, 0)?;
         arguments.insert(0, 0)?;
-        let (output, _) = served(alloc, call(alloc, 1, 1, arguments.as_slice())?.as_slice());
-        assert_eq!(rt;
-            output.as_slice(),
-            reply(alloc, 1, result)?.as_slice(),
-            "{count}"
-        );
+        let mut answer = Vec::new(alloc);
+        if count == 64 {
+            answer.extend_from_slice(&[0, 0, 64])?;
+            for _ in 0..64 {
+                answer.extend_from_slice(&[24, 0])?;
+            }
+        } else {
+            answer.extend_from_slice(&[10018, 0, 0])?;
+        }
+        let (output, _) = served(alloc, call(alloc, 1, 1, arguments.as_slice())?.as_slice())?;
+        let expected = reply(alloc, 1, answer.as_slice())?;
+        assert!(rt; output.as_slice() == expected.as_slice(), "{count}");
     }
     Ok(())
 }
@@ -62,7 +90,7 @@ fn record(rt: HostRuntime) -> Result<(), Fail> {
     let alloc = rt.alloc();
     let mut input = call(alloc, 7, 0, &[])?;
     input.extend_from_slice(bytes_of(alloc, &[0x8004_0001])?.as_slice())?;
-    let (output, outcome) = served(alloc, input.as_slice());
+    let (output, outcome) = served(alloc, input.as_slice())?;
     assert_eq!(rt; output.as_slice(), reply(alloc, 7, &[])?.as_slice());
     assert_eq!(rt; outcome, Err(ServeError::TooLong));
     Ok(())

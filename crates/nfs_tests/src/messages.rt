@@ -1,8 +1,12 @@
 //! Messages in words of four bytes, and a server over memory to send them to.
 
+ghost use Rattle.std.specs.Prelude.{◌≡◌, IfOk};
+
 use nfs_core::{Core, Moment};
 use nfs_server::{Counted, Lent, ServeError, Stopped, serve_connection};
+use nfs_tree::{DEFAULT_TREE, Tree};
 use std::alloc::{AllocError, Global};
+use std::test::Fail;
 
 /// The words, big-endian.
 pub fn bytes_of(alloc: Global, words: &[u32]) -> Result<Vec<u8>, AllocError> {
@@ -39,11 +43,21 @@ pub fn record(alloc: Global, head: &[u32], body: &[u32]) -> Result<Vec<u8>, Allo
 }
 
 /// What a fresh server with lease 90 and epoch 1 writes for this input, and how the connection ends.
-pub fn served(alloc: Global, input: &[u8]) -> (Vec<u8>, Result<usize, ServeError>) {
+pub fn served(alloc: Global, input: &[u8]) -> Result<(Vec<u8>, Result<usize, ServeError>), Fail> {
     let mut source = Counted::new(input);
     let mut sink = Counted::new(Vec::new(alloc));
-    let mut lent = Lent::new(Core::new(alloc, 90, 1));
+    let (tree, core) = opened(alloc)?;
+    let mut lent = Lent::new(core);
     let mut clock = Stopped::at(Moment::new(0).unwrap());
-    let outcome = serve_connection(alloc, &mut source, &mut sink, &mut lent, &mut clock);
-    (sink.into_device(), outcome)
+    let outcome = serve_connection(alloc, &mut source, &mut sink, &mut lent, &tree, &mut clock);
+    Ok((sink.into_device(), outcome))
+}
+
+/// A fresh server with lease 90 and epoch 1, on the tree that it has without a file of its own.
+pub fn opened(alloc: Global) -> Result<(Tree, Core), Fail>
+    ensures { IfOk result (λ r. r.1.journal.tree ≡ r.0) }
+{
+    let tree = Tree::from_toml(alloc, DEFAULT_TREE)?;
+    let core = Core::new(alloc, &tree, 90, 1, tree.policy())?;
+    Ok((tree, core))
 }

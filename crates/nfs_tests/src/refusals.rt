@@ -1,10 +1,14 @@
 //! Refused memory: a call gets the stated refusal and nothing else, and its answer when it is sent again. The gate runs
 //! this with ample memory, and `tools/refuse_growths` with each growth refused in turn.
 
+ghost use Rattle.std.specs.Prelude.{◌≡◌, IfOk};
+
 use crate::messages::{call, record, reply};
 use crate::rows::SET_CLIENT_ID;
-use nfs_core::{Core, Moment};
-use nfs_server::{Counted, Lent, ServeError, Stopped, serve_connection};
+use nfs_core::{Core, CoreError, Moment};
+use nfs_rpc::{RecordError, Records};
+use nfs_server::{Counted, Lent, ServeError, Service, Stopped, serve_connection};
+use nfs_tree::{DEFAULT_TREE, Tree, TreeError};
 use std::alloc::{AllocError, Global};
 use std::test::Fail;
 
@@ -23,13 +27,13 @@ impl Line {
         xid: u32,
         arguments: &[u32],
         answer: &[u32],
-        op: u32,
+        resource: &[u32],
     ) -> Result<Line, AllocError> {
         Ok(Line {
             message: call(alloc, xid, 1, arguments)?,
             answer: reply(alloc, xid, answer)?,
             system_error: record(alloc, &[xid, 1, 0, 0, 0, 5], &[])?,
-            resource: reply(alloc, xid, &[10018, 0, 1, op, 10018])?,
+            resource: reply(alloc, xid, resource)?,
         })
     }
 
@@ -43,57 +47,137 @@ impl Line {
     }
 }
 
-/// SETCLIENTID, its confirmation, and the confirmation again.
-fn script(alloc: Global) -> Result<Vec<Line>, AllocError> {
+/// SETCLIENTID, its confirmation, the confirmation again, and attributes.
+fn script(alloc: Global) -> Result<[Line; 4], AllocError> {
     let confirm = [0, 0, 1, 36, 1, 1, 0, 1];
     let confirmed = [0, 0, 1, 36, 0];
-    let mut lines = Vec::with_capacity(alloc, 3)?;
-    lines.push(Line::new(alloc, 1, &SET_CLIENT_ID, &[0, 0, 1, 35, 0, 1, 1, 0, 1], 35)?)?;
-    lines.push(Line::new(alloc, 2, &confirm, &confirmed, 36)?)?;
-    lines.push(Line::new(alloc, 3, &confirm, &confirmed, 36)?)?;
-    Ok(lines)
+    let unconfirmed = [10018, 0, 1, 36, 10018];
+    let given = [0, 0, 1, 35, 0, 1, 1, 0, 1];
+    let attributes = [0, 0, 2, 24, 9, 1, 2];
+    let told = [0, 0, 2, 24, 0, 9, 0, 1, 2, 4, 2];
+    Ok([
+        Line::new(alloc, 1, &SET_CLIENT_ID, &given, &[10018, 0, 1, 35, 10018])?,
+        Line::new(alloc, 2, &confirm, &confirmed, &unconfirmed)?,
+        Line::new(alloc, 3, &confirm, &confirmed, &unconfirmed)?,
+        Line::new(
+            alloc,
+            4,
+            &attributes,
+            &told,
+            &[10018, 0, 2, 24, 0, 9, 10018],
+        )?,
+    ])
 }
 
 /// What comes back for a message, put into `output`, which has room.
 fn sent(
     alloc: Global,
     lent: &mut Lent,
+    tree: &Tree,
     message: &[u8],
     output: Vec<u8>,
-) -> (Vec<u8>, Result<usize, ServeError>) {
+) -> (Vec<u8>, Result<usize, ServeError>)
+    requires { ⟦<Lent as Service>⟧.serves lent.old ≡ tree.now }
+    ensures { ⟦<Lent as Service>⟧.serves lent.new ≡ tree.now }
+{
     let mut source = Counted::new(message);
     let mut sink = Counted::new(output);
     let mut clock = Stopped::at(Moment::new(0).unwrap());
-    let outcome = serve_connection(alloc, &mut source, &mut sink, lent, &mut clock);
+    let outcome = serve_connection(alloc, &mut source, &mut sink, lent, tree, &mut clock);
     (sink.into_device(), outcome)
+}
+
+/// A server, also where memory is refused once for its tree or for its core.
+fn opened_again(alloc: Global) -> Result<(Tree, Core), Fail>
+    ensures { IfOk result (λ r. r.1.journal.tree ≡ r.0) }
+{
+    let tree = match Tree::from_toml(alloc, DEFAULT_TREE) {
+        Err(TreeError::Memory) => Tree::from_toml(alloc, DEFAULT_TREE)?,
+        outcome => outcome?,
+    };
+    let core = match Core::new(alloc, &tree, 90, 1, tree.policy()) {
+        Err(CoreError::Memory) => Core::new(alloc, &tree, 90, 1, tree.policy())?,
+        outcome => outcome?,
+    };
+    Ok((tree, core))
+}
+
+/// Sends a call, and once more where it is refused as it may be. None where it gets anything but that or its answer.
+fn told(
+    alloc: Global,
+    lent: &mut Lent,
+    tree: &Tree,
+    line: &Line,
+    output: Vec<u8>,
+) -> Option<Vec<u8>>
+    requires { ⟦<Lent as Service>⟧.serves lent.old ≡ tree.now }
+    ensures { ⟦<Lent as Service>⟧.serves lent.new ≡ tree.now }
+{
+    let (mut output, outcome) = sent(alloc, lent, tree, line.message.as_slice(), output);
+    if output.as_slice() == line.answer.as_slice() && outcome == Ok(0) {
+        output.clear();
+        return Some(output);
+    }
+    if !line.refuses(output.as_slice(), outcome) {
+        return None;
+    }
+    output.clear();
+    let (mut output, outcome) = sent(alloc, lent, tree, line.message.as_slice(), output);
+    if output.as_slice() != line.answer.as_slice() || outcome != Ok(0) {
+        return None;
+    }
+    output.clear();
+    Some(output)
 }
 
 #[test]
 fn refused_once(rt: HostRuntime) -> Result<(), Fail> {
     let alloc = rt.alloc();
     // Where memory is refused for the test itself, there is nothing to learn.
-    let (Ok(lines), Ok(mut output)) = (script(alloc), Vec::with_capacity(alloc, 1024)) else {
+    let Ok(lines) = script(alloc) else {
         return Ok(());
     };
-    let mut lent = Lent::new(Core::new(alloc, 90, 1));
-    for line in &lines {
-        let (first, outcome) = sent(alloc, &mut lent, line.message.as_slice(), output);
-        if first.as_slice() == line.answer.as_slice() && outcome == Ok(0) {
-            output = first;
-            output.clear();
-            continue;
+    let Ok(output) = Vec::with_capacity(alloc, 1024) else {
+        return Ok(());
+    };
+    let (tree, core) = opened_again(alloc)?;
+    let mut lent = Lent::new(core);
+    let output = told(alloc, &mut lent, &tree, &lines[0], output).ok_or("SETCLIENTID")?;
+    let output = told(alloc, &mut lent, &tree, &lines[1], output).ok_or("its confirmation")?;
+    let output = told(alloc, &mut lent, &tree, &lines[2], output).ok_or("its confirmation again")?;
+    told(alloc, &mut lent, &tree, &lines[3], output).ok_or("attributes")?;
+    Ok(())
+}
+
+/// Three records, cut here and there: a piece that is refused leaves all as it was, and is taken when it comes again.
+#[test]
+fn records_refused_once(rt: HostRuntime) -> Result<(), Fail> {
+    let pieces: [&[u8]; 4] = [
+        &[0x80, 0, 0, 1, 1, 0, 0, 0, 1],
+        &[2, 0x80, 0, 0],
+        &[1, 3, 0x80, 0, 0, 2, 4],
+        &[5],
+    ];
+    let messages: [&[u8]; 3] = [&[1], &[2, 3], &[4, 5]];
+    let mut records = Records::new(rt.alloc());
+    for piece in pieces {
+        let (rest, fed) = (records.rest(), records.fed());
+        assert!(rt; fed + piece.len() as u64 <= 1 << 40);
+        let mut taken = records.feed(piece);
+        if taken == Err(RecordError::Memory) {
+            assert_eq!(rt; (records.rest(), records.fed()), (rest, fed));
+            assert!(rt; !records.is_too_long());
+            taken = records.feed(piece);
         }
-        assert!(rt;
-            line.refuses(first.as_slice(), outcome),
-            "{first:?} {outcome:?}"
-        );
-        output = first;
-        output.clear();
-        let (second, outcome) = sent(alloc, &mut lent, line.message.as_slice(), output);
-        assert_eq!(rt; second.as_slice(), line.answer.as_slice());
-        assert_eq!(rt; outcome, Ok(0));
-        output = second;
-        output.clear();
+        assert_eq!(rt; taken, Ok(()));
     }
+    for message in messages {
+        assert!(rt;
+            records
+                .next()
+                .is_some_and(|next| next.as_slice() == message)
+        );
+    }
+    assert!(rt; records.next().is_none());
     Ok(())
 }

@@ -30,7 +30,7 @@ fn null(rt: HostRuntime) -> Result<(), Fail> {
         rt.alloc(),
         &[0x8000_0028, 7, 0, 2, 0x0001_86a3, 4, 0, 0, 0, 0, 0],
     )?;
-    let (output, outcome) = served(rt.alloc(), input.as_slice());
+    let (output, outcome) = served(rt.alloc(), input.as_slice())?;
     let expected = bytes_of(rt.alloc(), &[0x8000_0018, 7, 1, 0, 0, 0, 0])?;
     assert_eq!(rt; output.as_slice(), expected.as_slice());
     assert_eq!(rt; outcome, Ok(0));
@@ -47,7 +47,7 @@ fn client_ids(rt: HostRuntime) -> Result<(), Fail> {
     let mut expected = reply(alloc, 1, &[0, 0, 1, 35, 0, 1, 1, 0, 1])?;
     expected.extend_from_slice(reply(alloc, 2, &[0, 0, 1, 36, 0])?.as_slice())?;
     expected.extend_from_slice(reply(alloc, 3, &[0, 0, 1, 36, 0])?.as_slice())?;
-    let (output, outcome) = served(alloc, input.as_slice());
+    let (output, outcome) = served(alloc, input.as_slice())?;
     assert_eq!(rt; output.as_slice(), expected.as_slice());
     assert_eq!(rt; outcome, Ok(0));
     Ok(())
@@ -70,8 +70,8 @@ fn compounds(rt: HostRuntime) -> Result<(), Fail> {
         ("minor version 1", &[0, 1, 1, 24], &[10021, 0, 0]),
         (
             "an operation without a rule",
-            &[0, 0, 2, 24, 24],
-            &[10004, 0, 1, 24, 10004],
+            &[0, 0, 2, 26, 24],
+            &[10004, 0, 1, 26, 10004],
         ),
         (
             "SETATTR has a bitmap",
@@ -108,61 +108,8 @@ fn compounds(rt: HostRuntime) -> Result<(), Fail> {
     ];
     for (name, arguments, results) in table {
         let input = call(rt.alloc(), 9, 1, arguments)?;
-        let (output, outcome) = served(rt.alloc(), input.as_slice());
+        let (output, outcome) = served(rt.alloc(), input.as_slice())?;
         let expected = reply(rt.alloc(), 9, results)?;
-        assert_eq!(rt; output.as_slice(), expected.as_slice(), "{name}");
-        assert_eq!(rt; outcome, Ok(0), "{name}");
-    }
-    Ok(())
-}
-
-/// Records to which nothing is said, each before a NULL that is answered.
-#[test]
-fn silence(rt: HostRuntime) -> Result<(), Fail> {
-    let table: [(&str, &[u32]); 10] = [
-        (
-            "RPC version 3",
-            &[0x8000_0028, 1, 0, 3, 100_003, 4, 0, 0, 0, 0, 0],
-        ),
-        (
-            "a reply",
-            &[0x8000_0028, 1, 1, 2, 100_003, 4, 0, 0, 0, 0, 0],
-        ),
-        (
-            "another program",
-            &[0x8000_0028, 1, 0, 2, 100_004, 4, 0, 0, 0, 0, 0],
-        ),
-        (
-            "version 3",
-            &[0x8000_0028, 1, 0, 2, 100_003, 3, 0, 0, 0, 0, 0],
-        ),
-        (
-            "procedure 2",
-            &[0x8000_0028, 1, 0, 2, 100_003, 4, 2, 0, 0, 0, 0],
-        ),
-        (
-            "flavor 1",
-            &[0x8000_0028, 1, 0, 2, 100_003, 4, 0, 1, 0, 0, 0],
-        ),
-        (
-            "a credential of 401 bytes",
-            &[0x8000_0028, 1, 0, 2, 100_003, 4, 0, 0, 401, 0, 0],
-        ),
-        (
-            "a header that is cut",
-            &[0x8000_0024, 1, 0, 2, 100_003, 4, 0, 0, 0, 0],
-        ),
-        (
-            "no count of a COMPOUND",
-            &[0x8000_0030, 1, 0, 2, 100_003, 4, 1, 0, 0, 0, 0, 0, 0],
-        ),
-        ("nothing", &[0x8000_0000]),
-    ];
-    for (name, words) in table {
-        let mut input = bytes_of(rt.alloc(), words)?;
-        input.extend_from_slice(call(rt.alloc(), 7, 0, &[])?.as_slice())?;
-        let (output, outcome) = served(rt.alloc(), input.as_slice());
-        let expected = reply(rt.alloc(), 7, &[])?;
         assert_eq!(rt; output.as_slice(), expected.as_slice(), "{name}");
         assert_eq!(rt; outcome, Ok(0), "{name}");
     }
@@ -188,7 +135,7 @@ fn passed_over(rt: HostRuntime) -> Result<(), Fail> {
     ];
     for (name, words) in table {
         let input = bytes_of(rt.alloc(), words)?;
-        let (output, _) = served(rt.alloc(), input.as_slice());
+        let (output, _) = served(rt.alloc(), input.as_slice())?;
         let expected = reply(rt.alloc(), 7, &[])?;
         assert_eq!(rt; output.as_slice(), expected.as_slice(), "{name}");
     }

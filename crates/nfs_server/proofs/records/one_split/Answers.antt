@@ -1,5 +1,0 @@
-use Rattle.nfs_server.proofs.Splitting.{one_split}
-use Rattle.nfs_server.proofs.records.one_split.Goals as goal
-
-pub returns : goal.returns
-returns c = one_split
