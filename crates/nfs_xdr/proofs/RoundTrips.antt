@@ -30,11 +30,11 @@ use Rattle.nfs_xdr.specs.declared.set_client_id_confirm.SetClientIdConfirm.{SetC
 use Rattle.nfs_xdr.specs.declared.status.Status.{Status}
 use Rattle.nfs_xdr.specs.declared.status.Status.TheVariants as status
 use Rattle.nfs_xdr.specs.Access.{AccessRestFits, IsAccessBits, IsAccessRest, access_status, written_access_bits}
-use Rattle.nfs_xdr.specs.Bitmap.{AreWords, BitmapFits, IsBitmap, written_bitmap}
-use Rattle.nfs_xdr.specs.Callback.{AddressFits, CallbackFits, IsAddress, IsCallback, written_address, written_callback}
+use Rattle.nfs_xdr.specs.Bitmap.{AreWords, BitmapFits, IsBitmap, bitmap_at, written_bitmap}
+use Rattle.nfs_xdr.specs.Callback.{AddressFits, CallbackFits, IsAddress, IsCallback, address_at, written_address, written_callback}
 use Rattle.nfs_xdr.specs.ClientId.{ClientIdFits, IsClientId, written_client_id}
-use Rattle.nfs_xdr.specs.Fattr.{FattrFits, IsFattr, written_fattr}
-use Rattle.nfs_xdr.specs.FileHandle.{IsFileHandle}
+use Rattle.nfs_xdr.specs.Fattr.{FattrFits, IsFattr, fattr_at, written_fattr}
+use Rattle.nfs_xdr.specs.FileHandle.{IsFileHandle, file_handle_at}
 use Rattle.nfs_xdr.specs.GetAttr.{GetAttrRestFits, IsGetAttrRest, get_attr_status}
 use Rattle.nfs_xdr.specs.GetFh.{GetFhRestFits, IsGetFhRest, get_fh_status}
 use Rattle.nfs_xdr.specs.Layout.{◌⨾◌, Nothing, Number, U32, U64, Flag, Fixed, Opaque, NO_LIMIT, padding_of}
@@ -47,8 +47,9 @@ use Rattle.nfs_xdr.specs.SetClientIdConfirm.{IsSetClientIdConfirm, SetClientIdCo
 use Rattle.nfs_xdr.specs.Status.{IsStatus, number_of, written_status}
 use Rattle.nfs_xdr.specs.Writing.{written_u32, written_u64, written_flag, written_opaque, zeros}
 use Rattle.nfs_xdr.proofs.BasicForms.{decided, reads_number, reads_flag, reads_fixed, reads_opaque}
-use Rattle.nfs_xdr.proofs.Operations.{ruled}
+use Rattle.nfs_xdr.proofs.Operations.{reads_address, reads_fattr, reads_file_handle, ruled}
 use Rattle.nfs_xdr.proofs.Results.{reads_result}
+use Rattle.nfs_xdr.proofs.Words.{reads_bitmap}
 
 read_again : {A : Type 0} (Fits : A → Type 0) (written : A → List ℕ) (layout : A → List ℕ → Type 0) (read : List ℕ → Read A) → Reads layout read → ((value : A) → Fits value → layout value (written value)) → IsReadAgain Fits written layout read
 read_again Fits written layout read law stand = record {
@@ -127,6 +128,19 @@ bitmap_stands words fits = (written_u32 (length words), flat_map written_u32 wor
 
 fattr_stands : (f : Fattr) → FattrFits f → IsFattr f (written_fattr f)
 fattr_stands f fits = (written_bitmap f.mask, written_opaque f.values, refl, bitmap_stands f.mask fits.0, opaque_stands NO_LIMIT f.values fits.1 (omega arith))
+
+-- The forms that have a name of their own.
+pub again_file_handle : IsReadAgain (λ handle. length handle ≤ FILE_HANDLE_LIMIT) written_opaque IsFileHandle file_handle_at
+again_file_handle = read_again (λ handle. length handle ≤ FILE_HANDLE_LIMIT) written_opaque IsFileHandle file_handle_at reads_file_handle (λ handle fits. opaque_stands FILE_HANDLE_LIMIT handle fits (omega arith))
+
+pub again_bitmap : IsReadAgain BitmapFits written_bitmap IsBitmap bitmap_at
+again_bitmap = read_again BitmapFits written_bitmap IsBitmap bitmap_at reads_bitmap bitmap_stands
+
+pub again_fattr : IsReadAgain FattrFits written_fattr IsFattr fattr_at
+again_fattr = read_again FattrFits written_fattr IsFattr fattr_at reads_fattr fattr_stands
+
+pub again_address : IsReadAgain AddressFits written_address IsAddress address_at
+again_address = read_again AddressFits written_address IsAddress address_at reads_address address_stands
 
 -- each status has a number of four bytes
 status_stands : (s : Status) → IsStatus s (written_status s)

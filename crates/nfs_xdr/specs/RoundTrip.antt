@@ -1,9 +1,14 @@
 -- What is written is read again, whatever follows.
 use Rattle.std.specs.Prelude.{◌≡◌, ℕ, ◌^◌, ◌<◌, ◌≤◌, Bool, List, ◌++◌, length, Ok}
 use Rattle.nfs_xdr.specs.declared.compound.Compound.{Compound}
+use Rattle.nfs_xdr.specs.declared.file_handle.TheConstants.{FILE_HANDLE_LIMIT}
 use Rattle.nfs_xdr.specs.declared.op.Op.{Op}
 use Rattle.nfs_xdr.specs.declared.op_result.OpResult.{OpResult}
+use Rattle.nfs_xdr.specs.Bitmap.{BitmapFits, IsBitmap, bitmap_at, written_bitmap}
+use Rattle.nfs_xdr.specs.Callback.{AddressFits, IsAddress, address_at, written_address}
 use Rattle.nfs_xdr.specs.Compound.{IsCompound, compound_at}
+use Rattle.nfs_xdr.specs.Fattr.{FattrFits, IsFattr, fattr_at, written_fattr}
+use Rattle.nfs_xdr.specs.FileHandle.{IsFileHandle, file_handle_at}
 use Rattle.nfs_xdr.specs.Layout.{U32, U64, Flag, Fixed, Opaque}
 use Rattle.nfs_xdr.specs.Op.{OpFits, StandsAt, op_at, written_op}
 use Rattle.nfs_xdr.specs.OpResult.{IsResult, ResultFits, result_at, written_result}
@@ -29,6 +34,19 @@ FixedAreReadAgain = (count : ℕ) → IsReadAgain (λ bytes. length bytes ≡ co
 
 abbrev pub OpaquesAreReadAgain : Type 0
 OpaquesAreReadAgain = (limit : ℕ) → IsReadAgain (λ bytes. (length bytes ≤ limit) × (length bytes < 2 ^ 32)) written_opaque (Opaque limit) (opaque_at limit)
+
+-- The forms that have a name of their own. A filehandle is never longer than its form.
+abbrev pub FileHandlesAreReadAgain : Type 0
+FileHandlesAreReadAgain = IsReadAgain (λ handle. length handle ≤ FILE_HANDLE_LIMIT) written_opaque IsFileHandle file_handle_at
+
+abbrev pub BitmapsAreReadAgain : Type 0
+BitmapsAreReadAgain = IsReadAgain BitmapFits written_bitmap IsBitmap bitmap_at
+
+abbrev pub AttributesAreReadAgain : Type 0
+AttributesAreReadAgain = IsReadAgain FattrFits written_fattr IsFattr fattr_at
+
+abbrev pub AddressesAreReadAgain : Type 0
+AddressesAreReadAgain = IsReadAgain AddressFits written_address IsAddress address_at
 
 abbrev pub ResultsAreReadAgain : Type 0
 ResultsAreReadAgain = IsReadAgain ResultFits written_result IsResult result_at

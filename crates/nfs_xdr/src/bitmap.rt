@@ -72,8 +72,9 @@ impl Clone for Bitmap {
     }
 }
 
+/// A bitmap and the bytes behind it. Short where there are fewer words than its count says (RFC 7531, bitmap4).
 #[tactic(auto, unfolding(crate::specs::Bitmap::bitmap_at))]
-pub(crate) fn read_bitmap(alloc: Global, bytes: &[u8]) -> Result<(Bitmap, &[u8]), WireError>
+pub fn read_bitmap(alloc: Global, bytes: &[u8]) -> Result<(Bitmap, &[u8]), WireError>
     ensures { Gives (λ x. (x.0, x.1.now)) result (bitmap_at bytes.now) }
 {
     let (count, rest) = read_u32(bytes)?;
@@ -96,7 +97,8 @@ fn read_words(alloc: Global, count: u32, bytes: &[u8]) -> Result<(Bitmap, &[u8])
     Ok((Bitmap::new(words), rest))
 }
 
-pub(crate) fn write_bitmap(out: &mut Vec<u8>, bitmap: &Bitmap) -> Result<(), WireError>
+/// Writes the count and the words. TooLong from 2^32 words on.
+pub fn write_bitmap(out: &mut Vec<u8>, bitmap: &Bitmap) -> Result<(), WireError>
     ensures { Writes out.old out.new result (written_bitmap bitmap.now) (IsBitmapTooLong bitmap.now) }
 {
     let Ok(count) = u32::try_from(bitmap.as_slice().len()) else {

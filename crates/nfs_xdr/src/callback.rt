@@ -26,8 +26,9 @@ pub struct Callback {
     pub ident: u32,
 }
 
+/// An address and the bytes behind it. Short where bytes are missing (RFC 7531, clientaddr4).
 #[tactic(auto, unfolding(crate::specs::Callback::address_at))]
-pub(crate) fn read_address(alloc: Global, bytes: &[u8]) -> Result<(Address, &[u8]), WireError>
+pub fn read_address(alloc: Global, bytes: &[u8]) -> Result<(Address, &[u8]), WireError>
     ensures { Gives (λ x. (x.0, x.1.now)) result (address_at bytes.now) }
 {
     let (netid, rest) = read_opaque_bytes(alloc, bytes, u32::MAX)?;
@@ -50,7 +51,8 @@ pub(crate) fn read_callback(alloc: Global, bytes: &[u8]) -> Result<(Callback, &[
     Ok((callback, rest))
 }
 
-pub(crate) fn write_address(out: &mut Vec<u8>, address: &Address) -> Result<(), WireError>
+/// Writes the two names, each with its length. TooLong where one has 2^32 bytes or more.
+pub fn write_address(out: &mut Vec<u8>, address: &Address) -> Result<(), WireError>
     ensures { Writes out.old out.new result (written_address address.now) (IsAddressTooLong address.now) }
 {
     write_opaque(out, address.netid.as_slice())?;

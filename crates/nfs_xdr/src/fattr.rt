@@ -25,8 +25,9 @@ impl Fattr {
     }
 }
 
+/// Attributes and the bytes behind them. Short where bytes are missing (RFC 7531, fattr4).
 #[tactic(auto, unfolding(crate::specs::Fattr::fattr_at))]
-pub(crate) fn read_fattr(alloc: Global, bytes: &[u8]) -> Result<(Fattr, &[u8]), WireError>
+pub fn read_fattr(alloc: Global, bytes: &[u8]) -> Result<(Fattr, &[u8]), WireError>
     ensures { Gives (λ x. (x.0, x.1.now)) result (fattr_at bytes.now) }
 {
     let (mask, rest) = read_bitmap(alloc, bytes)?;
@@ -34,7 +35,8 @@ pub(crate) fn read_fattr(alloc: Global, bytes: &[u8]) -> Result<(Fattr, &[u8]), 
     Ok((Fattr { mask, values }, rest))
 }
 
-pub(crate) fn write_fattr(out: &mut Vec<u8>, attributes: &Fattr) -> Result<(), WireError>
+/// Writes the mask and the values. TooLong where the words or the values are 2^32 or more.
+pub fn write_fattr(out: &mut Vec<u8>, attributes: &Fattr) -> Result<(), WireError>
     ensures { Writes out.old out.new result (written_fattr attributes.now) (IsFattrTooLong attributes.now) }
 {
     write_bitmap(out, &attributes.mask)?;

@@ -78,8 +78,9 @@ impl Clone for FileHandle {
     }
 }
 
+/// A filehandle and the bytes behind it. TooLong above 128 bytes, Short where bytes are missing (RFC 7531, nfs_fh4).
 #[tactic(auto, unfolding(crate::specs::FileHandle::file_handle_at))]
-pub(crate) fn read_file_handle(bytes: &[u8]) -> Result<(FileHandle, &[u8]), WireError>
+pub fn read_file_handle(bytes: &[u8]) -> Result<(FileHandle, &[u8]), WireError>
     ensures { Answers (λ x. (x.0, x.1.now)) result (file_handle_at bytes.now) }
 {
     let (handle, rest) = read_opaque(bytes, FILE_HANDLE_LIMIT as u32)?;
@@ -89,7 +90,8 @@ pub(crate) fn read_file_handle(bytes: &[u8]) -> Result<(FileHandle, &[u8]), Wire
     }
 }
 
-pub(crate) fn write_file_handle(out: &mut Vec<u8>, handle: &FileHandle) -> Result<(), WireError>
+/// Writes the filehandle's length, its bytes and zeros to a multiple of 4. Memory alone can be wanting.
+pub fn write_file_handle(out: &mut Vec<u8>, handle: &FileHandle) -> Result<(), WireError>
     ensures { Writes out.old out.new result (written_opaque handle.now) ⊥ }
 {
     write_opaque(out, handle.as_slice())

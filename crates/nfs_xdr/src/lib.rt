@@ -28,13 +28,13 @@ pub use basic::{
     padding_of, read_fixed, read_flag, read_opaque, read_opaque_bytes, read_u32, read_u64,
     write_fixed, write_flag, write_opaque, write_u32, write_u64,
 };
-pub use bitmap::Bitmap;
+pub use bitmap::{Bitmap, read_bitmap, write_bitmap};
 pub use bytes::Bytes;
-pub use callback::{Address, Callback};
+pub use callback::{Address, Callback, read_address, write_address};
 pub use client_id::ClientId;
 pub use compound::{Compound, OPERATION_LIMIT, Request, read_compound, write_results};
-pub use fattr::Fattr;
-pub use file_handle::{FILE_HANDLE_LIMIT, FileHandle};
+pub use fattr::{Fattr, read_fattr, write_fattr};
+pub use file_handle::{FILE_HANDLE_LIMIT, FileHandle, read_file_handle, write_file_handle};
 pub use get_attr::GetAttrResult;
 pub use get_fh::GetFhResult;
 pub use op::{
@@ -45,7 +45,8 @@ pub use op::{
 pub use op_result::{OpResult, read_result, write_result};
 pub use principal::Principal;
 pub use round_trip::{
-    basic_forms_are_read_again, one_value_stands, operations_and_results_are_read_again,
+    basic_forms_are_read_again, named_forms_are_read_again, one_value_stands,
+    operations_and_results_are_read_again,
 };
 pub use sequence::Sequence;
 pub use set_client_id::{ID_LIMIT, SetClientId, SetClientIdResult};

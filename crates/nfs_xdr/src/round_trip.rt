@@ -1,4 +1,4 @@
-ghost use Rattle.nfs_xdr.specs.RoundTrip.{FixedAreReadAgain, FlagsAreReadAgain, NumbersOf4AreReadAgain, NumbersOf8AreReadAgain, OneCompoundStands, OneOperationStands, OneResultStands, OpaquesAreReadAgain, OperationsAreReadAgain, ResultsAreReadAgain};
+ghost use Rattle.nfs_xdr.specs.RoundTrip.{AddressesAreReadAgain, AttributesAreReadAgain, BitmapsAreReadAgain, FileHandlesAreReadAgain, FixedAreReadAgain, FlagsAreReadAgain, NumbersOf4AreReadAgain, NumbersOf8AreReadAgain, OneCompoundStands, OneOperationStands, OneResultStands, OpaquesAreReadAgain, OperationsAreReadAgain, ResultsAreReadAgain};
 
 /// Of the basic forms what is written is read again, whatever follows.
 pub fn basic_forms_are_read_again()
@@ -7,6 +7,14 @@ pub fn basic_forms_are_read_again()
     ensures flag { FlagsAreReadAgain }
     ensures fixed { FixedAreReadAgain }
     ensures opaque { OpaquesAreReadAgain }
+{}
+
+/// Of the forms that have a name of their own what is written is read again, whatever follows.
+pub fn named_forms_are_read_again()
+    ensures file_handle { FileHandlesAreReadAgain }
+    ensures bitmap { BitmapsAreReadAgain }
+    ensures attributes { AttributesAreReadAgain }
+    ensures address { AddressesAreReadAgain }
 {}
 
 /// An operation or a result that is written is read again, whatever follows.
