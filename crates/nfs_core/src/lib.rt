@@ -14,8 +14,6 @@ mod set_client_id_confirm;
 mod stored_file;
 mod stored_files;
 mod tables;
-#[cfg(test)]
-mod tests;
 
 pub use client_record::{ADDRESS_LIMIT, CLIENT_LIMIT, ClientRecord, PathMark};
 pub use core_error::CoreError;

@@ -10,6 +10,3 @@ mod once_options;
 pub use command_line::{Subcommand, options};
 pub use declined::Declined;
 pub use once_options::OnceOptions;
-
-#[cfg(test)]
-mod tests;

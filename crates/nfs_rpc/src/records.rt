@@ -356,6 +356,3 @@ pub fn one_split()
 pub fn split_goes_on()
     ensures { SplitGoesOn }
 {}
-
-#[cfg(test)]
-mod tests;

@@ -2,10 +2,9 @@
 use Rattle.std.specs.Prelude.{◌≡◌, ℕ, ◌<◌, ◌==◌, nat_lt, not, bit_and, Bool, List, length, Option, Some, None, IfSome, if◌then◌else◌}
 use Rattle.nfs_tree.specs.declared.path.TheConstants.{NAME_LIMIT}
 use Rattle.nfs_tree.specs.declared.tree.TheConstants.{ROOT}
-use Rattle.nfs_tree.specs.Attributes.{all_access, allowed_access}
+use Rattle.nfs_tree.specs.Attributes.{access_of}
 use Rattle.nfs_tree.specs.Tree.{Files, child, handle_of, is_directory, node_count, node_of}
 use Rattle.nfs_server.specs.declared.filehandles.Filehandles.{Filehandles}
-use Rattle.nfs_xdr.specs.declared.access.AccessBits.{AccessBits}
 use Rattle.nfs_xdr.specs.declared.access.AccessResult.TheVariants as accesses
 use Rattle.nfs_xdr.specs.declared.get_fh.GetFhResult.TheVariants as handles
 use Rattle.nfs_xdr.specs.declared.op.Op.{Op}
@@ -14,10 +13,6 @@ use Rattle.nfs_xdr.specs.declared.op_result.OpResult.{OpResult}
 use Rattle.nfs_xdr.specs.declared.op_result.OpResult.TheVariants as results
 use Rattle.nfs_xdr.specs.declared.status.Status.TheVariants as status
 use Rattle.nfs_xdr.specs.OpResult.{refusal}
-
--- what ACCESS tells of the bits that were asked
-abbrev pub access_of : Bool → ℕ → AccessBits
-access_of is_directory bits = record { supported = bit_and bits all_access; access = bit_and bits (allowed_access is_directory) }
 
 -- both are absent when a COMPOUND begins
 abbrev pub no_filehandles : Filehandles

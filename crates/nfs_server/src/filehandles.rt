@@ -5,7 +5,7 @@ ghost use Rattle.nfs_xdr.specs.Op.{is_on_tree};
 ghost use Rattle.nfs_xdr.specs.OpResult.{written_result};
 
 use nfs_tree::{NAME_LIMIT, ROOT, Tree};
-use nfs_xdr::{AccessBits, AccessResult, FileHandle, GetFhResult, Op, OpResult, Status};
+use nfs_xdr::{AccessResult, FileHandle, GetFhResult, Op, OpResult, Status};
 
 /// The nodes of the current and of the saved filehandle (RFC 7530, section 15.2), each absent until an operation of the
 /// COMPOUND sets it.
@@ -53,8 +53,7 @@ impl Filehandles {
     {
         match self.current {
             Some(node) => {
-                let (supported, access) = tree.access(node, bits);
-                OpResult::Access(AccessResult::Done(AccessBits { supported, access }))
+                OpResult::Access(AccessResult::Done(tree.access(node, bits)))
             }
             None => OpResult::Access(AccessResult::Refused(Status::NoFileHandle)),
         }

@@ -1,9 +1,13 @@
-//! Tests that go through all crates, from bytes to bytes. The expected bytes come from the XDR of RFC 7531 and the
-//! messages of RFC 5531, worked out by hand in words of four bytes.
+//! The tests of all crates, through what is public of them: here, so that no library is proved twice for its tests. The
+//! expected bytes come from the XDR of RFC 7531 and the messages of RFC 5531, worked out by hand in words of four bytes.
 #![tactic(auto)]
 
 #[cfg(test)]
 mod calls;
+#[cfg(test)]
+mod client_ids;
+#[cfg(test)]
+mod command_lines;
 #[cfg(test)]
 mod credentials;
 #[cfg(test)]
@@ -22,5 +26,9 @@ mod principals;
 mod refusals;
 #[cfg(test)]
 mod rows;
+#[cfg(test)]
+mod streams;
+#[cfg(test)]
+mod trees;
 #[cfg(test)]
 mod values;

@@ -1,5 +1,6 @@
 -- The attributes of a node (RFC 7530, section 5), and the bits of ACCESS (section 16.1).
 use Rattle.std.specs.Prelude.{ℕ, ◌+◌, ◌^◌, ◌==◌, Bool, true, false, not, if◌then◌else◌, List, [], ◌∷◌, ◌++◌, bit_and}
+use Rattle.nfs_xdr.specs.declared.access.AccessBits.{AccessBits}
 use Rattle.nfs_xdr.specs.declared.fattr.Fattr.{Fattr}
 use Rattle.nfs_xdr.specs.Writing.{written_u32, written_u64, written_flag, written_opaque}
 use Rattle.nfs_tree.specs.declared.attribute.Attribute.{Attribute}
@@ -31,9 +32,13 @@ all_attributes =
     ∷ attributes.LinkSupport ∷ attributes.SymlinkSupport ∷ attributes.NamedAttr ∷ attributes.Fsid ∷ attributes.UniqueHandles
     ∷ attributes.LeaseTime ∷ attributes.RdattrError ∷ attributes.Filehandle ∷ attributes.Fileid ∷ []
 
--- the word whose bits are their numbers
+-- the word whose bits are the numbers of these
+abbrev pub word_of : List Attribute → ℕ
+word_of [] = 0
+word_of (attribute ∷ more) = 2 ^ number_of attribute + word_of more
+
 abbrev pub supported : ℕ
-supported = 0x00180fff
+supported = word_of all_attributes
 
 -- an attribute's value in its form
 abbrev pub value_of : Subject → Attribute → List ℕ
@@ -83,3 +88,7 @@ all_access = 63
 
 abbrev pub allowed_access : Bool → ℕ
 allowed_access is_directory = if is_directory then 3 else 13
+
+-- what ACCESS tells of the bits that were asked
+abbrev pub access_of : Bool → ℕ → AccessBits
+access_of is_directory bits = record { supported = bit_and bits all_access; access = bit_and bits (allowed_access is_directory) }

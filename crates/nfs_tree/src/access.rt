@@ -1,8 +1,9 @@
-ghost use Rattle.std.specs.Prelude.{◌≡◌, bit_and};
-ghost use Rattle.nfs_tree.specs.Attributes.{all_access, allowed_access};
+ghost use Rattle.std.specs.Prelude.{◌≡◌};
+ghost use Rattle.nfs_tree.specs.Attributes.{access_of};
 ghost use Rattle.nfs_tree.specs.Tree.{is_directory};
 
 use crate::Tree;
+use nfs_xdr::AccessBits;
 
 /// The bits of ACCESS (RFC 7530, section 16.1.2).
 pub const ACCESS_READ: u32 = 1;
@@ -30,15 +31,17 @@ const FILE_ACCESS: u32 = ACCESS_READ | ACCESS_MODIFY | ACCESS_EXTEND;
 
 impl Tree {
     /// What ACCESS answers of a node: the bits that it knows among these, and those that it allows.
-    pub fn access(&self, node: u32, bits: u32) -> (u32, u32)
-        ensures supported { result.0 ≡ bit_and bits all_access }
-        ensures access { result.1 ≡ bit_and bits (allowed_access (is_directory self.now.nodes node)) }
+    pub fn access(&self, node: u32, bits: u32) -> AccessBits
+        ensures { result ≡ access_of (is_directory self.now.nodes node) bits }
     {
         let allowed = if self.is_directory(node) {
             DIRECTORY_ACCESS
         } else {
             FILE_ACCESS
         };
-        (bits & ALL_ACCESS, bits & allowed)
+        AccessBits {
+            supported: bits & ALL_ACCESS,
+            access: bits & allowed,
+        }
     }
 }

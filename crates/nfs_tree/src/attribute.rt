@@ -1,6 +1,6 @@
 ghost use Rattle.std.specs.Prelude.{◌≡◌, ◌<◌, ◌^◌, ◌++◌, IfOk, OnOk, if◌then◌else◌};
 ghost use Rattle.nfs_tree.specs.Attributes.{asked, attributes_of, number_of, supported, value_asked, value_of, values_of};
-ghost use Rattle.nfs_tree.specs.Tree.{is_directory, node_count};
+ghost use Rattle.nfs_tree.specs.Tree.{is_directory};
 ghost use Rattle.nfs_xdr.specs.Writing.{written_u32, written_u64};
 
 use crate::Tree;
@@ -87,7 +87,6 @@ impl Tree {
         size: u64,
         lease: u32,
     ) -> Result<Fattr, AllocError>
-        requires { node < node_count self.now.nodes }
         ensures { IfOk result (λ f. f ≡ attributes_of (record {
           node = node;
           is_directory = is_directory self.now.nodes node;

@@ -23,6 +23,3 @@ pub use path::{NAME_LIMIT, PATH_LIMIT, paths_are_joined_names};
 pub use policy::{Callbacks, DEFAULT_POLICY, Delegations, Policy};
 pub use tree::{DIRECTORY_LIMIT, FILE_LIMIT, HANDLE_LEN, ROOT, TEXT_LIMIT, Tree};
 pub use tree_error::TreeError;
-
-#[cfg(test)]
-mod tests;

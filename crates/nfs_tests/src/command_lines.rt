@@ -1,4 +1,4 @@
-use crate::{Declined, OnceOptions, Subcommand, options};
+use nfs_options::{Declined, OnceOptions, Subcommand, options};
 use std::test::Fail;
 
 /// What the words behind the program's name ask of `once`.

@@ -1,7 +1,7 @@
 ghost use Rattle.std.specs.Prelude.{IsTrue, IfOk, ◌≤◌};
 ghost use Rattle.nfs_xdr.specs.Op.{has_entry};
 
-use crate::{CLIENT_LIMIT, Core, LEASE_MAX, LEASE_MIN, Moment, at_most_one_step};
+use nfs_core::{CLIENT_LIMIT, Core, LEASE_MAX, LEASE_MIN, Moment, at_most_one_step};
 use nfs_tree::{Callbacks, Delegations, Policy, Tree};
 use nfs_xdr::{
     Address, Bitmap, Bytes, Callback, ClientId, GetAttrResult, Op, OpResult, Principal,
@@ -307,22 +307,30 @@ fn tells(answer: &OpResult, values: &[u8]) -> bool {
     }
 }
 
-/// The attributes of the root and of a file, and none without a filehandle: each answer is an entry.
+/// The root's type, change value and size, and those of a file: each answer is an entry.
 #[test]
 fn attributes(rt: HostRuntime) -> Result<(), Fail> {
     let alloc = rt.alloc();
     let mut core = opened(alloc, 90, Callbacks::Probe)?;
-    let root: [u8; 20] = [0, 0, 0, 2, 0, 0, 0, 0, 0, 0, 0, 0, 0, 0, 0, 0, 0, 0, 0, 0];
-    let (answer, number) = attributes_of(&mut core, alloc, 0)?;
-    assert!(rt; tells(&answer, root.as_slice()));
-    assert_eq!(rt; number, Some(0));
-    let file: [u8; 20] = [0, 0, 0, 1, 0, 0, 0, 0, 0, 0, 0, 0, 0, 0, 0, 0, 0, 0, 0, 5];
-    let (answer, number) = attributes_of(&mut core, alloc, 1)?;
-    assert!(rt; tells(&answer, file.as_slice()));
-    assert_eq!(rt; number, Some(1));
+    let nodes: [[u8; 20]; 2] = [
+        [0, 0, 0, 2, 0, 0, 0, 0, 0, 0, 0, 0, 0, 0, 0, 0, 0, 0, 0, 0],
+        [0, 0, 0, 1, 0, 0, 0, 0, 0, 0, 0, 0, 0, 0, 0, 0, 0, 0, 0, 5],
+    ];
+    for (node, values) in nodes.iter().enumerate() {
+        let (answer, number) = attributes_of(&mut core, alloc, node as u32)?;
+        assert!(rt; tells(&answer, values.as_slice()) && number == Some(node as u32));
+    }
+    Ok(())
+}
+
+/// Without a filehandle there are none, which is an entry too.
+#[test]
+fn attributes_of_nothing(rt: HostRuntime) -> Result<(), Fail> {
+    let alloc = rt.alloc();
+    let mut core = opened(alloc, 90, Callbacks::Probe)?;
     let op = Op::GetAttr(Bitmap::new(vec![in alloc; 0x1a_u32; 1]?));
     let (answer, number) = core.apply(start(), NONE, &op, None);
     assert!(rt; answer == OpResult::GetAttr(GetAttrResult::Refused(Status::NoFileHandle)));
-    assert_eq!(rt; number, Some(2));
+    assert_eq!(rt; number, Some(0));
     Ok(())
 }
