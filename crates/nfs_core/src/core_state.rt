@@ -1,7 +1,7 @@
-ghost use Rattle.std.specs.Prelude.{◌≡◌, ◌≤◌, [], IfOk, IsTrue, length};
-ghost use Rattle.nfs_core.specs.Server.{Applies, IsLawful};
+ghost use Rattle.std.specs.Prelude.{◌≡◌, ◌≤◌, [], IfOk, IfSome, IfNone, IsTrue, length};
+ghost use Rattle.nfs_core.specs.Server.{Applies, Enters, IsLawful};
 ghost use Rattle.nfs_core.specs.State.{empty_server};
-ghost use Rattle.nfs_core.specs.Step.{AtMostOneStep, IsFilehandle};
+ghost use Rattle.nfs_core.specs.Step.{AtMostOneStep, IsFilehandle, call_of};
 ghost use Rattle.nfs_xdr.specs.Op.{has_entry};
 ghost use Rattle.nfs_xdr.specs.OpResult.{written_result};
 
@@ -11,10 +11,7 @@ use crate::set_client_id_confirm::set_client_id_confirm;
 use crate::tables::Tables;
 use crate::{CoreError, Journal, LEASE_MAX, LEASE_MIN, Moment};
 use nfs_tree::{Policy, Tree};
-use nfs_xdr::{
-    Bitmap, GetAttrResult, Op, OpResult, Principal, SetClientId, SetClientIdConfirm,
-    SetClientIdResult, Status,
-};
+use nfs_xdr::{Op, OpResult, Principal, Status};
 use std::alloc::Global;
 use std::marker::Model;
 
@@ -80,81 +77,13 @@ impl Core {
         ensures short { length (written_result result.0) ≤ ANSWER_LIMIT }
         ensures lawful { IsLawful self.new }
     {
-        match op {
-            Op::GetAttr(mask) => self.get_attr(moment, principal, mask, filehandle),
-            Op::SetClientId(args) => self.set_client_id(moment, principal, args, filehandle),
-            Op::SetClientIdConfirm(args) => {
-                self.set_client_id_confirm(moment, principal, args, filehandle)
-            }
-            _ => unreachable!(),
-        }
-    }
-
-    fn get_attr(
-        &mut self,
-        moment: Moment,
-        principal: Principal,
-        mask: &Bitmap,
-        filehandle: Option<u32>,
-    ) -> (OpResult, Option<u32>)
-        requires node { IsFilehandle self.old.journal filehandle }
-        ensures applies { Applies self.old self.new moment principal (Op.GetAttr mask.now) filehandle result.0 result.1 }
-        ensures short { length (written_result result.0) ≤ ANSWER_LIMIT }
-        ensures lawful { IsLawful self.new }
-    {
-        let tables = &self.tables;
+        let tables = &mut self.tables;
         let journal = &mut self.journal;
-        match get_attr(
-            self.alloc, tables, journal, moment, principal, mask, filehandle,
+        match enter(
+            self.alloc, tables, journal, moment, principal, op, filehandle,
         ) {
-            Some((answer, number)) => (OpResult::GetAttr(answer), Some(number)),
-            None => (
-                OpResult::GetAttr(GetAttrResult::Refused(Status::Resource)),
-                None,
-            ),
-        }
-    }
-
-    fn set_client_id(
-        &mut self,
-        moment: Moment,
-        principal: Principal,
-        args: &SetClientId,
-        filehandle: Option<u32>,
-    ) -> (OpResult, Option<u32>)
-        requires node { IsFilehandle self.old.journal filehandle }
-        ensures applies { Applies self.old self.new moment principal (Op.SetClientId args.now) filehandle result.0 result.1 }
-        ensures short { length (written_result result.0) ≤ ANSWER_LIMIT }
-        ensures lawful { IsLawful self.new }
-    {
-        let tables = &mut self.tables;
-        let journal = &mut self.journal;
-        match set_client_id(tables, journal, moment, principal, args, filehandle) {
-            Some((answer, number)) => (OpResult::SetClientId(answer), Some(number)),
-            None => (
-                OpResult::SetClientId(SetClientIdResult::Refused(Status::Resource)),
-                None,
-            ),
-        }
-    }
-
-    fn set_client_id_confirm(
-        &mut self,
-        moment: Moment,
-        principal: Principal,
-        args: &SetClientIdConfirm,
-        filehandle: Option<u32>,
-    ) -> (OpResult, Option<u32>)
-        requires node { IsFilehandle self.old.journal filehandle }
-        ensures applies { Applies self.old self.new moment principal (Op.SetClientIdConfirm args.now) filehandle result.0 result.1 }
-        ensures short { length (written_result result.0) ≤ ANSWER_LIMIT }
-        ensures lawful { IsLawful self.new }
-    {
-        let tables = &mut self.tables;
-        let journal = &mut self.journal;
-        match set_client_id_confirm(tables, journal, moment, principal, args, filehandle) {
-            Some((answer, number)) => (OpResult::SetClientIdConfirm(answer), Some(number)),
-            None => (OpResult::SetClientIdConfirm(Status::Resource), None),
+            Some((answer, number)) => (answer, Some(number)),
+            None => (op.refusal(Status::Resource), None),
         }
     }
 
@@ -163,6 +92,39 @@ impl Core {
         ensures { result.now ≡ self.now.journal }
     {
         &self.journal
+    }
+}
+
+// Answers an operation and enters it: the answer and its entry's number, or none and no change where it is refused.
+fn enter(
+    alloc: Global,
+    tables: &mut Tables,
+    journal: &mut Journal,
+    moment: Moment,
+    principal: Principal,
+    op: &Op,
+    filehandle: Option<u32>,
+) -> Option<(OpResult, u32)>
+    requires entry { IsTrue (has_entry op.now) }
+    requires confirm { tables.old.clients.last_confirm ≤ length journal.old.entries }
+    requires node { IsFilehandle journal.old filehandle }
+    ensures entered { IfSome result (λ r. Enters
+        (record { journal = journal.old; state = tables.old })
+        (record { journal = journal.new; state = tables.new })
+        (call_of moment principal op.now filehandle r.0)) }
+    ensures number { IfSome result (λ r. r.1 ≡ length journal.old.entries) }
+    ensures short { IfSome result (λ r. length (written_result r.0) ≤ ANSWER_LIMIT) }
+    ensures refused { IfNone result ((journal.new ≡ journal.old) × (tables.new ≡ tables.old)) }
+{
+    match op {
+        Op::GetAttr(mask) => get_attr(alloc, tables, journal, moment, principal, mask, filehandle),
+        Op::SetClientId(args) => {
+            set_client_id(tables, journal, moment, principal, args, filehandle)
+        }
+        Op::SetClientIdConfirm(args) => {
+            set_client_id_confirm(tables, journal, moment, principal, args, filehandle)
+        }
+        _ => unreachable!(),
     }
 }
 

@@ -4,6 +4,7 @@ ghost use Rattle.nfs_core.specs.GetAttr.{got_attributes};
 ghost use Rattle.nfs_xdr.specs.GetAttr.{written_get_attr_result};
 ghost use Rattle.nfs_core.specs.Server.{Enters};
 ghost use Rattle.nfs_core.specs.Step.{IsFilehandle, call_of};
+ghost use Rattle.nfs_xdr.specs.OpResult.{written_result};
 
 use crate::journal::{make_room, push_call};
 use crate::tables::Tables;
@@ -21,13 +22,13 @@ pub(crate) fn get_attr(
     principal: Principal,
     mask: &Bitmap,
     filehandle: Option<u32>,
-) -> Option<(GetAttrResult, u32)>
+) -> Option<(OpResult, u32)>
     requires node { IsFilehandle journal.old filehandle }
     ensures entered { IfSome result (λ r. Enters
         (record { journal = journal.old; state = tables.now })
         (record { journal = journal.new; state = tables.now })
-        (call_of moment principal (Op.GetAttr mask.now) filehandle (OpResult.GetAttr r.0))) }
-    ensures short { IfSome result (λ r. length (written_get_attr_result r.0) ≤ ANSWER_LIMIT - 4) }
+        (call_of moment principal (Op.GetAttr mask.now) filehandle r.0)) }
+    ensures short { IfSome result (λ r. length (written_result r.0) ≤ ANSWER_LIMIT) }
     ensures number { IfSome result (λ r. r.1 ≡ length journal.old.entries) }
     ensures refused { IfNone result (journal.new ≡ journal.old) }
 {
@@ -42,7 +43,8 @@ pub(crate) fn get_attr(
         filehandle,
         answer: kept,
     };
-    Some((answer, push_call(&mut journal.entries, call)))
+    let number = push_call(&mut journal.entries, call);
+    Some((OpResult::GetAttr(answer), number))
 }
 
 fn attributes(
