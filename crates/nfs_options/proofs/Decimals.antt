@@ -1,5 +1,5 @@
 -- What `parse` reads of a text without a plus sign.
-use Rattle.std.proofs.Common.{◌≡◌, ◌<◌, ◌^◌, ◌==◌, ℕ, List, [], ◌∷◌, Option, Some, None, Result, Ok, Err, refl, sym, subst, arith, true, false, true≢false, slice_index}
+use Rattle.std.proofs.Common.{◌≡◌, ◌<◌, ◌^◌, ◌==◌, ℕ, List, [], ◌∷◌, Result, Ok, Err, refl, subst, arith, true, false, slice_index}
 use Rattle.std.specs.Prelude.{SomeIff}
 use Rattle.std.specs.Result.{result_ok}
 use Rattle.std.specs.Char.{digit_value}

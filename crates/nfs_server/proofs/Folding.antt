@@ -10,9 +10,9 @@ use Rattle.std.proofs.Math.ListN.{drop_of_length-le}
 use Rattle.nfs_rpc.specs.declared.records.TheConstants.{RECORD_LIMIT}
 use Rattle.nfs_server.specs.declared.service.TheConstants.{ANSWER_ROOM}
 use Rattle.nfs_server.specs.declared.filehandles.Filehandles.{Filehandles}
-use Rattle.nfs_server.specs.Answering.{Outcome, ends_with, ending_result, goes_on, is_ok, outcome_of}
-use Rattle.nfs_server.specs.Asking.{Asks, Question, question_of}
-use Rattle.nfs_server.specs.Filehandles.{Answered, no_filehandles, on_tree}
+use Rattle.nfs_server.specs.Answering.{ends_with, ending_result, is_ok, outcome_of}
+use Rattle.nfs_server.specs.Asking.{Question, question_of}
+use Rattle.nfs_server.specs.Filehandles.{no_filehandles, on_tree}
 use Rattle.nfs_tree.specs.Tree.{Files}
 use Rattle.nfs_server.specs.Folding.{IsAnswer, AreAnswers, IsDetermined}
 use Rattle.nfs_xdr.specs.declared.principal.Principal.{Principal}

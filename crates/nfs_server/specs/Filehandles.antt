@@ -1,5 +1,5 @@
 -- The operations on the tree and the filehandles alone (RFC 7530, sections 16.1, 16.8, 16.13, 16.20, 16.22, 16.29, 16.30).
-use Rattle.std.specs.Prelude.{◌≡◌, ℕ, ◌<◌, ◌==◌, nat_lt, not, bit_and, Bool, List, length, Option, Some, None, IfSome, if◌then◌else◌}
+use Rattle.std.specs.Prelude.{◌≡◌, ℕ, ◌<◌, ◌==◌, nat_lt, not, List, length, Option, Some, None, IfSome, if◌then◌else◌}
 use Rattle.nfs_tree.specs.declared.path.TheConstants.{NAME_LIMIT}
 use Rattle.nfs_tree.specs.declared.tree.TheConstants.{ROOT}
 use Rattle.nfs_tree.specs.Attributes.{access_of}

@@ -52,9 +52,7 @@ impl Filehandles {
         ensures short { length (written_result result) ≤ ANSWER_LIMIT }
     {
         match self.current {
-            Some(node) => {
-                OpResult::Access(AccessResult::Done(tree.access(node, bits)))
-            }
+            Some(node) => { OpResult::Access(AccessResult::Done(tree.access(node, bits))) }
             None => OpResult::Access(AccessResult::Refused(Status::NoFileHandle)),
         }
     }

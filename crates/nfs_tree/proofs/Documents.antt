@@ -11,7 +11,7 @@ use Rattle.std.proofs.Math.ListN.{drop_of_length-le}
 use Rattle.toml.specs.declared.value.Value.{Value}
 use Rattle.toml.specs.View.{view, items_view}
 use Rattle.toml.proofs.Views.{items_view-drop}
-use Rattle.toml.specs.Data.{Data, Items, no_items, item, Members}
+use Rattle.toml.specs.Data.{Data, Items, item, Members}
 use Rattle.toml.specs.Parse.{parse_document}
 
 -- entries that were read, before those of the rest

@@ -1,15 +1,15 @@
 -- A tree that an entry comes into is one again.
-use Rattle.std.proofs.Common.{◌≡◌, ℕ, ◌+◌, ◌-◌, ◌<◌, ◌≤◌, ◌==◌, Bool, true, false, not, List, [], ◌∷◌, ◌++◌, length, Option, Some, None, refl, sym, ap, subst, ◌∙◌, arith, inl, inr, length-append}
+use Rattle.std.proofs.Common.{◌≡◌, ℕ, ◌+◌, ◌≤◌, ◌==◌, Bool, true, false, List, [], ◌∷◌, ◌++◌, length, Some, None, refl, sym, ap, subst, ◌∙◌, arith, inl, inr, length-append}
 use Rattle.std.specs.List.{list_all}
-use Rattle.std.specs.Prelude.{◌&&◌, ◌||◌}
+use Rattle.std.specs.Prelude.{◌||◌}
 use Rattle.std.proofs.lemmas.Bool.{ltb-false}
 use Rattle.std.proofs.lemmas.Bool.Decides.{nat_tests}
 use Rattle.nfs_tree.specs.declared.node.Node.{Node}
 use Rattle.nfs_tree.specs.declared.node.NodeKind.{NodeKind}
 use Rattle.nfs_tree.specs.declared.node.NodeKind.TheVariants.{Directory, File}
-use Rattle.nfs_tree.specs.declared.tree.TheConstants.{FILE_LIMIT, DIRECTORY_LIMIT, TEXT_LIMIT}
-use Rattle.nfs_tree.specs.Building.{Way, way, names_of, next_on, chain, kind_before, new_directories, is_file_too_many, is_too_many}
-use Rattle.nfs_tree.specs.Tree.{Files, is_name, is_directory, is_directory_kind, child, directories, files, HasTextWithin, Fits, EachFits, IsTree}
+use Rattle.nfs_tree.specs.declared.tree.TheConstants.{FILE_LIMIT, DIRECTORY_LIMIT}
+use Rattle.nfs_tree.specs.Building.{Way, way, names_of, chain, kind_before, new_directories, is_file_too_many, is_too_many}
+use Rattle.nfs_tree.specs.Tree.{Files, is_name, is_directory, is_directory_kind, child, directories, files, HasTextWithin, EachFits, IsTree}
 use Rattle.nfs_tree.proofs.Paths.{names_are_names}
 use Rattle.nfs_tree.proofs.Nodes.{and_parts, option_cases, directory_next, directory_within, ParentsWithin, parents_append, parents_more, parents_of, no_child, fits_append, directories_append, files_append}
 

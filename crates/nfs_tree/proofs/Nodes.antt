@@ -1,7 +1,7 @@
 -- Nodes of a list: which are directories, who has a child, and how many there are of each kind.
-use Rattle.std.proofs.Common.{◌≡◌, ℕ, zero, suc, ◌+◌, ◌-◌, ◌<◌, ◌≤◌, ◌==◌, ◌⊎◌, Bool, true, false, not, cond, eqb, leb, ltb, List, [], ◌∷◌, ◌++◌, length, get_or, filter, position, slice_get, Option, Some, None, option_map, refl, sym, ap, subst, ◌∙◌, append_assoc, arith, inl, inr, length-append}
+use Rattle.std.proofs.Common.{◌≡◌, ℕ, zero, suc, ◌+◌, ◌-◌, ◌<◌, ◌≤◌, ◌==◌, ◌⊎◌, Bool, true, false, not, ltb, List, [], ◌∷◌, ◌++◌, length, get_or, filter, position, slice_get, Option, Some, None, option_map, refl, sym, ap, subst, ◌∙◌, append_assoc, arith, inl, inr, length-append}
 use Rattle.std.specs.Prelude.{◌&&◌}
-use Rattle.std.specs.List.{prefix_len, position_or_len}
+use Rattle.std.specs.List.{position_or_len}
 use Rattle.std.proofs.lemmas.Bool.{eqb-true}
 use Rattle.std.proofs.lemmas.Bool.Decides.{nat_tests}
 use Rattle.std.proofs.lemmas.List.{append-nil}
@@ -9,10 +9,8 @@ use Rattle.std.proofs.lemmas.List.Elements.{filter-append}
 use Rattle.std.proofs.lemmas.List.Quantifiers.{position-Some}
 use Rattle.std.proofs.lemmas.Option.{slice_get_within, slice_get-get_or}
 use Rattle.nfs_tree.specs.declared.node.Node.{Node}
-use Rattle.nfs_tree.specs.declared.node.NodeKind.{NodeKind}
-use Rattle.nfs_tree.specs.declared.node.NodeKind.TheVariants.{Directory, File}
-use Rattle.nfs_tree.specs.declared.tree.TheConstants.{FILE_LIMIT, DIRECTORY_LIMIT}
-use Rattle.nfs_tree.specs.Tree.{is_directory, is_directory_kind, is_directory_node, is_child, child, directories, files, Fits, EachFits, IsTree}
+use Rattle.nfs_tree.specs.declared.node.NodeKind.TheVariants.{Directory}
+use Rattle.nfs_tree.specs.Tree.{is_directory, is_directory_kind, is_directory_node, is_child, child, directories, files, EachFits, IsTree}
 
 -- a test went one way or the other
 pub decided : (b : Bool) → (b ≡ true) ⊎ (b ≡ false)

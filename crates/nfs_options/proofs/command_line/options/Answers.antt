@@ -1,4 +1,4 @@
-use Rattle.std.proofs.Common.{◌≡◌, ◌∙◌, ap, map, rules, subst, sym, [], true}
+use Rattle.std.proofs.Common.{◌≡◌, ◌∙◌, ap, map, subst, sym, []}
 use Rattle.std.proofs.lemmas.Result.{IfErr-weaker, IfOk-weaker}
 use Rattle.clap.specs.Words.{HasKind, fault_of, is_simple, is_simple_and_free, subcommand_of, subcommand_rows_of}
 use Rattle.nfs_options.specs.CommandLine.{AsksOnce, HasNoNumber, IsMemoryOr, given_rows, once_rows, program}

@@ -1,9 +1,7 @@
-use Rattle.std.proofs.Common.{◌≡◌, ◌+◌, ◌<◌, ◌≤◌, ◌∷◌, [], ◌++◌, drop, length, Some, ap, sym, ◌∙◌, arith, rules}
-use Rattle.std.proofs.Math.ListN.{drop_of_length-le}
-use Rattle.toml.specs.View.{items_view, view}
-use Rattle.toml.proofs.Views.{items_view-drop}
-use Rattle.nfs_tree.specs.Document.{entries_of, entry_of, FailsToRead}
-use Rattle.nfs_tree.proofs.Documents.{with_front, entry_read, entry_fails, with_front_none, with_front_done}
+use Rattle.std.proofs.Common.{◌<◌, ◌≤◌, length, arith, rules}
+use Rattle.toml.specs.View.{items_view}
+use Rattle.nfs_tree.specs.Document.{entries_of, FailsToRead}
+use Rattle.nfs_tree.proofs.Documents.{entry_read, entry_fails, with_front_none, with_front_done}
 use Rattle.nfs_tree.proofs.document.read_entries.Goals as goal
 
 pub loop-value-init : goal.loop-value-init

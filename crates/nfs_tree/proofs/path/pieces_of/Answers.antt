@@ -1,4 +1,4 @@
-use Rattle.std.proofs.Common.{◌≡◌, ◌<◌, ◌≤◌, ◌∷◌, [], ◌++◌, length, ap, ◌∙◌, arith}
+use Rattle.std.proofs.Common.{◌<◌, ◌≤◌, ◌∷◌, [], ◌++◌, length, ap, ◌∙◌, arith}
 use Rattle.nfs_tree.proofs.Paths.{extended_none, slash_turn, other_turn, pieces_done}
 use Rattle.nfs_tree.proofs.path.pieces_of.Goals as goal
 use Rattle.nfs_tree.proofs.path.pieces_of.Goals.{then-byte-eq47+in_ok-push, else-byte-eq47+in_ok-push-2}

@@ -1,4 +1,4 @@
-use Rattle.std.proofs.Common.{◌≡◌, ◌∙◌, codes, rules, subst, inl, inr}
+use Rattle.std.proofs.Common.{◌∙◌, codes, subst, inl, inr}
 use Rattle.clap.specs.Words.{found_of, rows_of}
 use Rattle.clap.proofs.WalkLemmas.{first_value-rows}
 use Rattle.nfs_options.specs.CommandLine.{HasNoNumber, IsMemoryOr, IsNoNumber, IsNumber, epoch_default, epoch_max, lease_default}

@@ -1,6 +1,6 @@
-use Rattle.std.proofs.Common.{◌≡◌, ◌++◌, List, ap, sym, subst, ◌∙◌, length}
-use Rattle.nfs_tree.specs.Tree.{Files, IsTree, is_directory}
-use Rattle.nfs_tree.specs.Building.{names_of, is_too_many, way, Way}
+use Rattle.std.proofs.Common.{◌++◌, ap, sym, subst, ◌∙◌}
+use Rattle.nfs_tree.specs.Tree.{Files, IsTree}
+use Rattle.nfs_tree.specs.Building.{names_of, way}
 use Rattle.nfs_tree.proofs.Growing.{entry_grows}
 use Rattle.nfs_tree.proofs.tree.Tree.add.Goals as goal
 

@@ -1,6 +1,6 @@
-use Rattle.std.proofs.Common.{◌≡◌, ◌<◌, length, arith}
+use Rattle.std.proofs.Common.{◌<◌, length, arith}
 use Rattle.nfs_tree.specs.Building.{tree_of}
-use Rattle.nfs_tree.proofs.Builds.{tree_started, entry_added, entry_refused, tree_done, text_refused}
+use Rattle.nfs_tree.proofs.Builds.{tree_started, entry_added}
 use Rattle.nfs_tree.proofs.tree.Tree.from_toml.Goals as goal
 
 pub loop-entry-init : goal.loop-entry-init

@@ -1,4 +1,4 @@
-use Rattle.std.proofs.Common.{arith, rules}
+use Rattle.std.proofs.Common.{arith}
 use Rattle.nfs_tree.proofs.Nodes.{few_nodes}
 use Rattle.nfs_tree.proofs.tree.Tree.len.Goals as goal
 
