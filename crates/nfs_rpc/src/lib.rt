@@ -4,6 +4,7 @@
 mod auth_sys;
 mod call;
 mod credential;
+mod numbers;
 mod records;
 mod reply;
 
@@ -12,6 +13,7 @@ pub use call::{
     Call, MESSAGE_CALL, NFS_PROGRAM, NFS_VERSION, PROC_COMPOUND, PROC_NULL, RPC_VERSION, read_call,
 };
 pub use credential::{AUTH_NONE, AUTH_SYS, BODY_LIMIT};
+pub use numbers::numbers_of_messages;
 pub use records::{
     HEADER_LEN, LAST_FRAGMENT, RECORD_LIMIT, RecordError, Records, one_split, split_goes_on,
 };

@@ -13,6 +13,8 @@ mod credentials;
 #[cfg(test)]
 mod devices;
 #[cfg(test)]
+mod errors;
+#[cfg(test)]
 mod faults;
 #[cfg(test)]
 mod files;

@@ -6,6 +6,7 @@ mod access;
 mod attribute;
 mod building;
 mod document;
+mod limits;
 mod node;
 mod path;
 mod policy;
@@ -18,6 +19,7 @@ pub use access::{
 pub use attribute::{ATTRIBUTES, Attribute, Subject};
 pub use building::DEFAULT_TREE;
 pub use document::{Document, Listing};
+pub use limits::limits_of_trees;
 pub use node::{Entry, Node, NodeKind};
 pub use path::{NAME_LIMIT, PATH_LIMIT, paths_are_joined_names};
 pub use policy::{Callbacks, DEFAULT_POLICY, Delegations, Policy};

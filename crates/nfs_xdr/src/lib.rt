@@ -12,6 +12,7 @@ mod fattr;
 mod file_handle;
 mod get_attr;
 mod get_fh;
+mod numbers;
 mod op;
 mod op_result;
 mod principal;
@@ -37,6 +38,7 @@ pub use fattr::{Fattr, read_fattr, write_fattr};
 pub use file_handle::{FILE_HANDLE_LIMIT, FileHandle, read_file_handle, write_file_handle};
 pub use get_attr::GetAttrResult;
 pub use get_fh::GetFhResult;
+pub use numbers::numbers_of_operations;
 pub use op::{
     FIRST_OPERATION, LAST_OPERATION, OP_ACCESS, OP_GET_ATTR, OP_GET_FH, OP_ILLEGAL, OP_LOOKUP,
     OP_PUT_FH, OP_PUT_ROOT_FH, OP_RESTORE_FH, OP_SAVE_FH, OP_SET_ATTR, OP_SET_CLIENT_ID,

@@ -1,0 +1,15 @@
+ghost use Rattle.std.specs.Prelude.{◌≡◌};
+
+use crate::client_record::{ADDRESS_LIMIT, CLIENT_LIMIT};
+use crate::core_state::ANSWER_LIMIT;
+use crate::entry::JOURNAL_LIMIT;
+use crate::journal::{LEASE_MAX, LEASE_MIN};
+
+/// The limits that the rules name: entries of a journal, client numbers of a run, bytes of an r_netid or r_addr, seconds of a
+/// lease, and bytes of an answer in a reply.
+pub fn limits_of_the_state()
+    ensures journal { JOURNAL_LIMIT ≡ 1000000 }
+    ensures clients { (CLIENT_LIMIT ≡ 4096) × (ADDRESS_LIMIT ≡ 128) }
+    ensures lease { (LEASE_MIN ≡ 1) × (LEASE_MAX ≡ 86400) }
+    ensures answer { ANSWER_LIMIT ≡ 2036 }
+{}
