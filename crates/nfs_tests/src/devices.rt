@@ -8,7 +8,7 @@ use std::io;
 use std::io::{ErrorKind, Read, Write};
 use std::test::Fail;
 
-/// Gives its bytes one at a time; then it is at its end, or fails.
+/// Gives its bytes one at a time; then it is at its end, or is interrupted once before that.
 #[derive(Drop)]
 struct Trickle<'a> {
     bytes: &'a [u8],
@@ -23,13 +23,16 @@ impl Read for Trickle<'_> {
                 self.bytes = rest;
                 Ok(1)
             }
-            _ if self.fails => Err(io::Error::from(ErrorKind::BrokenPipe)),
+            _ if self.fails => {
+                self.fails = false;
+                Err(io::Error::from(ErrorKind::Interrupted))
+            }
             _ => Ok(0),
         }
     }
 }
 
-/// Takes one byte at a time, and fails once it has no more room.
+/// Takes one byte at a time, and is interrupted once, where it has taken `room` bytes.
 #[derive(Drop)]
 struct Narrow {
     taken: Vec<u8>,
@@ -38,8 +41,9 @@ struct Narrow {
 
 impl Write for Narrow {
     fn write(&mut self, buf: &[u8]) -> io::Result<usize> {
-        if buf.is_empty() || self.taken.len() >= self.room {
-            return Err(io::Error::from(ErrorKind::BrokenPipe));
+        if buf.is_empty() || self.taken.len() == self.room {
+            self.room = usize::MAX;
+            return Err(io::Error::from(ErrorKind::Interrupted));
         }
         match self.taken.push(buf[0]) {
             Ok(()) => Ok(1),
@@ -78,7 +82,7 @@ fn fragments(rt: HostRuntime) -> Result<(), Fail> {
     Ok(())
 }
 
-/// A read that fails behind a record and a part of one: the record was answered.
+/// A read that fails behind a record and a part of one: the record was answered, and the read isn't tried again.
 #[test]
 fn read_fails(rt: HostRuntime) -> Result<(), Fail> {
     let alloc = rt.alloc();
@@ -99,7 +103,7 @@ fn read_fails(rt: HostRuntime) -> Result<(), Fail> {
     Ok(())
 }
 
-/// A write that fails in the second reply: what went out is a beginning of the two.
+/// A write that fails in the second reply: what went out is a beginning of the two, and the write isn't tried again.
 #[test]
 fn write_fails(rt: HostRuntime) -> Result<(), Fail> {
     let alloc = rt.alloc();
