@@ -7,12 +7,12 @@ use Rattle.std.proofs.lemmas.List.{append-nil, length-append}
 use Rattle.std.proofs.lemmas.Grind.{flat_map-append}
 use Rattle.nfs_rpc.specs.declared.records.TheConstants.{RECORD_LIMIT}
 use Rattle.nfs_tree.specs.Tree.{Files}
-use Rattle.nfs_server.specs.declared.connection.TheConstants.{STREAM_LIMIT}
+use Rattle.nfs_server.specs.declared.connection.TheConstants.{PIECE_LEN, STREAM_LIMIT}
 use Rattle.nfs_server.specs.declared.serve_error.ServeError.{ServeError}
 use Rattle.nfs_server.specs.declared.serve_error.ServeError.TheVariants as errors
 use Rattle.nfs_server.specs.Asking.{Question}
-use Rattle.nfs_server.specs.Connection.{EndsWith, HasCourse, Exchange, AreExchanged, IsCourse, IsServed, messages_of, written_for, written_for_all}
-use Rattle.nfs_rpc.specs.Records.{AreRecords, IsStream, IsTooLong, SplitGoesOn, Splits, Stream, TakesPiece}
+use Rattle.nfs_server.specs.Connection.{EndsWith, HasCourse, HasNoneTooLong, Exchange, AreExchanged, IsCourse, IsServed, messages_of, written_for, written_for_all}
+use Rattle.nfs_rpc.specs.Records.{AreRecords, IsStream, IsTooLong, OneSplit, SplitGoesOn, Splits, Stream, TakesPiece}
 use Rattle.nfs_server.proofs.Serving.{exchanged_then, messages-append}
 use Rattle.nfs_xdr.specs.declared.op_result.OpResult.{OpResult}
 
@@ -98,9 +98,22 @@ ends_cut tree gives tells service mid service' clock between clock' unread unwri
 ends_cut tree gives tells service mid service' clock between clock' unread unwritten unread' unread'' here after old new piece errors.TooLong u takes s = absurd s.outcome
 ends_cut tree gives tells service mid service' clock between clock' unread unwritten unread' unread'' here after old new piece errors.TooMuch u takes s = absurd s.outcome
 ends_cut tree gives tells service mid service' clock between clock' unread unwritten unread' unread'' here after old new piece errors.Memory u takes s =
-    ap (λ (w : List ℕ). written_for_all tree u.exchanges ++ w) s.outcome ∙ sym (written-append tree u.exchanges s.exchanges)
+    (ap (λ (w : List ℕ). written_for_all tree u.exchanges ++ w) s.outcome ∙ sym (written-append tree u.exchanges s.exchanges), omega arith)
 ends_cut tree gives tells service mid service' clock between clock' unread unwritten unread' unread'' here after old new piece errors.Write u takes s =
-    (refl, (s.outcome.0, written-append tree u.exchanges s.exchanges ∙ ap (λ (w : List ℕ). written_for_all tree u.exchanges ++ w) s.outcome.1 ∙ sym (append_assoc (written_for_all tree u.exchanges) s.written s.outcome.0)))
+    let cut = s.outcome in (
+      refl,
+      (
+        u.exchanges ++ cut.0,
+        cut.1,
+        cut.2,
+        cut.3,
+        ap (λ (es : List Exchange). u.exchanges ++ es) cut.4 ∙ sym (append_assoc u.exchanges cut.0 (cut.1 ∷ [])),
+        ap (λ (w : List ℕ). written_for_all tree u.exchanges ++ w) cut.5 ∙ sym (append_assoc (written_for_all tree u.exchanges) (written_for_all tree cut.0) cut.2)
+            ∙ ap (λ (w : List ℕ). w ++ cut.2) (sym (written-append tree u.exchanges cut.0)),
+        cut.6,
+        cut.7,
+      ),
+    )
 
 -- the connection ends while the records of a piece are served
 pub ends_serving : {S C : Type 0} (goes_on : SplitGoesOn) (tree : Files) (gives : S → Question → OpResult → S → Type 0) (tells : C → ℕ → C → Type 0) (service mid service' : S) (clock between clock' : C) (unread unwritten unread' unread'' here after : Option (List ℕ)) (old new : Stream) (piece : List ℕ) (error : ServeError) (result : Result ℕ ServeError)
@@ -145,21 +158,31 @@ more_served goes_on tree gives tells service mid service' clock between clock' u
     subst (λ (b : Bool). IsUnderWay tree gives tells service clock unread unwritten (record last { is_too_long = b }) service' clock' unread'' after) (sym goes)
     (served_piece goes_on tree gives tells service mid service' clock between clock' unread unwritten unread' unread'' here after old new last piece u more takes s same)
 
-pub ends_too_long : {S C : Type 0} (goes_on : SplitGoesOn) (tree : Files) (gives : S → Question → OpResult → S → Type 0) (tells : C → ℕ → C → Type 0) (service mid service' : S) (clock between clock' : C) (unread unwritten unread' unread'' here after : Option (List ℕ)) (old new last : Stream) (piece : List ℕ)
+-- nothing is too long in a text whose rest isn't
+none_too_long : (one : OneSplit) (stream : Stream) (text : List ℕ) (records : List (List ℕ)) → Splits text records stream.rest → IsStream stream → stream.is_too_long ≡ false → HasNoneTooLong text
+none_too_long one stream text records split sound goes messages rest other long =
+    let same : stream.rest ≡ rest = (one text records messages stream.rest rest split other).1 in
+    let told : stream.is_too_long ≡ true = sound.too_long.1 (rw same long) in
+    let clash : true ≡ false = sym told ∙ goes in
+    cc
+
+pub ends_too_long : {S C : Type 0} (goes_on : SplitGoesOn) (one : OneSplit) (tree : Files) (gives : S → Question → OpResult → S → Type 0) (tells : C → ℕ → C → Type 0) (service mid service' : S) (clock between clock' : C) (unread unwritten unread' unread'' here after : Option (List ℕ)) (old new last : Stream) (piece : List ℕ)
     → IsUnderWay tree gives tells service clock unread unwritten old mid between unread' here → Consumes unread' unread'' piece → TakesPiece old new piece
-    → IsServed {T = Unit {0}} tree gives tells mid between here new.ready (Ok tt) service' clock' after → last ≡ record new { ready = [] } → IsTooLong last.rest
+    → IsServed {T = Unit {0}} tree gives tells mid between here new.ready (Ok tt) service' clock' after → last ≡ record new { ready = [] } → IsStream old → length piece ≤ PIECE_LEN → IsTooLong last.rest
     → HasCourse tree gives tells service clock unread unwritten (Err errors.TooLong) service' clock' unread'' after
-ends_too_long goes_on tree gives tells service mid service' clock between clock' unread unwritten unread' unread'' here after old new last piece u more takes s same long =
+unfolding served_piece
+ends_too_long goes_on one tree gives tells service mid service' clock between clock' unread unwritten unread' unread'' here after old new last piece u more takes s same sound short long =
+    let none = none_too_long one old u.text (messages_of u.exchanges) u.split sound u.goes in
     ends_answered tree gives tells service service' clock clock' unread unwritten unread'' unread'' after (record last { is_too_long = false }) [] (Err errors.TooLong)
     (served_piece goes_on tree gives tells service mid service' clock between clock' unread unwritten unread' unread'' here after old new last piece u more takes s same)
-    (Consumes-nil unread'') ((refl, refl), refl, long)
+    (Consumes-nil unread'') ((refl, refl), refl, long, (u.text, piece, append-nil (u.text ++ piece), short, none))
 
 -- memory is refused before anything is read
 pub ends_at_once : {S C : Type 0} (tree : Files) (gives : S → Question → OpResult → S → Type 0) (tells : C → ℕ → C → Type 0) (service : S) (clock : C) (unread unwritten : Option (List ℕ)) (stream : Stream) → stream ≡ record { ready = []; rest = []; fed = 0; is_too_long = false } → IsStream stream
     → HasCourse tree gives tells service clock unread unwritten (Err errors.Memory) service clock unread unwritten
 ends_at_once tree gives tells service clock unread unwritten stream empty sound =
     ends_answered tree gives tells service service clock clock unread unwritten unread unread unwritten stream [] (Err errors.Memory)
-    (starts tree gives tells service clock unread unwritten stream empty sound) (Consumes-nil unread) refl
+    (starts tree gives tells service clock unread unwritten stream empty sound) (Consumes-nil unread) (refl, omega arith)
 
 abbrev pub errs : ServeError → Result (Unit {0}) ServeError
 errs e = Err e

@@ -102,8 +102,8 @@ served_until {T = T} tree gives tells service mid service' clock between clock' 
       written = written;
       served = so_far.1 ∙ ap (λ (m : List ℕ). messages_of es ++ (m ∷ left)) (sym one.1) ∙ messages-more es e left;
       exchanged = exchanged_more tree gives tells es e service mid service' clock between clock' so_far.2 one.2;
-      appends = Appends-trans before here after (written_for_all tree es) cut.0 so_far.3 cut.3;
-      outcome = (cut.1, written-more tree es e ∙ ap (λ (w : List ℕ). written_for_all tree es ++ w) cut.2 ∙ sym (append_assoc (written_for_all tree es) cut.0 cut.1));
+      appends = Appends-trans before here after (written_for_all tree es) cut.0 so_far.3 cut.4;
+      outcome = (es, e, cut.0, cut.1, refl, refl, cut.2, cut.3);
     })
 
 -- a record is taken from a stream

@@ -1,5 +1,5 @@
 -- A connection: what was read, what was asked at which moment, and what was written.
-use Rattle.std.specs.Prelude.{◌≡◌, ℕ, ◌<◌, ◌≤◌, List, [], ◌∷◌, ◌++◌, length, map, Option, Some, None, Result, Ok, Err}
+use Rattle.std.specs.Prelude.{◌≡◌, ◌≢◌, ℕ, ◌<◌, ◌≤◌, List, [], ◌∷◌, ◌++◌, length, map, Option, Some, None, Result, Ok, Err}
 use Rattle.std.specs.List.{flat_map}
 use Rattle.std.specs.Io.KnownBytes.{Appends, Consumes}
 use Rattle.nfs_xdr.specs.declared.principal.Principal.{Principal}
@@ -62,9 +62,16 @@ messages_of es = map (λ e. e.message) es
 abbrev pub written_for_all : Files → List Exchange → List ℕ
 written_for_all tree es = flat_map (written_for tree) es
 
--- some of the replies went out, and then a write failed
+-- All replies before the last went out, and of the last a beginning that isn't all of it: then a write failed.
 abbrev pub IsCut : Files → List ℕ → List Exchange → Type 0
-IsCut tree written es = (more : List ℕ) × (written_for_all tree es ≡ written ++ more)
+IsCut tree written es =
+    (before : List Exchange) × (last : Exchange) × (front : List ℕ) × (back : List ℕ)
+    × (es ≡ before ++ last ∷ []) × (written ≡ written_for_all tree before ++ front)
+    × (written_for tree last ≡ front ++ back) × (back ≢ [])
+
+-- a beginning of the bytes went out, and not all of them
+abbrev pub AppendsPart : Option (List ℕ) → Option (List ℕ) → List ℕ → Type 0
+AppendsPart before after bytes = (front : List ℕ) × (back : List ℕ) × (bytes ≡ front ++ back) × (back ≢ []) × Appends before after front
 
 -- what was written while records were served
 abbrev pub HasWritten : {T : Type 0} → Files → Result T ServeError → List Exchange → List (List ℕ) → List ℕ → Type 0
@@ -91,7 +98,7 @@ IsServedOne tree gives tells service clock before message (Ok x) service' clock'
     (e : Exchange) × (e.message ≡ message) × IsExchanged tree gives tells service clock e service' clock' × Appends before after (written_for tree e)
 IsServedOne tree gives tells service clock before message (Err errors.Write) service' clock' after =
     (e : Exchange) × (e.message ≡ message) × IsExchanged tree gives tells service clock e service' clock'
-    × ((front : List ℕ) × (back : List ℕ) × (written_for tree e ≡ front ++ back) × Appends before after front)
+    × AppendsPart before after (written_for tree e)
 IsServedOne tree gives tells service clock before message (Err errors.Memory) service' clock' after =
     (service' ≡ service) × (clock' ≡ clock) × (after ≡ before)
 IsServedOne tree gives tells service clock before message (Err errors.Read) service' clock' after = ⊥
@@ -127,18 +134,24 @@ IsComplete tree course = IsAnswered tree course × (course.unanswered ≡ [])
 abbrev pub GoesOn : Course → Type 0
 GoesOn course = (IsTooLong course.rest → ⊥) × (length course.text ≤ STREAM_LIMIT)
 
+-- no record of the text is too long
+abbrev pub HasNoneTooLong : List ℕ → Type 0
+HasNoneTooLong text = (messages : List (List ℕ)) (rest : List ℕ) → Splits text messages rest → IsTooLong rest → ⊥
+
 -- How a connection ends.
 abbrev pub EndsWith : Files → Course → Result ℕ ServeError → Type 0
 -- at the end of the input: the number is the length of the rest
 EndsWith tree course (Ok len) = IsComplete tree course × (course.lost ≡ []) × GoesOn course × (len ≡ length course.rest)
 -- a read failed
 EndsWith tree course (Err errors.Read) = IsComplete tree course × (course.lost ≡ []) × GoesOn course
--- a write failed: what went out is a beginning of the replies
+-- a write failed in the reply to the last record that was run
 EndsWith tree course (Err errors.Write) = (course.lost ≡ []) × IsCut tree course.written course.exchanges
--- the records before the one that is too long were answered
-EndsWith tree course (Err errors.TooLong) = IsComplete tree course × (course.lost ≡ []) × IsTooLong course.rest
--- memory was refused
-EndsWith tree course (Err errors.Memory) = IsAnswered tree course
+-- the records before the one that is too long were answered, and its header came with the last read
+EndsWith tree course (Err errors.TooLong) =
+    IsComplete tree course × (course.lost ≡ []) × IsTooLong course.rest
+    × ((early : List ℕ) × (piece : List ℕ) × (course.text ≡ early ++ piece) × (length piece ≤ PIECE_LEN) × HasNoneTooLong early)
+-- memory was refused: nothing was asked for the records that are left
+EndsWith tree course (Err errors.Memory) = IsAnswered tree course × (length course.lost ≤ PIECE_LEN)
 -- more came than a stream may have: the records before the last read were answered
 EndsWith tree course (Err errors.TooMuch) =
     IsComplete tree course × (STREAM_LIMIT < length course.text) × (length course.fed ≤ STREAM_LIMIT) × (length course.lost ≤ PIECE_LEN)

@@ -1,12 +1,12 @@
-ghost use Rattle.std.specs.Prelude.{◌≡◌, ◌+◌, ◌-◌, ◌^◌, ◌<◌, ◌≤◌, false, List, ℕ, [], ◌++◌, length, OnOk, OnErr, IsErrOf};
+ghost use Rattle.std.specs.Prelude.{◌≡◌, ◌+◌, ◌-◌, ◌^◌, ◌<◌, ◌≤◌, ◌↔◌, false, [], length, OnOk, OnErr, IsErrOf};
 ghost use Rattle.std.specs.List.{AllByRecursion};
 ghost use Rattle.std.specs.Io.KnownBytes.{Appends, Consumes, IsAtEnd};
-ghost use Rattle.nfs_server.specs.Connection.{HasCourse, IsServed, IsServedOne};
+ghost use Rattle.nfs_server.specs.Connection.{AppendsPart, HasCourse, IsServed, IsServedOne};
 ghost use Rattle.nfs_rpc.specs.Records.{IsStream, TakesPiece};
 
 use crate::answer::answer;
 use crate::{Clock, DeviceFailed, ServeError, Service, Sink, Source};
-use nfs_rpc::{RECORD_LIMIT, RecordError, Records, split_goes_on};
+use nfs_rpc::{RECORD_LIMIT, RecordError, Records, one_split, split_goes_on};
 use nfs_tree::Tree;
 use std::alloc::Global;
 
@@ -19,7 +19,7 @@ pub const PIECE_LEN: usize = 65_536;
 /// Serves a connection until its input ends, and gives the number of bytes that came behind the last whole record.
 ///
 /// Each record is answered before the next is looked at: the service is asked what the record's call asks, at the moment
-/// that the clock tells for it, and the reply goes out as one record of one fragment. `Read` and `Write` come only where a
+/// that the clock tells for it, and the reply goes out as one record of one fragment. `Read` and `Write` come just where a
 /// read or a write failed, `TooLong` where a record is above `RECORD_LIMIT`, `TooMuch` where more than `STREAM_LIMIT` bytes
 /// came, and `Memory` where memory was refused for a piece of the input, a record or its reply, of which nothing was run then.
 /// What was done before an error stands.
@@ -38,8 +38,8 @@ pub fn serve_connection<R: Source, W: Sink, S: Service, C: Clock>(
     ensures serves { S.serves service.new ≡ tree.now }
     ensures course { HasCourse tree.now S.gives C.tells service.old clock.old (R.remaining source.old) (W.contents sink.old) result service.new clock.new (R.remaining source.new) (W.contents sink.new) }
     ensures end { OnOk result (IsAtEnd (R.remaining source.new)) }
-    ensures read_failed { IsErrOf result ServeError.Read → R.failures source.old < R.failures source.new }
-    ensures write_failed { IsErrOf result ServeError.Write → W.failures sink.old < W.failures sink.new }
+    ensures read_failed { IsErrOf result ServeError.Read ↔ R.failures source.old < R.failures source.new }
+    ensures write_failed { IsErrOf result ServeError.Write ↔ W.failures sink.old < W.failures sink.new }
 {
     let records = Records::new(alloc);
     let Ok(mut buffer) = vec![in alloc; 0; PIECE_LEN] else {
@@ -77,11 +77,12 @@ fn serve_stream<R: Source, W: Sink, S: Service, C: Clock>(
     ensures serves { S.serves service.new ≡ tree.now }
     ensures course { HasCourse tree.now S.gives C.tells service.old clock.old (R.remaining source.old) (W.contents sink.old) result service.new clock.new (R.remaining source.new) (W.contents sink.new) }
     ensures end { OnOk result (IsAtEnd (R.remaining source.new)) }
-    ensures read_failed { IsErrOf result ServeError.Read → R.failures source.old < R.failures source.new }
-    ensures write_failed { IsErrOf result ServeError.Write → W.failures sink.old < W.failures sink.new }
+    ensures read_failed { IsErrOf result ServeError.Read ↔ R.failures source.old < R.failures source.new }
+    ensures write_failed { IsErrOf result ServeError.Write ↔ W.failures sink.old < W.failures sink.new }
 {
-    // The law by which the records of one piece after the other are those of the whole.
+    // The laws by which the records of one piece after the other are those of the whole, and no others.
     split_goes_on();
+    one_split();
     let mut out = Vec::new(alloc);
     loop {
         let count = match source.read(buffer) {
@@ -132,7 +133,7 @@ fn serve_ready<S: Service, W: Sink, C: Clock>(
     ensures served { IsServed tree.now S.gives C.tells service.old clock.old (W.contents sink.old) records.old.ready result service.new clock.new (W.contents sink.new) }
     ensures taken { OnOk result (records.new ≡ record records.old { ready = [] }) }
     ensures ok { OnOk result (W.failures sink.new ≡ W.failures sink.old) }
-    ensures write_failed { IsErrOf result ServeError.Write → W.failures sink.old < W.failures sink.new }
+    ensures write_failed { IsErrOf result ServeError.Write ↔ W.failures sink.old < W.failures sink.new }
 {
     while let Some(message) = records.next() {
         serve_one(alloc, message.as_slice(), sink, service, tree, clock, out)?;
@@ -156,7 +157,7 @@ fn serve_one<S: Service, W: Sink, C: Clock>(
     ensures serves { S.serves service.new ≡ tree.now }
     ensures served { IsServedOne tree.now S.gives C.tells service.old clock.old (W.contents sink.old) message.now result service.new clock.new (W.contents sink.new) }
     ensures ok { OnOk result (W.failures sink.new ≡ W.failures sink.old) }
-    ensures write_failed { IsErrOf result ServeError.Write → W.failures sink.old < W.failures sink.new }
+    ensures write_failed { IsErrOf result ServeError.Write ↔ W.failures sink.old < W.failures sink.new }
 {
     out.clear();
     match answer(alloc, message, tree, service, clock, out) {
@@ -169,7 +170,7 @@ fn send<W: Sink>(sink: &mut W, bytes: &[u8]) -> Result<(), ServeError>
     requires { W.failures sink.old < 2 ^ 64 - 1 }
     ensures ok { OnOk result (Appends (W.contents sink.old) (W.contents sink.new) bytes.now) }
     ensures kept { OnOk result (W.failures sink.new ≡ W.failures sink.old) }
-    ensures err { OnErr result ((front : List ℕ) × (back : List ℕ) × (bytes.now ≡ front ++ back) × Appends (W.contents sink.old) (W.contents sink.new) front) }
+    ensures err { OnErr result (AppendsPart (W.contents sink.old) (W.contents sink.new) bytes.now) }
     ensures failed { OnErr result (W.failures sink.old < W.failures sink.new) }
     ensures write { OnErr result (result ≡ Err ServeError.Write) }
 {
@@ -184,7 +185,7 @@ fn write_all<W: Sink>(sink: &mut W, bytes: &[u8]) -> Result<(), DeviceFailed>
     requires { W.failures sink.old < 2 ^ 64 - 1 }
     ensures ok { OnOk result (Appends (W.contents sink.old) (W.contents sink.new) bytes.now) }
     ensures kept { OnOk result (W.failures sink.new ≡ W.failures sink.old) }
-    ensures err { OnErr result ((front : List ℕ) × (back : List ℕ) × (bytes.now ≡ front ++ back) × Appends (W.contents sink.old) (W.contents sink.new) front) }
+    ensures err { OnErr result (AppendsPart (W.contents sink.old) (W.contents sink.new) bytes.now) }
     ensures failed { OnErr result (W.failures sink.old < W.failures sink.new) }
 {
     let mut rest = bytes;

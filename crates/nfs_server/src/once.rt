@@ -1,4 +1,4 @@
-ghost use Rattle.std.specs.Prelude.{◌≡◌, ◌-◌, ◌^◌, ◌<◌, ℕ, Result, OnOk, IsErrOf};
+ghost use Rattle.std.specs.Prelude.{◌≡◌, ◌-◌, ◌^◌, ◌<◌, ◌↔◌, ℕ, Result, OnOk, IsErrOf};
 ghost use Rattle.std.specs.Io.KnownBytes.{IsAtEnd};
 ghost use Rattle.nfs_server.specs.Connection.{HasCourse};
 ghost use Rattle.nfs_server.specs.Once.{fault_of, status_of};
@@ -30,8 +30,8 @@ pub fn run_once<R: Source, W: Sink, E: Write>(
         × (lent.core ≡ core) × (clock.moment ≡ 0)
         × HasCourse tree.now ⟦<Lent as Service>⟧.gives ⟦<Stopped as Clock>⟧.tells lent clock (R.remaining source.old) (W.contents sink.old) outcome lent' clock' (R.remaining source.new) (W.contents sink.new)
         × OnOk outcome (IsAtEnd (R.remaining source.new))
-        × (IsErrOf outcome ServeError.Read → R.failures source.old < R.failures source.new)
-        × (IsErrOf outcome ServeError.Write → W.failures sink.old < W.failures sink.new)
+        × (IsErrOf outcome ServeError.Read ↔ R.failures source.old < R.failures source.new)
+        × (IsErrOf outcome ServeError.Write ↔ W.failures sink.old < W.failures sink.new)
         × (result ≡ status_of (fault_of outcome)) }
 {
     let mut lent = Lent::new(core);

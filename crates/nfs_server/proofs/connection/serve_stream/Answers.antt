@@ -55,7 +55,8 @@ returns-in_err-take_in-clause-course g c =
     rw memory
     (ends_answered c.args.tree.now g.S.Service.gives g.C.Clock.tells c.args.service.now c.loop-records.service c.args.clock.now c.loop-records.clock
     (g.R.Source.remaining c.args.source.now) (g.W.Sink.contents c.args.sink.now) (g.R.Source.remaining c.loop-records.source) (g.R.Source.remaining c.read.new.self) (g.W.Sink.contents c.loop-records.sink)
-    c.loop-records.records (take c.in-Ok.count c.read.new.buffer) (Err errors.Memory) c.loop-records.invariant.under_way c.in-Ok.ensures.bytes.0 refl)
+    c.loop-records.records (take c.in-Ok.count c.read.new.buffer) (Err errors.Memory) c.loop-records.invariant.under_way c.in-Ok.ensures.bytes.0
+    (refl, omega (arith, length-take c.in-Ok.count c.read.new.buffer, c.in-Ok.ensures.within)))
 
 pub serve_ready-requires-clause-limits : goal.serve_ready-requires-clause-limits
 serve_ready-requires-clause-limits g c = ready_within c.loop-records.records c.take_in.new.records (take c.in-Ok.count c.read.new.buffer) c.loop-records.invariant.under_way.idle c.in_ok-take_in.ensures.ok
@@ -70,10 +71,11 @@ returns-in_err-serve_ready-clause-course g c =
 
 pub returns-then-is_too_long-clause-course : goal.returns-then-is_too_long-clause-course
 returns-then-is_too_long-clause-course g c =
-    ends_too_long c.split_goes_on.ensures c.args.tree.now g.S.Service.gives g.C.Clock.tells c.args.service.now c.loop-records.service c.serve_ready.new.service c.args.clock.now c.loop-records.clock c.serve_ready.new.clock
+    ends_too_long c.split_goes_on.ensures c.one_split.ensures c.args.tree.now g.S.Service.gives g.C.Clock.tells c.args.service.now c.loop-records.service c.serve_ready.new.service c.args.clock.now c.loop-records.clock c.serve_ready.new.clock
     (g.R.Source.remaining c.args.source.now) (g.W.Sink.contents c.args.sink.now) (g.R.Source.remaining c.loop-records.source) (g.R.Source.remaining c.read.new.self) (g.W.Sink.contents c.loop-records.sink) (g.W.Sink.contents c.serve_ready.new.sink)
     c.loop-records.records c.take_in.new.records c.serve_ready.new.records (take c.in-Ok.count c.read.new.buffer)
     c.loop-records.invariant.under_way c.in-Ok.ensures.bytes.0 c.in_ok-take_in.ensures.ok c.in_ok-serve_ready.ensures.served c.in_ok-serve_ready.ensures.taken
+    c.loop-records.invariant.sound (omega (arith, length-take c.in-Ok.count c.read.new.buffer, c.in-Ok.ensures.within))
     (c.is_too_long.ensures.known.0 c.if-is_too_long.true)
 
 pub loop-records-preserved : goal.loop-records-preserved
