@@ -1,5 +1,5 @@
--- Which bytes stand for a value (RFC 4506, RFC 7531). Numbers are big-endian.
-use Rattle.std.specs.Prelude.{◌≡◌, ℕ, ◌-◌, ◌^◌, ◌%◌, ◌≤◌, Bool, List, [], ◌++◌, length, if◌then◌else◌}
+-- Which bytes stand for a value (RFC 4506). Numbers are big-endian.
+use Rattle.std.specs.Prelude.{◌≡◌, ℕ, ◌-◌, ◌^◌, ◌%◌, ◌≤◌, Bool, List, [], ◌∷◌, ◌++◌, length, if◌then◌else◌}
 use Rattle.byteorder.specs.Endian.{big_number}
 
 -- the front of the bytes stands in the one layout, and the back in the other
@@ -44,3 +44,12 @@ NO_LIMIT = 2 ^ 32 - 1
 -- a length of at most the limit, as many bytes, and padding of any bytes
 abbrev pub Opaque : ℕ → List ℕ → List ℕ → Type 0
 Opaque limit value = λ bytes. (length value ≤ limit) × (U32 (length value) ⨾ Fixed (length value) value ⨾ Any (padding_of (length value))) bytes
+
+-- values, one after the other
+abbrev pub Each : {A : Type 0} → (A → List ℕ → Type 0) → List A → List ℕ → Type 0
+Each P [] = Nothing
+Each P (value ∷ values) = P value ⨾ Each P values
+
+-- a count of at most the limit, and as many values
+abbrev pub Many : {A : Type 0} → ℕ → (A → List ℕ → Type 0) → List A → List ℕ → Type 0
+Many limit P values = λ bytes. (length values ≤ limit) × (U32 (length values) ⨾ Each P values) bytes

@@ -1,6 +1,6 @@
 ghost use Rattle.std.specs.Prelude.{◌≡◌};
-ghost use Rattle.nfs_xdr.specs.Reading.{Answers, flag_at};
-ghost use Rattle.nfs_xdr.specs.Writing.{WritesWhole, written_flag};
+ghost use Rattle.xdr.specs.Reading.{Answers, flag_at};
+ghost use Rattle.xdr.specs.Writing.{Writes, written_flag};
 
 use crate::WireError;
 use crate::basic::{read_u32, write_u32};
@@ -20,7 +20,7 @@ pub fn read_flag(bytes: &[u8]) -> Result<(bool, &[u8]), WireError>
 
 /// Writes the bool as 1 or 0 at the end. Only memory can be refused, and then nothing is written.
 pub fn write_flag(out: &mut Vec<u8>, flag: bool) -> Result<(), WireError>
-    ensures { WritesWhole out.old out.new result (written_flag flag) ⊥ }
+    ensures { Writes out.old out.new result (written_flag flag) (Unit {0}) }
 {
     write_u32(out, if flag { 1 } else { 0 })
 }

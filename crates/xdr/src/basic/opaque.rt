@@ -1,7 +1,7 @@
 ghost use Rattle.std.specs.Prelude.{◌≡◌, ◌<◌, ◌≤◌, ◌^◌, length, IfOk, IsErrOf, IsOk};
-ghost use Rattle.nfs_xdr.specs.Layout as layout;
-ghost use Rattle.nfs_xdr.specs.Reading.{Answers, Gives, opaque_at};
-ghost use Rattle.nfs_xdr.specs.Writing.{Writes, written_opaque};
+ghost use Rattle.xdr.specs.Layout as layout;
+ghost use Rattle.xdr.specs.Reading.{Answers, Gives, opaque_at};
+ghost use Rattle.xdr.specs.Writing.{Writes, written_opaque};
 
 use crate::basic::{read_u32, write_u32};
 use crate::{Bytes, WireError};
@@ -48,24 +48,22 @@ pub fn read_opaque_bytes(
     Ok((Bytes::copied(alloc, value)?, rest))
 }
 
-/// How many bytes they take as they are written.
-pub(crate) fn opaque_len(bytes: &[u8]) -> usize
-    requires { length (written_opaque bytes.now) ≤ 2 ^ 32 }
-    ensures { result ≡ length (written_opaque bytes.now) }
-{
-    4 + bytes.len() + padding_of(bytes.len())
-}
-
-/// Writes the length, the bytes and zeros to a multiple of 4 at the end. TooLong from 2^32 bytes on.
-pub fn write_opaque(out: &mut Vec<u8>, bytes: &[u8]) -> Result<(), WireError>
-    ensures writes { Writes out.old out.new result (written_opaque bytes.now) (2 ^ 32 ≤ length bytes.now) }
-    ensures too_long { 2 ^ 32 ≤ length bytes.now → result ≡ Err WireError.TooLong }
+/// Writes the length, the bytes and zeros to a multiple of 4 at the end. TooLong above `limit` bytes.
+#[tactic(auto, unfolding(crate::specs::Writing::written_opaque, crate::specs::Writing::written_number))]
+pub fn write_opaque(out: &mut Vec<u8>, bytes: &[u8], limit: u32) -> Result<(), WireError>
+    ensures writes { Writes out.old out.new result (written_opaque bytes.now) (length bytes.now ≤ limit) }
+    ensures too_long { limit < length bytes.now → result ≡ Err WireError.TooLong }
 {
     let Ok(len) = u32::try_from(bytes.len()) else {
         return Err(WireError::TooLong);
     };
+    if len > limit {
+        return Err(WireError::TooLong);
+    }
+    let padding = padding_of(bytes.len());
+    out.reserve(4 + bytes.len() + padding)?;
     write_u32(out, len)?;
     out.extend_from_slice(bytes)?;
-    out.extend_from_slice(&[0; 4][..padding_of(bytes.len())])?;
+    out.extend_from_slice(&[0; 4][..padding])?;
     Ok(())
 }

@@ -1,7 +1,7 @@
 -- No error of the reading tells that memory ran out.
 use Rattle.std.proofs.lemmas.Result.{err_from_is_err_and}
-use Rattle.nfs_xdr.proofs.BasicForms.{opaque_tells}
-use Rattle.nfs_xdr.proofs.basic.opaque.read_opaque_bytes.Goals as goal
+use Rattle.xdr.specs.laws.Reads.{opaque_tells}
+use Rattle.xdr.proofs.basic.opaque.read_opaque_bytes.Goals as goal
 
 pub returns-in_err-value-clause-memory : goal.returns-in_err-value-clause-memory
 returns-in_err-value-clause-memory c memory =

@@ -1,5 +1,5 @@
 ghost use Rattle.std.specs.Prelude.{◌≡◌};
-ghost use Rattle.nfs_xdr.specs.declared.wire_error.WireError.TheVariants as errors;
+ghost use Rattle.xdr.specs.declared.wire_error.WireError.TheVariants as errors;
 
 use std::alloc::AllocError;
 use thiserror::Error;

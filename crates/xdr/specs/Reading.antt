@@ -1,9 +1,9 @@
 -- Reading from the front: the value and the bytes behind it, or why there is none.
-use Rattle.std.specs.Prelude.{◌≡◌, ℕ, ◌+◌, Bool, true, false, List, ◌++◌, length, take, drop, Result, Ok, Err, nat_lt, ◌==◌, if◌then◌else◌}
+use Rattle.std.specs.Prelude.{◌≡◌, ℕ, zero, suc, ◌+◌, Bool, true, false, List, [], ◌∷◌, ◌++◌, length, take, drop, Result, Ok, Err, nat_lt, ◌==◌, if◌then◌else◌}
 use Rattle.byteorder.specs.Endian.{big_number}
-use Rattle.nfs_xdr.specs.declared.wire_error.WireError.{WireError}
-use Rattle.nfs_xdr.specs.declared.wire_error.WireError.TheVariants as errors
-use Rattle.nfs_xdr.specs.Layout.{padding_of}
+use Rattle.xdr.specs.declared.wire_error.WireError.{WireError}
+use Rattle.xdr.specs.declared.wire_error.WireError.TheVariants as errors
+use Rattle.xdr.specs.Layout.{padding_of}
 
 -- what a reading function answers
 abbrev pub Read : Type 0 → Type 0
@@ -29,7 +29,7 @@ abbrev pub Answers : {X Y : Type 0} → (X → Y) → Result X WireError → Res
 Answers view (Ok x) read = read ≡ Ok (view x)
 Answers view (Err e) read = read ≡ Err e
 
-abbrev pub number_at : ℕ → List ℕ → Read ℕ
+unfoldable pub number_at : ℕ → List ℕ → Read ℕ
 number_at count bytes = if nat_lt (length bytes) count then Err errors.Short else Ok (big_number count bytes, drop count bytes)
 
 abbrev pub flag_of : ℕ → List ℕ → Read Bool
@@ -38,7 +38,7 @@ flag_of n rest = if n == 0 then Ok (false, rest) else if n == 1 then Ok (true, r
 unfoldable pub flag_at : List ℕ → Read Bool
 flag_at bytes = number_at 4 bytes >>= λ n. flag_of n.0 n.1
 
-abbrev pub fixed_at : ℕ → List ℕ → Read (List ℕ)
+unfoldable pub fixed_at : ℕ → List ℕ → Read (List ℕ)
 fixed_at count bytes = if nat_lt (length bytes) count then Err errors.Short else Ok (take count bytes, drop count bytes)
 
 -- so many bytes, and the padding behind them
@@ -58,6 +58,15 @@ abbrev pub ◌then◌ : {A B : Type 0} → (List ℕ → Read A) → (List ℕ �
 -- what is read, made into another value
 abbrev pub as_value : {A B : Type 0} → (A → B) → (List ℕ → Read A) → List ℕ → Read B
 as_value make f bytes = f bytes >>= λ a. Ok (make a.0, a.1)
+
+-- so many values, one after the other
+unfoldable pub each_at : {A : Type 0} → (List ℕ → Read A) → ℕ → List ℕ → Read (List A)
+each_at f zero bytes = Ok ([], bytes)
+each_at f (suc count) bytes = as_value (λ p. p.0 ∷ p.1) (f then each_at f count) bytes
+
+-- a count of at most the limit, and as many values
+unfoldable pub many_at : {A : Type 0} → ℕ → (List ℕ → Read A) → List ℕ → Read (List A)
+many_at limit f bytes = number_at 4 bytes >>= λ n. if nat_lt limit n.0 then Err errors.TooLong else each_at f n.0 n.1
 
 -- the bytes are some that stand in the layout, and then the rest
 abbrev pub Begins : (List ℕ → Type 0) → List ℕ → List ℕ → Type 0

@@ -8,5 +8,4 @@ mod opaque;
 pub use fixed::{read_fixed, write_fixed};
 pub use flag::{read_flag, write_flag};
 pub use number::{read_u32, read_u64, write_u32, write_u64};
-pub(crate) use opaque::opaque_len;
 pub use opaque::{padding_of, read_opaque, read_opaque_bytes, write_opaque};

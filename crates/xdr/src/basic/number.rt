@@ -1,11 +1,12 @@
-ghost use Rattle.std.specs.Prelude.{◌≡◌};
-ghost use Rattle.nfs_xdr.specs.Reading.{Answers, number_at};
-ghost use Rattle.nfs_xdr.specs.Writing.{WritesWhole, written_u32, written_u64};
+ghost use Rattle.std.specs.Prelude.{◌≡◌, ◌<◌, ◌^◌};
+ghost use Rattle.xdr.specs.Reading.{Answers, number_at};
+ghost use Rattle.xdr.specs.Writing.{Writes, written_u32, written_u64};
 
 use crate::WireError;
 use byteorder::{BigEndian, ByteOrder};
 
 /// The number of four bytes at the front, and the bytes behind it; Short where there are fewer.
+#[tactic(auto, unfolding(crate::specs::Reading::number_at))]
 pub fn read_u32(bytes: &[u8]) -> Result<(u32, &[u8]), WireError>
     ensures { Answers (λ x. (x.0, x.1.now)) result (number_at 4 bytes.now) }
 {
@@ -16,6 +17,7 @@ pub fn read_u32(bytes: &[u8]) -> Result<(u32, &[u8]), WireError>
 }
 
 /// The number of eight bytes at the front, and the bytes behind it; Short where there are fewer.
+#[tactic(auto, unfolding(crate::specs::Reading::number_at))]
 pub fn read_u64(bytes: &[u8]) -> Result<(u64, &[u8]), WireError>
     ensures { Answers (λ x. (x.0, x.1.now)) result (number_at 8 bytes.now) }
 {
@@ -26,8 +28,9 @@ pub fn read_u64(bytes: &[u8]) -> Result<(u64, &[u8]), WireError>
 }
 
 /// Writes the number in four bytes at the end. Only memory can be refused, and then nothing is written.
+#[tactic(auto, unfolding(crate::specs::Writing::written_number))]
 pub fn write_u32(out: &mut Vec<u8>, n: u32) -> Result<(), WireError>
-    ensures { WritesWhole out.old out.new result (written_u32 n) ⊥ }
+    ensures { Writes out.old out.new result (written_u32 n) (n < 2 ^ 32) }
 {
     let mut bytes = [0; 4];
     BigEndian::write_u32(&mut bytes, n);
@@ -36,8 +39,9 @@ pub fn write_u32(out: &mut Vec<u8>, n: u32) -> Result<(), WireError>
 }
 
 /// Writes the number in eight bytes at the end. Only memory can be refused, and then nothing is written.
+#[tactic(auto, unfolding(crate::specs::Writing::written_number))]
 pub fn write_u64(out: &mut Vec<u8>, n: u64) -> Result<(), WireError>
-    ensures { WritesWhole out.old out.new result (written_u64 n) ⊥ }
+    ensures { Writes out.old out.new result (written_u64 n) (n < 2 ^ 64) }
 {
     let mut bytes = [0; 8];
     BigEndian::write_u64(&mut bytes, n);

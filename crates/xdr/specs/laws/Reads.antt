@@ -1,13 +1,13 @@
--- What the reading functions of the basic forms read stands in the layouts, and what stands in them is read.
-use Rattle.std.proofs.Common.{◌≡◌, ℕ, ◌+◌, ◌≤◌, Bool, true, false, cond, ltb, eqb, List, ◌++◌, length, take, drop, Result, Ok, Err, refl, sym, ap, subst, ◌∙◌, append_assoc, arith, inl, inr, ◌⊎◌}
+-- What the reading functions of the basic forms read stands in their layouts, and what stands in them is read.
+use Rattle.std.proofs.Common.{◌≡◌, ℕ, ◌+◌, ◌≤◌, Bool, true, false, cond, ltb, eqb, List, [], ◌++◌, length, take, drop, Result, Ok, Err, refl, sym, ap, subst, ◌∙◌, append_assoc, arith, inl, inr, ◌⊎◌}
 use Rattle.std.proofs.lemmas.Bool.{ltb-false, le-ltb, eqb-true}
 use Rattle.std.proofs.lemmas.List.{take_at, drop_at, take-append-drop, length-append, length-take, length-drop, drop-drop}
 use Rattle.byteorder.specs.Endian.{big_number}
 use Rattle.byteorder.specs.Numbers.{big_from-take, big_from-append}
-use Rattle.nfs_xdr.specs.declared.wire_error.WireError.{WireError}
-use Rattle.nfs_xdr.specs.declared.wire_error.WireError.TheVariants as errors
-use Rattle.nfs_xdr.specs.Layout.{◌⨾◌, Number, U32, Flag, Fixed, Opaque, Any, padding_of}
-use Rattle.nfs_xdr.specs.Reading.{Read, Reads, Begins, ◌>>=◌, ◌then◌, as_value, number_at, flag_of, flag_at, fixed_at, padded_at, opaque_at}
+use Rattle.xdr.specs.declared.wire_error.WireError.{WireError}
+use Rattle.xdr.specs.declared.wire_error.WireError.TheVariants as errors
+use Rattle.xdr.specs.Layout.{◌⨾◌, Nothing, Number, U32, Flag, Fixed, Opaque, Any, padding_of}
+use Rattle.xdr.specs.Reading.{Read, Reads, Begins, ◌>>=◌, ◌then◌, as_value, number_at, flag_of, flag_at, fixed_at, padded_at, opaque_at}
 
 -- a test went one way or the other
 pub decided : (b : Bool) → (b ≡ true) ⊎ (b ≡ false)
@@ -79,7 +79,16 @@ reads_as {A = A} {B = B} P f make fields back again p = record {
   complete = λ value front rest h. rw (p.complete (fields value) front rest h) (ap (λ (b : B). Ok (b, rest)) (again value));
 }
 
+pub reads_nothing : Reads {A = Unit {0}} (λ v. Nothing) (λ bytes. Ok (tt, bytes))
+reads_nothing = record {
+  sound = λ bytes value rest e.
+      let same = ok_is (tt, bytes) (value, rest) e in
+      ([], ap (λ (x : Unit {0} × List ℕ). x.1) same, refl);
+  complete = λ value front rest h. rw h refl;
+}
+
 pub reads_number : (count : ℕ) → Reads (Number count) (number_at count)
+unfolding number_at
 reads_number count = record {
   sound = λ bytes value rest e.
       let g = guard_ok (ltb (length bytes) count) errors.Short (Ok (big_number count bytes, drop count bytes)) (value, rest) e in
@@ -94,6 +103,7 @@ reads_number count = record {
 }
 
 pub reads_fixed : (count : ℕ) → Reads (Fixed count) (fixed_at count)
+unfolding fixed_at
 reads_fixed count = record {
   sound = λ bytes value rest e.
       let g = guard_ok (ltb (length bytes) count) errors.Short (Ok (take count bytes, drop count bytes)) (value, rest) e in
@@ -190,7 +200,7 @@ padded_never_memory count bytes e =
 
 -- the form is missing or too long, and no other error is told
 opaque_never_memory : (limit : ℕ) (bytes : List ℕ) → opaque_at limit bytes ≡ Err errors.Memory → ⊥
-unfolding opaque_at
+unfolding opaque_at number_at
 opaque_never_memory limit bytes e =
     elim (decided (ltb (length bytes) 4)) [
       | inl short ↦ let clash : ◌≡◌ {A = Read (List ℕ)} (Err errors.Short) (Err errors.Memory) = rw short at e in cc

@@ -1,10 +1,11 @@
 ghost use Rattle.std.specs.Prelude.{◌≡◌};
-ghost use Rattle.nfs_xdr.specs.Reading.{Answers, fixed_at};
-ghost use Rattle.nfs_xdr.specs.Writing.{WritesWhole};
+ghost use Rattle.xdr.specs.Reading.{Answers, fixed_at};
+ghost use Rattle.xdr.specs.Writing.{Writes};
 
 use crate::WireError;
 
 /// The first `N` bytes, and the bytes behind them; Short where there are fewer.
+#[tactic(auto, unfolding(crate::specs::Reading::fixed_at))]
 pub fn read_fixed<const N: usize>(bytes: &[u8]) -> Result<([u8; N], &[u8]), WireError>
     ensures { Answers (λ x. (x.0, x.1.now)) result (fixed_at N bytes.now) }
 {
@@ -18,7 +19,7 @@ pub fn read_fixed<const N: usize>(bytes: &[u8]) -> Result<([u8; N], &[u8]), Wire
 
 /// Writes the bytes as they are at the end. Only memory can be refused, and then nothing is written.
 pub fn write_fixed(out: &mut Vec<u8>, bytes: &[u8]) -> Result<(), WireError>
-    ensures { WritesWhole out.old out.new result (bytes.now) ⊥ }
+    ensures { Writes out.old out.new result bytes.now (Unit {0}) }
 {
     out.extend_from_slice(bytes)?;
     Ok(())

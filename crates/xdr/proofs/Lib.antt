@@ -1,0 +1,2 @@
+pub mod ReadingLists
+pub mod WritingLists

@@ -1,0 +1,124 @@
+-- The form of a type on the wire (RFC 4506): all that there is to say of its bytes, in one record. Forms are put together
+-- from those below, so that the form of a record reads as its declaration in XDR.
+use Rattle.std.specs.Prelude.{◌≡◌, ℕ, ◌^◌, ◌<◌, ◌≤◌, Bool, List, [], ◌++◌, length, Ok}
+use Rattle.std.specs.List.{All}
+use Rattle.xdr.specs.Layout.{◌⨾◌, Nothing, U32, U64, Flag, Fixed, Opaque, Many, NO_LIMIT}
+use Rattle.xdr.specs.Reading.{Read, Reads, ◌then◌, as_value, number_at, flag_at, fixed_at, opaque_at, many_at}
+use Rattle.xdr.specs.Writing.{written_u32, written_u64, written_flag, written_opaque, written_many}
+use Rattle.xdr.specs.laws.Reads.{reads_nothing, reads_number, reads_flag, reads_fixed, reads_opaque, reads_then, reads_as}
+use Rattle.xdr.specs.laws.Spells.{nothing_stands, number_stands, flag_stands, fixed_stands, opaque_stands, both_stand}
+use Rattle.xdr.specs.laws.Lists.{reads_many, many_stand}
+
+pub record Form (A : Type 0) : Type 1 where
+  -- which bytes stand for a value, with any padding
+  pub layout : A → List ℕ → Type 0
+  -- the value at the front of bytes, and the bytes behind it
+  pub at : List ℕ → Read A
+  -- the bytes that are written for a value, with zero padding
+  pub spelling : A → List ℕ
+  -- the value can be written: its numbers and lengths are within what the form can say
+  pub Fits : A → Type 0
+  -- what is read stands in the layout, and what stands in it is read, whatever follows
+  pub reads : Reads layout at
+  -- what is written stands in the layout
+  pub stands : (value : A) → Fits value → layout value (spelling value)
+
+-- void
+abbrev pub nothing : Form (Unit {0})
+nothing = record {
+  layout = λ v. Nothing;
+  at = λ bytes. Ok (tt, bytes);
+  spelling = λ v. [];
+  Fits = λ v. Unit {0};
+  reads = reads_nothing;
+  stands = nothing_stands;
+}
+
+-- unsigned int
+abbrev pub u32 : Form ℕ
+u32 = record {
+  layout = U32;
+  at = number_at 4;
+  spelling = written_u32;
+  Fits = λ n. n < 2 ^ 32;
+  reads = reads_number 4;
+  stands = number_stands 4;
+}
+
+-- unsigned hyper
+abbrev pub u64 : Form ℕ
+u64 = record {
+  layout = U64;
+  at = number_at 8;
+  spelling = written_u64;
+  Fits = λ n. n < 2 ^ 64;
+  reads = reads_number 8;
+  stands = number_stands 8;
+}
+
+-- bool
+abbrev pub flag : Form Bool
+flag = record {
+  layout = Flag;
+  at = flag_at;
+  spelling = written_flag;
+  Fits = λ b. Unit {0};
+  reads = reads_flag;
+  stands = λ b fits. flag_stands b;
+}
+
+-- opaque value[count]
+abbrev pub fixed : ℕ → Form (List ℕ)
+fixed count = record {
+  layout = Fixed count;
+  at = fixed_at count;
+  spelling = λ bytes. bytes;
+  Fits = λ bytes. length bytes ≡ count;
+  reads = reads_fixed count;
+  stands = fixed_stands count;
+}
+
+-- opaque value<limit>
+abbrev pub opaque : ℕ → Form (List ℕ)
+opaque limit = record {
+  layout = Opaque limit;
+  at = opaque_at limit;
+  spelling = written_opaque;
+  Fits = λ bytes. (length bytes ≤ limit) × (length bytes < 2 ^ 32);
+  reads = reads_opaque limit;
+  stands = λ bytes fits. opaque_stands limit bytes fits.0 fits.1;
+}
+
+-- values<limit>
+abbrev pub many : {A : Type 0} → ℕ → Form A → Form (List A)
+many limit f = record {
+  layout = Many limit f.layout;
+  at = many_at limit f.at;
+  spelling = written_many f.spelling;
+  Fits = λ values. (length values ≤ limit) × (length values < 2 ^ 32) × All f.Fits values;
+  reads = reads_many limit f.layout f.at f.reads;
+  stands = λ values fits. many_stand limit f.layout f.spelling f.Fits f.stands values fits.0 fits.1 fits.2;
+}
+
+-- the one, and then the other
+infixr 5 ◌and◌
+abbrev pub ◌and◌ : {A B : Type 0} → Form A → Form B → Form (A × B)
+f and g = record {
+  layout = λ p. f.layout p.0 ⨾ g.layout p.1;
+  at = f.at then g.at;
+  spelling = λ p. f.spelling p.0 ++ g.spelling p.1;
+  Fits = λ p. f.Fits p.0 × g.Fits p.1;
+  reads = reads_then f.layout g.layout f.at g.at f.reads g.reads;
+  stands = both_stand f.layout g.layout f.spelling g.spelling f.Fits g.Fits f.stands g.stands;
+}
+
+-- a record of the fields that have this form: `make` and `fields` undo one another
+abbrev pub of : {A B : Type 0} → (make : A → B) (fields : B → A) → ((a : A) → fields (make a) ≡ a) → ((b : B) → make (fields b) ≡ b) → Form A → Form B
+of make fields back again f = record {
+  layout = λ b. f.layout (fields b);
+  at = as_value make f.at;
+  spelling = λ b. f.spelling (fields b);
+  Fits = λ b. f.Fits (fields b);
+  reads = reads_as f.layout f.at make fields back again f.reads;
+  stands = λ b fits. f.stands (fields b) fits;
+}

@@ -1,0 +1,7 @@
+pub mod Layout
+pub mod Reading
+pub mod Writing
+pub mod laws
+pub mod Form
+pub mod Rows
+pub mod Union

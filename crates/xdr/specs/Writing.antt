@@ -1,0 +1,42 @@
+-- The one spelling of a value: that with zero padding.
+use Rattle.std.specs.Prelude.{◌≡◌, ℕ, ◌+◌, ◌<◌, ◌≤◌, List, [], ◌∷◌, ◌++◌, Bool, length, take, if◌then◌else◌, Result, vec_len, vec_capacity, OnOk, OnErr, IsErrOf}
+use Rattle.std.specs.Global.{Vec}
+use Rattle.std.specs.List.{flat_map}
+use Rattle.xdr.specs.declared.wire_error.WireError.{WireError}
+use Rattle.xdr.specs.declared.wire_error.WireError.TheVariants as errors
+use Rattle.byteorder.specs.Endian.{big_bytes}
+use Rattle.xdr.specs.Layout.{padding_of}
+
+-- a number in so many bytes
+unfoldable pub written_number : ℕ → ℕ → List ℕ
+written_number count n = big_bytes count n
+
+abbrev pub written_u32 : ℕ → List ℕ
+written_u32 = written_number 4
+
+abbrev pub written_u64 : ℕ → List ℕ
+written_u64 = written_number 8
+
+abbrev pub written_flag : Bool → List ℕ
+written_flag b = written_u32 (if b then 1 else 0)
+
+abbrev pub zeros : ℕ → List ℕ
+zeros n = take n (0 ∷ 0 ∷ 0 ∷ 0 ∷ [])
+
+unfoldable pub written_opaque : List ℕ → List ℕ
+written_opaque bytes = written_u32 (length bytes) ++ (bytes ++ zeros (padding_of (length bytes)))
+
+-- a count, and as many values
+abbrev pub written_many : {A : Type 0} → (A → List ℕ) → List A → List ℕ
+written_many f values = written_u32 (length values) ++ flat_map f values
+
+-- What a writer did to the bytes so far. At Ok the spelling follows them, and the value fits its form. TooLong comes only
+-- where it doesn't, and Memory only where there was no room for the spelling. After an error the bytes are as before.
+abbrev pub Writes : {T : Type 0} → Vec ℕ → Vec ℕ → Result T WireError → List ℕ → Type 0 → Type 0
+Writes old new result spelling Fits =
+    OnOk result ((new.items ≡ old.items ++ spelling) × Fits)
+    × OnErr result (new.items ≡ old.items)
+    × (IsErrOf result errors.TooLong → ¬ Fits)
+    × (IsErrOf result errors.Memory → vec_capacity old < vec_len old + length spelling)
+    × (IsErrOf result errors.Short → ⊥)
+    × (vec_capacity old ≤ vec_capacity new)

@@ -1,0 +1,4 @@
+pub mod Reads
+pub mod Spells
+pub mod Lists
+pub mod Unions

@@ -1,0 +1,15 @@
+//! What is so of each form, as functions that do nothing and whose contracts say it.
+
+ghost use Rattle.std.specs.Prelude.{◌≡◌, ◌↔◌, ◌++◌, ℕ, List, Ok};
+ghost use Rattle.xdr.specs.Reading.{Begins};
+
+use crate::Wire;
+
+/// What is written of a value is read again, whatever follows. What is read at the front of bytes is what stands there, so no
+/// bytes stand for two values.
+pub fn written_is_read_again<T: Wire>()
+    ensures again { (value : T) (rest : List ℕ) → T.form.Fits value
+        → T.form.at (T.form.spelling value ++ rest) ≡ Ok (value, rest) }
+    ensures one { (value : T) (bytes rest : List ℕ)
+        → (T.form.at bytes ≡ Ok (value, rest)) ↔ Begins (T.form.layout value) bytes rest }
+{}

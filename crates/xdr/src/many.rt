@@ -1,0 +1,84 @@
+//! A count, and as many values.
+
+ghost use Rattle.std.specs.Prelude.{◌≡◌, ◌≤◌, ◌<◌, ◌^◌, length};
+ghost use Rattle.std.specs.List.{All, flat_map};
+ghost use Rattle.xdr.specs.Form as forms;
+ghost use Rattle.xdr.specs.Reading.{Gives, each_at};
+ghost use Rattle.xdr.specs.Writing.{Writes};
+
+use crate::basic::{read_u32, write_u32};
+use crate::{Sequence, Wire, WireError};
+use std::alloc::Global;
+
+/// The values of a count that stands before them, and the bytes behind them. TooLong where the count is above `limit`, Short where
+/// values are missing. Memory is taken for those that are there, whatever the count says.
+#[tactic(auto, unfolding(crate::specs::Reading::many_at))]
+pub fn read_many<T: Wire>(
+    alloc: Global,
+    bytes: &[u8],
+    limit: u32,
+) -> Result<(Sequence<T>, &[u8]), WireError>
+    ensures { Gives (λ x. (x.0, x.1.now)) result ((forms.many limit T.form).at bytes.now) }
+{
+    let (count, rest) = read_u32(bytes)?;
+    if count > limit {
+        return Err(WireError::TooLong);
+    }
+    read_each(alloc, count, rest)
+}
+
+// So many values.
+fn read_each<T: Wire>(
+    alloc: Global,
+    count: u32,
+    bytes: &[u8],
+) -> Result<(Sequence<T>, &[u8]), WireError>
+    ensures { Gives (λ x. (x.0, x.1.now)) result (each_at T.form.at count bytes.now) }
+{
+    let mut values = Vec::new(alloc);
+    let mut rest = bytes;
+    for _ in 0..count {
+        let (value, behind) = T::read(alloc, rest)?;
+        match values.push(value) {
+            Ok(()) => rest = behind,
+            Err(_) => return Err(WireError::Memory),
+        }
+    }
+    Ok((Sequence::new(values), rest))
+}
+
+/// Writes the count and the values at the end, or nothing. TooLong where they are more than `limit`, or one doesn't fit its form.
+pub fn write_many<T: Wire>(out: &mut Vec<u8>, values: &[T], limit: u32) -> Result<(), WireError>
+    ensures { Writes out.old out.new result
+        ((forms.many limit T.form).spelling values.now) ((forms.many limit T.form).Fits values.now) }
+{
+    let Ok(count) = u32::try_from(values.len()) else {
+        return Err(WireError::TooLong);
+    };
+    if count > limit {
+        return Err(WireError::TooLong);
+    }
+    let start = out.len();
+    write_u32(out, count)?;
+    match write_each(out, values) {
+        Ok(()) => Ok(()),
+        Err(error) => {
+            out.truncate(start);
+            Err(error)
+        }
+    }
+}
+
+// Writes the values one after the other.
+fn write_each<T: Wire>(out: &mut Vec<u8>, values: &[T]) -> Result<(), WireError>
+    ensures { Writes out.old out.new result (flat_map T.form.spelling values.now) (All T.form.Fits values.now) }
+{
+    let start = out.len();
+    for value in values {
+        if let Err(error) = value.write(out) {
+            out.truncate(start);
+            return Err(error);
+        }
+    }
+    Ok(())
+}

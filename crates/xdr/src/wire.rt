@@ -1,0 +1,127 @@
+ghost use Rattle.std.specs.Prelude.{◌≡◌, ◌++◌, ℕ, List, length};
+ghost use Rattle.xdr.specs.Form as forms;
+ghost use Rattle.xdr.specs.Form.{Form, ◌and◌};
+ghost use Rattle.xdr.specs.Layout.{NO_LIMIT};
+ghost use Rattle.xdr.specs.Reading.{Gives};
+ghost use Rattle.xdr.specs.Writing.{Writes};
+
+use crate::basic::{
+    read_fixed, read_flag, read_opaque_bytes, read_u32, read_u64, write_fixed, write_flag,
+    write_opaque, write_u32, write_u64,
+};
+use crate::fields::write_two;
+use crate::many::{read_many, write_many};
+use crate::{Bytes, Sequence, WireError};
+use std::alloc::Global;
+
+/// A type that has a form on the wire: it is read and written by it.
+pub trait Wire: Drop {
+    ghost form: { Form Self };
+
+    /// The value at the front of the bytes, and the bytes behind it. Short where bytes are missing, or where a number is none
+    /// of the form's; TooLong where a length is above its limit; Memory where memory was refused.
+    fn read(alloc: Global, bytes: &[u8]) -> Result<(Self, &[u8]), WireError>
+        ensures { Gives (λ x. (x.0, x.1.now)) result (form.at bytes.now) };
+
+    /// Writes the value at the end. TooLong where it doesn't fit its form. After an error the bytes are as before.
+    fn write(&self, out: &mut Vec<u8>) -> Result<(), WireError>
+        ensures { Writes out.old out.new result (form.spelling self.now) (form.Fits self.now) };
+}
+
+impl Wire for () {
+    ghost form = { forms.nothing };
+
+    fn read(alloc: Global, bytes: &[u8]) -> Result<((), &[u8]), WireError> {
+        Ok(((), bytes))
+    }
+
+    fn write(&self, out: &mut Vec<u8>) -> Result<(), WireError> {
+        Ok(())
+    }
+}
+
+impl Wire for u32 {
+    ghost form = { forms.u32 };
+
+    fn read(alloc: Global, bytes: &[u8]) -> Result<(u32, &[u8]), WireError> {
+        read_u32(bytes)
+    }
+
+    fn write(&self, out: &mut Vec<u8>) -> Result<(), WireError> {
+        write_u32(out, *self)
+    }
+}
+
+impl Wire for u64 {
+    ghost form = { forms.u64 };
+
+    fn read(alloc: Global, bytes: &[u8]) -> Result<(u64, &[u8]), WireError> {
+        read_u64(bytes)
+    }
+
+    fn write(&self, out: &mut Vec<u8>) -> Result<(), WireError> {
+        write_u64(out, *self)
+    }
+}
+
+impl Wire for bool {
+    ghost form = { forms.flag };
+
+    fn read(alloc: Global, bytes: &[u8]) -> Result<(bool, &[u8]), WireError> {
+        read_flag(bytes)
+    }
+
+    fn write(&self, out: &mut Vec<u8>) -> Result<(), WireError> {
+        write_flag(out, *self)
+    }
+}
+
+impl<const N: usize> Wire for [u8; N] {
+    ghost form = { forms.fixed N };
+
+    fn read(alloc: Global, bytes: &[u8]) -> Result<([u8; N], &[u8]), WireError> {
+        read_fixed::<N>(bytes)
+    }
+
+    fn write(&self, out: &mut Vec<u8>) -> Result<(), WireError> {
+        write_fixed(out, self)
+    }
+}
+
+impl Wire for Bytes {
+    ghost form = { forms.opaque NO_LIMIT };
+
+    fn read(alloc: Global, bytes: &[u8]) -> Result<(Bytes, &[u8]), WireError> {
+        read_opaque_bytes(alloc, bytes, u32::MAX)
+    }
+
+    fn write(&self, out: &mut Vec<u8>) -> Result<(), WireError> {
+        write_opaque(out, self.as_slice(), u32::MAX)
+    }
+}
+
+impl<A: Wire, B: Wire> Wire for (A, B) {
+    ghost form = { A.form and B.form };
+
+    fn read(alloc: Global, bytes: &[u8]) -> Result<((A, B), &[u8]), WireError> {
+        let (a, rest) = A::read(alloc, bytes)?;
+        let (b, rest) = B::read(alloc, rest)?;
+        Ok(((a, b), rest))
+    }
+
+    fn write(&self, out: &mut Vec<u8>) -> Result<(), WireError> {
+        write_two(out, &self.0, &self.1)
+    }
+}
+
+impl<T: Wire> Wire for Sequence<T> {
+    ghost form = { forms.many NO_LIMIT T.form };
+
+    fn read(alloc: Global, bytes: &[u8]) -> Result<(Sequence<T>, &[u8]), WireError> {
+        read_many(alloc, bytes, u32::MAX)
+    }
+
+    fn write(&self, out: &mut Vec<u8>) -> Result<(), WireError> {
+        write_many(out, self.as_slice(), u32::MAX)
+    }
+}
