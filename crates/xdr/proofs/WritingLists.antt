@@ -17,8 +17,7 @@ fails_at {A = A} spelling Fits old mid new back values i value e lt is so_far ke
     let whole : new.items ≡ old.items ++ front = w.1 ∙ so_far in
     let same : back.items ≡ old.items = taken ∙ ap (take (vec_len old)) whole ∙ take_at old.items front (vec_len old) (sym old.ok.0) in
     let len : length mid.items ≡ length old.items + length front = ap length so_far ∙ length-append old.items front in
-    let within = length-flat_map-take spelling values i value lt in
-    (
+    let within = length-flat_map-take spelling values i value lt in (
       tt,
       same,
       (λ too_long all. w.2 too_long (rw is (all i value lt))),

@@ -1,12 +1,13 @@
 -- The form of a type on the wire (RFC 4506): all that there is to say of its bytes, in one record. Forms are put together
 -- from those below, so that the form of a record reads as its declaration in XDR.
-use Rattle.std.specs.Prelude.{◌≡◌, ℕ, ◌^◌, ◌<◌, ◌≤◌, Bool, List, [], ◌++◌, length, Ok}
-use Rattle.std.specs.List.{All}
+use Rattle.std.specs.Prelude.{◌≡◌, ℕ, ◌^◌, ◌<◌, ◌≤◌, ◌==◌, Bool, Some, List, [], ◌++◌, length, Ok}
+use Rattle.std.specs.List.{All, find}
 use Rattle.xdr.specs.Layout.{◌⨾◌, Nothing, U32, U64, Flag, Fixed, Opaque, Many, NO_LIMIT}
-use Rattle.xdr.specs.Reading.{Read, Reads, ◌then◌, as_value, number_at, flag_at, fixed_at, opaque_at, many_at}
+use Rattle.xdr.specs.Reading.{Read, Reads, ◌then◌, as_value, number_at, flag_at, fixed_at, opaque_at, many_at, value_at, constant_at}
 use Rattle.xdr.specs.Writing.{written_u32, written_u64, written_flag, written_opaque, written_many}
-use Rattle.xdr.specs.laws.Reads.{reads_nothing, reads_number, reads_flag, reads_fixed, reads_opaque, reads_then, reads_as}
+use Rattle.xdr.specs.laws.Reads.{reads_nothing, reads_number, reads_constant, reads_flag, reads_fixed, reads_opaque, reads_then, reads_as}
 use Rattle.xdr.specs.laws.Spells.{nothing_stands, number_stands, flag_stands, fixed_stands, opaque_stands, both_stand}
+use Rattle.xdr.specs.laws.Enumerations.{reads_value}
 use Rattle.xdr.specs.laws.Lists.{reads_many, many_stand}
 
 pub record Form (A : Type 0) : Type 1 where
@@ -121,4 +122,26 @@ of make fields back again f = record {
   Fits = λ b. f.Fits (fields b);
   reads = reads_as f.layout f.at make fields back again f.reads;
   stands = λ b fits. f.stands (fields b) fits;
+}
+
+-- enum: the values, each of which is found by its number
+abbrev pub enumeration : {A : Type 0} → (number_of : A → ℕ) (values : List A) → ((value : A) → find (λ v. number_of v == number_of value) values ≡ Some value) → Form A
+enumeration number_of values known = record {
+  layout = λ value. U32 (number_of value);
+  at = value_at number_of values;
+  spelling = λ value. written_u32 (number_of value);
+  Fits = λ value. number_of value < 2 ^ 32;
+  reads = reads_value number_of values known;
+  stands = λ value fits. number_stands 4 (number_of value) fits;
+}
+
+-- a number that is always this one
+abbrev pub constant : ℕ → Form (Unit {0})
+constant n = record {
+  layout = λ v. U32 n;
+  at = constant_at n;
+  spelling = λ v. written_u32 n;
+  Fits = λ v. n < 2 ^ 32;
+  reads = reads_constant n;
+  stands = λ v fits. number_stands 4 n fits;
 }

@@ -3,5 +3,5 @@ pub mod Reading
 pub mod Writing
 pub mod laws
 pub mod Form
-pub mod Rows
+pub mod Switch
 pub mod Union

@@ -1,5 +1,6 @@
 -- Reading from the front: the value and the bytes behind it, or why there is none.
-use Rattle.std.specs.Prelude.{◌≡◌, ℕ, zero, suc, ◌+◌, Bool, true, false, List, [], ◌∷◌, ◌++◌, length, take, drop, Result, Ok, Err, nat_lt, ◌==◌, if◌then◌else◌}
+use Rattle.std.specs.Prelude.{◌≡◌, ℕ, zero, suc, ◌+◌, Bool, true, false, List, [], ◌∷◌, ◌++◌, length, take, drop, Option, Some, None, Result, Ok, Err, nat_lt, ◌==◌, if◌then◌else◌}
+use Rattle.std.specs.List.{find}
 use Rattle.byteorder.specs.Endian.{big_number}
 use Rattle.xdr.specs.declared.wire_error.WireError.{WireError}
 use Rattle.xdr.specs.declared.wire_error.WireError.TheVariants as errors
@@ -58,6 +59,19 @@ abbrev pub ◌then◌ : {A B : Type 0} → (List ℕ → Read A) → (List ℕ �
 -- what is read, made into another value
 abbrev pub as_value : {A B : Type 0} → (A → B) → (List ℕ → Read A) → List ℕ → Read B
 as_value make f bytes = f bytes >>= λ a. Ok (make a.0, a.1)
+
+-- the value that a number is found to be, if it is any
+abbrev pub or_short : {A : Type 0} → Option A → List ℕ → Read A
+or_short None rest = Err errors.Short
+or_short (Some value) rest = Ok (value, rest)
+
+-- the one of these values whose number is there
+unfoldable pub value_at : {A : Type 0} → (A → ℕ) → List A → List ℕ → Read A
+value_at number_of values bytes = number_at 4 bytes >>= λ n. or_short (find (λ v. number_of v == n.0) values) n.1
+
+-- nothing but that this number is there
+unfoldable pub constant_at : ℕ → List ℕ → Read (Unit {0})
+constant_at n bytes = number_at 4 bytes >>= λ k. if k.0 == n then Ok (tt, k.1) else Err errors.Short
 
 -- so many values, one after the other
 unfoldable pub each_at : {A : Type 0} → (List ℕ → Read A) → ℕ → List ℕ → Read (List A)

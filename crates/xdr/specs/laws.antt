@@ -1,4 +1,5 @@
 pub mod Reads
 pub mod Spells
 pub mod Lists
-pub mod Unions
+pub mod Enumerations
+pub mod Switches

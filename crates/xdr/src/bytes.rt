@@ -3,13 +3,19 @@ ghost use Rattle.std.specs.Prelude.{◌≡◌, ◌==◌, IfOk};
 use std::alloc::{AllocError, Global};
 use std::marker::Model;
 
-/// Bytes that a value owns. Contracts see the list of them.
+/// The greatest length that can be said before bytes.
+pub const NO_LIMIT: u32 = u32::MAX;
+
+/// Bytes that a value owns, of which at most `LIMIT` can be written (opaque<LIMIT>). Contracts see the list of them.
 #[derive(Debug, Drop)]
-pub struct Bytes {
+pub struct Opaque<const LIMIT: u32> {
     items: Vec<u8>,
 }
 
-impl Model for Bytes {
+/// Bytes of any length that can be said.
+pub type Bytes = Opaque<NO_LIMIT>;
+
+impl<const LIMIT: u32> Model for Opaque<LIMIT> {
     ghost use Rattle.std.specs.Prelude.{List, ℕ};
 
     ghost Value = { List ℕ };
@@ -17,29 +23,21 @@ impl Model for Bytes {
     ghost view = { λ b. b.items.items };
 }
 
-impl Bytes {
+impl<const LIMIT: u32> Opaque<LIMIT> {
     /// These bytes, taking no memory.
-    pub fn new(items: Vec<u8>) -> Bytes
+    pub fn new(items: Vec<u8>) -> Opaque<LIMIT>
         ensures { result ≡ items.items }
     {
-        Bytes { items }
+        Opaque { items }
     }
 
     /// A copy of these bytes.
-    pub fn copied(alloc: Global, items: &[u8]) -> Result<Bytes, AllocError>
+    pub fn copied(alloc: Global, items: &[u8]) -> Result<Opaque<LIMIT>, AllocError>
         ensures { IfOk result (λ b. b ≡ items.now) }
     {
-        Ok(Bytes {
+        Ok(Opaque {
             items: Vec::from_slice(alloc, items)?,
         })
-    }
-
-    /// The bytes, taking no memory.
-    pub fn into_vec(self) -> Vec<u8>
-        ensures { result.items ≡ self }
-    {
-        let Bytes { items } = self;
-        items
     }
 
     /// The bytes.
@@ -50,7 +48,7 @@ impl Bytes {
     }
 }
 
-impl PartialEq for Bytes {
+impl<const LIMIT: u32> PartialEq for Opaque<LIMIT> {
     ghost use Rattle.std.specs.Str.{bytes_eq};
     ghost use Rattle.std.specs.Cmp.Rules.{comparing};
     ghost use Rattle.std.proofs.Common.{rules};
@@ -59,16 +57,16 @@ impl PartialEq for Bytes {
 
     ghost laws = { Prim.search (comparing, rules) };
 
-    fn eq(&self, other: &Bytes) -> bool {
+    fn eq(&self, other: &Opaque<LIMIT>) -> bool {
         self.as_slice() == other.as_slice()
     }
 }
 
-impl Clone for Bytes {
+impl<const LIMIT: u32> Clone for Opaque<LIMIT> {
     ghost is_clone = { λ x y. y ≡ x };
 
-    fn clone(&self) -> Result<Bytes, AllocError> {
-        Ok(Bytes {
+    fn clone(&self) -> Result<Opaque<LIMIT>, AllocError> {
+        Ok(Opaque {
             items: self.items.clone()?,
         })
     }

@@ -11,7 +11,7 @@ use crate::basic::{
 };
 use crate::fields::write_two;
 use crate::many::{read_many, write_many};
-use crate::{Bytes, Sequence, WireError};
+use crate::{Opaque, Sequence, WireError};
 use std::alloc::Global;
 
 /// A type that has a form on the wire: it is read and written by it.
@@ -88,15 +88,15 @@ impl<const N: usize> Wire for [u8; N] {
     }
 }
 
-impl Wire for Bytes {
-    ghost form = { forms.opaque NO_LIMIT };
+impl<const LIMIT: u32> Wire for Opaque<LIMIT> {
+    ghost form = { forms.opaque LIMIT };
 
-    fn read(alloc: Global, bytes: &[u8]) -> Result<(Bytes, &[u8]), WireError> {
-        read_opaque_bytes(alloc, bytes, u32::MAX)
+    fn read(alloc: Global, bytes: &[u8]) -> Result<(Opaque<LIMIT>, &[u8]), WireError> {
+        read_opaque_bytes(alloc, bytes)
     }
 
     fn write(&self, out: &mut Vec<u8>) -> Result<(), WireError> {
-        write_opaque(out, self.as_slice(), u32::MAX)
+        write_opaque(out, self.as_slice(), LIMIT)
     }
 }
 

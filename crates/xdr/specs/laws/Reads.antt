@@ -7,7 +7,7 @@ use Rattle.byteorder.specs.Numbers.{big_from-take, big_from-append}
 use Rattle.xdr.specs.declared.wire_error.WireError.{WireError}
 use Rattle.xdr.specs.declared.wire_error.WireError.TheVariants as errors
 use Rattle.xdr.specs.Layout.{◌⨾◌, Nothing, Number, U32, Flag, Fixed, Opaque, Any, padding_of}
-use Rattle.xdr.specs.Reading.{Read, Reads, Begins, ◌>>=◌, ◌then◌, as_value, number_at, flag_of, flag_at, fixed_at, padded_at, opaque_at}
+use Rattle.xdr.specs.Reading.{Read, Reads, Begins, ◌>>=◌, ◌then◌, as_value, number_at, flag_of, flag_at, fixed_at, padded_at, opaque_at, constant_at}
 
 -- a test went one way or the other
 pub decided : (b : Bool) → (b ≡ true) ⊎ (b ≡ false)
@@ -161,6 +161,18 @@ reads_opaque limit = record {
       let second : drop (count + padding_of count) (value ++ (pad ++ rest)) ≡ rest =
       sym (drop-drop (padding_of count) count (value ++ (pad ++ rest))) ∙ ap (drop (padding_of count)) (drop_at value (pad ++ rest) count refl) ∙ drop_at pad rest (padding_of count) pad_len in
       rw (number, within, tail_is, long, first, second) refl;
+}
+
+pub reads_constant : (n : ℕ) → Reads (λ (v : Unit {0}). U32 n) (constant_at n)
+unfolding constant_at
+reads_constant n = record {
+  sound = λ bytes value rest e.
+      let k = bind_ok (number_at 4 bytes) (λ k. cond (eqb k.0 n) (Ok (tt, k.1)) (Err errors.Short)) (value, rest) e in
+      let same = wanted_ok (eqb k.0.0 n) errors.Short (Ok (tt, k.0.1)) (value, rest) k.2 in
+      let number = (reads_number 4).sound bytes k.0.0 k.0.1 k.1 in
+      let rest_is : k.0.1 ≡ rest = ap (λ (x : Unit {0} × List ℕ). x.1) (ok_is (tt, k.0.1) (value, rest) same.1) in
+      (number.0, number.1 ∙ ap (λ (x : List ℕ). number.0 ++ x) rest_is, subst (λ (m : ℕ). U32 m number.0) (eqb-true k.0.0 n same.0) number.2);
+  complete = λ value front rest h. rw ((reads_number 4).complete n front rest h) refl;
 }
 
 flag_stands : (n : ℕ) (front mid : List ℕ) (y : Bool × List ℕ) → U32 n front → flag_of n mid ≡ Ok y → Flag y.0 front × (mid ≡ y.1)

@@ -4,7 +4,7 @@ ghost use Rattle.xdr.specs.Reading.{Answers, Gives, opaque_at};
 ghost use Rattle.xdr.specs.Writing.{Writes, written_opaque};
 
 use crate::basic::{read_u32, write_u32};
-use crate::{Bytes, WireError};
+use crate::{Opaque, WireError};
 use std::alloc::Global;
 
 /// How many bytes of padding follow `len` bytes, to a multiple of 4.
@@ -34,18 +34,18 @@ pub fn read_opaque(bytes: &[u8], limit: u32) -> Result<(&[u8], &[u8]), WireError
     Ok((&rest[..len], &rest[padded..]))
 }
 
-/// The same, as bytes of their own.
-pub fn read_opaque_bytes(
+/// The bytes of a length that stands before them, as a value of their own, and the bytes behind their padding. TooLong and Short
+/// as for `read_opaque`.
+pub fn read_opaque_bytes<const LIMIT: u32>(
     alloc: Global,
     bytes: &[u8],
-    limit: u32,
-) -> Result<(Bytes, &[u8]), WireError>
-    ensures reads { Gives (λ x. (x.0, x.1.now)) result (opaque_at limit bytes.now) }
+) -> Result<(Opaque<LIMIT>, &[u8]), WireError>
+    ensures reads { Gives (λ x. (x.0, x.1.now)) result (opaque_at LIMIT bytes.now) }
     // Memory is told only of bytes that are there.
-    ensures memory { IsErrOf result WireError.Memory → IsOk (opaque_at limit bytes.now) }
+    ensures memory { IsErrOf result WireError.Memory → IsOk (opaque_at LIMIT bytes.now) }
 {
-    let (value, rest) = read_opaque(bytes, limit)?;
-    Ok((Bytes::copied(alloc, value)?, rest))
+    let (value, rest) = read_opaque(bytes, LIMIT)?;
+    Ok((Opaque::copied(alloc, value)?, rest))
 }
 
 /// Writes the length, the bytes and zeros to a multiple of 4 at the end. TooLong above `limit` bytes.

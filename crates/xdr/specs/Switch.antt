@@ -1,0 +1,48 @@
+-- A union (RFC 4506, section 4.15): a tag, and then what the tag calls for. Cases say it by the tag, for reading, and arms by
+-- the union's value, for writing.
+use Rattle.std.specs.Prelude.{◌≡◌, ℕ, List, ◌++◌, Ok, Err}
+use Rattle.std.proofs.Common.{refl}
+use Rattle.xdr.specs.declared.wire_error.WireError.TheVariants as errors
+use Rattle.xdr.specs.Reading.{Read, as_value}
+use Rattle.xdr.specs.Form.{Form}
+
+-- What a tag calls for: a value of a form, of which the union's value is made, or nothing, as it is no tag of the union.
+pub data Case (V : Type 0) : Type 1 where
+  case : {Content : Type 0} → Form Content → (Content → V) → Case V
+  no_case : Case V
+
+abbrev pub case_at : {V : Type 0} → Case V → List ℕ → Read V
+case_at (case form make) bytes = as_value make form.at bytes
+case_at no_case bytes = Err errors.Short
+
+-- A value of the union, and what is read and written of it behind the tag.
+pub record Arm (V : Type 0) : Type 1 where
+  pub value : V
+  pub layout : List ℕ → Type 0
+  pub at : List ℕ → Read V
+  pub spelling : List ℕ
+  pub Fits : Type 0
+  pub complete : (front rest : List ℕ) → layout front → at (front ++ rest) ≡ Ok (value, rest)
+  pub stands : Fits → layout spelling
+
+abbrev pub arm : {A V : Type 0} → Form A → (A → V) → A → Arm V
+arm form make content = record {
+  value = make content;
+  layout = form.layout content;
+  at = as_value make form.at;
+  spelling = form.spelling content;
+  Fits = form.Fits content;
+  complete = λ front rest h. rw (form.reads.complete content front rest h) refl;
+  stands = form.stands content;
+}
+
+-- Each case makes values that have its tag, and are written as it says.
+abbrev pub Agrees : {K V : Type 0} → (V → K) → (V → Arm V) → K → Case V → Type 1
+Agrees tag_of arm_of tag (case {Content = Content} form make) =
+    (content : Content) → (tag_of (make content) ≡ tag) × (arm_of (make content) ≡ arm form make content)
+Agrees tag_of arm_of tag no_case = Unit {1}
+
+-- The value is read by the case of its tag.
+pub record IsRead {K V : Type 0} (cases : K → Case V) (tag_of : V → K) (arm_of : V → Arm V) (value : V) : Type 0 where
+  pub is : (arm_of value).value ≡ value
+  pub reads : (bytes : List ℕ) → case_at (cases (tag_of value)) bytes ≡ (arm_of value).at bytes
