@@ -1,6 +1,6 @@
 -- What the reading functions of the basic forms read stands in their layouts, and what stands in them is read.
 use Rattle.std.proofs.Common.{◌≡◌, ℕ, ◌+◌, ◌≤◌, Bool, true, false, cond, ltb, eqb, List, [], ◌++◌, length, take, drop, Result, Ok, Err, refl, sym, ap, subst, ◌∙◌, append_assoc, arith, inl, inr, ◌⊎◌}
-use Rattle.std.proofs.lemmas.Bool.{ltb-false, le-ltb, eqb-true}
+use Rattle.std.proofs.lemmas.Bool.{ltb-false, le-ltb, eqb-true, eq-eqb}
 use Rattle.std.proofs.lemmas.List.{take_at, drop_at, take-append-drop, length-append, length-take, length-drop, drop-drop}
 use Rattle.byteorder.specs.Endian.{big_number}
 use Rattle.byteorder.specs.Numbers.{big_from-take, big_from-append}
@@ -172,7 +172,7 @@ reads_constant n = record {
       let number = (reads_number 4).sound bytes k.0.0 k.0.1 k.1 in
       let rest_is : k.0.1 ≡ rest = ap (λ (x : Unit {0} × List ℕ). x.1) (ok_is (tt, k.0.1) (value, rest) same.1) in
       (number.0, number.1 ∙ ap (λ (x : List ℕ). number.0 ++ x) rest_is, subst (λ (m : ℕ). U32 m number.0) (eqb-true k.0.0 n same.0) number.2);
-  complete = λ value front rest h. rw ((reads_number 4).complete n front rest h) refl;
+  complete = λ value front rest h. rw ((reads_number 4).complete n front rest h, eq-eqb n n refl) refl;
 }
 
 flag_stands : (n : ℕ) (front mid : List ℕ) (y : Bool × List ℕ) → U32 n front → flag_of n mid ≡ Ok y → Flag y.0 front × (mid ≡ y.1)
