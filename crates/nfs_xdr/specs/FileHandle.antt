@@ -1,11 +1,8 @@
--- nfs_fh4 (RFC 7531): opaque bytes up to NFS4_FHSIZE. They are spelled as every opaque is.
-use Rattle.std.specs.Prelude.{List, ℕ}
+-- nfs_fh4 (RFC 7531).
+use Rattle.std.specs.Prelude.{ℕ, List}
 use Rattle.nfs_xdr.specs.declared.file_handle.TheConstants.{FILE_HANDLE_LIMIT}
-use Rattle.nfs_xdr.specs.Layout.{Opaque}
-use Rattle.nfs_xdr.specs.Reading.{Read, opaque_at}
+use Rattle.xdr.specs.Form.{Form, opaque}
 
-abbrev pub IsFileHandle : List ℕ → List ℕ → Type 0
-IsFileHandle = Opaque FILE_HANDLE_LIMIT
-
-unfoldable pub file_handle_at : List ℕ → Read (List ℕ)
-file_handle_at = opaque_at FILE_HANDLE_LIMIT
+-- typedef opaque nfs_fh4<NFS4_FHSIZE>;
+abbrev pub file_handle : Form (List ℕ)
+file_handle = opaque FILE_HANDLE_LIMIT

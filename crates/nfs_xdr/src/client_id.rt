@@ -1,11 +1,9 @@
-ghost use Rattle.nfs_xdr.specs.ClientId.{client_id_at, written_client_id};
-ghost use Rattle.nfs_xdr.specs.Reading.{Answers};
-ghost use Rattle.nfs_xdr.specs.Writing.{Writes};
+ghost use Rattle.nfs_xdr.specs.ClientId as forms;
 
-use crate::WireError;
-use crate::basic::{read_u32, write_u32};
+use std::alloc::Global;
+use xdr::{Wire, WireError, write_two};
 
-/// A clientid (RFC 7530, section 9.1.1): on the wire the number epoch x 2^32 + number.
+/// A clientid (clientid4; RFC 7530, section 9.1.1): on the wire the number epoch x 2^32 + number.
 #[derive(Clone, Copy, Debug, PartialEq, Eq)]
 pub struct ClientId {
     /// The server's run.
@@ -14,18 +12,18 @@ pub struct ClientId {
     pub number: u32,
 }
 
-#[tactic(auto, unfolding(crate::specs::ClientId::client_id_at))]
-pub(crate) fn read_client_id(bytes: &[u8]) -> Result<(ClientId, &[u8]), WireError>
-    ensures { Answers (λ x. (x.0, x.1.now)) result (client_id_at bytes.now) }
-{
-    let (epoch, rest) = read_u32(bytes)?;
-    let (number, rest) = read_u32(rest)?;
-    Ok((ClientId { epoch, number }, rest))
-}
+impl Wire for ClientId {
+    ghost form = { forms.client_id };
 
-pub(crate) fn write_client_id(out: &mut Vec<u8>, client: ClientId) -> Result<(), WireError>
-    ensures { Writes out.old out.new result (written_client_id client) ⊥ }
-{
-    write_u32(out, client.epoch)?;
-    write_u32(out, client.number)
+    #[tactic(auto, unfolding(crate::specs::ClientId::client_id))]
+    fn read(alloc: Global, bytes: &[u8]) -> Result<(ClientId, &[u8]), WireError> {
+        let (epoch, rest) = u32::read(alloc, bytes)?;
+        let (number, rest) = u32::read(alloc, rest)?;
+        Ok((ClientId { epoch, number }, rest))
+    }
+
+    #[tactic(auto, unfolding(crate::specs::ClientId::client_id))]
+    fn write(&self, out: &mut Vec<u8>) -> Result<(), WireError> {
+        write_two(out, &self.epoch, &self.number)
+    }
 }

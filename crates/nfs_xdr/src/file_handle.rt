@@ -1,12 +1,9 @@
 ghost use Rattle.std.specs.Prelude.{◌≡◌, ◌≤◌, ◌<◌, length, IfSome, IfNone};
-ghost use Rattle.nfs_xdr.specs.FileHandle.{file_handle_at};
-ghost use Rattle.nfs_xdr.specs.Reading.{Answers};
-ghost use Rattle.nfs_xdr.specs.Writing.{Writes, written_opaque};
+ghost use Rattle.nfs_xdr.specs.FileHandle as forms;
 
-use crate::WireError;
-use crate::basic::{read_opaque, write_opaque};
-use std::alloc::AllocError;
+use std::alloc::{AllocError, Global};
 use std::marker::Model;
+use xdr::{Wire, WireError, read_opaque, write_opaque};
 
 /// The most bytes of a filehandle (NFS4_FHSIZE).
 pub const FILE_HANDLE_LIMIT: usize = 128;
@@ -78,21 +75,18 @@ impl Clone for FileHandle {
     }
 }
 
-/// A filehandle and the bytes behind it. TooLong above 128 bytes, Short where bytes are missing (RFC 7531, nfs_fh4).
-#[tactic(auto, unfolding(crate::specs::FileHandle::file_handle_at))]
-pub fn read_file_handle(bytes: &[u8]) -> Result<(FileHandle, &[u8]), WireError>
-    ensures { Answers (λ x. (x.0, x.1.now)) result (file_handle_at bytes.now) }
-{
-    let (handle, rest) = read_opaque(bytes, FILE_HANDLE_LIMIT as u32)?;
-    match FileHandle::new(handle) {
-        Some(handle) => Ok((handle, rest)),
-        None => Err(WireError::TooLong),
-    }
-}
+impl Wire for FileHandle {
+    ghost form = { forms.file_handle };
 
-/// Writes the filehandle's length, its bytes and zeros to a multiple of 4. Memory alone can be wanting.
-pub fn write_file_handle(out: &mut Vec<u8>, handle: &FileHandle) -> Result<(), WireError>
-    ensures { Writes out.old out.new result (written_opaque handle.now) ⊥ }
-{
-    write_opaque(out, handle.as_slice())
+    fn read(alloc: Global, bytes: &[u8]) -> Result<(FileHandle, &[u8]), WireError> {
+        let (handle, rest) = read_opaque(bytes, FILE_HANDLE_LIMIT as u32)?;
+        match FileHandle::new(handle) {
+            Some(handle) => Ok((handle, rest)),
+            None => Err(WireError::TooLong),
+        }
+    }
+
+    fn write(&self, out: &mut Vec<u8>) -> Result<(), WireError> {
+        write_opaque(out, self.as_slice(), FILE_HANDLE_LIMIT as u32)
+    }
 }

@@ -1,15 +1,13 @@
 ghost use Rattle.std.specs.Prelude.{◌≡◌};
-ghost use Rattle.nfs_xdr.specs.Reading.{Answers};
-ghost use Rattle.nfs_xdr.specs.Status.{number_of, status_at, status_of, written_status};
-ghost use Rattle.nfs_xdr.specs.Writing.{Writes};
+ghost use Rattle.nfs_xdr.specs.Status as statuses;
+ghost use Rattle.nfs_xdr.specs.Status.{number_of, number_of_refusal, status_of};
 
-use crate::WireError;
-use crate::basic::{read_u32, write_u32};
+use std::alloc::Global;
+use xdr::{Wire, WireError, read_u32, write_u32};
 
-/// The status of an operation or of a COMPOUND (nfsstat4), with the number that stands on the wire.
+/// The status of an operation that did nothing and says nothing else (nfsstat4), with its number on the wire.
 #[derive(Clone, Copy, Debug, PartialEq, Eq)]
-pub enum Status {
-    Ok = 0,
+pub enum Refusal {
     NoEnt = 2,
     Access = 13,
     Exist = 17,
@@ -21,11 +19,9 @@ pub enum Status {
     BadHandle = 10001,
     NotSupp = 10004,
     Delay = 10008,
-    Denied = 10010,
     Expired = 10011,
     Locked = 10012,
     ShareDenied = 10015,
-    ClidInUse = 10017,
     Resource = 10018,
     NoFileHandle = 10020,
     MinorVersMismatch = 10021,
@@ -42,39 +38,60 @@ pub enum Status {
     OpIllegal = 10044,
 }
 
+impl Refusal {
+    fn number(self) -> u32
+        ensures { result ≡ number_of_refusal self }
+    {
+        self as u32
+    }
+}
+
+/// The status of an operation or of a COMPOUND (nfsstat4). Those that have something behind them are apart from refusals, so that
+/// no refusal can say them.
+#[derive(Clone, Copy, Debug, PartialEq, Eq)]
+pub enum Status {
+    /// NFS4_OK.
+    Ok,
+    /// NFS4ERR_DENIED: behind it stands the lock in the way.
+    Denied,
+    /// NFS4ERR_CLID_INUSE: behind it stands where the client with the id is called back.
+    ClidInUse,
+    Refused(Refusal),
+}
+
 /// Every status, in order of its number.
 pub const STATUSES: [Status; 31] = [
     Status::Ok,
-    Status::NoEnt,
-    Status::Access,
-    Status::Exist,
-    Status::NotDir,
-    Status::IsDir,
-    Status::Inval,
-    Status::FBig,
-    Status::NameTooLong,
-    Status::BadHandle,
-    Status::NotSupp,
-    Status::Delay,
+    Status::Refused(Refusal::NoEnt),
+    Status::Refused(Refusal::Access),
+    Status::Refused(Refusal::Exist),
+    Status::Refused(Refusal::NotDir),
+    Status::Refused(Refusal::IsDir),
+    Status::Refused(Refusal::Inval),
+    Status::Refused(Refusal::FBig),
+    Status::Refused(Refusal::NameTooLong),
+    Status::Refused(Refusal::BadHandle),
+    Status::Refused(Refusal::NotSupp),
+    Status::Refused(Refusal::Delay),
     Status::Denied,
-    Status::Expired,
-    Status::Locked,
-    Status::ShareDenied,
+    Status::Refused(Refusal::Expired),
+    Status::Refused(Refusal::Locked),
+    Status::Refused(Refusal::ShareDenied),
     Status::ClidInUse,
-    Status::Resource,
-    Status::NoFileHandle,
-    Status::MinorVersMismatch,
-    Status::StaleClientId,
-    Status::StaleStateId,
-    Status::OldStateId,
-    Status::BadStateId,
-    Status::BadSeqId,
-    Status::RestoreFh,
-    Status::NoGrace,
-    Status::BadXdr,
-    Status::LocksHeld,
-    Status::OpenMode,
-    Status::OpIllegal,
+    Status::Refused(Refusal::Resource),
+    Status::Refused(Refusal::NoFileHandle),
+    Status::Refused(Refusal::MinorVersMismatch),
+    Status::Refused(Refusal::StaleClientId),
+    Status::Refused(Refusal::StaleStateId),
+    Status::Refused(Refusal::OldStateId),
+    Status::Refused(Refusal::BadStateId),
+    Status::Refused(Refusal::BadSeqId),
+    Status::Refused(Refusal::RestoreFh),
+    Status::Refused(Refusal::NoGrace),
+    Status::Refused(Refusal::BadXdr),
+    Status::Refused(Refusal::LocksHeld),
+    Status::Refused(Refusal::OpenMode),
+    Status::Refused(Refusal::OpIllegal),
 ];
 
 impl Status {
@@ -82,7 +99,12 @@ impl Status {
     pub fn number(self) -> u32
         ensures { result ≡ number_of self }
     {
-        self as u32
+        match self {
+            Status::Ok => 0,
+            Status::Denied => 10010,
+            Status::ClidInUse => 10017,
+            Status::Refused(refusal) => refusal.number(),
+        }
     }
 
     /// The status of a number, if it has one.
@@ -93,19 +115,20 @@ impl Status {
     }
 }
 
-#[tactic(auto, unfolding(crate::specs::Status::status_at))]
-pub(crate) fn read_status(bytes: &[u8]) -> Result<(Status, &[u8]), WireError>
-    ensures { Answers (λ x. (x.0, x.1.now)) result (status_at bytes.now) }
-{
-    let (number, rest) = read_u32(bytes)?;
-    match Status::from_number(number) {
-        Some(status) => Ok((status, rest)),
-        None => Err(WireError::Short),
-    }
-}
+impl Wire for Status {
+    ghost form = { statuses.status };
 
-pub(crate) fn write_status(out: &mut Vec<u8>, status: Status) -> Result<(), WireError>
-    ensures { Writes out.old out.new result (written_status status) ⊥ }
-{
-    write_u32(out, status.number())
+    #[tactic(auto, unfolding(crate::specs::Status::status, xdr::specs::Reading::value_at))]
+    fn read(alloc: Global, bytes: &[u8]) -> Result<(Status, &[u8]), WireError> {
+        let (number, rest) = read_u32(bytes)?;
+        match Status::from_number(number) {
+            Some(status) => Ok((status, rest)),
+            None => Err(WireError::Short),
+        }
+    }
+
+    #[tactic(auto, unfolding(crate::specs::Status::status))]
+    fn write(&self, out: &mut Vec<u8>) -> Result<(), WireError> {
+        write_u32(out, self.number())
+    }
 }

@@ -1,6 +1,0 @@
--- What was read at the front stands there.
-use Rattle.nfs_xdr.proofs.Operations.{stands_if_ok}
-use Rattle.nfs_xdr.proofs.op.read_op.Goals as goal
-
-pub returns-clause-stands : goal.returns-clause-stands
-returns-clause-stands c = stands_if_ok (λ x. (x.0, x.1.now)) c.args.bytes.now c.op_from.result c.op_from.ensures

@@ -1,0 +1,191 @@
+ghost use Rattle.std.specs.Prelude.{◌≡◌};
+ghost use Rattle.nfs_xdr.specs.Opnum as opnums;
+ghost use Rattle.nfs_xdr.specs.Opnum.{class_of, number_of, number_of_unsupported, opnum_of, room_of};
+
+use std::alloc::Global;
+use xdr::{Wire, WireError, read_u32, write_u32};
+
+/// The operations of NFSv4.0 that this server has no rule for, by their numbers.
+#[derive(Clone, Copy, Debug, PartialEq, Eq)]
+pub enum Unsupported {
+    Close = 4,
+    Commit = 5,
+    Create = 6,
+    Delegpurge = 7,
+    Delegreturn = 8,
+    Link = 11,
+    Lock = 12,
+    Lockt = 13,
+    Locku = 14,
+    Lookupp = 16,
+    Nverify = 17,
+    Open = 18,
+    Openattr = 19,
+    OpenConfirm = 20,
+    OpenDowngrade = 21,
+    Putpubfh = 23,
+    Read = 25,
+    Readdir = 26,
+    Readlink = 27,
+    Remove = 28,
+    Rename = 29,
+    Renew = 30,
+    Secinfo = 33,
+    Setattr = 34,
+    Verify = 37,
+    Write = 38,
+    ReleaseLockowner = 39,
+}
+
+impl Unsupported {
+    fn number(self) -> u32
+        ensures { result ≡ number_of_unsupported self }
+    {
+        self as u32
+    }
+}
+
+/// The operations of NFSv4.0 (nfs_opnum4).
+#[derive(Clone, Copy, Debug, PartialEq, Eq)]
+pub enum Opnum {
+    Access,
+    Getattr,
+    Getfh,
+    Lookup,
+    Putfh,
+    Putrootfh,
+    Restorefh,
+    Savefh,
+    Setclientid,
+    SetclientidConfirm,
+    /// An operation without a rule.
+    Unsupported(Unsupported),
+    /// The number under which operations that don't exist are answered.
+    Illegal,
+}
+
+/// What an operation is asked of.
+#[derive(Clone, Copy, Debug, PartialEq, Eq)]
+pub enum Class {
+    /// The tree of files and the filehandles alone.
+    OnTree,
+    /// The state, by a rule: each answer but NFS4ERR_RESOURCE is an entry of the journal.
+    Entered,
+    /// Nothing: it has no rule, and isn't run.
+    Unruled,
+}
+
+/// Every operation, in order of its number.
+pub const OPNUMS: [Opnum; 38] = [
+    Opnum::Access,
+    Opnum::Unsupported(Unsupported::Close),
+    Opnum::Unsupported(Unsupported::Commit),
+    Opnum::Unsupported(Unsupported::Create),
+    Opnum::Unsupported(Unsupported::Delegpurge),
+    Opnum::Unsupported(Unsupported::Delegreturn),
+    Opnum::Getattr,
+    Opnum::Getfh,
+    Opnum::Unsupported(Unsupported::Link),
+    Opnum::Unsupported(Unsupported::Lock),
+    Opnum::Unsupported(Unsupported::Lockt),
+    Opnum::Unsupported(Unsupported::Locku),
+    Opnum::Lookup,
+    Opnum::Unsupported(Unsupported::Lookupp),
+    Opnum::Unsupported(Unsupported::Nverify),
+    Opnum::Unsupported(Unsupported::Open),
+    Opnum::Unsupported(Unsupported::Openattr),
+    Opnum::Unsupported(Unsupported::OpenConfirm),
+    Opnum::Unsupported(Unsupported::OpenDowngrade),
+    Opnum::Putfh,
+    Opnum::Unsupported(Unsupported::Putpubfh),
+    Opnum::Putrootfh,
+    Opnum::Unsupported(Unsupported::Read),
+    Opnum::Unsupported(Unsupported::Readdir),
+    Opnum::Unsupported(Unsupported::Readlink),
+    Opnum::Unsupported(Unsupported::Remove),
+    Opnum::Unsupported(Unsupported::Rename),
+    Opnum::Unsupported(Unsupported::Renew),
+    Opnum::Restorefh,
+    Opnum::Savefh,
+    Opnum::Unsupported(Unsupported::Secinfo),
+    Opnum::Unsupported(Unsupported::Setattr),
+    Opnum::Setclientid,
+    Opnum::SetclientidConfirm,
+    Opnum::Unsupported(Unsupported::Verify),
+    Opnum::Unsupported(Unsupported::Write),
+    Opnum::Unsupported(Unsupported::ReleaseLockowner),
+    Opnum::Illegal,
+];
+
+impl Opnum {
+    /// Its number on the wire.
+    pub fn number(self) -> u32
+        ensures { result ≡ number_of self }
+    {
+        match self {
+            Opnum::Access => 3,
+            Opnum::Getattr => 9,
+            Opnum::Getfh => 10,
+            Opnum::Lookup => 15,
+            Opnum::Putfh => 22,
+            Opnum::Putrootfh => 24,
+            Opnum::Restorefh => 31,
+            Opnum::Savefh => 32,
+            Opnum::Setclientid => 35,
+            Opnum::SetclientidConfirm => 36,
+            Opnum::Unsupported(op) => op.number(),
+            Opnum::Illegal => 10044,
+        }
+    }
+
+    /// The operation of a number, if there is one.
+    pub fn from_number(number: u32) -> Option<Opnum>
+        ensures { result ≡ opnum_of number }
+    {
+        OPNUMS.iter().copied().find(|o| o.number() == number)
+    }
+
+    /// What it is asked of.
+    pub fn class(self) -> Class
+        ensures { result ≡ class_of self }
+    {
+        match self {
+            Opnum::Access => Class::OnTree,
+            Opnum::Getattr => Class::Entered,
+            Opnum::Getfh => Class::OnTree,
+            Opnum::Lookup => Class::OnTree,
+            Opnum::Putfh => Class::OnTree,
+            Opnum::Putrootfh => Class::OnTree,
+            Opnum::Restorefh => Class::OnTree,
+            Opnum::Savefh => Class::OnTree,
+            Opnum::Setclientid => Class::Entered,
+            Opnum::SetclientidConfirm => Class::Entered,
+            Opnum::Unsupported(_) | Opnum::Illegal => Class::Unruled,
+        }
+    }
+
+    /// The room in the reply that it is run only with.
+    pub fn room(self) -> usize
+        ensures { result ≡ room_of self }
+    {
+        2_048
+    }
+}
+
+impl Wire for Opnum {
+    ghost form = { opnums.opnum };
+
+    #[tactic(auto, unfolding(crate::specs::Opnum::opnum, xdr::specs::Reading::value_at))]
+    fn read(alloc: Global, bytes: &[u8]) -> Result<(Opnum, &[u8]), WireError> {
+        let (number, rest) = read_u32(bytes)?;
+        match Opnum::from_number(number) {
+            Some(opnum) => Ok((opnum, rest)),
+            None => Err(WireError::Short),
+        }
+    }
+
+    #[tactic(auto, unfolding(crate::specs::Opnum::opnum))]
+    fn write(&self, out: &mut Vec<u8>) -> Result<(), WireError> {
+        write_u32(out, self.number())
+    }
+}
