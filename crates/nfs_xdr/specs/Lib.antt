@@ -8,3 +8,6 @@ pub mod FileHandle
 pub mod Status
 pub mod Opnum
 pub mod Answer
+pub mod ClientAnswer
+pub mod operations
+pub mod Op

@@ -1,0 +1,10 @@
+pub mod Access
+pub mod Getattr
+pub mod Getfh
+pub mod Lookup
+pub mod Putfh
+pub mod Putrootfh
+pub mod Restorefh
+pub mod Savefh
+pub mod Setclientid
+pub mod SetclientidConfirm

@@ -1,0 +1,35 @@
+ghost use Rattle.nfs_xdr.specs.operations.Access as forms;
+
+use crate::Answer;
+use std::alloc::Global;
+use xdr::{Wire, WireError, write_two};
+
+/// The bits that are asked (RFC 7530, section 16.1).
+pub type Arguments = u32;
+
+pub type Outcome = Answer<AccessBits>;
+
+/// What ACCESS tells of the bits that were asked.
+#[derive(Clone, Copy, Debug, PartialEq, Eq)]
+pub struct AccessBits {
+    /// The bits that the server can tell of.
+    pub supported: u32,
+    /// Those that are allowed.
+    pub access: u32,
+}
+
+impl Wire for AccessBits {
+    ghost form = { forms.access_bits };
+
+    #[tactic(auto, unfolding(crate::specs::operations::Access::access_bits))]
+    fn read(alloc: Global, bytes: &[u8]) -> Result<(AccessBits, &[u8]), WireError> {
+        let (supported, rest) = u32::read(alloc, bytes)?;
+        let (access, rest) = u32::read(alloc, rest)?;
+        Ok((AccessBits { supported, access }, rest))
+    }
+
+    #[tactic(auto, unfolding(crate::specs::operations::Access::access_bits))]
+    fn write(&self, out: &mut Vec<u8>) -> Result<(), WireError> {
+        write_two(out, &self.supported, &self.access)
+    }
+}

@@ -1,0 +1,8 @@
+use crate::Answer;
+use xdr::Bytes;
+
+/// A name in the current directory (RFC 7530, section 16.13).
+pub type Arguments = Bytes;
+
+/// A status alone.
+pub type Outcome = Answer<()>;

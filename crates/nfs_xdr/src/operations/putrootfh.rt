@@ -1,0 +1,7 @@
+use crate::Answer;
+
+/// PUTROOTFH has none (RFC 7530, section 16.22).
+pub type Arguments = ();
+
+/// A status alone.
+pub type Outcome = Answer<()>;

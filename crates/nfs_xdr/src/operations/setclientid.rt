@@ -1,0 +1,44 @@
+ghost use Rattle.nfs_xdr.specs.operations.Setclientid as forms;
+
+use crate::operations::setclientid_confirm::SetclientidConfirm;
+use crate::{Address, Callback, ClientAnswer, Verifier};
+use std::alloc::Global;
+use xdr::{Opaque, Wire, WireError, write_three};
+
+/// The most bytes of a client's id (NFS4_OPAQUE_LIMIT).
+pub const ID_LIMIT: u32 = 1024;
+
+/// The arguments of SETCLIENTID (RFC 7530, section 16.33).
+#[derive(Clone, Debug, PartialEq, Drop)]
+pub struct Setclientid {
+    /// The client's start.
+    pub verifier: Verifier,
+    /// The client's name for itself.
+    pub id: Opaque<ID_LIMIT>,
+    pub callback: Callback,
+}
+
+/// With NFS4_OK what is to be confirmed, and with NFS4ERR_CLID_INUSE where the client that has the id is called back.
+pub type Outcome = ClientAnswer<SetclientidConfirm, Address>;
+
+impl Wire for Setclientid {
+    ghost form = { forms.arguments };
+
+    #[tactic(auto, unfolding(crate::specs::operations::Setclientid::arguments))]
+    fn read(alloc: Global, bytes: &[u8]) -> Result<(Setclientid, &[u8]), WireError> {
+        let (verifier, rest) = Verifier::read(alloc, bytes)?;
+        let (id, rest) = Opaque::<ID_LIMIT>::read(alloc, rest)?;
+        let (callback, rest) = Callback::read(alloc, rest)?;
+        let arguments = Setclientid {
+            verifier,
+            id,
+            callback,
+        };
+        Ok((arguments, rest))
+    }
+
+    #[tactic(auto, unfolding(crate::specs::operations::Setclientid::arguments))]
+    fn write(&self, out: &mut Vec<u8>) -> Result<(), WireError> {
+        write_three(out, &self.verifier, &self.id, &self.callback)
+    }
+}

@@ -1,0 +1,32 @@
+ghost use Rattle.nfs_xdr.specs.operations.SetclientidConfirm as forms;
+
+use crate::{ClientAnswer, ClientId};
+use std::alloc::Global;
+use xdr::{Wire, WireError, write_two};
+
+/// The arguments of SETCLIENTID_CONFIRM (RFC 7530, section 16.34), as SETCLIENTID tells them.
+#[derive(Clone, Copy, Debug, PartialEq, Eq)]
+pub struct SetclientidConfirm {
+    pub client: ClientId,
+    /// The value that confirms it.
+    pub confirm: u64,
+}
+
+/// A status alone.
+pub type Outcome = ClientAnswer<(), ()>;
+
+impl Wire for SetclientidConfirm {
+    ghost form = { forms.arguments };
+
+    #[tactic(auto, unfolding(crate::specs::operations::SetclientidConfirm::arguments))]
+    fn read(alloc: Global, bytes: &[u8]) -> Result<(SetclientidConfirm, &[u8]), WireError> {
+        let (client, rest) = ClientId::read(alloc, bytes)?;
+        let (confirm, rest) = u64::read(alloc, rest)?;
+        Ok((SetclientidConfirm { client, confirm }, rest))
+    }
+
+    #[tactic(auto, unfolding(crate::specs::operations::SetclientidConfirm::arguments))]
+    fn write(&self, out: &mut Vec<u8>) -> Result<(), WireError> {
+        write_two(out, &self.client, &self.confirm)
+    }
+}
