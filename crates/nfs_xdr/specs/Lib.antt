@@ -11,3 +11,4 @@ pub mod Answer
 pub mod ClientAnswer
 pub mod operations
 pub mod Op
+pub mod OpResult
