@@ -90,6 +90,10 @@ opaque limit = record {
   stands = λ bytes fits. opaque_stands limit bytes fits.0 fits.1;
 }
 
+-- opaque value<>
+abbrev pub bytes : Form (List ℕ)
+bytes = opaque NO_LIMIT
+
 -- values<limit>
 abbrev pub many : {A : Type 0} → ℕ → Form A → Form (List A)
 many limit f = record {

@@ -1,0 +1,41 @@
+ghost use Rattle.std.specs.Prelude.{◌≡◌, ◌≤◌, ◌^◌, length};
+ghost use Rattle.xdr.specs.Form.{Form};
+
+use crate::basic::padding_of;
+use crate::{Opaque, Wire};
+
+/// A type whose values tell how many bytes they are written in.
+pub trait Measure: Wire {
+    /// How many bytes the value takes when it is written.
+    fn written_len(&self) -> usize
+        requires { length (Self.form.spelling self.now) ≤ 2 ^ 32 }
+        ensures { result ≡ length (Self.form.spelling self.now) };
+}
+
+impl Measure for () {
+    fn written_len(&self) -> usize {
+        0
+    }
+}
+
+impl Measure for u32 {
+    #[tactic(auto, unfolding(crate::specs::Writing::written_number))]
+    fn written_len(&self) -> usize {
+        4
+    }
+}
+
+impl Measure for u64 {
+    #[tactic(auto, unfolding(crate::specs::Writing::written_number))]
+    fn written_len(&self) -> usize {
+        8
+    }
+}
+
+impl<const LIMIT: u32> Measure for Opaque<LIMIT> {
+    #[tactic(auto, unfolding(crate::specs::Writing::written_opaque, crate::specs::Writing::written_number))]
+    fn written_len(&self) -> usize {
+        let len = self.as_slice().len();
+        4 + len + padding_of(len)
+    }
+}
