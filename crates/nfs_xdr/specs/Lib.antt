@@ -12,3 +12,4 @@ pub mod ClientAnswer
 pub mod operations
 pub mod Op
 pub mod OpResult
+pub mod ArgOp

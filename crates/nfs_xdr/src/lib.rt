@@ -2,6 +2,7 @@
 #![tactic(auto)]
 
 mod answer;
+mod arg_op;
 mod bitmap;
 mod callback;
 mod client_answer;
@@ -17,6 +18,7 @@ mod status;
 mod verifier;
 
 pub use answer::Answer;
+pub use arg_op::{ArgOp, read_op};
 pub use bitmap::Bitmap;
 pub use callback::{Address, Callback};
 pub use client_answer::ClientAnswer;

@@ -8,7 +8,7 @@ use Rattle.xdr.specs.Reading.{Read, Reads, Begins, ◌>>=◌, number_at, or_shor
 use Rattle.xdr.specs.laws.Reads.{decided, bind_ok, ok_is, reads_number}
 
 -- what is found passes the test
-passes : {A : Type 0} (p : A → Bool) (values : List A) (found : A) → find p values ≡ Some found → p found ≡ true
+pub passes : {A : Type 0} (p : A → Bool) (values : List A) (found : A) → find p values ≡ Some found → p found ≡ true
 passes p [] found e = absurd cc
 passes {A = A} p (value ∷ values) found e =
     elim (decided (p value)) [
