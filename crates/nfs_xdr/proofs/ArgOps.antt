@@ -11,6 +11,7 @@ use Rattle.nfs_xdr.specs.declared.opnum.Opnum.{Opnum}
 use Rattle.nfs_xdr.specs.declared.opnum.Opnum.TheVariants as opnums
 use Rattle.nfs_xdr.specs.declared.opnum.TheConstants.{OPNUMS}
 use Rattle.nfs_xdr.specs.ArgOp.{LacksOp, StandsAt, or_bad_arguments, by_opnum, arg_op_of, by_number, arg_op_at}
+use Rattle.nfs_xdr.specs.Compound.{OneOperationStands}
 use Rattle.nfs_xdr.specs.Op.{op, op_case}
 use Rattle.nfs_xdr.specs.Opnum.{class_of, known, number_of, opnum, opnum_of}
 use Rattle.xdr.specs.declared.wire_error.WireError.{WireError}
@@ -122,3 +123,7 @@ arg_op_complete bytes (BadArgs o) rest h =
     ]
 arg_op_complete bytes (Unsupported o) rest h = ap (by_number bytes) (by_begins bytes rest (number_of (opnums.Unsupported o)) h) ∙ rw (known (opnums.Unsupported o)) refl
 arg_op_complete bytes (Illegal number) rest h = ap (by_number bytes) (by_begins bytes rest number h.0) ∙ illegal_read number rest (opnum_of number) refl h.1
+
+pub one_operation : OneOperationStands
+one_operation bytes x rest =
+    ((λ e. subst (Stands bytes) e (arg_op_stands bytes)), arg_op_complete bytes x rest)

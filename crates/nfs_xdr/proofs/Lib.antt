@@ -1,1 +1,4 @@
 pub mod ArgOps
+pub mod CompoundLists
+pub mod Compounds
+pub mod Words

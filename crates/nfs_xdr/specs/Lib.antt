@@ -13,3 +13,4 @@ pub mod operations
 pub mod Op
 pub mod OpResult
 pub mod ArgOp
+pub mod Compound

@@ -1,10 +1,11 @@
 -- Operations with their arguments (RFC 7530, section 16; RFC 7531, nfs_argop4).
+use Rattle.std.specs.Prelude.{Bool}
 use Rattle.std.proofs.Common.{refl}
 use Rattle.nfs_xdr.specs.declared.op.Op.{Op}
 use Rattle.nfs_xdr.specs.declared.op.Op.TheVariants.{Access, Getattr, Getfh, Lookup, Putfh, Putrootfh, Restorefh, Savefh, Setclientid, SetclientidConfirm}
 use Rattle.nfs_xdr.specs.declared.opnum.Opnum.{Opnum}
 use Rattle.nfs_xdr.specs.declared.opnum.Opnum.TheVariants as opnums
-use Rattle.nfs_xdr.specs.Opnum.{opnum}
+use Rattle.nfs_xdr.specs.Opnum.{class_of, is_entered, is_of_tree, opnum}
 use Rattle.nfs_xdr.specs.operations.Access as access
 use Rattle.nfs_xdr.specs.operations.Getattr as getattr
 use Rattle.nfs_xdr.specs.operations.Getfh as getfh
@@ -69,3 +70,11 @@ op_is_read o = record { is = refl; reads = λ bytes. refl }
 
 unfoldable pub op : Form Op
 op = switch opnum op_case opnum_of op_arm op_agrees op_is_read
+
+-- each answer but NFS4ERR_RESOURCE is an entry of the journal
+abbrev pub has_entry : Op → Bool
+has_entry o = is_entered (class_of (opnum_of o))
+
+-- it asks the tree of files and the filehandles alone
+abbrev pub is_on_tree : Op → Bool
+is_on_tree o = is_of_tree (class_of (opnum_of o))

@@ -1,6 +1,6 @@
 -- The operations of NFSv4.0: the number of each, what it is asked of, and the room of its reply (RFC 7530, section 16; RFC 7531,
 -- nfs_opnum4).
-use Rattle.std.specs.Prelude.{◌≡◌, ℕ, Option, Some, ◌==◌}
+use Rattle.std.specs.Prelude.{◌≡◌, ℕ, Bool, true, false, Option, Some, ◌==◌}
 use Rattle.std.proofs.Common.{refl}
 use Rattle.std.specs.List.{find}
 use Rattle.nfs_xdr.specs.declared.opnum.Class.{Class}
@@ -68,6 +68,16 @@ class_of op.Setclientid = Entered
 class_of op.SetclientidConfirm = Entered
 class_of (op.Unsupported o) = Unruled
 class_of op.Illegal = Unruled
+
+abbrev pub is_entered : Class → Bool
+is_entered OnTree = false
+is_entered Entered = true
+is_entered Unruled = false
+
+abbrev pub is_of_tree : Class → Bool
+is_of_tree OnTree = true
+is_of_tree Entered = false
+is_of_tree Unruled = false
 
 -- the room that its reply may take
 abbrev pub room_of : Opnum → ℕ

@@ -3,7 +3,7 @@ ghost use Rattle.nfs_xdr.specs.Answer as answers;
 
 use crate::{Refusal, Status};
 use std::alloc::Global;
-use xdr::{Wire, WireError, write_two};
+use xdr::{Measure, Wire, WireError, write_two};
 
 /// What an operation answers that brings something with NFS4_OK alone.
 #[derive(Clone, Debug, PartialEq, Drop)]
@@ -43,6 +43,16 @@ impl<T: Wire> Wire for Answer<T> {
         match self {
             Answer::Done(value) => write_two(out, &Status::Ok, value),
             Answer::Refused(refusal) => write_two(out, &Status::Refused(*refusal), &()),
+        }
+    }
+}
+
+impl<T: Measure> Measure for Answer<T> {
+    #[tactic(auto, unfolding(crate::specs::Answer::answer, crate::specs::Status::status, xdr::specs::Writing::written_number))]
+    fn written_len(&self) -> usize {
+        match self {
+            Answer::Done(value) => 4 + value.written_len(),
+            Answer::Refused(_) => 4,
         }
     }
 }

@@ -3,7 +3,7 @@ ghost use Rattle.nfs_xdr.specs.Bitmap as forms;
 
 use std::alloc::{AllocError, Global};
 use std::marker::Model;
-use xdr::{NO_LIMIT, Sequence, Wire, WireError, write_many};
+use xdr::{Measure, NO_LIMIT, Sequence, Wire, WireError, write_many};
 
 /// A set of attributes (bitmap4): bit b is bit b mod 32 of word b / 32. Contracts see the list of the words, so that
 /// other zero words at the end are another value.
@@ -70,5 +70,12 @@ impl Wire for Bitmap {
 
     fn write(&self, out: &mut Vec<u8>) -> Result<(), WireError> {
         write_many(out, self.as_slice(), NO_LIMIT)
+    }
+}
+
+impl Measure for Bitmap {
+    #[tactic(auto, using(crate::proofs::Words::words_len), unfolding(xdr::specs::Writing::written_number))]
+    fn written_len(&self) -> usize {
+        4 + 4 * self.words.len()
     }
 }

@@ -1,7 +1,7 @@
 ghost use Rattle.nfs_xdr.specs.Callback as forms;
 
 use std::alloc::Global;
-use xdr::{Bytes, Wire, WireError, write_three, write_two};
+use xdr::{Bytes, Measure, Wire, WireError, write_three, write_two};
 
 /// Where a client takes callbacks: a transport and an address on it (clientaddr4; RFC 7530, section 2.2).
 #[derive(Clone, Debug, PartialEq, Drop)]
@@ -57,5 +57,12 @@ impl Wire for Callback {
     #[tactic(auto, unfolding(crate::specs::Callback::callback))]
     fn write(&self, out: &mut Vec<u8>) -> Result<(), WireError> {
         write_three(out, &self.program, &self.address, &self.ident)
+    }
+}
+
+impl Measure for Address {
+    #[tactic(auto, unfolding(crate::specs::Callback::address))]
+    fn written_len(&self) -> usize {
+        self.netid.written_len() + self.addr.written_len()
     }
 }

@@ -3,7 +3,7 @@ ghost use Rattle.nfs_xdr.specs.ClientAnswer as answers;
 
 use crate::{Refusal, Status};
 use std::alloc::Global;
-use xdr::{Wire, WireError, write_two};
+use xdr::{Measure, Wire, WireError, write_two};
 
 /// What an operation answers that may find a client's id in use.
 #[derive(Clone, Debug, PartialEq, Drop)]
@@ -54,6 +54,17 @@ impl<T: Wire, U: Wire> Wire for ClientAnswer<T, U> {
             ClientAnswer::Done(value) => write_two(out, &Status::Ok, value),
             ClientAnswer::ClidInUse(value) => write_two(out, &Status::ClidInUse, value),
             ClientAnswer::Refused(refusal) => write_two(out, &Status::Refused(*refusal), &()),
+        }
+    }
+}
+
+impl<T: Measure, U: Measure> Measure for ClientAnswer<T, U> {
+    #[tactic(auto, unfolding(crate::specs::ClientAnswer::client_answer, crate::specs::Status::status, xdr::specs::Writing::written_number))]
+    fn written_len(&self) -> usize {
+        match self {
+            ClientAnswer::Done(value) => 4 + value.written_len(),
+            ClientAnswer::ClidInUse(value) => 4 + value.written_len(),
+            ClientAnswer::Refused(_) => 4,
         }
     }
 }

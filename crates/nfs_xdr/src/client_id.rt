@@ -1,7 +1,7 @@
 ghost use Rattle.nfs_xdr.specs.ClientId as forms;
 
 use std::alloc::Global;
-use xdr::{Wire, WireError, write_two};
+use xdr::{Measure, Wire, WireError, write_two};
 
 /// A clientid (clientid4; RFC 7530, section 9.1.1): on the wire the number epoch x 2^32 + number.
 #[derive(Clone, Copy, Debug, PartialEq, Eq)]
@@ -25,5 +25,12 @@ impl Wire for ClientId {
     #[tactic(auto, unfolding(crate::specs::ClientId::client_id))]
     fn write(&self, out: &mut Vec<u8>) -> Result<(), WireError> {
         write_two(out, &self.epoch, &self.number)
+    }
+}
+
+impl Measure for ClientId {
+    #[tactic(auto, unfolding(crate::specs::ClientId::client_id))]
+    fn written_len(&self) -> usize {
+        self.epoch.written_len() + self.number.written_len()
     }
 }

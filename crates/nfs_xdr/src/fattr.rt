@@ -2,7 +2,7 @@ ghost use Rattle.nfs_xdr.specs.Fattr as forms;
 
 use crate::Bitmap;
 use std::alloc::Global;
-use xdr::{Bytes, Wire, WireError, write_two};
+use xdr::{Bytes, Measure, Wire, WireError, write_two};
 
 /// Attributes of a file (fattr4; RFC 7530, section 5): which there are, and their values, each in its own form, one
 /// after the other in rising order of their numbers.
@@ -25,5 +25,12 @@ impl Wire for Fattr {
     #[tactic(auto, unfolding(crate::specs::Fattr::fattr))]
     fn write(&self, out: &mut Vec<u8>) -> Result<(), WireError> {
         write_two(out, &self.mask, &self.values)
+    }
+}
+
+impl Measure for Fattr {
+    #[tactic(auto, unfolding(crate::specs::Fattr::fattr))]
+    fn written_len(&self) -> usize {
+        self.mask.written_len() + self.values.written_len()
     }
 }

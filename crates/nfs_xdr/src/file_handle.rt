@@ -3,7 +3,7 @@ ghost use Rattle.nfs_xdr.specs.FileHandle as forms;
 
 use std::alloc::{AllocError, Global};
 use std::marker::Model;
-use xdr::{Wire, WireError, read_opaque, write_opaque};
+use xdr::{Measure, Wire, WireError, padding_of, read_opaque, write_opaque};
 
 /// The most bytes of a filehandle (NFS4_FHSIZE).
 pub const FILE_HANDLE_LIMIT: usize = 128;
@@ -88,5 +88,12 @@ impl Wire for FileHandle {
 
     fn write(&self, out: &mut Vec<u8>) -> Result<(), WireError> {
         write_opaque(out, self.as_slice(), FILE_HANDLE_LIMIT as u32)
+    }
+}
+
+impl Measure for FileHandle {
+    #[tactic(auto, unfolding(xdr::specs::Writing::written_opaque, xdr::specs::Writing::written_number))]
+    fn written_len(&self) -> usize {
+        4 + self.len + padding_of(self.len)
     }
 }

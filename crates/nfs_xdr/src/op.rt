@@ -4,7 +4,7 @@ ghost use Rattle.nfs_xdr.specs.Op.{op_case, opnum_of};
 ghost use Rattle.xdr.specs.Reading.{Gives};
 ghost use Rattle.xdr.specs.Switch.{case_at};
 
-use crate::{Bitmap, FileHandle, Opnum, Setclientid, SetclientidConfirm};
+use crate::{Bitmap, Class, FileHandle, Opnum, Setclientid, SetclientidConfirm};
 use std::alloc::Global;
 use xdr::{Bytes, Wire, WireError, write_two};
 
@@ -39,6 +39,20 @@ impl Op {
             Op::Setclientid(_) => Opnum::Setclientid,
             Op::SetclientidConfirm(_) => Opnum::SetclientidConfirm,
         }
+    }
+
+    /// Whether it is answered by a rule over the state, so that each answer but NFS4ERR_RESOURCE is an entry of the journal.
+    pub fn has_entry(&self) -> bool
+        ensures { result ≡ ops.has_entry self.now }
+    {
+        self.opnum().class() == Class::Entered
+    }
+
+    /// Whether it is asked of the tree of files and the filehandles alone.
+    pub fn is_on_tree(&self) -> bool
+        ensures { result ≡ ops.is_on_tree self.now }
+    {
+        self.opnum().class() == Class::OnTree
     }
 
     /// The operation of a number by its arguments at the front, and the bytes behind them.

@@ -14,7 +14,7 @@ use crate::operations::{
 };
 use crate::{Answer, ClientAnswer, Opnum, Refusal, Status, Unsupported};
 use std::alloc::Global;
-use xdr::{Wire, WireError, read_constant, write_three, write_two};
+use xdr::{Measure, Wire, WireError, read_constant, write_three, write_two};
 
 /// The result of an operation (nfs_resop4).
 #[derive(Clone, Debug, PartialEq, Drop)]
@@ -173,5 +173,26 @@ fn write_unsupported(out: &mut Vec<u8>, op: Unsupported) -> Result<(), WireError
     match op {
         Unsupported::Setattr => write_three(out, &Opnum::Unsupported(op), &NOT_SUPPORTED, &0u32),
         _ => write_three(out, &Opnum::Unsupported(op), &NOT_SUPPORTED, &()),
+    }
+}
+
+impl Measure for OpResult {
+    #[tactic(auto, unfolding(crate::specs::OpResult::op_result, crate::specs::Opnum::opnum, xdr::specs::Writing::written_number))]
+    fn written_len(&self) -> usize {
+        match self {
+            OpResult::Access(answer) => 4 + answer.written_len(),
+            OpResult::Getattr(answer) => 4 + answer.written_len(),
+            OpResult::Getfh(answer) => 4 + answer.written_len(),
+            OpResult::Lookup(answer) => 4 + answer.written_len(),
+            OpResult::Putfh(answer) => 4 + answer.written_len(),
+            OpResult::Putrootfh(answer) => 4 + answer.written_len(),
+            OpResult::Restorefh(answer) => 4 + answer.written_len(),
+            OpResult::Savefh(answer) => 4 + answer.written_len(),
+            OpResult::Setclientid(answer) => 4 + answer.written_len(),
+            OpResult::SetclientidConfirm(answer) => 4 + answer.written_len(),
+            OpResult::Unsupported(Unsupported::Setattr) => 12,
+            OpResult::Unsupported(_) => 8,
+            OpResult::Illegal(answer) => 4 + answer.written_len(),
+        }
     }
 }

@@ -2,7 +2,7 @@ ghost use Rattle.nfs_xdr.specs.operations.Access as forms;
 
 use crate::Answer;
 use std::alloc::Global;
-use xdr::{Wire, WireError, write_two};
+use xdr::{Measure, Wire, WireError, write_two};
 
 /// The bits that are asked (RFC 7530, section 16.1).
 pub type Arguments = u32;
@@ -31,5 +31,12 @@ impl Wire for AccessBits {
     #[tactic(auto, unfolding(crate::specs::operations::Access::access_bits))]
     fn write(&self, out: &mut Vec<u8>) -> Result<(), WireError> {
         write_two(out, &self.supported, &self.access)
+    }
+}
+
+impl Measure for AccessBits {
+    #[tactic(auto, unfolding(crate::specs::operations::Access::access_bits))]
+    fn written_len(&self) -> usize {
+        self.supported.written_len() + self.access.written_len()
     }
 }

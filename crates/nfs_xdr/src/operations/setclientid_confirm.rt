@@ -2,7 +2,7 @@ ghost use Rattle.nfs_xdr.specs.operations.SetclientidConfirm as forms;
 
 use crate::{ClientAnswer, ClientId};
 use std::alloc::Global;
-use xdr::{Wire, WireError, write_two};
+use xdr::{Measure, Wire, WireError, write_two};
 
 /// The arguments of SETCLIENTID_CONFIRM (RFC 7530, section 16.34), as SETCLIENTID tells them.
 #[derive(Clone, Copy, Debug, PartialEq, Eq)]
@@ -28,5 +28,12 @@ impl Wire for SetclientidConfirm {
     #[tactic(auto, unfolding(crate::specs::operations::SetclientidConfirm::arguments))]
     fn write(&self, out: &mut Vec<u8>) -> Result<(), WireError> {
         write_two(out, &self.client, &self.confirm)
+    }
+}
+
+impl Measure for SetclientidConfirm {
+    #[tactic(auto, unfolding(crate::specs::operations::SetclientidConfirm::arguments))]
+    fn written_len(&self) -> usize {
+        self.client.written_len() + self.confirm.written_len()
     }
 }

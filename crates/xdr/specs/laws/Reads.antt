@@ -203,6 +203,18 @@ reads_flag = record {
   complete = flag_complete;
 }
 
+-- Reading takes no memory, and so never tells that memory ran out.
+abbrev pub NeverMemory : {A : Type 0} → (List ℕ → Read A) → Type 0
+NeverMemory f = (bytes : List ℕ) → f bytes ≡ Err errors.Memory → ⊥
+
+pub number_never_memory : (count : ℕ) → NeverMemory (number_at count)
+unfolding number_at
+number_never_memory count bytes e =
+    elim (decided (ltb (length bytes) count)) [
+      | inl short ↦ let clash : ◌≡◌ {A = Read ℕ} (Err errors.Short) (Err errors.Memory) = rw short at e in cc
+      | inr long ↦ let clash : ◌≡◌ {A = Read ℕ} (Ok (big_number count bytes, drop count bytes)) (Err errors.Memory) = rw long at e in cc
+    ]
+
 padded_never_memory : (count : ℕ) (bytes : List ℕ) → padded_at count bytes ≡ Err errors.Memory → ⊥
 padded_never_memory count bytes e =
     elim (decided (ltb (length bytes) (count + padding_of count))) [
@@ -211,7 +223,7 @@ padded_never_memory count bytes e =
     ]
 
 -- the form is missing or too long, and no other error is told
-opaque_never_memory : (limit : ℕ) (bytes : List ℕ) → opaque_at limit bytes ≡ Err errors.Memory → ⊥
+pub opaque_never_memory : (limit : ℕ) → NeverMemory (opaque_at limit)
 unfolding opaque_at number_at
 opaque_never_memory limit bytes e =
     elim (decided (ltb (length bytes) 4)) [
@@ -223,6 +235,20 @@ opaque_never_memory limit bytes e =
             padded_never_memory (big_number 4 bytes) (drop 4 bytes) padded
       ]
     ]
+
+abbrev paired : {A B : Type 0} → A → B × List ℕ → Read (A × B)
+paired a b = Ok ((a, b.0), b.1)
+
+pair_of : {A B : Type 0} (a : A) (r : Read B) → (r ≡ Err errors.Memory → ⊥) → (r >>= paired a) ≡ Err errors.Memory → ⊥
+pair_of a (Ok b) never e = cc
+pair_of a (Err d) never e = let same : d ≡ errors.Memory = cc in never (rw same refl)
+
+then_of : {A B : Type 0} (g : List ℕ → Read B) (r : Read A) → (r ≡ Err errors.Memory → ⊥) → NeverMemory g → (r >>= λ a. g a.1 >>= paired a.0) ≡ Err errors.Memory → ⊥
+then_of g (Err d) first second e = let same : d ≡ errors.Memory = cc in first (rw same refl)
+then_of g (Ok a) first second e = pair_of a.0 (g a.1) (second a.1) e
+
+pub then_never_memory : {A B : Type 0} (f : List ℕ → Read A) (g : List ℕ → Read B) → NeverMemory f → NeverMemory g → NeverMemory (f then g)
+then_never_memory f g first second bytes e = then_of g (f bytes) (first bytes) second e
 
 pub opaque_tells : {X : Type 0} (limit : ℕ) (bytes : List ℕ) (r : Result X WireError) (e : WireError) → r ≡ Err e → opaque_at limit bytes ≡ Err e → r ≡ Err errors.Memory → ⊥
 opaque_tells limit bytes r e is told memory = let same : e ≡ errors.Memory = cc in opaque_never_memory limit bytes (rw same at told)

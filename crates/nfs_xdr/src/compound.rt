@@ -1,0 +1,117 @@
+ghost use Rattle.std.specs.Prelude.{◌≡◌, ◌⊎◌, IfOk, OnErr, IsErrOf, IsOk};
+ghost use Rattle.nfs_xdr.specs.declared.compound.Compound.{Compound};
+ghost use Rattle.nfs_xdr.specs.Compound.{IsCompound, OneCompoundStands, OneOperationStands, compound_at, compound_result, head, operations_at, request_at};
+ghost use Rattle.xdr.specs.Reading.{Answers, Gives};
+ghost use Rattle.xdr.specs.Writing.{Writes};
+
+use crate::arg_op::read_op;
+use crate::{ArgOp, OpResult, Status};
+use std::alloc::{AllocError, Global};
+use xdr::{Bytes, NO_LIMIT, Sequence, WireError, read_opaque, read_u32, write_three};
+
+/// The most operations of a COMPOUND.
+pub const OPERATION_LIMIT: u32 = 64;
+
+/// The arguments of a COMPOUND (RFC 7530, section 15.2).
+#[derive(Debug, Drop)]
+pub struct Compound {
+    /// The client's label, which the reply repeats.
+    pub tag: Bytes,
+    pub request: Request,
+}
+
+/// What a COMPOUND asks for.
+#[derive(Debug, Drop)]
+pub enum Request {
+    /// A minor version other than 0.
+    MinorVersion(u32),
+    /// More operations than the limit of 64: this count.
+    TooMany(u32),
+    /// The operations, up to the first that ends the list.
+    Operations(Sequence<ArgOp>),
+}
+
+/// Reads the arguments of a COMPOUND; bytes behind them are ignored. Short and TooLong come where the tag, the
+/// minor version or the count can't be read.
+pub fn read_compound(alloc: Global, bytes: &[u8]) -> Result<Compound, WireError>
+    // What is read stands in the layout. Where nothing is, nothing there does, or memory was refused.
+    ensures stands { IfOk result (λ compound. IsCompound compound bytes.now) }
+    ensures none { OnErr result
+        ((result ≡ Err WireError.Memory) ⊎ ((compound : Compound) → IsCompound compound bytes.now → ⊥)) }
+    ensures reads { Gives (λ compound. compound) result (compound_at bytes.now) }
+    // Memory is wanted only where the tag, the minor version and the count are there.
+    ensures memory { IsErrOf result WireError.Memory → IsOk (head.at bytes.now) }
+{
+    compound_from(alloc, bytes)
+}
+
+#[tactic(auto, unfolding(crate::specs::Compound::compound_at))]
+fn compound_from(alloc: Global, bytes: &[u8]) -> Result<Compound, WireError>
+    ensures reads { Gives (λ compound. compound) result (compound_at bytes.now) }
+    ensures memory { IsErrOf result WireError.Memory → IsOk (head.at bytes.now) }
+{
+    let ((tag, (minor, count)), rest) = read_head(bytes)?;
+    let tag = Bytes::copied(alloc, tag)?;
+    let request = read_request(alloc, minor, count, rest)?;
+    Ok(Compound { tag, request })
+}
+
+// The tag, lent, the minor version and the count.
+fn read_head(bytes: &[u8]) -> Result<((&[u8], (u32, u32)), &[u8]), WireError>
+    ensures { Answers (λ x. ((x.0.0.now, x.0.1), x.1.now)) result (head.at bytes.now) }
+{
+    let (tag, rest) = read_opaque(bytes, NO_LIMIT)?;
+    let (minor, rest) = read_u32(rest)?;
+    let (count, rest) = read_u32(rest)?;
+    Ok(((tag, (minor, count)), rest))
+}
+
+fn read_request(alloc: Global, minor: u32, count: u32, bytes: &[u8]) -> Result<Request, AllocError>
+    ensures { IfOk result (λ request. request ≡ request_at minor count bytes.now) }
+{
+    if minor != 0 {
+        return Ok(Request::MinorVersion(minor));
+    }
+    if count > OPERATION_LIMIT {
+        return Ok(Request::TooMany(count));
+    }
+    Ok(Request::Operations(read_operations(alloc, count, bytes)?))
+}
+
+// The operations at the front, up to the count or to one that ends the list.
+fn read_operations(alloc: Global, count: u32, bytes: &[u8]) -> Result<Sequence<ArgOp>, AllocError>
+    ensures { IfOk result (λ ops. ops ≡ operations_at count bytes.now) }
+{
+    let mut ops = Vec::new(alloc);
+    let mut rest = bytes;
+    for _ in 0..count {
+        let (op, behind) = read_op(alloc, rest)?;
+        let is_last = op.ends_list();
+        ops.push(op)?;
+        if is_last {
+            return Ok(Sequence::new(ops));
+        }
+        rest = behind;
+    }
+    Ok(Sequence::new(ops))
+}
+
+/// Writes the result of a COMPOUND at the end, or nothing: its status, the tag, and the results of its operations.
+pub fn write_results(
+    out: &mut Vec<u8>,
+    status: Status,
+    tag: &Bytes,
+    results: &Sequence<OpResult>,
+) -> Result<(), WireError>
+    ensures { Writes out.old out.new result
+        (compound_result.spelling (status, (tag.now, results.now)))
+        (compound_result.Fits (status, (tag.now, results.now))) }
+{
+    write_three(out, &status, tag, results)
+}
+
+/// What stands in the list of a COMPOUND, and the request that the arguments of one are, is what is read there.
+pub fn one_request_stands()
+    ensures operation { OneOperationStands }
+    ensures compound { OneCompoundStands }
+{}
