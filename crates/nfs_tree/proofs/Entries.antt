@@ -17,7 +17,7 @@ use Rattle.nfs_tree.specs.declared.tree_error.TreeError.{TreeError}
 use Rattle.nfs_tree.specs.declared.tree_error.TreeError.TheVariants as errors
 use Rattle.nfs_tree.specs.Building.{◌>>=◌, IsPath, Way, way, names_of, chain, kind_before, is_too_many, is_taken, added, added_named, built, or_syntax, tree_of_document}
 use Rattle.nfs_tree.specs.Document.{document_at}
-use Rattle.nfs_tree.specs.Leads.{Leads, IsOfKind, IsThere, IsOnWay, IsFileOf, IsTreeOf, TreesAreTheirEntries}
+use Rattle.nfs_tree.specs.Leads.{Leads, IsOfKind, Agree, LeadsTo, IsThere, IsOnWay, IsFileAt, IsTreeOf, TreesAreTheirEntries}
 use Rattle.nfs_tree.specs.Tree.{Files, is_name, is_directory, is_directory_kind, text_of, text_of_kind, IsTree}
 use Rattle.nfs_tree.proofs.Growing.{IsFresh, kind_of_next, or_parts, tree_grows, way_fresh, way_names}
 use Rattle.nfs_tree.proofs.Nodes.{decided, parents_of, ParentsWithin, directory_within}
@@ -71,15 +71,15 @@ comes_named old new entry (Some names) are h =
       },
     )
 
+leads_to : (nodes : List Node) (entry : Entry) (names : List (List ℕ)) (n : ℕ) → IsPath names entry.path → Leads nodes 0 names n → LeadsTo nodes entry n
+leads_to nodes entry names n are_names leads = record { names = names; are_names = are_names; leads = leads }
+
 -- what the nodes of a tree are once more of them come
+leads_to_stays : (nodes more : List Node) (entry : Entry) (n : ℕ) → LeadsTo nodes entry n → LeadsTo (nodes ++ more) entry n
+leads_to_stays nodes more entry n l = leads_to (nodes ++ more) entry l.names n l.are_names (leads_stay nodes more 0 l.names n l.leads)
+
 there_stays : (nodes more : List Node) (entry : Entry) → IsThere nodes entry → IsThere (nodes ++ more) entry
-there_stays nodes more entry t = record {
-  names = t.names;
-  are_names = t.are_names;
-  node = t.node;
-  leads = leads_stay nodes more 0 t.names t.node t.leads;
-  kind = kind_stays nodes more t.node entry.kind t.kind;
-}
+there_stays nodes more entry t = (t.0, leads_to_stays nodes more entry t.0 t.1, kind_stays nodes more t.0 entry.kind t.2)
 
 on_way_stays : (nodes more : List Node) (n : ℕ) (entry : Entry) → IsOnWay nodes n entry → IsOnWay (nodes ++ more) n entry
 on_way_stays nodes more n entry w = record {
@@ -89,13 +89,8 @@ on_way_stays nodes more n entry w = record {
   leads = leads_stay nodes more 0 (take w.count w.names) n w.leads;
 }
 
-file_stays : (nodes more : List Node) (n : ℕ) (text : List ℕ) (entry : Entry) → IsFileOf nodes n text entry → IsFileOf (nodes ++ more) n text entry
-file_stays nodes more n text entry f = record {
-  names = f.names;
-  are_names = f.are_names;
-  leads = leads_stay nodes more 0 f.names n f.leads;
-  kind = f.kind;
-}
+file_stays : (nodes more : List Node) (n : ℕ) (text : List ℕ) (entry : Entry) → IsFileAt nodes n text entry → IsFileAt (nodes ++ more) n text entry
+file_stays nodes more n text entry f = (leads_to_stays nodes more entry n f.0, f.1)
 
 any_stays : {A : Type 0} (P Q : A → Type 0) → ((x : A) → P x → Q x) → (xs : List A) (y : A) → Any P xs → Any Q (xs ++ y ∷ [])
 any_stays P Q f xs y some =
@@ -164,7 +159,7 @@ last_kind (name ∷ names) kind text is =
     let none : None ≡ Some text = ap text_of_kind (sym (kind_of_next name names kind)) ∙ is in cc
 
 -- a file among such nodes is that of the entry
-comes_file : (nodes new : List Node) (entry : Entry) → Comes nodes entry new → IsTree nodes → (n : ℕ) (text : List ℕ) → length nodes < n → text_of new n ≡ Some text → IsFileOf new n text entry
+comes_file : (nodes new : List Node) (entry : Entry) → Comes nodes entry new → IsTree nodes → (n : ℕ) (text : List ℕ) → length nodes < n → text_of new n ≡ Some text → IsFileAt new n text entry
 comes_file nodes new entry c tree n text past is =
     let place = text_cases new n text is in
     let number = place.1 in
@@ -178,12 +173,7 @@ comes_file nodes new entry c tree n text past is =
     let kind : text_of_kind (kind_before (drop (suc at.0) c.missing) entry.kind) ≡ Some text = ap text_of_kind (sym left.2) ∙ ap (λ (node : Node). text_of_kind node.kind) (sym same) ∙ place.5 in
     let last = last_kind (drop (suc at.0) c.missing) entry.kind text kind in
     let leads : Leads new 0 (take (length c.found + suc at.0) c.names) n = subst (Leads new 0 (take (length c.found + suc at.0) c.names)) (sym counted) (comes_leads nodes new entry c at.0 tree at.2) in
-    record {
-      names = c.names;
-      are_names = c.are_names;
-      leads = subst (λ (names : List (List ℕ)). Leads new 0 names n) (comes_whole nodes new entry c at.0 last.0) leads;
-      kind = last.1;
-    }
+    (leads_to new entry c.names n c.are_names (subst (λ (names : List (List ℕ)). Leads new 0 names n) (comes_whole nodes new entry c at.0 last.0) leads), last.1)
 
 of_directory : (nodes : List Node) (n : ℕ) (kind : NodeKind) → is_directory_kind kind ≡ true → is_directory nodes n ≡ true → IsOfKind nodes n kind
 of_directory nodes n Directory kind directory = directory
@@ -205,13 +195,9 @@ comes_there nodes new entry c tree =
       | inl test ↦
           let none : length c.missing ≡ 0 = eqb-true _ _ test in
           let all : c.found ≡ c.names = sym (append-nil c.found) ∙ ap (λ names. c.found ++ names) (sym (no_names c.missing none)) ∙ c.parts in
-          let there : IsThere nodes entry = record {
-            names = c.names;
-            are_names = c.are_names;
-            node = c.end;
-            leads = subst (λ (names : List (List ℕ)). Leads nodes 0 names c.end) all c.leads;
-            kind = of_directory nodes c.end entry.kind (comes_directory nodes new entry c none) c.directory;
-          } in
+          let leads : Leads nodes 0 c.names c.end = subst (λ (names : List (List ℕ)). Leads nodes 0 names c.end) all c.leads in
+          let kind : IsOfKind nodes c.end entry.kind = of_directory nodes c.end entry.kind (comes_directory nodes new entry c none) c.directory in
+          let there : IsThere nodes entry = (c.end, leads_to nodes entry c.names c.end c.are_names leads, kind) in
           subst (λ (ns : List Node). IsThere ns entry) (sym c.is) (there_stays nodes (chain c.end (length nodes + 1) c.missing entry.kind) entry there)
       | inr test ↦
           let count = length c.missing - 1 in
@@ -220,13 +206,9 @@ comes_there nodes new entry c tree =
           let none : drop (suc count) c.missing ≡ [] = drop_of_length-le c.missing past in
           let left = comes_kinds nodes new entry c count within in
           let number : length nodes + count + 1 ≡ length nodes + suc count = omega arith in
-          record {
-            names = c.names;
-            are_names = c.are_names;
-            node = length nodes + suc count;
-            leads = subst (λ (names : List (List ℕ)). Leads new 0 names (length nodes + suc count)) (comes_whole nodes new entry c count none) (comes_leads nodes new entry c count tree within);
-            kind = subst (λ (n : ℕ). IsOfKind new n entry.kind) number (is_kind new (length nodes + count) entry.kind left.0 left.1 (left.2 ∙ ap (λ behind. kind_before behind entry.kind) none));
-          }
+          let leads : Leads new 0 c.names (length nodes + suc count) = subst (λ (names : List (List ℕ)). Leads new 0 names (length nodes + suc count)) (comes_whole nodes new entry c count none) (comes_leads nodes new entry c count tree within) in
+          let kind : IsOfKind new (length nodes + suc count) entry.kind = subst (λ (n : ℕ). IsOfKind new n entry.kind) number (is_kind new (length nodes + count) entry.kind left.0 left.1 (left.2 ∙ ap (λ behind. kind_before behind entry.kind) none)) in
+          (length nodes + suc count, leads_to new entry c.names (length nodes + suc count) c.are_names leads, kind)
     ]
 
 of_directory_kind : (kind : NodeKind) → is_directory_kind kind ≡ true → kind ≡ Directory
@@ -238,14 +220,15 @@ at_directory nodes n Directory kind directory = refl
 at_directory nodes n (File text) kind directory = absurd (not_both_kinds nodes n text kind directory)
 
 -- an entry whose path was there is a directory, as the one before it
-comes_again : (nodes new : List Node) (entry other : Entry) → Comes nodes entry new → IsThere nodes other → other.path ≡ entry.path → (other.kind ≡ Directory) × (entry.kind ≡ Directory)
+comes_again : (nodes new : List Node) (entry other : Entry) → Comes nodes entry new → IsThere nodes other → Agree other entry
 comes_again nodes new entry other c there path =
-    let names : Some there.names ≡ Some c.names = sym (path_complete other.path there.names there.are_names) ∙ ap names_of path ∙ path_complete entry.path c.names c.are_names in
-    let same : there.names ≡ c.names = cc in
-    let ends : record { end = c.end; missing = c.missing } ≡ record { end = there.node; missing = [] } = sym c.way_is ∙ ap (way nodes 0) (sym same) ∙ way_of nodes 0 there.names there.node there.leads in
+    let by = there.1 in
+    let names : Some by.names ≡ Some c.names = sym (path_complete other.path by.names by.are_names) ∙ ap names_of path ∙ path_complete entry.path c.names c.are_names in
+    let same : by.names ≡ c.names = cc in
+    let ends : record { end = c.end; missing = c.missing } ≡ record { end = there.0; missing = [] } = sym c.way_is ∙ ap (way nodes 0) (sym same) ∙ way_of nodes 0 by.names there.0 by.leads in
     let none : length c.missing ≡ 0 = ap (λ (w : Way). length w.missing) ends in
-    let directory : is_directory nodes there.node ≡ true = ap (λ (w : Way). is_directory nodes w.end) (sym ends) ∙ c.directory in
-    (at_directory nodes there.node other.kind there.kind directory, of_directory_kind entry.kind (comes_directory nodes new entry c none))
+    let directory : is_directory nodes there.0 ≡ true = ap (λ (w : Way). is_directory nodes w.end) (sym ends) ∙ c.directory in
+    (at_directory nodes there.0 other.kind there.2 directory, of_directory_kind entry.kind (comes_directory nodes new entry c none))
 
 comes_tree : (nodes new : List Node) (entry : Entry) → Comes nodes entry new → IsTree nodes → IsTree new
 comes_tree nodes new entry c tree =
@@ -262,8 +245,8 @@ comes_holds nodes new done entry c tree holds =
     subst (λ (ns : List Node). Any (IsOnWay ns n) (done ++ entry ∷ [])) (sym c.is)
     (any_stays (IsOnWay nodes n) (IsOnWay (nodes ++ more) n) (on_way_stays nodes more n) done entry (holds.each_node n some (omega arith))) in
     let file_before = λ (n : ℕ) (text : List ℕ) (is : text_of new n ≡ Some text) (within : n ≤ length nodes).
-    subst (λ (ns : List Node). Any (IsFileOf ns n text) (done ++ entry ∷ [])) (sym c.is)
-    (any_stays (IsFileOf nodes n text) (IsFileOf (nodes ++ more) n text) (file_stays nodes more n text) done entry (holds.each_file n text (sym (text_before nodes more n within) ∙ ap (λ ns. text_of ns n) (sym c.is) ∙ is))) in
+    subst (λ (ns : List Node). Any (IsFileAt ns n text) (done ++ entry ∷ [])) (sym c.is)
+    (any_stays (IsFileAt nodes n text) (IsFileAt (nodes ++ more) n text) (file_stays nodes more n text) done entry (holds.each_file n text (sym (text_before nodes more n within) ∙ ap (λ ns. text_of ns n) (sym c.is) ∙ is))) in
     record {
       each_entry = All-push (IsThere new) done entry there (comes_there nodes new entry c tree);
       each_node = λ n some within. elim (cases_lt (length nodes) n) [
@@ -271,12 +254,12 @@ comes_holds nodes new done entry c tree holds =
         | inr before ↦ node_before n some before
       ];
       each_file = λ n text is. elim (cases_lt (length nodes) n) [
-        | inl past ↦ Any-push (IsFileOf new n text) done entry (comes_file nodes new entry c tree n text past is)
+        | inl past ↦ Any-push (IsFileAt new n text) done entry (comes_file nodes new entry c tree n text past is)
         | inr before ↦ file_before n text is before
       ];
-      one_path = all_pairs_push (λ one other. one.path ≡ other.path → (one.kind ≡ Directory) × (other.kind ≡ Directory)) done entry holds.one_path
+      agree = all_pairs_push Agree done entry holds.agree
           (λ k d within. comes_again nodes new entry (get_or done k d) c (holds.each_entry k d within));
-      one_way = one_way new;
+      one_way = λ n names first others second. one_way new n others names second first;
     }
 
 bind_ok : {A B : Type 0} (r : Result A TreeError) (f : A → Result B TreeError) (b : B) → (r >>= f) ≡ Ok b → (a : A) × (r ≡ Ok a) × (f a ≡ Ok b)
@@ -301,8 +284,8 @@ none_hold = record {
   each_entry = All-nil (IsThere []);
   each_node = λ n some within. absurd (omega arith);
   each_file = λ n text is. let at = text_cases [] n text is in let within = at.2 in absurd (omega arith);
-  one_path = λ i j d before within. absurd (omega arith);
-  one_way = one_way [];
+  agree = λ i j d before within. absurd (omega arith);
+  one_way = λ n names first others second. one_way [] n others names second first;
 }
 
 syntax_ok : {A : Type 0} (o : Option A) (x : A) → or_syntax o ≡ Ok x → o ≡ Some x

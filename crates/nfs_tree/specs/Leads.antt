@@ -1,4 +1,4 @@
--- Names lead from the root through the tree: what the entries of a document are in it, and that there is nothing else.
+-- What the entries of a document are in its tree, and that there is nothing else in it.
 use Rattle.std.specs.Prelude.{◌≡◌, ℕ, ◌<◌, ◌≤◌, true, List, [], ◌∷◌, take, Some, Ok}
 use Rattle.std.specs.List.{All, AllPairs, Any}
 use Rattle.nfs_tree.specs.declared.document.Document.{Document}
@@ -22,13 +22,11 @@ abbrev pub IsOfKind : List Node → ℕ → NodeKind → Type 0
 IsOfKind nodes n Directory = is_directory nodes n ≡ true
 IsOfKind nodes n (File text) = text_of nodes n ≡ Some text
 
--- The names of the entry's path lead from the root to a node of its kind.
-pub record IsThere (nodes : List Node) (entry : Entry) : Type 0 where
+-- The names of the entry's path lead from the root to the node.
+pub record LeadsTo (nodes : List Node) (entry : Entry) (n : ℕ) : Type 0 where
   pub names : List (List ℕ)
   pub are_names : IsPath names entry.path
-  pub node : ℕ
-  pub leads : Leads nodes ROOT names node
-  pub kind : IsOfKind nodes node entry.kind
+  pub leads : Leads nodes ROOT names n
 
 -- The first names of the entry's path, so many of them, lead from the root to the node.
 pub record IsOnWay (nodes : List Node) (n : ℕ) (entry : Entry) : Type 0 where
@@ -37,23 +35,33 @@ pub record IsOnWay (nodes : List Node) (n : ℕ) (entry : Entry) : Type 0 where
   pub count : ℕ
   pub leads : Leads nodes ROOT (take count names) n
 
--- The entry is of a file of this text, and the names of its path lead from the root to the node.
-pub record IsFileOf (nodes : List Node) (n : ℕ) (text : List ℕ) (entry : Entry) : Type 0 where
-  pub names : List (List ℕ)
-  pub are_names : IsPath names entry.path
-  pub leads : Leads nodes ROOT names n
-  pub kind : entry.kind ≡ File text
+-- The entry's path leads to a node of its kind.
+abbrev pub IsThere : List Node → Entry → Type 0
+IsThere nodes entry = (n : ℕ) × LeadsTo nodes entry n × IsOfKind nodes n entry.kind
 
--- Each entry is there, each node but the root is on the way of an entry, each file is that of an entry, only one way leads to a
--- node, and two entries of one path are of directories.
+-- The entry is of a file of this text, and its path leads to the node.
+abbrev pub IsFileAt : List Node → ℕ → List ℕ → Entry → Type 0
+IsFileAt nodes n text entry = LeadsTo nodes entry n × (entry.kind ≡ File text)
+
+-- Two entries of one path are of directories.
+abbrev pub Agree : Entry → Entry → Type 0
+Agree one other = one.path ≡ other.path → (one.kind ≡ Directory) × (other.kind ≡ Directory)
+
+-- No other names lead from the root to the node that these lead to.
+abbrev pub IsOneWay : List Node → ℕ → List (List ℕ) → Type 0
+IsOneWay nodes n names = (others : List (List ℕ)) → Leads nodes ROOT others n → others ≡ names
+
+-- The nodes are those of the entries: each entry is there, each node beside the root is on the way
+-- of an entry, each file is that of an entry, and one way alone leads to a node.
 pub record IsTreeOf (entries : List Entry) (nodes : List Node) : Type 0 where
   pub each_entry : All (IsThere nodes) entries
   pub each_node : (n : ℕ) → 1 ≤ n → n < node_count nodes → Any (IsOnWay nodes n) entries
-  pub each_file : (n : ℕ) (text : List ℕ) → text_of nodes n ≡ Some text → Any (IsFileOf nodes n text) entries
-  pub one_path : AllPairs (λ one other. one.path ≡ other.path → (one.kind ≡ Directory) × (other.kind ≡ Directory)) entries
-  pub one_way : (n : ℕ) (names others : List (List ℕ)) → Leads nodes ROOT names n → Leads nodes ROOT others n → names ≡ others
+  pub each_file :
+      (n : ℕ) (text : List ℕ) → text_of nodes n ≡ Some text → Any (IsFileAt nodes n text) entries
+  pub agree : AllPairs Agree entries
+  pub one_way : (n : ℕ) (names : List (List ℕ)) → Leads nodes ROOT names n → IsOneWay nodes n names
 
--- The tree of a text is that of the entries of its document, and has its policy.
+-- The tree of a text is that of its document: it has its policy, and the nodes of its entries.
 abbrev pub TreesAreTheirEntries : Type 0
 TreesAreTheirEntries =
     (text : List ℕ) (tree : Files) → tree_of text ≡ Ok tree

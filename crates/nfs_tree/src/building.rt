@@ -151,7 +151,8 @@ fn kind_at(kind: &NodeKind, is_last: bool) -> Result<NodeKind, AllocError>
 }
 
 /// The law that the tree of a text is that of its document's entries: the names of each one's path lead from the root to a node
-/// of its kind, with its text; each other node is a directory on the way of one; and each node has one way to it.
+/// of its kind, with its text; every other node is a directory on the way to one; one way alone leads to a node; and two
+/// entries of one path are of directories.
 pub fn trees_are_their_entries()
     ensures { TreesAreTheirEntries }
 {}
