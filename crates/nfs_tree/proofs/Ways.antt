@@ -115,10 +115,10 @@ way_leads nodes from (name ∷ names) =
     ]
 
 -- what stands at a place in front stays there
-slice_get-front : {A : Type 0} (xs ys : List A) (i : ℕ) → i < length xs → slice_get (xs ++ ys) i ≡ slice_get xs i
-slice_get-front [] ys i within = absurd (omega arith)
-slice_get-front (x ∷ xs) ys zero within = refl
-slice_get-front (x ∷ xs) ys (suc i) within = slice_get-front xs ys i (omega arith)
+slice_get-stays : {A : Type 0} (xs ys : List A) (i : ℕ) → i < length xs → slice_get (xs ++ ys) i ≡ slice_get xs i
+slice_get-stays [] ys i within = absurd (omega arith)
+slice_get-stays (x ∷ xs) ys zero within = refl
+slice_get-stays (x ∷ xs) ys (suc i) within = slice_get-stays xs ys i (omega arith)
 
 pub slice_get-behind : {A : Type 0} (xs ys : List A) (i : ℕ) → slice_get (xs ++ ys) (length xs + i) ≡ slice_get ys i
 slice_get-behind [] ys i = ap (slice_get ys) (omega arith)
@@ -158,7 +158,7 @@ pub text_before : (nodes more : List Node) (n : ℕ) → n ≤ length nodes → 
 text_before nodes more zero within = refl
 text_before nodes more (suc m) within =
     let next : suc m ≡ m + 1 = omega arith in
-    rw next (text_at (nodes ++ more) m ∙ ap (option_and_then (λ (node : Node). text_of_kind node.kind)) (slice_get-front nodes more m (omega arith)) ∙ sym (text_at nodes m))
+    rw next (text_at (nodes ++ more) m ∙ ap (option_and_then (λ (node : Node). text_of_kind node.kind)) (slice_get-stays nodes more m (omega arith)) ∙ sym (text_at nodes m))
 
 pub kind_stays : (nodes more : List Node) (n : ℕ) (kind : NodeKind) → IsOfKind nodes n kind → IsOfKind (nodes ++ more) n kind
 kind_stays nodes more n Directory is = directory_stays nodes more n is
