@@ -1,6 +1,6 @@
 use nfs_tree::{
     Callbacks, DEFAULT_TREE, Delegations, FILE_LIMIT, NodeKind, Policy, TEXT_LIMIT, Tree,
-    TreeError, paths_are_joined_names,
+    TreeError, paths_are_joined_names, trees_are_their_entries,
 };
 use nfs_xdr::{WireError, write_u32};
 use std::alloc::{AllocError, Global};
@@ -39,6 +39,7 @@ fn default_tree_has_its_nodes(rt: HostRuntime) -> Result<(), Fail> {
     assert_eq!(rt; copy.len(), 5);
     assert!(rt; copy.policy() == tree.policy());
     paths_are_joined_names();
+    trees_are_their_entries();
     Ok(())
 }
 

@@ -2,3 +2,4 @@ pub mod Tree
 pub mod Attributes
 pub mod Document
 pub mod Building
+pub mod Leads

@@ -17,7 +17,7 @@ pub use access::{
     ACCESS_DELETE, ACCESS_EXECUTE, ACCESS_EXTEND, ACCESS_LOOKUP, ACCESS_MODIFY, ACCESS_READ,
 };
 pub use attribute::{ATTRIBUTES, Attribute, Subject};
-pub use building::DEFAULT_TREE;
+pub use building::{DEFAULT_TREE, trees_are_their_entries};
 pub use document::{Document, Listing};
 pub use limits::limits_of_trees;
 pub use node::{Entry, Node, NodeKind};
