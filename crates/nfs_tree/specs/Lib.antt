@@ -2,3 +2,6 @@ pub mod Tree
 pub mod Attributes
 pub mod Document
 pub mod Building
+pub mod Effect
+pub mod operations
+pub mod Filehandles

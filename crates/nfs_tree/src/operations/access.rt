@@ -1,9 +1,11 @@
-ghost use Rattle.std.specs.Prelude.{◌≡◌};
-ghost use Rattle.nfs_tree.specs.Attributes.{access_of};
+ghost use Rattle.std.specs.Prelude.{◌≡◌, ◌≤◌, length};
+ghost use Rattle.nfs_tree.specs.declared.filehandles.TheConstants.{TREE_ANSWER_LIMIT};
+ghost use Rattle.nfs_tree.specs.operations.Access.{access, access_of};
 ghost use Rattle.nfs_tree.specs.Tree.{is_directory};
+ghost use Rattle.nfs_xdr.specs.OpResult.{written_result};
 
-use crate::Tree;
-use nfs_xdr::AccessBits;
+use crate::{Filehandles, Tree};
+use nfs_xdr::{AccessBits, AccessResult, OpResult, Status};
 
 /// The bits of ACCESS (RFC 7530, section 16.1.2).
 pub const ACCESS_READ: u32 = 1;
@@ -42,6 +44,19 @@ impl Tree {
         AccessBits {
             supported: bits & ALL_ACCESS,
             access: bits & allowed,
+        }
+    }
+}
+
+impl Filehandles {
+    /// ACCESS (RFC 7530, section 16.1): tells which of the accesses asked for there are to the current object.
+    pub(crate) fn access(&self, tree: &Tree, asked: u32) -> OpResult
+        ensures effect { record { answer = result; after = self.now } ≡ access tree.now self.now asked }
+        ensures short { length (written_result result) ≤ TREE_ANSWER_LIMIT }
+    {
+        match self.current {
+            Some(node) => OpResult::Access(AccessResult::Done(tree.access(node, asked))),
+            None => OpResult::Access(AccessResult::Refused(Status::NoFileHandle)),
         }
     }
 }
