@@ -5,9 +5,13 @@ use Rattle.nfs_xdr.specs.declared.status.Status.{Status}
 use Rattle.nfs_xdr.specs.declared.status.Status.TheVariants as status
 use Rattle.nfs_core.specs.declared.client_record.ClientRecord.{ClientRecord}
 use Rattle.nfs_core.specs.declared.client_record.PathMark.{PathMark}
+use Rattle.nfs_core.specs.declared.client_record.PathMark.TheVariants.{Unknown, Up}
 use Rattle.nfs_xdr.specs.declared.principal.Principal.{Principal}
 use Rattle.nfs_xdr.specs.Principal.{is_same_principal}
 use Rattle.nfs_core.specs.Registry.{Registry, confirmed_of, unconfirmed_with, confirmed_with, is_of, is_same_client}
+use Rattle.nfs_core.specs.State.{State, History, record_has_state}
+use Rattle.nfs_tree.specs.declared.policy.Callbacks.{Callbacks}
+use Rattle.nfs_tree.specs.declared.policy.Callbacks.TheVariants.{Probe, Assume}
 
 -- What the call finds.
 pub data Confirmation : Type 0 where
@@ -61,3 +65,21 @@ ConfirmsBy path (Becomes r) old answer new = (answer ≡ status.Ok) × (new ≡ 
 -- `path`: what is taken of the path of a client that is confirmed now.
 abbrev pub Confirms : PathMark → Bool → Registry → Principal → SetClientIdConfirm → Status → Registry → Type 0
 Confirms path has_state old principal args answer new = ConfirmsBy path (confirmation old has_state principal args) old answer new
+
+-- the id of the unconfirmed record with the call's clientid and value has this confirmed record
+abbrev pub rival_of : State → Option ClientRecord → Option ClientRecord
+rival_of state None = None
+rival_of state (Some r) = confirmed_of state.clients r.id
+
+-- what the policy takes of the path of a client that is confirmed now
+abbrev pub path_of : Callbacks → PathMark
+path_of Probe = Unknown
+path_of Assume = Up
+
+-- whether the client of the confirmed record of the same id has state is read off the state, and the files stay
+abbrev pub StepSetclientidConfirm : History → State → Principal → SetClientIdConfirm → Status → State → Type 0
+StepSetclientidConfirm journal old principal args answer new =
+    let rival = rival_of old (unconfirmed_with old.clients args.client args.confirm) in
+    (clients : _)
+    × Confirms (path_of journal.policy.callbacks) (record_has_state old rival) old.clients principal args answer clients
+    × (new ≡ record old { clients = clients })

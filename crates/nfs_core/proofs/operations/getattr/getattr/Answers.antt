@@ -1,5 +1,5 @@
 use Rattle.std.proofs.Common.{rules}
-use Rattle.nfs_core.proofs.get_attr.get_attr.Goals as goal
+use Rattle.nfs_core.proofs.operations.getattr.getattr.Goals as goal
 
 pub returns-clause-entered : goal.returns-clause-entered
 returns-clause-entered c = record {

@@ -11,7 +11,7 @@ use nfs_xdr::{Op, OpResult, Principal, SetClientId};
 
 /// Answers SETCLIENTID and enters it: the answer and its entry's number, or none and no change where
 /// the journal, memory, the client numbers or the limit of an address refuse it.
-pub(crate) fn set_client_id(
+pub(crate) fn setclientid(
     tables: &mut Tables,
     journal: &mut Journal,
     moment: Moment,

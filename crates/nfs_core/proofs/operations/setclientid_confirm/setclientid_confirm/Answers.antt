@@ -1,7 +1,7 @@
 use Rattle.std.proofs.Common.{rules, List, ap}
 use Rattle.nfs_core.specs.declared.stored_file.StoredFile.{StoredFile}
 use Rattle.nfs_core.specs.State.{State}
-use Rattle.nfs_core.proofs.set_client_id_confirm.set_client_id_confirm.Goals as goal
+use Rattle.nfs_core.proofs.operations.setclientid_confirm.setclientid_confirm.Goals as goal
 
 pub returns-clause-entered : goal.returns-clause-entered
 returns-clause-entered c =

@@ -1,7 +1,7 @@
 ghost use Rattle.std.specs.Prelude.{◌≡◌, ◌+◌, ◌-◌, ◌^◌, ◌<◌, ◌≤◌, ◌↔◌, MatchBool, IfOk, OnErr, IsErrOf};
 ghost use Rattle.std.specs.Vec.{vec_len, vec_capacity};
 ghost use Rattle.nfs_core.specs.Registry.{IsWithinLimit, IsAboveLimit};
-ghost use Rattle.nfs_core.specs.SetClientId.{Again, Arrival, Sets, SetsBy, IsFull, IsFullBy, arriving, with_arriving};
+ghost use Rattle.nfs_core.specs.operations.Setclientid.{Again, Arrival, Sets, SetsBy, IsFull, IsFullBy, arriving, with_arriving};
 
 use super::{Clients, ClientsError};
 use crate::{ADDRESS_LIMIT, CLIENT_LIMIT, ClientRecord, PathMark};

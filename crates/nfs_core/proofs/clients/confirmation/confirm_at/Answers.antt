@@ -1,7 +1,7 @@
 use Rattle.std.proofs.Common.{◌≡◌, refl, ◌∙◌}
 use Rattle.std.proofs.lemmas.Option.{get_or_from_slice_get}
 use Rattle.nfs_core.proofs.RecordLists.{with_confirmed-removed}
-use Rattle.nfs_core.proofs.clients.set_client_id_confirm.confirm_at.Goals as goal
+use Rattle.nfs_core.proofs.clients.confirmation.confirm_at.Goals as goal
 
 pub returns : goal.returns
 returns c = λ r here.

@@ -11,7 +11,7 @@ use nfs_xdr::{Op, OpResult, Principal, SetClientIdConfirm};
 
 /// Answers SETCLIENTID_CONFIRM and enters it: the answer and its entry's number, or none and no change
 /// where the journal or memory refuses it.
-pub(crate) fn set_client_id_confirm(
+pub(crate) fn setclientid_confirm(
     tables: &mut Tables,
     journal: &mut Journal,
     moment: Moment,

@@ -3,7 +3,7 @@ ghost use Rattle.std.specs.Option.{ForSome, option_copied};
 ghost use Rattle.std.specs.Vec.{vec_len, vec_capacity};
 ghost use Rattle.nfs_core.specs.Registry.{is_of, has_both, confirmed_of, confirmed_with, unconfirmed_with};
 ghost use Rattle.nfs_core.specs.declared.client_record.PathMark.{PathMark};
-ghost use Rattle.nfs_core.specs.SetClientIdConfirm.{Refused, Becomes, Confirms, ConfirmsBy, confirmation_again, confirmation_beside, with_confirmed};
+ghost use Rattle.nfs_core.specs.operations.SetclientidConfirm.{Refused, Becomes, Confirms, ConfirmsBy, confirmation_again, confirmation_beside, with_confirmed};
 
 use super::Clients;
 use crate::{ClientRecord, PathMark};

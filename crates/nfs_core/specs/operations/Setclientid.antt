@@ -12,6 +12,7 @@ use Rattle.nfs_core.specs.declared.client_record.TheConstants.{CLIENT_LIMIT}
 use Rattle.nfs_xdr.specs.declared.principal.Principal.{Principal}
 use Rattle.nfs_xdr.specs.Principal.{is_same_principal}
 use Rattle.nfs_core.specs.Registry.{Registry, confirmed_of, is_unconfirmed_of, IsWithinLimit, IsAboveLimit}
+use Rattle.nfs_core.specs.State.{State, History, record_has_state}
 
 -- What the call finds among the records of its id.
 pub data Finding : Type 0 where
@@ -72,6 +73,13 @@ SetsBy Arrival epoch old principal args answer new =
 abbrev pub Sets : ℕ → Bool → Registry → Principal → SetClientId → SetClientIdResult → Registry → Type 0
 Sets epoch has_state old principal args answer new =
     SetsBy (finding old has_state principal args) epoch old principal args answer new
+
+-- whether the client of the id's confirmed record has state is read off the state, and the files stay
+abbrev pub StepSetclientid : History → State → Principal → SetClientId → SetClientIdResult → State → Type 0
+StepSetclientid journal old principal args answer new =
+    (clients : _)
+    × Sets journal.epoch (record_has_state old (confirmed_of old.clients args.id)) old.clients principal args answer clients
+    × (new ≡ record old { clients = clients })
 
 -- The call can't be answered from old, whatever memory there is: an address is above the limit, or no number is left.
 abbrev pub IsFullBy : Finding → Registry → SetClientId → Type 0

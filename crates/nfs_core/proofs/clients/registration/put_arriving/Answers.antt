@@ -1,6 +1,6 @@
 use Rattle.std.proofs.Common.{◌∷◌, [], ◌++◌, ap, ◌∙◌, rules}
 use Rattle.std.proofs.lemmas.Fn.{filter_same}
-use Rattle.nfs_core.proofs.clients.set_client_id.put_arriving.Goals as goal
+use Rattle.nfs_core.proofs.clients.registration.put_arriving.Goals as goal
 
 pub returns : goal.returns
 returns c =

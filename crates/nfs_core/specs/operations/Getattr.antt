@@ -29,5 +29,5 @@ got_attributes journal state None mask = Refused NoFileHandle
 got_attributes journal state (Some node) mask = Done (attributes_of (subject_of journal state node) mask)
 
 -- the current filehandle's attributes are told, and nothing changes
-abbrev pub StepGetAttr : History → State → Option ℕ → List ℕ → GetAttrResult → State → Type 0
-StepGetAttr journal old filehandle mask answer new = (answer ≡ got_attributes journal old filehandle mask) × (new ≡ old)
+abbrev pub StepGetattr : History → State → Option ℕ → List ℕ → GetAttrResult → State → Type 0
+StepGetattr journal old filehandle mask answer new = (answer ≡ got_attributes journal old filehandle mask) × (new ≡ old)

@@ -1,6 +1,6 @@
 ghost use Rattle.std.specs.Prelude.{◌≡◌, ◌≤◌, ◌-◌, IfOk, IfSome, IfNone, length};
 ghost use Rattle.nfs_core.specs.declared.core_state.TheConstants.{ANSWER_LIMIT};
-ghost use Rattle.nfs_core.specs.GetAttr.{got_attributes};
+ghost use Rattle.nfs_core.specs.operations.Getattr.{got_attributes};
 ghost use Rattle.nfs_xdr.specs.GetAttr.{written_get_attr_result};
 ghost use Rattle.nfs_core.specs.Server.{Enters};
 ghost use Rattle.nfs_core.specs.Step.{IsFilehandle, call_of};
@@ -14,7 +14,7 @@ use std::alloc::{AllocError, Global};
 
 /// Answers GETATTR and enters it: the answer and its entry's number, or none and no change where the
 /// journal or memory refuses it.
-pub(crate) fn get_attr(
+pub(crate) fn getattr(
     alloc: Global,
     tables: &Tables,
     journal: &mut Journal,
