@@ -19,9 +19,12 @@ use Rattle.nfs_xdr.specs.OpResult.{refusal}
 
 -- The operation is answered so. An answer of another operation, or to one without an entry, never is.
 abbrev pub StepOp : History → State → Principal → Option ℕ → Op → OpResult → State → Type 0
-StepOp journal old principal filehandle (ops.GetAttr mask) (results.GetAttr answer) new = StepGetattr journal old filehandle mask answer new
-StepOp journal old principal filehandle (ops.SetClientId args) (results.SetClientId answer) new = StepSetclientid journal old principal args answer new
-StepOp journal old principal filehandle (ops.SetClientIdConfirm args) (results.SetClientIdConfirm answer) new = StepSetclientidConfirm journal old principal args answer new
+StepOp journal old principal filehandle (ops.GetAttr mask) (results.GetAttr answer) new =
+    StepGetattr journal old filehandle mask answer new
+StepOp journal old principal filehandle (ops.SetClientId args) (results.SetClientId answer) new =
+    StepSetclientid journal old principal args answer new
+StepOp journal old principal filehandle (ops.SetClientIdConfirm args) (results.SetClientIdConfirm answer) new =
+    StepSetclientidConfirm journal old principal args answer new
 StepOp journal old principal filehandle op answer new = ⊥
 
 -- the current filehandle, if there is one, is that of a node

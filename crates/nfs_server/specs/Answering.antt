@@ -55,16 +55,20 @@ asks question [] more = record { asked = question ∷ []; results = [] }
 asks question (answer ∷ answers) more =
     let rest = goes_on answer (more answer answers) in record { asked = question ∷ rest.asked; results = rest.results }
 
--- `size` is that of the reply's record so far. An operation is run only where there is room for any answer to it: on the
--- tree and the filehandles, or else by the service.
+-- `size` is that of the reply's record so far. An operation is run only where there is room for any answer to it: what has an
+-- effect on the filehandles is answered so, and the service is asked what has none.
 unfoldable pub outcome_of : Files → Filehandles → ℕ → List Op → List OpResult → Outcome
 outcome_of tree handles size [] answers = record { asked = []; results = [] }
 outcome_of tree handles size (op ∷ ops) answers =
     if ends_list op then ends_with (ending_result op)
     else if not (nat_le (size + ANSWER_ROOM) RECORD_LIMIT) then ends_with (resource op)
     else elim (effect_of tree handles op) [
-      | Some effect ↦ goes_on effect.answer (outcome_of tree effect.after (size + length (written_result effect.answer)) ops answers)
-      | None ↦ asks (record { op = op; filehandle = handles.current }) answers (λ answer others. outcome_of tree handles (size + length (written_result answer)) ops others)
+      | Some effect ↦
+          let size = size + length (written_result effect.answer) in
+          goes_on effect.answer (outcome_of tree effect.after size ops answers)
+      | None ↦
+          let question : Asked = record { op = op; filehandle = handles.current } in
+          asks question answers (λ answer others. outcome_of tree handles (size + length (written_result answer)) ops others)
     ]
 
 -- the reply's status is that of the last result

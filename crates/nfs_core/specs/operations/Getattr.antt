@@ -30,4 +30,5 @@ got_attributes journal state (Some node) mask = Done (attributes_of (subject_of 
 
 -- the current filehandle's attributes are told, and nothing changes
 abbrev pub StepGetattr : History → State → Option ℕ → List ℕ → GetAttrResult → State → Type 0
-StepGetattr journal old filehandle mask answer new = (answer ≡ got_attributes journal old filehandle mask) × (new ≡ old)
+StepGetattr journal old filehandle mask answer new =
+    (answer ≡ got_attributes journal old filehandle mask) × (new ≡ old)

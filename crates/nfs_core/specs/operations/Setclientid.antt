@@ -75,10 +75,12 @@ Sets epoch has_state old principal args answer new =
     SetsBy (finding old has_state principal args) epoch old principal args answer new
 
 -- whether the client of the id's confirmed record has state is read off the state, and the files stay
-abbrev pub StepSetclientid : History → State → Principal → SetClientId → SetClientIdResult → State → Type 0
+abbrev pub StepSetclientid :
+    History → State → Principal → SetClientId → SetClientIdResult → State → Type 0
 StepSetclientid journal old principal args answer new =
+    let has_state = record_has_state old (confirmed_of old.clients args.id) in
     (clients : _)
-    × Sets journal.epoch (record_has_state old (confirmed_of old.clients args.id)) old.clients principal args answer clients
+    × Sets journal.epoch has_state old.clients principal args answer clients
     × (new ≡ record old { clients = clients })
 
 -- The call can't be answered from old, whatever memory there is: an address is above the limit, or no number is left.

@@ -77,9 +77,11 @@ path_of Probe = Unknown
 path_of Assume = Up
 
 -- whether the client of the confirmed record of the same id has state is read off the state, and the files stay
-abbrev pub StepSetclientidConfirm : History → State → Principal → SetClientIdConfirm → Status → State → Type 0
+abbrev pub StepSetclientidConfirm :
+    History → State → Principal → SetClientIdConfirm → Status → State → Type 0
 StepSetclientidConfirm journal old principal args answer new =
+    let path = path_of journal.policy.callbacks in
     let rival = rival_of old (unconfirmed_with old.clients args.client args.confirm) in
     (clients : _)
-    × Confirms (path_of journal.policy.callbacks) (record_has_state old rival) old.clients principal args answer clients
+    × Confirms path (record_has_state old rival) old.clients principal args answer clients
     × (new ≡ record old { clients = clients })
