@@ -1,5 +1,5 @@
 -- The current and the saved filehandle, and the operations on the tree and these alone.
-use Rattle.std.specs.Prelude.{◌<◌, Option, Some, None, IfSome}
+use Rattle.std.specs.Prelude.{ℕ, ◌<◌, Option, Some, None, IfSome}
 use Rattle.nfs_tree.specs.declared.filehandles.Filehandles.{Filehandles}
 use Rattle.nfs_tree.specs.Effect.{Effect}
 use Rattle.nfs_tree.specs.operations.Access.{access}
@@ -17,10 +17,13 @@ use Rattle.nfs_xdr.specs.declared.op.Op.TheVariants as ops
 abbrev pub no_filehandles : Filehandles
 no_filehandles = record { current = None; saved = None }
 
--- each of them, if it is there, is that of a node
+-- a filehandle, if it is there, is that of a node
+abbrev pub IsNode : Files → Option ℕ → Type 0
+IsNode tree handle = IfSome handle (λ node. node < node_count tree.nodes)
+
+-- both filehandles, where they are there, are those of nodes
 abbrev pub AreNodes : Files → Filehandles → Type 0
-AreNodes tree handles =
-    IfSome handles.current (λ node. node < node_count tree.nodes) × IfSome handles.saved (λ node. node < node_count tree.nodes)
+AreNodes tree handles = IsNode tree handles.current × IsNode tree handles.saved
 
 -- What an operation does that asks the tree and the filehandles alone. No other operation has an effect here.
 abbrev pub effect_of : Files → Filehandles → Op → Option Effect

@@ -32,7 +32,8 @@ impl Filehandles {
     pub fn run(&mut self, tree: &Tree, op: &Op) -> OpResult
         requires on_tree { IsTrue (is_on_tree op.now) }
         requires nodes { AreNodes tree.now self.old }
-        ensures effect { effect_of tree.now self.old op.now ≡ Some (record { answer = result; after = self.new }) }
+        ensures effect { effect_of tree.now self.old op.now
+            ≡ Some (record { answer = result; after = self.new }) }
         ensures short { length (written_result result) ≤ TREE_ANSWER_LIMIT }
         ensures nodes { AreNodes tree.now self.new }
     {

@@ -12,16 +12,21 @@ use Rattle.nfs_xdr.specs.declared.status.Status.TheVariants as status
 
 -- the accesses that there are
 abbrev pub all_access : ℕ
-all_access = ACCESS_READ + ACCESS_LOOKUP + ACCESS_MODIFY + ACCESS_EXTEND + ACCESS_DELETE + ACCESS_EXECUTE
+all_access =
+    ACCESS_READ + ACCESS_LOOKUP + ACCESS_MODIFY + ACCESS_EXTEND + ACCESS_DELETE + ACCESS_EXECUTE
 
 -- everyone may list and search a directory, and read, change and extend a file
 abbrev pub allowed_access : Bool → ℕ
-allowed_access is_directory = if is_directory then ACCESS_READ + ACCESS_LOOKUP else ACCESS_READ + ACCESS_MODIFY + ACCESS_EXTEND
+allowed_access is_directory =
+    if is_directory then ACCESS_READ + ACCESS_LOOKUP
+    else ACCESS_READ + ACCESS_MODIFY + ACCESS_EXTEND
 
 -- of the accesses asked for, those that the server can tell of, and those that are there
 abbrev pub access_of : Bool → ℕ → AccessBits
-access_of is_directory asked =
-    record { supported = bit_and asked all_access; access = bit_and asked (allowed_access is_directory) }
+access_of is_directory asked = record {
+  supported = bit_and asked all_access;
+  access = bit_and asked (allowed_access is_directory);
+}
 
 -- NFS4ERR_NOFILEHANDLE where there is no current filehandle
 abbrev pub access_to : Files → Option ℕ → ℕ → AccessResult

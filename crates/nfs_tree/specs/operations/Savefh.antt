@@ -8,7 +8,8 @@ use Rattle.nfs_xdr.specs.declared.status.Status.TheVariants as status
 -- NFS4ERR_NOFILEHANDLE where there is no current filehandle
 abbrev pub savefh_of : Filehandles → Option ℕ → Effect
 savefh_of old None = stays old (results.SaveFh status.NoFileHandle)
-savefh_of old (Some node) = record { answer = results.SaveFh status.Ok; after = record old { saved = Some node } }
+savefh_of old (Some node) =
+    record { answer = results.SaveFh status.Ok; after = record old { saved = Some node } }
 
 abbrev pub savefh : Filehandles → Effect
 savefh old = savefh_of old old.current

@@ -51,7 +51,8 @@ impl Tree {
 impl Filehandles {
     /// ACCESS (RFC 7530, section 16.1): tells which of the accesses asked for there are to the current object.
     pub(crate) fn access(&self, tree: &Tree, asked: u32) -> OpResult
-        ensures effect { record { answer = result; after = self.now } ≡ access tree.now self.now asked }
+        ensures effect { record { answer = result; after = self.now }
+            ≡ access tree.now self.now asked }
         ensures short { length (written_result result) ≤ TREE_ANSWER_LIMIT }
     {
         match self.current {

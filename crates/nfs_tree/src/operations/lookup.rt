@@ -11,7 +11,8 @@ impl Filehandles {
     /// LOOKUP (RFC 7530, section 16.13): looks a name up in the current directory, and what it finds becomes current.
     pub(crate) fn lookup(&mut self, tree: &Tree, name: &[u8]) -> OpResult
         requires nodes { AreNodes tree.now self.old }
-        ensures effect { record { answer = result; after = self.new } ≡ lookup tree.now self.old name.now }
+        ensures effect { record { answer = result; after = self.new }
+            ≡ lookup tree.now self.old name.now }
         ensures short { length (written_result result) ≤ TREE_ANSWER_LIMIT }
         ensures nodes { AreNodes tree.now self.new }
     {
@@ -24,7 +25,8 @@ impl Filehandles {
     // Looks a name up in a node, and refuses one that is no directory and names that can't be.
     fn lookup_in(&mut self, tree: &Tree, node: u32, name: &[u8]) -> OpResult
         requires nodes { AreNodes tree.now self.old }
-        ensures effect { record { answer = result; after = self.new } ≡ lookup_in tree.now self.old node name.now }
+        ensures effect { record { answer = result; after = self.new }
+            ≡ lookup_in tree.now self.old node name.now }
         ensures short { length (written_result result) ≤ TREE_ANSWER_LIMIT }
         ensures nodes { AreNodes tree.now self.new }
     {

@@ -11,7 +11,8 @@ impl Filehandles {
     /// PUTFH (RFC 7530, section 16.20): the node of the handle becomes current.
     pub(crate) fn putfh(&mut self, tree: &Tree, handle: &[u8]) -> OpResult
         requires nodes { AreNodes tree.now self.old }
-        ensures effect { record { answer = result; after = self.new } ≡ putfh tree.now self.old handle.now }
+        ensures effect { record { answer = result; after = self.new }
+            ≡ putfh tree.now self.old handle.now }
         ensures short { length (written_result result) ≤ TREE_ANSWER_LIMIT }
         ensures nodes { AreNodes tree.now self.new }
     {
