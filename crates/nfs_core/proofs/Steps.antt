@@ -12,8 +12,8 @@ use Rattle.nfs_core.specs.declared.entry.Entry.TheVariants as entries
 use Rattle.nfs_xdr.specs.declared.principal.Principal.{Principal}
 use Rattle.nfs_core.specs.declared.client_record.PathMark.{PathMark}
 use Rattle.nfs_core.specs.Registry.{Registry}
-use Rattle.nfs_core.specs.SetClientId.{Finding, InUse, Again, Arrival, SetsBy}
-use Rattle.nfs_core.specs.SetClientIdConfirm.{Confirmation, Stale, Refused, Before, Becomes, ConfirmsBy}
+use Rattle.nfs_core.specs.operations.Setclientid.{Finding, InUse, Again, Arrival, SetsBy}
+use Rattle.nfs_core.specs.operations.SetclientidConfirm.{Confirmation, Stale, Refused, Before, Becomes, ConfirmsBy}
 use Rattle.nfs_core.specs.State.{State, History}
 use Rattle.nfs_core.specs.Step.{Step, StepOp, AtMostOneStep}
 

@@ -35,7 +35,7 @@ pub enum PathMark {
 
 impl PathMark {
     ghost use Rattle.std.specs.Prelude.{◌≡◌};
-    ghost use Rattle.nfs_core.specs.Step.{path_of};
+    ghost use Rattle.nfs_core.specs.operations.SetclientidConfirm.{path_of};
 
     /// The mark of a client that is confirmed now.
     pub(crate) fn at_first(callbacks: Callbacks) -> PathMark

@@ -5,9 +5,9 @@ ghost use Rattle.nfs_core.specs.Step.{AtMostOneStep, IsFilehandle, call_of};
 ghost use Rattle.nfs_xdr.specs.Op.{has_entry};
 ghost use Rattle.nfs_xdr.specs.OpResult.{written_result};
 
-use crate::get_attr::get_attr;
-use crate::set_client_id::set_client_id;
-use crate::set_client_id_confirm::set_client_id_confirm;
+use crate::operations::getattr::getattr;
+use crate::operations::setclientid::setclientid;
+use crate::operations::setclientid_confirm::setclientid_confirm;
 use crate::tables::Tables;
 use crate::{CoreError, Journal, LEASE_MAX, LEASE_MIN, Moment};
 use nfs_tree::{Policy, Tree};
@@ -117,12 +117,12 @@ fn enter(
     ensures refused { IfNone result ((journal.new ≡ journal.old) × (tables.new ≡ tables.old)) }
 {
     match op {
-        Op::GetAttr(mask) => get_attr(alloc, tables, journal, moment, principal, mask, filehandle),
+        Op::GetAttr(mask) => getattr(alloc, tables, journal, moment, principal, mask, filehandle),
         Op::SetClientId(args) => {
-            set_client_id(tables, journal, moment, principal, args, filehandle)
+            setclientid(tables, journal, moment, principal, args, filehandle)
         }
         Op::SetClientIdConfirm(args) => {
-            set_client_id_confirm(tables, journal, moment, principal, args, filehandle)
+            setclientid_confirm(tables, journal, moment, principal, args, filehandle)
         }
         _ => unreachable!(),
     }

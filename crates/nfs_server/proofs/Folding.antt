@@ -1,5 +1,5 @@
 -- Answering operations in turn, and what is asked and replied given the answers.
-use Rattle.std.proofs.Common.{◌≡◌, ℕ, suc, ◌+◌, ◌<◌, ◌≤◌, Bool, true, false, leb, List, [], ◌∷◌, ◌++◌, length, get_or, drop, refl, sym, ap, subst, ◌∙◌, append_assoc, arith, inl, inr, ◌⊎◌}
+use Rattle.std.proofs.Common.{◌≡◌, ℕ, suc, ◌+◌, ◌<◌, ◌≤◌, Bool, true, false, leb, List, [], ◌∷◌, ◌++◌, length, Option, Some, None, get_or, drop, refl, sym, ap, subst, ◌∙◌, append_assoc, arith, inl, inr, ◌⊎◌}
 use Rattle.std.specs.Prelude.{MatchBool}
 use Rattle.std.specs.List.{flat_map}
 use Rattle.std.proofs.lemmas.List.{append-nil, length-append}
@@ -9,10 +9,11 @@ use Rattle.std.proofs.Math.Seq.{drop-cons}
 use Rattle.std.proofs.Math.ListN.{drop_of_length-le}
 use Rattle.nfs_rpc.specs.declared.records.TheConstants.{RECORD_LIMIT}
 use Rattle.nfs_server.specs.declared.service.TheConstants.{ANSWER_ROOM}
-use Rattle.nfs_server.specs.declared.filehandles.Filehandles.{Filehandles}
+use Rattle.nfs_tree.specs.declared.filehandles.Filehandles.{Filehandles}
 use Rattle.nfs_server.specs.Answering.{ends_with, ending_result, is_ok, outcome_of}
 use Rattle.nfs_server.specs.Asking.{Question, question_of}
-use Rattle.nfs_server.specs.Filehandles.{no_filehandles, on_tree}
+use Rattle.nfs_tree.specs.Effect.{Effect}
+use Rattle.nfs_tree.specs.Filehandles.{effect_of, no_filehandles}
 use Rattle.nfs_tree.specs.Tree.{Files}
 use Rattle.nfs_server.specs.Folding.{IsAnswer, AreAnswers, IsDetermined}
 use Rattle.nfs_xdr.specs.declared.principal.Principal.{Principal}
@@ -20,13 +21,18 @@ use Rattle.nfs_core.specs.Step.{resource}
 use Rattle.nfs_xdr.specs.declared.op.Op.{Op}
 use Rattle.nfs_xdr.specs.declared.op.Op.TheVariants as ops
 use Rattle.nfs_xdr.specs.declared.op_result.OpResult.{OpResult}
-use Rattle.nfs_xdr.specs.Op.{ends_list, is_on_tree}
+use Rattle.nfs_xdr.specs.Op.{ends_list}
 use Rattle.nfs_xdr.specs.OpResult.{result_status, written_result}
 
 -- a test went one way or the other
 decided : (b : Bool) → (b ≡ true) ⊎ (b ≡ false)
 decided true = inl refl
 decided false = inr refl
+
+-- a value is there or not
+found : {A : Type 0} (o : Option A) → ((x : A) × (o ≡ Some x)) ⊎ (o ≡ None)
+found (Some x) = inl (x, refl)
+found None = inr refl
 
 -- whatever answers the rest of the operations completes the whole
 abbrev pub Completes : {S : Type 0} → (S → Question → OpResult → S → Type 0) → Files → ℕ → ℕ → ℕ → Principal → List Op → Filehandles → List Op → S → S → List OpResult → Type 0
@@ -64,7 +70,7 @@ completes_none {S = S} gives tree start size moment principal ops handles i firs
     subst (λ (r : List OpResult). AreAnswers gives tree start moment principal no_filehandles ops first r now) (append-nil so_far) all
 
 determined_asked : {S : Type 0} (gives : S → Question → OpResult → S → Type 0) (tree : Files) (size moment : ℕ) (principal : Principal) (handles : Filehandles) (op : Op) (ops : List Op) (old mid new : S) (answer : OpResult) (results : List OpResult) (b : Bool)
-    → ends_list op ≡ false → leb (size + ANSWER_ROOM) RECORD_LIMIT ≡ true → is_on_tree op ≡ false → gives old (question_of moment principal (record { op = op; filehandle = handles.current })) answer mid → is_ok (result_status answer) ≡ b
+    → ends_list op ≡ false → leb (size + ANSWER_ROOM) RECORD_LIMIT ≡ true → effect_of tree handles op ≡ None → gives old (question_of moment principal (record { op = op; filehandle = handles.current })) answer mid → is_ok (result_status answer) ≡ b
     → MatchBool b (IsDetermined gives tree (size + length (written_result answer)) moment principal handles ops mid results new) ((results ≡ []) × (new ≡ mid))
     → IsDetermined gives tree size moment principal handles (op ∷ ops) old (answer ∷ results) new
 unfolding outcome_of
@@ -73,16 +79,16 @@ determined_asked gives tree size moment principal handles op ops old mid new ans
 determined_asked gives tree size moment principal handles op ops old mid new answer results false goes room asked given bad rest =
     (answer ∷ [], rw (goes, room, asked, bad) (mid, given, rest.1), rw (goes, room, asked, bad) (ap (λ (r : List OpResult). answer ∷ r) rest.0))
 
--- the tree answers alone
+-- the operation is on the tree
 determined_told : {S : Type 0} (gives : S → Question → OpResult → S → Type 0) (tree : Files) (size moment : ℕ) (principal : Principal) (handles after : Filehandles) (op : Op) (ops : List Op) (old mid new : S) (answer : OpResult) (results : List OpResult) (b : Bool)
-    → ends_list op ≡ false → leb (size + ANSWER_ROOM) RECORD_LIMIT ≡ true → is_on_tree op ≡ true → on_tree tree handles op ≡ record { answer = answer; after = after } → mid ≡ old → is_ok (result_status answer) ≡ b
+    → ends_list op ≡ false → leb (size + ANSWER_ROOM) RECORD_LIMIT ≡ true → effect_of tree handles op ≡ Some (record { answer = answer; after = after }) → mid ≡ old → is_ok (result_status answer) ≡ b
     → MatchBool b (IsDetermined gives tree (size + length (written_result answer)) moment principal after ops mid results new) ((results ≡ []) × (new ≡ mid))
     → IsDetermined gives tree size moment principal handles (op ∷ ops) old (answer ∷ results) new
 unfolding outcome_of
-determined_told gives tree size moment principal handles after op ops old mid new answer results true goes room told is same ok rest =
-    (rest.0, rw (goes, room, told, is, ok) (rw (← same) rest.1), rw (goes, room, told, is, ok) (ap (λ (r : List OpResult). answer ∷ r) rest.2))
-determined_told gives tree size moment principal handles after op ops old mid new answer results false goes room told is same bad rest =
-    ([], rw (goes, room, told, is, bad) (rest.1 ∙ same), rw (goes, room, told, is, bad) (ap (λ (r : List OpResult). answer ∷ r) rest.0))
+determined_told gives tree size moment principal handles after op ops old mid new answer results true goes room is same ok rest =
+    (rest.0, rw (goes, room, is, ok) (rw (← same) rest.1), rw (goes, room, is, ok) (ap (λ (r : List OpResult). answer ∷ r) rest.2))
+determined_told gives tree size moment principal handles after op ops old mid new answer results false goes room is same bad rest =
+    ([], rw (goes, room, is, bad) (rest.1 ∙ same), rw (goes, room, is, bad) (ap (λ (r : List OpResult). answer ∷ r) rest.0))
 
 -- an answer that ends the list is the last
 ending_is_last : (op : Op) → ends_list op ≡ true → is_ok (result_status (ending_result op)) ≡ false
@@ -132,10 +138,10 @@ determined gives tree size moment principal handles (op ∷ ops) old (answer ∷
       | inl ends ↦ determined_unasked gives tree size moment principal handles after op ops old mid new (ending_result op) answer results (Rest after)
           (rw ends refl) (ending_is_last op ends) (rw ends at are.2) are.3
       | inr goes ↦ elim (decided (leb (size + ANSWER_ROOM) RECORD_LIMIT)) [
-        | inl room ↦ elim (decided (is_on_tree op)) [
+        | inl room ↦ elim (found (effect_of tree handles op)) [
           | inl told ↦
-              let is = rw (goes, room, told) at are.2 in
-              determined_told gives tree size moment principal handles after op ops old mid new answer results (is_ok (result_status answer)) goes room told (sym is.0) is.1 refl (more after are.3)
+              let is = rw (goes, room, told.1) at are.2 in
+              determined_told gives tree size moment principal handles after op ops old mid new answer results (is_ok (result_status answer)) goes room (told.1 ∙ ap (λ (e : Effect). Some e) is.0) is.1 refl (more after are.3)
           | inr asked ↦
               let is = rw (goes, room, asked) at are.2 in
               determined_asked gives tree size moment principal handles op ops old mid new answer results (is_ok (result_status answer)) goes room asked is.0 refl

@@ -4,11 +4,11 @@ use Rattle.std.proofs.lemmas.List.{append-nil}
 use Rattle.nfs_core.specs.declared.entry.Entry.{Entry}
 use Rattle.nfs_xdr.specs.declared.principal.Principal.{Principal}
 use Rattle.nfs_core.specs.declared.client_record.PathMark.{PathMark}
-use Rattle.nfs_core.specs.GetAttr.{got_attributes}
+use Rattle.nfs_core.specs.operations.Getattr.{got_attributes}
 use Rattle.nfs_core.specs.Registry.{Registry}
 use Rattle.nfs_core.specs.Server.{Server, Applies}
-use Rattle.nfs_core.specs.SetClientId.{Finding, InUse, Again, Arrival, SetsBy}
-use Rattle.nfs_core.specs.SetClientIdConfirm.{Confirmation, Stale, Refused, Before, Becomes, ConfirmsBy}
+use Rattle.nfs_core.specs.operations.Setclientid.{Finding, InUse, Again, Arrival, SetsBy}
+use Rattle.nfs_core.specs.operations.SetclientidConfirm.{Confirmation, Stale, Refused, Before, Becomes, ConfirmsBy}
 use Rattle.nfs_core.specs.State.{State, History}
 use Rattle.nfs_core.specs.Step.{StepOp, call_of, resource}
 use Rattle.nfs_server.specs.Asking.{Question}

@@ -6,9 +6,9 @@ use Rattle.nfs_rpc.specs.declared.records.TheConstants.{RECORD_LIMIT}
 use Rattle.nfs_rpc.specs.declared.reply.CompoundReply.{CompoundReply}
 use Rattle.nfs_rpc.specs.declared.reply.Reply.TheVariants as replies
 use Rattle.nfs_rpc.specs.declared.reply.TheConstants.{ACCEPTED_LEN}
-use Rattle.nfs_server.specs.declared.filehandles.Filehandles.{Filehandles}
+use Rattle.nfs_tree.specs.declared.filehandles.Filehandles.{Filehandles}
 use Rattle.nfs_server.specs.declared.service.TheConstants.{ANSWER_ROOM}
-use Rattle.nfs_server.specs.Filehandles.{no_filehandles, on_tree}
+use Rattle.nfs_tree.specs.Filehandles.{effect_of, no_filehandles}
 use Rattle.nfs_tree.specs.Tree.{Files}
 use Rattle.nfs_rpc.specs.Reply.{written_reply}
 use Rattle.nfs_core.specs.Step.{resource}
@@ -19,7 +19,7 @@ use Rattle.nfs_xdr.specs.declared.op.Op.{Op}
 use Rattle.nfs_xdr.specs.declared.op_result.OpResult.{OpResult}
 use Rattle.nfs_xdr.specs.declared.status.Status.{Status}
 use Rattle.nfs_xdr.specs.declared.status.Status.TheVariants as status
-use Rattle.nfs_xdr.specs.Op.{ends_list, is_on_tree}
+use Rattle.nfs_xdr.specs.Op.{ends_list}
 use Rattle.nfs_xdr.specs.OpResult.{refusal, result_status, written_result}
 use Rattle.nfs_xdr.specs.Writing.{written_opaque}
 
@@ -55,15 +55,21 @@ asks question [] more = record { asked = question ∷ []; results = [] }
 asks question (answer ∷ answers) more =
     let rest = goes_on answer (more answer answers) in record { asked = question ∷ rest.asked; results = rest.results }
 
--- `size` is that of the reply's record so far. An operation is run only where there is room for any answer to it.
+-- `size` is that of the reply's record so far. An operation is run only where there is room for any answer to it: what has an
+-- effect on the filehandles is answered so, and the service is asked what has none.
 unfoldable pub outcome_of : Files → Filehandles → ℕ → List Op → List OpResult → Outcome
 outcome_of tree handles size [] answers = record { asked = []; results = [] }
 outcome_of tree handles size (op ∷ ops) answers =
     if ends_list op then ends_with (ending_result op)
     else if not (nat_le (size + ANSWER_ROOM) RECORD_LIMIT) then ends_with (resource op)
-    else if is_on_tree op
-    then (let told = on_tree tree handles op in goes_on told.answer (outcome_of tree told.after (size + length (written_result told.answer)) ops answers))
-    else asks (record { op = op; filehandle = handles.current }) answers (λ answer others. outcome_of tree handles (size + length (written_result answer)) ops others)
+    else elim (effect_of tree handles op) [
+      | Some effect ↦
+          let size = size + length (written_result effect.answer) in
+          goes_on effect.answer (outcome_of tree effect.after size ops answers)
+      | None ↦
+          let question : Asked = record { op = op; filehandle = handles.current } in
+          asks question answers (λ answer others. outcome_of tree handles (size + length (written_result answer)) ops others)
+    ]
 
 -- the reply's status is that of the last result
 abbrev pub status_or_ok : Option OpResult → Status

@@ -1,9 +1,9 @@
 -- A COMPOUND's operations answered in turn, with the state of the service between them.
-use Rattle.std.specs.Prelude.{◌≡◌, ℕ, ◌+◌, nat_le, List, [], ◌∷◌, length, map, MatchBool}
+use Rattle.std.specs.Prelude.{◌≡◌, ℕ, ◌+◌, nat_le, List, [], ◌∷◌, length, map, MatchBool, MatchOption}
 use Rattle.nfs_rpc.specs.declared.records.TheConstants.{RECORD_LIMIT}
 use Rattle.nfs_server.specs.declared.service.TheConstants.{ANSWER_ROOM}
-use Rattle.nfs_server.specs.declared.filehandles.Filehandles.{Filehandles}
-use Rattle.nfs_server.specs.Filehandles.{on_tree}
+use Rattle.nfs_tree.specs.declared.filehandles.Filehandles.{Filehandles}
+use Rattle.nfs_tree.specs.Filehandles.{effect_of}
 use Rattle.nfs_tree.specs.Tree.{Files}
 use Rattle.nfs_server.specs.Answering.{compound_outcome, ending_result, is_ok, outcome_of}
 use Rattle.nfs_xdr.specs.declared.compound.Compound.{Compound}
@@ -12,7 +12,7 @@ use Rattle.nfs_xdr.specs.declared.principal.Principal.{Principal}
 use Rattle.nfs_core.specs.Step.{resource}
 use Rattle.nfs_xdr.specs.declared.op.Op.{Op}
 use Rattle.nfs_xdr.specs.declared.op_result.OpResult.{OpResult}
-use Rattle.nfs_xdr.specs.Op.{ends_list, is_on_tree}
+use Rattle.nfs_xdr.specs.Op.{ends_list}
 use Rattle.nfs_xdr.specs.OpResult.{result_status, written_result}
 
 -- From old, the operation is answered so behind `size` bytes of the reply under these filehandles, and leads to new and to
@@ -21,8 +21,9 @@ abbrev pub IsAnswer : {S : Type 0} → (S → Question → OpResult → S → Ty
 IsAnswer gives tree size moment principal handles op old answer after new =
     MatchBool (ends_list op) ((answer ≡ ending_result op) × (after ≡ handles) × (new ≡ old))
     (MatchBool (nat_le (size + ANSWER_ROOM) RECORD_LIMIT)
-    (MatchBool (is_on_tree op) ((record { answer = answer; after = after } ≡ on_tree tree handles op) × (new ≡ old))
-    (gives old (question_of moment principal (record { op = op; filehandle = handles.current })) answer new × (after ≡ handles)))
+    (MatchOption (effect_of tree handles op)
+    (gives old (question_of moment principal (record { op = op; filehandle = handles.current })) answer new × (after ≡ handles))
+    (λ effect. (effect ≡ record { answer = answer; after = after }) × (new ≡ old)))
     ((answer ≡ resource op) × (after ≡ handles) × (new ≡ old)))
 
 -- the operations are answered so in turn, up to the first answer other than NFS4_OK

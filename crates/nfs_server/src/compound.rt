@@ -3,7 +3,7 @@ ghost use Rattle.std.specs.List.{flat_map};
 ghost use Rattle.nfs_server.specs.Answering.{compound_outcome, compound_reply, head_size, is_ok, last_status, request_status};
 ghost use Rattle.nfs_server.specs.Asking.{Asks, question_of};
 ghost use Rattle.nfs_rpc.specs.Call.{IsWithinLimits};
-ghost use Rattle.nfs_server.specs.Filehandles.{AreNodes, no_filehandles};
+ghost use Rattle.nfs_tree.specs.Filehandles.{AreNodes, no_filehandles};
 ghost use Rattle.nfs_core.specs.declared.core_state.TheConstants.{ANSWER_LIMIT};
 ghost use Rattle.nfs_server.specs.Folding.{AreAnswers, IsAnswer, IsCompoundAnswered, IsDetermined};
 ghost use Rattle.nfs_rpc.specs.Reply.{written_compound_reply};
@@ -12,11 +12,11 @@ ghost use Rattle.nfs_xdr.specs.Compound.{AreResultsTooLong};
 ghost use Rattle.nfs_xdr.specs.declared.op_result.OpResult.{OpResult};
 ghost use Rattle.nfs_xdr.specs.OpResult.{result_status, written_result};
 
+use crate::Service;
 use crate::service::ANSWER_ROOM;
-use crate::{Filehandles, Service};
 use nfs_core::Moment;
 use nfs_rpc::{ACCEPTED_LEN, CompoundReply, RECORD_LIMIT};
-use nfs_tree::Tree;
+use nfs_tree::{Filehandles, Tree};
 use nfs_xdr::{
     Compound, OPERATION_LIMIT, Op, OpResult, Principal, Request, Sequence, Status, padding_of,
 };
@@ -193,7 +193,7 @@ fn answer_one<S: Service>(
         return op.refusal(Status::Resource);
     }
     if op.is_on_tree() {
-        return handles.answer(tree, op);
+        return handles.run(tree, op);
     }
     service.call(moment, principal, op, handles.current)
 }

@@ -1,0 +1,15 @@
+-- PUTFH (RFC 7530, section 16.20): the filehandle given replaces the current one.
+use Rattle.std.specs.Prelude.{ℕ, List, Option, Some, None}
+use Rattle.nfs_tree.specs.declared.filehandles.Filehandles.{Filehandles}
+use Rattle.nfs_tree.specs.Effect.{Effect, stays, moves_to}
+use Rattle.nfs_tree.specs.Tree.{Files, node_of}
+use Rattle.nfs_xdr.specs.declared.op_result.OpResult.TheVariants as results
+use Rattle.nfs_xdr.specs.declared.status.Status.TheVariants as status
+
+-- NFS4ERR_BADHANDLE where it is that of no node
+abbrev pub putfh_at : Filehandles → Option ℕ → Effect
+putfh_at old None = stays old (results.PutFh status.BadHandle)
+putfh_at old (Some node) = moves_to old node (results.PutFh status.Ok)
+
+abbrev pub putfh : Files → Filehandles → List ℕ → Effect
+putfh tree old handle = putfh_at old (node_of tree.nodes handle)

@@ -1,0 +1,26 @@
+ghost use Rattle.std.specs.Prelude.{◌≡◌, ◌≤◌, length};
+ghost use Rattle.nfs_tree.specs.declared.filehandles.TheConstants.{TREE_ANSWER_LIMIT};
+ghost use Rattle.nfs_tree.specs.Filehandles.{AreNodes};
+ghost use Rattle.nfs_tree.specs.operations.Restorefh.{restorefh};
+ghost use Rattle.nfs_xdr.specs.OpResult.{written_result};
+
+use crate::{Filehandles, Tree};
+use nfs_xdr::{OpResult, Status};
+
+impl Filehandles {
+    /// RESTOREFH (RFC 7530, section 16.29): the saved filehandle becomes current.
+    pub(crate) fn restorefh(&mut self, tree: &Tree) -> OpResult
+        requires nodes { AreNodes tree.now self.old }
+        ensures effect { record { answer = result; after = self.new } ≡ restorefh self.old }
+        ensures short { length (written_result result) ≤ TREE_ANSWER_LIMIT }
+        ensures nodes { AreNodes tree.now self.new }
+    {
+        match self.saved {
+            Some(node) => {
+                self.current = Some(node);
+                OpResult::RestoreFh(Status::Ok)
+            }
+            None => OpResult::RestoreFh(Status::RestoreFh),
+        }
+    }
+}
