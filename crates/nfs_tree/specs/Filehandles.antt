@@ -28,10 +28,10 @@ AreNodes tree handles = IsNode tree handles.current × IsNode tree handles.saved
 -- What an operation does that asks the tree and the filehandles alone. No other operation has an effect here.
 abbrev pub effect_of : Files → Filehandles → Op → Option Effect
 effect_of tree old (ops.Access asked) = Some (access tree old asked)
-effect_of tree old ops.GetFh = Some (getfh old)
+effect_of tree old ops.Getfh = Some (getfh old)
 effect_of tree old (ops.Lookup name) = Some (lookup tree old name)
-effect_of tree old (ops.PutFh handle) = Some (putfh tree old handle)
-effect_of tree old ops.PutRootFh = Some (putrootfh old)
-effect_of tree old ops.RestoreFh = Some (restorefh old)
-effect_of tree old ops.SaveFh = Some (savefh old)
+effect_of tree old (ops.Putfh handle) = Some (putfh tree old handle)
+effect_of tree old ops.Putrootfh = Some (putrootfh old)
+effect_of tree old ops.Restorefh = Some (restorefh old)
+effect_of tree old ops.Savefh = Some (savefh old)
 effect_of tree old op = None

@@ -9,7 +9,7 @@ use crate::path::names_of;
 use crate::{
     DIRECTORY_LIMIT, Entry, FILE_LIMIT, Node, NodeKind, PATH_LIMIT, TEXT_LIMIT, Tree, TreeError,
 };
-use nfs_xdr::Bytes;
+use xdr::Bytes;
 use std::alloc::{AllocError, Global};
 
 /// The document of the tree that a server has without one of its own.

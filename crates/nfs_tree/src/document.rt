@@ -6,7 +6,7 @@ ghost use Rattle.toml.specs.Data.{as_str, get_member};
 ghost use Rattle.toml.specs.View.{items_view, table_view, view};
 
 use crate::{Callbacks, DEFAULT_POLICY, Delegations, Entry, NodeKind, Policy, TreeError};
-use nfs_xdr::{Bytes, Sequence};
+use xdr::{Bytes, Sequence};
 use std::alloc::Global;
 use toml::{Table, Value};
 

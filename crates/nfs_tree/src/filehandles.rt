@@ -1,7 +1,7 @@
 ghost use Rattle.std.specs.Prelude.{◌≡◌, ◌≤◌, IsTrue, Some, length};
 ghost use Rattle.nfs_tree.specs.Filehandles.{AreNodes, effect_of, no_filehandles};
 ghost use Rattle.nfs_xdr.specs.Op.{is_on_tree};
-ghost use Rattle.nfs_xdr.specs.OpResult.{written_result};
+ghost use Rattle.nfs_xdr.specs.OpResult.{op_result};
 
 use crate::Tree;
 use nfs_xdr::{Op, OpResult};
@@ -34,17 +34,17 @@ impl Filehandles {
         requires nodes { AreNodes tree.now self.old }
         ensures effect { effect_of tree.now self.old op.now
             ≡ Some (record { answer = result; after = self.new }) }
-        ensures short { length (written_result result) ≤ TREE_ANSWER_LIMIT }
+        ensures short { length (op_result.spelling result) ≤ TREE_ANSWER_LIMIT }
         ensures nodes { AreNodes tree.now self.new }
     {
         match op {
             Op::Access(bits) => self.access(tree, *bits),
-            Op::GetFh => self.getfh(),
+            Op::Getfh => self.getfh(),
             Op::Lookup(name) => self.lookup(tree, name.as_slice()),
-            Op::PutFh(handle) => self.putfh(tree, handle.as_slice()),
-            Op::PutRootFh => self.putrootfh(tree),
-            Op::RestoreFh => self.restorefh(tree),
-            Op::SaveFh => self.savefh(tree),
+            Op::Putfh(handle) => self.putfh(tree, handle.as_slice()),
+            Op::Putrootfh => self.putrootfh(tree),
+            Op::Restorefh => self.restorefh(tree),
+            Op::Savefh => self.savefh(tree),
             _ => unreachable!(),
         }
     }

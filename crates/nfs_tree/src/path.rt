@@ -4,7 +4,7 @@ ghost use Rattle.nfs_tree.specs.Building.{Names, PathsAreJoinedNames, names_of, 
 ghost use Rattle.nfs_tree.specs.Tree.{is_name, is_name_byte};
 
 use crate::TreeError;
-use nfs_xdr::{Bytes, Sequence};
+use xdr::{Bytes, Sequence};
 use std::alloc::{AllocError, Global};
 
 /// The most bytes of a name.

@@ -4,11 +4,11 @@ use Rattle.nfs_tree.specs.declared.filehandles.Filehandles.{Filehandles}
 use Rattle.nfs_tree.specs.declared.operations.access.TheConstants.{ACCESS_READ, ACCESS_LOOKUP, ACCESS_MODIFY, ACCESS_EXTEND, ACCESS_DELETE, ACCESS_EXECUTE}
 use Rattle.nfs_tree.specs.Effect.{Effect, stays}
 use Rattle.nfs_tree.specs.Tree.{Files, is_directory}
-use Rattle.nfs_xdr.specs.declared.access.AccessBits.{AccessBits}
-use Rattle.nfs_xdr.specs.declared.access.AccessResult.{AccessResult}
-use Rattle.nfs_xdr.specs.declared.access.AccessResult.TheVariants.{Done, Refused}
+use Rattle.nfs_xdr.specs.declared.operations.access.AccessBits.{AccessBits}
+use Rattle.nfs_xdr.specs.declared.answer.Answer.{Answer}
+use Rattle.nfs_xdr.specs.declared.answer.Answer.TheVariants.{Done, Refused}
 use Rattle.nfs_xdr.specs.declared.op_result.OpResult.TheVariants as results
-use Rattle.nfs_xdr.specs.declared.status.Status.TheVariants as status
+use Rattle.nfs_xdr.specs.declared.status.Refusal.TheVariants as refusals
 
 -- the accesses that there are
 abbrev pub all_access : ℕ
@@ -29,8 +29,8 @@ access_of is_directory asked = record {
 }
 
 -- NFS4ERR_NOFILEHANDLE where there is no current filehandle
-abbrev pub access_to : Files → Option ℕ → ℕ → AccessResult
-access_to tree None asked = Refused status.NoFileHandle
+abbrev pub access_to : Files → Option ℕ → ℕ → Answer AccessBits
+access_to tree None asked = Refused refusals.NoFileHandle
 access_to tree (Some node) asked = Done (access_of (is_directory tree.nodes node) asked)
 
 -- both filehandles stay

@@ -2,10 +2,10 @@ ghost use Rattle.std.specs.Prelude.{◌≡◌, ◌≤◌, length};
 ghost use Rattle.nfs_tree.specs.declared.filehandles.TheConstants.{TREE_ANSWER_LIMIT};
 ghost use Rattle.nfs_tree.specs.operations.Access.{access, access_of};
 ghost use Rattle.nfs_tree.specs.Tree.{is_directory};
-ghost use Rattle.nfs_xdr.specs.OpResult.{written_result};
+ghost use Rattle.nfs_xdr.specs.OpResult.{op_result};
 
 use crate::{Filehandles, Tree};
-use nfs_xdr::{AccessBits, AccessResult, OpResult, Status};
+use nfs_xdr::{AccessBits, Answer, OpResult, Refusal};
 
 /// The bits of ACCESS (RFC 7530, section 16.1.2).
 pub const ACCESS_READ: u32 = 1;
@@ -50,14 +50,15 @@ impl Tree {
 
 impl Filehandles {
     /// ACCESS (RFC 7530, section 16.1): tells which of the accesses asked for there are to the current object.
+    #[tactic(auto, unfolding(nfs_xdr::specs::OpResult::op_result, nfs_xdr::specs::Opnum::opnum, nfs_xdr::specs::Answer::answer, nfs_xdr::specs::operations::Access::access_bits, nfs_xdr::specs::Status::status, xdr::specs::Writing::written_number))]
     pub(crate) fn access(&self, tree: &Tree, asked: u32) -> OpResult
         ensures effect { record { answer = result; after = self.now }
             ≡ access tree.now self.now asked }
-        ensures short { length (written_result result) ≤ TREE_ANSWER_LIMIT }
+        ensures short { length (op_result.spelling result) ≤ TREE_ANSWER_LIMIT }
     {
         match self.current {
-            Some(node) => OpResult::Access(AccessResult::Done(tree.access(node, asked))),
-            None => OpResult::Access(AccessResult::Refused(Status::NoFileHandle)),
+            Some(node) => OpResult::Access(Answer::Done(tree.access(node, asked))),
+            None => OpResult::Access(Answer::Refused(Refusal::NoFileHandle)),
         }
     }
 }
