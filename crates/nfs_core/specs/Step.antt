@@ -4,7 +4,7 @@ use Rattle.nfs_xdr.specs.declared.op.Op.{Op}
 use Rattle.nfs_xdr.specs.declared.op.Op.TheVariants as ops
 use Rattle.nfs_xdr.specs.declared.op_result.OpResult.{OpResult}
 use Rattle.nfs_xdr.specs.declared.op_result.OpResult.TheVariants as results
-use Rattle.nfs_xdr.specs.declared.status.Status.TheVariants.{Resource}
+use Rattle.nfs_xdr.specs.declared.status.Refusal.TheVariants.{Resource}
 use Rattle.nfs_core.specs.declared.entry.Entry.{Entry}
 use Rattle.nfs_core.specs.declared.entry.Entry.TheVariants as entries
 use Rattle.nfs_core.specs.declared.entry.Call.{Call}
@@ -15,15 +15,16 @@ use Rattle.nfs_core.specs.operations.Setclientid.{StepSetclientid}
 use Rattle.nfs_core.specs.operations.SetclientidConfirm.{StepSetclientidConfirm}
 use Rattle.nfs_core.specs.State.{State, History}
 use Rattle.nfs_tree.specs.Tree.{node_count}
-use Rattle.nfs_xdr.specs.OpResult.{refusal}
+use Rattle.nfs_xdr.specs.Op.{opnum_of}
+use Rattle.nfs_xdr.specs.OpResult.{refusal_of}
 
 -- The operation is answered so. An answer of another operation, or to one without an entry, never is.
 abbrev pub StepOp : History → State → Principal → Option ℕ → Op → OpResult → State → Type 0
-StepOp journal old principal filehandle (ops.GetAttr mask) (results.GetAttr answer) new =
+StepOp journal old principal filehandle (ops.Getattr mask) (results.Getattr answer) new =
     StepGetattr journal old filehandle mask answer new
-StepOp journal old principal filehandle (ops.SetClientId args) (results.SetClientId answer) new =
+StepOp journal old principal filehandle (ops.Setclientid args) (results.Setclientid answer) new =
     StepSetclientid journal old principal args answer new
-StepOp journal old principal filehandle (ops.SetClientIdConfirm args) (results.SetClientIdConfirm answer) new =
+StepOp journal old principal filehandle (ops.SetclientidConfirm args) (results.SetclientidConfirm answer) new =
     StepSetclientidConfirm journal old principal args answer new
 StepOp journal old principal filehandle op answer new = ⊥
 
@@ -38,7 +39,7 @@ Step journal old (entries.Call call) new =
 
 -- NFS4ERR_RESOURCE as the operation's result
 abbrev pub resource : Op → OpResult
-resource op = refusal op Resource
+resource op = refusal_of (opnum_of op) Resource
 
 -- the entry of an operation that was answered
 abbrev pub call_of : ℕ → Principal → Op → Option ℕ → OpResult → Entry

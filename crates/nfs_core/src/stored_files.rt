@@ -4,7 +4,7 @@ ghost use Rattle.nfs_core.specs.State.{file_of, opening_files};
 
 use crate::StoredFile;
 use nfs_tree::Tree;
-use nfs_xdr::Bytes;
+use xdr::Bytes;
 use std::alloc::{AllocError, Global};
 use std::marker::Model;
 

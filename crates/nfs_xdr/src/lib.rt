@@ -12,7 +12,7 @@ mod fattr;
 mod file_handle;
 mod op;
 mod op_result;
-mod operations;
+pub mod operations;
 mod opnum;
 mod principal;
 mod status;

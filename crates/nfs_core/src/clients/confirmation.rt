@@ -7,7 +7,8 @@ ghost use Rattle.nfs_core.specs.operations.SetclientidConfirm.{Refused, Becomes,
 
 use super::Clients;
 use crate::{ClientRecord, PathMark};
-use nfs_xdr::{Principal, SetClientIdConfirm, Status};
+use nfs_xdr::operations::setclientid_confirm::Outcome;
+use nfs_xdr::{Principal, Refusal, SetclientidConfirm};
 
 impl Clients {
     /// SETCLIENTID_CONFIRM (RFC 7530, section 16.34.5); `has_state` is whether the client of the
@@ -16,10 +17,10 @@ impl Clients {
     pub(crate) fn confirm(
         &mut self,
         principal: Principal,
-        args: &SetClientIdConfirm,
+        args: &SetclientidConfirm,
         has_state: bool,
         path: PathMark,
-    ) -> Status
+    ) -> Outcome
         ensures { Confirms path has_state self.old principal args.now result self.new }
     {
         let Some(place) = self.unconfirmed_with(args) else {
@@ -27,14 +28,14 @@ impl Clients {
         };
         let candidate = &self.records[place];
         if !candidate.principal.is(principal) || self.is_held_from(candidate, has_state) {
-            return Status::ClidInUse;
+            return Outcome::ClidInUse(());
         }
         confirm_at(&mut self.records, place, path);
-        Status::Ok
+        Outcome::Done(())
     }
 
     /// The confirmed record of the id that the call would confirm, if there is one.
-    pub(crate) fn rival_of(&self, args: &SetClientIdConfirm) -> Option<&ClientRecord>
+    pub(crate) fn rival_of(&self, args: &SetclientidConfirm) -> Option<&ClientRecord>
         ensures { option_copied result ≡ option_and_then (λ r. confirmed_of self.now r.id) (unconfirmed_with self.now args.now.client args.now.confirm) }
     {
         let place = self.unconfirmed_with(args)?;
@@ -42,18 +43,18 @@ impl Clients {
     }
 
     // Answers where no unconfirmed record has both.
-    fn confirm_again(&self, principal: Principal, args: &SetClientIdConfirm) -> Status
+    fn confirm_again(&self, principal: Principal, args: &SetclientidConfirm) -> Outcome
         ensures { (path : PathMark) → ConfirmsBy path (confirmation_again (confirmed_with self.now args.now.client args.now.confirm) principal) self.now result self.now }
     {
         match self.confirmed_with(args) {
-            None => Status::StaleClientId,
-            Some(confirmed) if confirmed.principal.is(principal) => Status::Ok,
-            Some(_) => Status::ClidInUse,
+            None => Outcome::Refused(Refusal::StaleClientId),
+            Some(confirmed) if confirmed.principal.is(principal) => Outcome::Done(()),
+            Some(_) => Outcome::ClidInUse(()),
         }
     }
 
     // The confirmed record with both, if there is one.
-    fn confirmed_with(&self, args: &SetClientIdConfirm) -> Option<&ClientRecord>
+    fn confirmed_with(&self, args: &SetclientidConfirm) -> Option<&ClientRecord>
         ensures { option_copied result ≡ confirmed_with self.now args.now.client args.now.confirm }
     {
         self.records
@@ -62,7 +63,7 @@ impl Clients {
     }
 
     // The place of the unconfirmed record with both, if there is one.
-    fn unconfirmed_with(&self, args: &SetClientIdConfirm) -> Option<usize>
+    fn unconfirmed_with(&self, args: &SetclientidConfirm) -> Option<usize>
         ensures { MatchOption result
             (unconfirmed_with self.now args.now.client args.now.confirm ≡ None)
             (λ place. (place < length self.now.records)
@@ -87,7 +88,7 @@ impl Clients {
     }
 }
 
-fn unconfirmed_place(records: &[ClientRecord], args: &SetClientIdConfirm) -> Option<usize>
+fn unconfirmed_place(records: &[ClientRecord], args: &SetclientidConfirm) -> Option<usize>
     ensures { result ≡ position (λ r. not r.confirmed && has_both args.now.client args.now.confirm r) records.now }
 {
     records

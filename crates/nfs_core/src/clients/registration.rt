@@ -5,7 +5,8 @@ ghost use Rattle.nfs_core.specs.operations.Setclientid.{Again, Arrival, Sets, Se
 
 use super::{Clients, ClientsError};
 use crate::{ADDRESS_LIMIT, CLIENT_LIMIT, ClientRecord, PathMark};
-use nfs_xdr::{Address, ClientId, Principal, SetClientId, SetClientIdResult};
+use nfs_xdr::operations::setclientid::Outcome;
+use nfs_xdr::{Address, ClientId, Principal, Setclientid, SetclientidConfirm};
 use std::alloc::AllocError;
 
 impl Clients {
@@ -15,9 +16,9 @@ impl Clients {
         &mut self,
         epoch: u32,
         principal: Principal,
-        args: &SetClientId,
+        args: &Setclientid,
         has_state: bool,
-    ) -> Result<SetClientIdResult, ClientsError>
+    ) -> Result<Outcome, ClientsError>
         requires { self.old.last_confirm < 2 ^ 64 - 1 }
         ensures ok { IfOk result (λ answer. Sets epoch has_state self.old principal args.now answer self.new) }
         ensures full { IsErrOf result ClientsError.Full ↔ IsFull has_state self.old principal args.now }
@@ -33,7 +34,7 @@ impl Clients {
                 }
             }
             Some(record) if has_state => {
-                Ok(SetClientIdResult::ClidInUse(record.callback.address.clone()?))
+                Ok(Outcome::ClidInUse(record.callback.address.clone()?))
             }
             _ => self.set_arrival(epoch, principal, args),
         }
@@ -43,9 +44,9 @@ impl Clients {
     fn set_again(
         &mut self,
         principal: Principal,
-        args: &SetClientId,
+        args: &Setclientid,
         client: ClientId,
-    ) -> Result<SetClientIdResult, ClientsError>
+    ) -> Result<Outcome, ClientsError>
         requires { self.old.last_confirm < 2 ^ 64 - 1 }
         ensures ok { IfOk result (λ answer. SetsBy (Again client) client.epoch self.old principal args.now answer self.new) }
         ensures full { IsErrOf result ClientsError.Full ↔ IsFullBy (Again client) self.old args.now }
@@ -55,7 +56,7 @@ impl Clients {
             return Err(ClientsError::Full);
         }
         let confirm = self.enter(principal, args, client)?;
-        Ok(SetClientIdResult::Done(client, confirm))
+        Ok(Outcome::Done(SetclientidConfirm { client, confirm }))
     }
 
     // A client that gets a number.
@@ -63,8 +64,8 @@ impl Clients {
         &mut self,
         epoch: u32,
         principal: Principal,
-        args: &SetClientId,
-    ) -> Result<SetClientIdResult, ClientsError>
+        args: &Setclientid,
+    ) -> Result<Outcome, ClientsError>
         requires { self.old.last_confirm < 2 ^ 64 - 1 }
         ensures ok { IfOk result (λ answer. SetsBy Arrival epoch self.old principal args.now answer self.new) }
         ensures full { IsErrOf result ClientsError.Full ↔ IsFullBy Arrival self.old args.now }
@@ -77,14 +78,14 @@ impl Clients {
         let client = ClientId { epoch, number };
         let confirm = self.enter(principal, args, client)?;
         self.last_number = number;
-        Ok(SetClientIdResult::Done(client, confirm))
+        Ok(Outcome::Done(SetclientidConfirm { client, confirm }))
     }
 
     // Enters the unconfirmed record under the next confirm value, and gives that value.
     fn enter(
         &mut self,
         principal: Principal,
-        args: &SetClientId,
+        args: &Setclientid,
         client: ClientId,
     ) -> Result<u64, AllocError>
         requires { self.old.last_confirm < 2 ^ 64 - 1 }
@@ -107,7 +108,7 @@ impl Clients {
 // The record that the call leaves.
 fn arriving(
     principal: Principal,
-    args: &SetClientId,
+    args: &Setclientid,
     client: ClientId,
     confirm: u64,
 ) -> Result<ClientRecord, AllocError>

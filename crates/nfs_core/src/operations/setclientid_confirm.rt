@@ -2,29 +2,30 @@ ghost use Rattle.std.specs.Prelude.{◌≡◌, ◌≤◌, IfSome, IfNone, length
 ghost use Rattle.nfs_core.specs.declared.core_state.TheConstants.{ANSWER_LIMIT};
 ghost use Rattle.nfs_core.specs.Server.{Enters};
 ghost use Rattle.nfs_core.specs.Step.{IsFilehandle, call_of};
-ghost use Rattle.nfs_xdr.specs.OpResult.{written_result};
+ghost use Rattle.nfs_xdr.specs.OpResult.{op_result};
 
 use crate::journal::{make_room, push_call};
 use crate::tables::Tables;
 use crate::{Call, Journal, Moment, PathMark};
-use nfs_xdr::{Op, OpResult, Principal, SetClientIdConfirm};
+use nfs_xdr::{Op, OpResult, Principal, SetclientidConfirm};
 
 /// Answers SETCLIENTID_CONFIRM and enters it: the answer and its entry's number, or none and no change
 /// where the journal or memory refuses it.
+#[tactic(auto, unfolding(nfs_xdr::specs::OpResult::op_result, nfs_xdr::specs::Opnum::opnum, nfs_xdr::specs::Status::status, xdr::specs::Writing::written_number, nfs_xdr::specs::ClientAnswer::client_answer, nfs_xdr::specs::operations::SetclientidConfirm::arguments, nfs_xdr::specs::ClientId::client_id))]
 pub(crate) fn setclientid_confirm(
     tables: &mut Tables,
     journal: &mut Journal,
     moment: Moment,
     principal: Principal,
-    args: &SetClientIdConfirm,
+    args: &SetclientidConfirm,
     filehandle: Option<u32>,
 ) -> Option<(OpResult, u32)>
     requires node { IsFilehandle journal.old filehandle }
     ensures entered { IfSome result (λ r. Enters
         (record { journal = journal.old; state = tables.old })
         (record { journal = journal.new; state = tables.new })
-        (call_of moment principal (Op.SetClientIdConfirm args.now) filehandle r.0)) }
-    ensures short { IfSome result (λ r. length (written_result r.0) ≤ ANSWER_LIMIT) }
+        (call_of moment principal (Op.SetclientidConfirm args.now) filehandle r.0)) }
+    ensures short { IfSome result (λ r. length (op_result.spelling r.0) ≤ ANSWER_LIMIT) }
     ensures number { IfSome result (λ r. r.1 ≡ length journal.old.entries) }
     ensures refused { IfNone result ((journal.new ≡ journal.old) × (tables.new ≡ tables.old)) }
 {
@@ -35,10 +36,10 @@ pub(crate) fn setclientid_confirm(
     let call = Call {
         moment,
         principal,
-        op: Op::SetClientIdConfirm(*args),
+        op: Op::SetclientidConfirm(*args),
         filehandle,
-        answer: OpResult::SetClientIdConfirm(answer),
+        answer: OpResult::SetclientidConfirm(answer.clone().ok()?),
     };
     let number = push_call(&mut journal.entries, call);
-    Some((OpResult::SetClientIdConfirm(answer), number))
+    Some((OpResult::SetclientidConfirm(answer), number))
 }
