@@ -1,5 +1,6 @@
 -- A stream's unfinished record while bytes are put behind it.
-use Rattle.std.specs.Prelude.{◌≡◌, ℕ, ◌+◌, ◌<◌, ◌≤◌, false, List, [], ◌∷◌, ◌++◌, length}
+use Rattle.std.specs.Prelude.{◌≡◌, ℕ, ◌+◌, ◌<◌, ◌≤◌, false, List, [], ◌∷◌, ◌++◌, length, map}
+use Rattle.std.specs.Global.{Vec}
 use Rattle.nfs_rpc.specs.declared.records.TheConstants.{RECORD_LIMIT}
 use Rattle.nfs_rpc.specs.declared.place.Place.{Place}
 use Rattle.nfs_rpc.specs.declared.place.Place.TheVariants.{InHeader, InBody}
@@ -33,6 +34,9 @@ pub record IsSound (bodies : List ℕ) (first : Unfinished) : Type 0 where
   pub stands : first.is_too_long ≡ false → Stands bodies first.place
   pub few : length bodies ≤ RECORD_LIMIT
 
+abbrev pub messages_of : List (Vec ℕ) → List (List ℕ)
+messages_of records = map (λ message. message.items) records
+
 abbrev pub Begins : List ℕ → List ℕ → Type 0
 Begins front whole = (back : List ℕ) × (whole ≡ front ++ back)
 
@@ -53,3 +57,10 @@ pub record AreFound (text : List ℕ) (messages : List (List ℕ)) (bodies : Lis
 -- all whole records of a text, and what is kept of its rest
 abbrev pub AreAllFound : List ℕ → List (List ℕ) → List ℕ → Unfinished → Type 0
 AreAllFound text messages bodies first = (rest : List ℕ) × Splits text messages rest × IsUnfinished rest bodies first
+
+-- Whatever the bytes are of which the bodies and the place are kept: with a piece behind they are these records and a rest, of
+-- which that is kept.
+abbrev pub Finds : List ℕ → Unfinished → List ℕ → List (List ℕ) → List ℕ → Unfinished → Type 0
+Finds bodies from piece messages longer first =
+    (text : List ℕ) → IsAt text bodies from.place → from.count ≡ length text
+    → AreAllFound (text ++ piece) messages longer first

@@ -97,7 +97,9 @@ pub record Stream : Type 0 where
 
 -- of a rest with these bytes the stream keeps what it has
 abbrev pub Keeps : List ℕ → Stream → Type 0
-Keeps rest stream = IsUnfinished rest stream.bodies (record { place = stream.place; count = stream.count; is_too_long = stream.is_too_long })
+Keeps rest stream =
+    IsUnfinished rest stream.bodies
+    (record { place = stream.place; count = stream.count; is_too_long = stream.is_too_long })
 
 -- what is so of every stream
 pub record IsStream (stream : Stream) : Type 0 where
@@ -116,6 +118,7 @@ pub record IsNew (stream : Stream) : Type 0 where
 -- split off, and the new rest is kept.
 pub record TakesPiece (old new : Stream) (piece : List ℕ) : Type 0 where
   pub found : List (List ℕ)
-  pub split : (rest : List ℕ) → Keeps rest old → (remainder : List ℕ) × Splits (rest ++ piece) found remainder × Keeps remainder new
+  pub split : (rest : List ℕ) → Keeps rest old
+      → (remainder : List ℕ) × Splits (rest ++ piece) found remainder × Keeps remainder new
   pub ready : new.ready ≡ old.ready ++ found
   pub fed : new.fed ≡ old.fed + length piece

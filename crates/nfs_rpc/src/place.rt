@@ -1,4 +1,4 @@
-ghost use Rattle.std.specs.Prelude.{◌≡◌, ◌+◌, ◌<◌, ◌≤◌, ◌↔◌, ◌∷◌, [], ◌++◌, List, ℕ, length, take, IfOk, OnErr, IsTrue};
+ghost use Rattle.std.specs.Prelude.{◌<◌, ◌≤◌, ◌↔◌, ◌∷◌, [], ◌++◌, List, ℕ, length, take, IfOk, IsTrue};
 ghost use Rattle.nfs_rpc.specs.Records.{IsHeader, IsAt};
 ghost use Rattle.nfs_rpc.specs.Keeping.{IsPlace, WantsMore, Fits, Begins};
 
@@ -47,7 +47,8 @@ fn header_at(text: &[u8]) -> Header
 fn behind_byte(bytes: [u8; HEADER_LEN], len: usize, byte: u8) -> Place
     requires { len < 4 }
     ensures place { IsPlace result }
-    ensures behind { (text bodies : List ℕ) → IsAt text bodies (Place.InHeader bytes len) → IsAt (text ++ byte ∷ []) bodies result }
+    ensures behind { (text bodies : List ℕ) → IsAt text bodies (Place.InHeader bytes len)
+        → IsAt (text ++ byte ∷ []) bodies result }
 {
     let mut header = bytes;
     header[len] = byte;
@@ -76,8 +77,10 @@ pub(crate) fn take_front(
     requires more { WantsMore place }
     ensures place { IfOk result (λ r. IsPlace r.0) }
     ensures count { IfOk result (λ r. (0 < r.1) × (r.1 ≤ length piece.now)) }
-    ensures behind { IfOk result (λ r. (text : List ℕ) → IsAt text bodies.old.items place → IsAt (text ++ take r.1 piece.now) bodies.new.items r.0) }
-    ensures within { IfOk result (λ r. Fits (length bodies.old.items) place → length bodies.new.items ≤ RECORD_LIMIT) }
+    ensures behind { IfOk result (λ r. (text : List ℕ) → IsAt text bodies.old.items place
+        → IsAt (text ++ take r.1 piece.now) bodies.new.items r.0) }
+    ensures within { IfOk result (λ r.
+        Fits (length bodies.old.items) place → length bodies.new.items ≤ RECORD_LIMIT) }
     ensures begins { Begins bodies.old.items bodies.new.items }
 {
     match place {

@@ -1,6 +1,6 @@
-ghost use Rattle.std.specs.Prelude.{◌≡◌, ◌+◌, ◌^◌, ◌≤◌, ◌↔◌, ◌∷◌, [], ℕ, List, map, false, length, OnOk, IsErrOf, IfSome, IfNone, IsTrue};
+ghost use Rattle.std.specs.Prelude.{◌≡◌, ◌+◌, ◌^◌, ◌≤◌, ◌↔◌, ◌∷◌, [], ℕ, List, false, length, OnOk, IsErrOf, IfSome, IfNone, IsTrue};
 ghost use Rattle.nfs_rpc.specs.Records.{IsRest, IsTooLong, Stream, Keeps, IsStream, IsNew, TakesPiece, OneSplit, SplitGoesOn};
-ghost use Rattle.nfs_rpc.specs.Keeping.{IsSound};
+ghost use Rattle.nfs_rpc.specs.Keeping.{IsSound, messages_of};
 
 use crate::unfinished::{Unfinished, take_piece};
 use std::alloc::Global;
@@ -46,9 +46,17 @@ pub struct Records {
 impl Model for Records {
     ghost Value = { Stream };
 
-    ghost view = { λ r. record { ready = map (λ message. message.items) r.ready.items; bodies = r.bodies.items; place = r.first.place; count = r.first.count; is_too_long = r.first.is_too_long; fed = r.fed } };
+    ghost view = { λ r. record {
+      ready = messages_of r.ready.items;
+      bodies = r.bodies.items;
+      place = r.first.place;
+      count = r.first.count;
+      is_too_long = r.first.is_too_long;
+      fed = r.fed;
+    } };
 
-    ghost invariant = { λ r. IsSound r.bodies.items r.first × (r.first.count ≤ r.fed) × (r.fed ≤ 2 ^ 40) };
+    ghost invariant = { λ r.
+        IsSound r.bodies.items r.first × (r.first.count ≤ r.fed) × (r.fed ≤ 2 ^ 40) };
 }
 
 impl Records {

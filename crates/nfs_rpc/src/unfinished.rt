@@ -1,6 +1,5 @@
-ghost use Rattle.std.specs.Prelude.{◌≡◌, ◌+◌, ◌^◌, ◌≤◌, ◌++◌, List, ℕ, [], false, map, length, take, IfOk, OnErr};
-ghost use Rattle.nfs_rpc.specs.Records.{IsAt};
-ghost use Rattle.nfs_rpc.specs.Keeping.{IsPlace, Fits, Stands, Begins, AreFound, AreAllFound, first_or};
+ghost use Rattle.std.specs.Prelude.{◌≡◌, ◌+◌, ◌^◌, ◌≤◌, ◌++◌, List, ℕ, [], false, length, take, IfOk, OnErr};
+ghost use Rattle.nfs_rpc.specs.Keeping.{IsPlace, Fits, Stands, Begins, AreFound, Finds, first_or, messages_of};
 
 use crate::place::{Place, fits, take_front};
 use crate::records::RECORD_LIMIT;
@@ -42,8 +41,11 @@ fn end_fragment(
     ensures stands { IfOk result (λ next. Stands bodies.new.items next.place) }
     ensures goes { IfOk result (λ next. next.is_too_long ≡ false) }
     ensures count { IfOk result (λ next. next.count ≤ first.count) }
-    ensures found { IfOk result (λ next. (text : List ℕ) → AreFound text (map (λ message. message.items) found.old.items) bodies.old.items first → AreFound text (map (λ message. message.items) found.new.items) bodies.new.items next) }
-    ensures begins { first_or (map (λ message. message.items) found.new.items) bodies.new.items ≡ first_or (map (λ message. message.items) found.old.items) bodies.old.items }
+    ensures found { IfOk result (λ next.
+        (text : List ℕ) → AreFound text (messages_of found.old.items) bodies.old.items first
+        → AreFound text (messages_of found.new.items) bodies.new.items next) }
+    ensures begins { first_or (messages_of found.new.items) bodies.new.items
+        ≡ first_or (messages_of found.old.items) bodies.old.items }
 {
     match first.place {
         Place::InBody {
@@ -78,10 +80,12 @@ fn take_all(
     requires stands { Stands bodies.old.items from.place }
     requires goes { from.is_too_long ≡ false }
     requires room { from.count + length piece.now ≤ 2 ^ 40 }
-    ensures ok { IfOk result (λ first. (text : List ℕ) → IsAt text bodies.old.items from.place → from.count ≡ length text → AreAllFound (text ++ piece.now) (map (λ message. message.items) found.new.items) bodies.new.items first) }
-    ensures stands { IfOk result (λ first. first.is_too_long ≡ false → Stands bodies.new.items first.place) }
+    ensures ok { IfOk result (λ first.
+        Finds bodies.old.items from piece.now (messages_of found.new.items) bodies.new.items first) }
+    ensures stands { IfOk result (λ first.
+        first.is_too_long ≡ false → Stands bodies.new.items first.place) }
     ensures few { IfOk result (λ first. length bodies.new.items ≤ RECORD_LIMIT) }
-    ensures begins { Begins bodies.old.items (first_or (map (λ message. message.items) found.new.items) bodies.new.items) }
+    ensures begins { Begins bodies.old.items (first_or (messages_of found.new.items) bodies.new.items) }
 {
     let mut first = from;
     let mut rest = piece;
@@ -114,13 +118,15 @@ fn add_all(
     requires stands { Stands bodies.old.items from.place }
     requires goes { from.is_too_long ≡ false }
     requires room { from.count + length piece.now ≤ 2 ^ 40 }
-    ensures ok { IfOk result (λ first.
-        (messages : List (List ℕ)) × ((text : List ℕ) → IsAt text bodies.old.items from.place → from.count ≡ length text → AreAllFound (text ++ piece.now) messages bodies.new.items first)
-        × (map (λ message. message.items) ready.new.items ≡ map (λ message. message.items) ready.old.items ++ messages)) }
-    ensures stands { IfOk result (λ first. first.is_too_long ≡ false → Stands bodies.new.items first.place) }
+    ensures ok { IfOk result (λ first. (messages : List (List ℕ))
+        × Finds bodies.old.items from piece.now messages bodies.new.items first
+        × (messages_of ready.new.items ≡ messages_of ready.old.items ++ messages)) }
+    ensures stands { IfOk result (λ first.
+        first.is_too_long ≡ false → Stands bodies.new.items first.place) }
     ensures few { IfOk result (λ first. length bodies.new.items ≤ RECORD_LIMIT) }
     ensures err { OnErr result (ready.new.items ≡ ready.old.items) }
-    ensures begins { OnErr result (Begins bodies.old.items (first_or (map (λ message. message.items) found.new.items) bodies.new.items)) }
+    ensures begins { OnErr result
+        (Begins bodies.old.items (first_or (messages_of found.new.items) bodies.new.items)) }
 {
     let first = take_all(alloc, found, bodies, from, piece)?;
     ready.append(found)?;
@@ -129,7 +135,7 @@ fn add_all(
 
 /// Gives back the first `len` bytes of the bodies, which may have been moved to a record that was found.
 fn give_back(mut found: VecDeque<Vec<u8>>, bodies: &mut Vec<u8>, len: usize)
-    ensures { bodies.new.items ≡ take len (first_or (map (λ message. message.items) found.items) bodies.old.items) }
+    ensures { bodies.new.items ≡ take len (first_or (messages_of found.items) bodies.old.items) }
 {
     if let Some(first) = found.pop_front() {
         *bodies = first;
@@ -148,12 +154,14 @@ pub(crate) fn take_piece(
     requires stands { Stands bodies.old.items from.place }
     requires goes { from.is_too_long ≡ false }
     requires room { from.count + length piece.now ≤ 2 ^ 40 }
-    ensures ok { IfOk result (λ first.
-        (messages : List (List ℕ)) × ((text : List ℕ) → IsAt text bodies.old.items from.place → from.count ≡ length text → AreAllFound (text ++ piece.now) messages bodies.new.items first)
-        × (map (λ message. message.items) ready.new.items ≡ map (λ message. message.items) ready.old.items ++ messages)) }
-    ensures stands { IfOk result (λ first. first.is_too_long ≡ false → Stands bodies.new.items first.place) }
+    ensures ok { IfOk result (λ first. (messages : List (List ℕ))
+        × Finds bodies.old.items from piece.now messages bodies.new.items first
+        × (messages_of ready.new.items ≡ messages_of ready.old.items ++ messages)) }
+    ensures stands { IfOk result (λ first.
+        first.is_too_long ≡ false → Stands bodies.new.items first.place) }
     ensures few { IfOk result (λ first. length bodies.new.items ≤ RECORD_LIMIT) }
-    ensures err { OnErr result ((ready.new.items ≡ ready.old.items) × (bodies.new.items ≡ bodies.old.items)) }
+    ensures err { OnErr result
+        ((ready.new.items ≡ ready.old.items) × (bodies.new.items ≡ bodies.old.items)) }
 {
     let len = bodies.len();
     let mut found = VecDeque::new(alloc);
