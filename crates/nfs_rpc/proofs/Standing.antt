@@ -1,5 +1,5 @@
 -- A place at the end of bytes that are no whole record, and the same with more bytes behind.
-use Rattle.std.proofs.Common.{◌≡◌, ℕ, ◌+◌, ◌-◌, ◌<◌, ◌≤◌, Bool, true, false, List, [], ◌∷◌, ◌++◌, length, take, get_or, refl, sym, ◌∙◌, ap, subst, inl, inr, arith, append_assoc, length-append, zero-add, add-zero}
+use Rattle.std.proofs.Common.{◌≡◌, ℕ, ◌+◌, ◌-◌, ◌<◌, ◌≤◌, Bool, true, false, List, [], ◌∷◌, ◌++◌, length, take, refl, sym, ◌∙◌, ap, subst, inl, inr, arith, append_assoc, length-append, zero-add, add-zero}
 use Rattle.std.proofs.lemmas.List.{append-nil, length-take}
 use Rattle.std.proofs.lemmas.List.Folds.{concat-append}
 use Rattle.std.specs.List.{concat}
@@ -13,29 +13,28 @@ use Rattle.nfs_rpc.proofs.Fragments.{append_same, IsHeader-same, IsFragment-head
 pub at_start : (bytes : List ℕ) → IsAt [] [] (InHeader bytes 0)
 at_start bytes = ([], [], refl, refl, refl, omega arith)
 
--- one byte more of a header
-pub at_header_more : (text bodies bytes header : List ℕ) (len byte : ℕ) → take (len + 1) header ≡ take len bytes ++ byte ∷ [] → len + 1 < 4
-    → IsAt text bodies (InHeader bytes len) → IsAt (text ++ byte ∷ []) bodies (InHeader header (len + 1))
-at_header_more text bodies bytes header len byte longer short a = (
+-- more of a header
+pub at_header_more : (text bodies bytes header part : List ℕ) (len end : ℕ) → take end header ≡ take len bytes ++ part → end < 4
+    → IsAt text bodies (InHeader bytes len) → IsAt (text ++ part) bodies (InHeader header end)
+at_header_more text bodies bytes header part len end longer short a = (
   a.0,
   a.1,
-  ap (λ (l : List ℕ). l ++ byte ∷ []) a.2 ∙ append_assoc a.1 (take len bytes) (byte ∷ []) ∙ ap (λ (l : List ℕ). a.1 ++ l) (sym longer),
+  ap (λ (l : List ℕ). l ++ part) a.2 ∙ append_assoc a.1 (take len bytes) part ∙ ap (λ (l : List ℕ). a.1 ++ l) (sym longer),
   a.3,
   a.4,
   short,
 )
 
--- the last byte of a header
-pub at_header_end : (text bodies bytes header : List ℕ) (len byte : ℕ) (last : Bool) (wanted : ℕ) → take (len + 1) header ≡ take len bytes ++ byte ∷ [] → 4 ≤ len + 1
-    → IsHeader last wanted (take 4 header) → IsAt text bodies (InHeader bytes len) → IsAt (text ++ byte ∷ []) bodies (InBody wanted last)
-at_header_end text bodies bytes header len byte last wanted longer full is a =
-    let four : len + 1 ≡ 4 = let short : len < 4 = a.5 in omega arith in
-    let header_is : take len bytes ++ byte ∷ [] ≡ take 4 header = sym longer ∙ ap (λ (n : ℕ). take n header) four in (
+-- the rest of a header
+pub at_header_end : (text bodies bytes header part : List ℕ) (len end : ℕ) (last : Bool) (wanted : ℕ) → take end header ≡ take len bytes ++ part → end ≡ 4
+    → IsHeader last wanted (take 4 header) → IsAt text bodies (InHeader bytes len) → IsAt (text ++ part) bodies (InBody wanted last)
+at_header_end text bodies bytes header part len end last wanted longer four is a =
+    let header_is : take len bytes ++ part ≡ take 4 header = sym longer ∙ ap (λ (n : ℕ). take n header) four in (
       a.0,
       a.1,
       take 4 header,
       [],
-      ap (λ (l : List ℕ). l ++ byte ∷ []) a.2 ∙ append_assoc a.1 (take len bytes) (byte ∷ []) ∙ ap (λ (l : List ℕ). a.1 ++ l) (header_is ∙ sym (append-nil (take 4 header))),
+      ap (λ (l : List ℕ). l ++ part) a.2 ∙ append_assoc a.1 (take len bytes) part ∙ ap (λ (l : List ℕ). a.1 ++ l) (header_is ∙ sym (append-nil (take 4 header))),
       a.3,
       subst (λ (n : ℕ). IsHeader last n (take 4 header)) (sym (zero-add wanted)) is,
       a.4 ∙ sym (append-nil (concat a.0)),
@@ -179,7 +178,3 @@ module _ (text bodies behind : List ℕ) (wanted : ℕ) (last : Bool) (a : IsAt 
 
   pub at_long_rest : IsRest (text ++ behind)
   at_long_rest = long_rest (text ++ behind) a.1 (a.2 ++ (a.3 ++ behind)) a.0 whole_there a.5 a.2 (a.3 ++ behind) last (length a.3 + wanted) refl a.6 above_there
-
-pub take_first : (xs : List ℕ) → 0 < length xs → take 1 xs ≡ get_or xs 0 0 ∷ []
-take_first [] some = absurd (omega arith)
-take_first (x ∷ xs) some = refl

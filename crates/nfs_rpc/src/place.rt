@@ -1,4 +1,4 @@
-ghost use Rattle.std.specs.Prelude.{◌<◌, ◌≤◌, ◌↔◌, ◌∷◌, [], ◌++◌, List, ℕ, length, take, IfOk, IsTrue};
+ghost use Rattle.std.specs.Prelude.{◌+◌, ◌<◌, ◌≤◌, ◌↔◌, ◌++◌, List, ℕ, length, take, IfOk, IsTrue};
 ghost use Rattle.nfs_rpc.specs.Records.{IsHeader, IsAt};
 ghost use Rattle.nfs_rpc.specs.Keeping.{IsPlace, WantsMore, Fits, Begins};
 
@@ -43,19 +43,20 @@ fn header_at(text: &[u8]) -> Header
     }
 }
 
-/// The place behind one more byte of a header.
-fn behind_byte(bytes: [u8; HEADER_LEN], len: usize, byte: u8) -> Place
-    requires { len < 4 }
+/// The place behind more bytes of a header.
+fn behind_part(bytes: [u8; HEADER_LEN], len: usize, part: &[u8]) -> Place
+    requires { len + length part.now ≤ 4 }
     ensures place { IsPlace result }
     ensures behind { (text bodies : List ℕ) → IsAt text bodies (Place.InHeader bytes len)
-        → IsAt (text ++ byte ∷ []) bodies result }
+        → IsAt (text ++ part.now) bodies result }
 {
+    let end = len + part.len();
     let mut header = bytes;
-    header[len] = byte;
-    if len + 1 < HEADER_LEN {
+    header[len..end].copy_from_slice(part);
+    if end < HEADER_LEN {
         return Place::InHeader {
             bytes: header,
-            len: len + 1,
+            len: end,
         };
     }
     let Header { is_last, len } = header_at(&header);
@@ -65,8 +66,8 @@ fn behind_byte(bytes: [u8; HEADER_LEN], len: usize, byte: u8) -> Place
     }
 }
 
-/// Takes bytes from the front of a piece, up to the end of a fragment at most: one of a header, or those of a body, which it
-/// puts behind the bodies. It tells how many they are.
+/// Takes bytes from the front of a piece, as far as a header or a body wants them. Those of a body it puts behind the bodies.
+/// It tells how many they are.
 pub(crate) fn take_front(
     bodies: &mut Vec<u8>,
     place: Place,
@@ -84,7 +85,10 @@ pub(crate) fn take_front(
     ensures begins { Begins bodies.old.items bodies.new.items }
 {
     match place {
-        Place::InHeader { bytes, len } => Ok((behind_byte(bytes, len, piece[0]), 1)),
+        Place::InHeader { bytes, len } => {
+            let count = (HEADER_LEN - len).min(piece.len());
+            Ok((behind_part(bytes, len, &piece[..count]), count))
+        }
         Place::InBody { wanted, is_last } => {
             let count = wanted.min(piece.len());
             bodies.extend_from_slice(&piece[..count])?;
