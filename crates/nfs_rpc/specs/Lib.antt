@@ -1,4 +1,5 @@
 pub mod Records
+pub mod Keeping
 pub mod Reply
 pub mod AuthSys
 pub mod Credential

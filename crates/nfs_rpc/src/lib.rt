@@ -5,8 +5,10 @@ mod auth_sys;
 mod call;
 mod credential;
 mod numbers;
+mod place;
 mod records;
 mod reply;
+mod unfinished;
 
 pub use auth_sys::{GID_LIMIT, MACHINE_NAME_LIMIT, auth_sys_is_read};
 pub use call::{
