@@ -153,8 +153,8 @@ determined gives tree size moment principal handles (op ∷ ops) old (answer ∷
     ]
 
 -- the length of the results with one more
-pub length_with : (results : List OpResult) (answer : OpResult) → length (flat_map written_result (results ++ answer ∷ [])) ≡ length (flat_map written_result results) + length (written_result answer)
+pub length_with : (results : List OpResult) (answer : OpResult) → length (flat_map written_result (results ++ answer ∷ [])) ≡ length (flat_map op_result.spelling results) + length (written_result answer)
 length_with results answer =
-    ap length (flat_map-append written_result results (answer ∷ []))
-    ∙ length-append (flat_map written_result results) (flat_map written_result (answer ∷ []))
-    ∙ ap (λ (x : List ℕ). length (flat_map written_result results) + length x) (flat_map-cons written_result answer [] ∙ append-nil (written_result answer))
+    ap length (flat_map-append op_result.spelling results (answer ∷ []))
+    ∙ length-append (flat_map op_result.spelling results) (flat_map written_result (answer ∷ []))
+    ∙ ap (λ (x : List ℕ). length (flat_map op_result.spelling results) + length x) (flat_map-cons written_result answer [] ∙ append-nil (written_result answer))

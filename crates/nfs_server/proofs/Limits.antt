@@ -6,12 +6,12 @@ use Rattle.std.proofs.lemmas.List.Folds.{length-flat_map-take}
 use Rattle.nfs_xdr.specs.declared.op_result.OpResult.{OpResult}
 use Rattle.nfs_xdr.specs.declared.op_result.OpResult.TheVariants as results
 use Rattle.nfs_xdr.specs.declared.fattr.Fattr.{Fattr}
-use Rattle.nfs_xdr.specs.declared.access.AccessResult.TheVariants as access
-use Rattle.nfs_xdr.specs.declared.get_fh.GetFhResult.TheVariants as get_fh
-use Rattle.nfs_xdr.specs.declared.get_attr.GetAttrResult.TheVariants as get_attr
+use Rattle.nfs_xdr.specs.declared.answer.Answer.TheVariants as access
+use Rattle.nfs_xdr.specs.declared.answer.Answer.TheVariants as get_fh
+use Rattle.nfs_xdr.specs.declared.answer.Answer.TheVariants as get_attr
 use Rattle.nfs_xdr.specs.declared.set_client_id.SetClientIdResult.TheVariants as set
 use Rattle.nfs_xdr.specs.Fattr.{IsFattrTooLong, written_fattr}
-use Rattle.nfs_xdr.specs.Writing.{written_u32}
+use Rattle.xdr.specs.Writing.{written_u32}
 use Rattle.byteorder.specs.Numbers.{length-bytes_high_first}
 use Rattle.nfs_xdr.specs.OpResult.{IsResultTooLong, written_result}
 use Rattle.nfs_xdr.specs.Compound.{AreResultsTooLong}
@@ -29,31 +29,31 @@ fattr_long f (inr long) = simp length-append (omega arith)
 
 -- what is written of a result is at least as long as its longest part
 long_if_too_long : (answer : OpResult) → IsResultTooLong answer → 2 ^ 32 ≤ length (written_result answer)
-long_if_too_long (results.GetAttr (get_attr.Done attributes)) long = omega (arith, fattr_long attributes long)
-long_if_too_long (results.GetAttr (get_attr.Refused s)) long = absurd long
-long_if_too_long (results.SetClientId (set.Done client confirm)) long = absurd long
-long_if_too_long (results.SetClientId (set.ClidInUse address)) (inl long) = simp length-append (omega arith)
-long_if_too_long (results.SetClientId (set.ClidInUse address)) (inr long) = simp length-append (omega arith)
-long_if_too_long (results.SetClientId (set.Refused s)) long = absurd long
+long_if_too_long (results.Getattr (get_attr.Done attributes)) long = omega (arith, fattr_long attributes long)
+long_if_too_long (results.Getattr (get_attr.Refused s)) long = absurd long
+long_if_too_long (results.Setclientid (set.Done client confirm)) long = absurd long
+long_if_too_long (results.Setclientid (set.ClidInUse address)) (inl long) = simp length-append (omega arith)
+long_if_too_long (results.Setclientid (set.ClidInUse address)) (inr long) = simp length-append (omega arith)
+long_if_too_long (results.Setclientid (set.Refused s)) long = absurd long
 long_if_too_long answer long = absurd long
 
 -- a number stands before every result
 some_byte : (answer : OpResult) → 1 ≤ length (written_result answer)
 some_byte (results.Access (access.Done bits)) = omega arith
 some_byte (results.Access (access.Refused s)) = omega arith
-some_byte (results.GetAttr (get_attr.Done attributes)) = omega arith
-some_byte (results.GetAttr (get_attr.Refused s)) = omega arith
-some_byte (results.GetFh (get_fh.Done handle)) = omega arith
-some_byte (results.GetFh (get_fh.Refused s)) = omega arith
+some_byte (results.Getattr (get_attr.Done attributes)) = omega arith
+some_byte (results.Getattr (get_attr.Refused s)) = omega arith
+some_byte (results.Getfh (get_fh.Done handle)) = omega arith
+some_byte (results.Getfh (get_fh.Refused s)) = omega arith
 some_byte (results.Lookup s) = omega arith
-some_byte (results.PutFh s) = omega arith
-some_byte (results.PutRootFh s) = omega arith
-some_byte (results.RestoreFh s) = omega arith
-some_byte (results.SaveFh s) = omega arith
-some_byte (results.SetClientId (set.Done client confirm)) = omega arith
-some_byte (results.SetClientId (set.ClidInUse address)) = omega arith
-some_byte (results.SetClientId (set.Refused s)) = omega arith
-some_byte (results.SetClientIdConfirm s) = omega arith
+some_byte (results.Putfh s) = omega arith
+some_byte (results.Putrootfh s) = omega arith
+some_byte (results.Restorefh s) = omega arith
+some_byte (results.Savefh s) = omega arith
+some_byte (results.Setclientid (set.Done client confirm)) = omega arith
+some_byte (results.Setclientid (set.ClidInUse address)) = omega arith
+some_byte (results.Setclientid (set.Refused s)) = omega arith
+some_byte (results.SetclientidConfirm s) = omega arith
 some_byte (results.BadArgs number) = omega arith
 some_byte (results.Unsupported number) = omega arith
 some_byte results.Illegal = omega arith

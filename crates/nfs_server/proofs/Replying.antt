@@ -18,9 +18,9 @@ use Rattle.nfs_rpc.specs.Reply.{written_accepted, written_compound_reply, writte
 use Rattle.nfs_xdr.specs.declared.compound.Compound.{Compound}
 use Rattle.nfs_xdr.specs.declared.op_result.OpResult.{OpResult}
 use Rattle.std.specs.List.{flat_map}
-use Rattle.nfs_xdr.specs.OpResult.{written_result}
-use Rattle.nfs_xdr.specs.Writing.{written_opaque, written_u32, zeros}
-use Rattle.nfs_xdr.specs.Layout.{padding_of}
+use Rattle.nfs_xdr.specs.OpResult.{op_result}
+use Rattle.xdr.specs.Writing.{written_opaque, written_u32, zeros}
+use Rattle.xdr.specs.Layout.{padding_of}
 
 pub length_accepted : (xid state : ℕ) → length (written_accepted xid state) ≡ ACCEPTED_LEN
 unfolding written_accepted written_reply_head written_no_verifier

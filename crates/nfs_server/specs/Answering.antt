@@ -21,7 +21,7 @@ use Rattle.nfs_xdr.specs.declared.status.Status.{Status}
 use Rattle.nfs_xdr.specs.declared.status.Status.TheVariants as status
 use Rattle.nfs_xdr.specs.Op.{ends_list}
 use Rattle.nfs_xdr.specs.OpResult.{refusal, result_status, written_result}
-use Rattle.nfs_xdr.specs.Writing.{written_opaque}
+use Rattle.xdr.specs.Writing.{written_opaque}
 
 abbrev pub is_ok : Status → Bool
 is_ok status.Ok = true

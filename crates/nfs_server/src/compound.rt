@@ -67,7 +67,7 @@ fn answer_request<S: Service>(
     ensures answers { IsCompoundAnswered S.gives tree.now moment principal compound.now service.old results.new.items service.new }
     ensures serves { S.serves service.new ≡ tree.now }
     ensures status { result ≡ request_status results.new.items compound.now.request }
-    ensures fits { head_size compound.now.tag + length (flat_map written_result results.new.items) ≤ max (head_size compound.now.tag + 12) RECORD_LIMIT }
+    ensures fits { head_size compound.now.tag + length (flat_map op_result.spelling results.new.items) ≤ max (head_size compound.now.tag + 12) RECORD_LIMIT }
 {
     match &compound.request {
         Request::MinorVersion(_) => Status::MinorVersMismatch,
@@ -104,7 +104,7 @@ fn answer_list<S: Service>(
     ensures answers { IsDetermined S.gives tree.now start moment principal no_filehandles ops.now service.old results.new.items service.new }
     ensures serves { S.serves service.new ≡ tree.now }
     ensures status { result ≡ last_status results.new.items }
-    ensures fits { start + length (flat_map written_result results.new.items) ≤ max (start + 12) RECORD_LIMIT }
+    ensures fits { start + length (flat_map op_result.spelling results.new.items) ≤ max (start + 12) RECORD_LIMIT }
 {
     answer_operations(service, tree, moment, principal, ops, start, results);
     last_status(results.as_slice())
@@ -143,7 +143,7 @@ fn answer_operations<S: Service>(
     requires room { length ops.now ≤ vec_capacity results.old }
     ensures answers { AreAnswers S.gives tree.now start moment principal no_filehandles ops.now service.old results.new.items service.new }
     ensures serves { S.serves service.new ≡ tree.now }
-    ensures fits { start + length (flat_map written_result results.new.items) ≤ max (start + 12) RECORD_LIMIT }
+    ensures fits { start + length (flat_map op_result.spelling results.new.items) ≤ max (start + 12) RECORD_LIMIT }
 {
     let mut handles = Filehandles::new();
     let mut size = start;
@@ -182,9 +182,9 @@ fn answer_one<S: Service>(
     ensures answer { IsAnswer S.gives tree.now size moment principal handles.old op.now service.old result handles.new service.new }
     ensures serves { S.serves service.new ≡ tree.now }
     ensures nodes { AreNodes tree.now handles.new }
-    ensures fits { length (written_result result) ≤ ANSWER_LIMIT }
-    ensures last { is_ok (result_status result) ≡ false → size + length (written_result result) ≤ max (size + 12) (RECORD_LIMIT - 12) }
-    ensures asked { is_ok (result_status result) ≡ true → size + length (written_result result) ≤ RECORD_LIMIT - 12 }
+    ensures fits { length (op_result.spelling result) ≤ ANSWER_LIMIT }
+    ensures last { is_ok (result_status result) ≡ false → size + length (op_result.spelling result) ≤ max (size + 12) (RECORD_LIMIT - 12) }
+    ensures asked { is_ok (result_status result) ≡ true → size + length (op_result.spelling result) ≤ RECORD_LIMIT - 12 }
 {
     if op.ends_list() {
         return op.refusal(Status::BadXdr);

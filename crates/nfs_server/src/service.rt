@@ -5,7 +5,7 @@ ghost use Rattle.nfs_server.specs.Entries.{QuestionsAreEntries};
 ghost use Rattle.nfs_core.specs.declared.core_state.TheConstants.{ANSWER_LIMIT};
 ghost use Rattle.nfs_tree.specs.Tree.{Files, node_count};
 ghost use Rattle.nfs_xdr.specs.declared.op_result.OpResult.{OpResult};
-ghost use Rattle.nfs_xdr.specs.OpResult.{written_result};
+ghost use Rattle.nfs_xdr.specs.OpResult.{op_result};
 
 use nfs_core::{Core, Moment};
 use nfs_xdr::{Op, OpResult, Principal};
@@ -32,7 +32,7 @@ pub trait Service {
         requires node { IfSome filehandle (λ node. node < node_count (serves self.old).nodes) }
         ensures gives { gives self.old (record { moment = moment; principal = principal; op = op.now; filehandle = filehandle }) result self.new }
         ensures serves { serves self.new ≡ serves self.old }
-        ensures fits { length (written_result result) ≤ ANSWER_LIMIT };
+        ensures fits { length (op_result.spelling result) ≤ ANSWER_LIMIT };
 }
 
 /// A core that is lent to one connection after another.

@@ -2,7 +2,7 @@ use Rattle.std.proofs.Common.{◌≡◌, ◌+◌, ◌-◌, ◌≤◌, max, drop,
 use Rattle.std.specs.Prelude.{vec_capacity}
 use Rattle.std.specs.List.{flat_map}
 use Rattle.nfs_rpc.specs.declared.records.TheConstants.{RECORD_LIMIT}
-use Rattle.nfs_xdr.specs.OpResult.{written_result}
+use Rattle.nfs_xdr.specs.OpResult.{op_result}
 use Rattle.nfs_tree.specs.Filehandles.{AreNodes}
 use Rattle.nfs_server.proofs.Folding.{Completes}
 use Rattle.nfs_server.proofs.compound.answer_operations.Given as goal
