@@ -5,4 +5,3 @@ pub mod Splitting
 pub mod Taking
 pub mod AuthSysBodies
 pub mod Limits
-pub mod Writing

@@ -1,5 +1,5 @@
 pub mod Records
-pub mod Reply
 pub mod AuthSys
 pub mod Credential
+pub mod Reply
 pub mod Call
