@@ -76,6 +76,7 @@ impl Core {
         requires node { IsFilehandle self.old.journal filehandle }
         ensures applies { Applies self.old self.new moment principal op.now filehandle result.0 result.1 }
         ensures short { length (op_result.spelling result.0) ≤ ANSWER_LIMIT }
+        ensures form { op_result.Fits result.0 }
         ensures lawful { IsLawful self.new }
     {
         let tables = &mut self.tables;
@@ -115,6 +116,7 @@ fn enter(
         (call_of moment principal op.now filehandle r.0)) }
     ensures number { IfSome result (λ r. r.1 ≡ length journal.old.entries) }
     ensures short { IfSome result (λ r. length (op_result.spelling r.0) ≤ ANSWER_LIMIT) }
+    ensures form { IfSome result (λ r. op_result.Fits r.0) }
     ensures refused { IfNone result ((journal.new ≡ journal.old) × (tables.new ≡ tables.old)) }
 {
     match op {

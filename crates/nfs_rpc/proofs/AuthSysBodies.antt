@@ -1,10 +1,10 @@
 -- The bodies of AUTH_SYS that are read are those that stand in the layout.
 use Rattle.std.proofs.Common.{◌≡◌, ℕ, ◌*◌, false, cond, ltb, List, ◌++◌, Ok, Err, refl, ap, ◌∙◌, append_assoc}
 use Rattle.std.proofs.lemmas.Bool.{ltb-false, le-ltb}
-use Rattle.nfs_xdr.specs.declared.wire_error.WireError.TheVariants as errors
-use Rattle.nfs_xdr.specs.Layout.{◌⨾◌, U32, Fixed, Opaque}
-use Rattle.nfs_xdr.specs.Reading.{Reads, ◌then◌, number_at, fixed_at, opaque_at}
-use Rattle.nfs_xdr.proofs.BasicForms.{bind_ok, guard_ok, Begins-then, reads_then, reads_as, reads_number, reads_fixed, reads_opaque}
+use Rattle.xdr.specs.declared.wire_error.WireError.TheVariants as errors
+use Rattle.xdr.specs.Layout.{◌⨾◌, U32, Fixed, Opaque}
+use Rattle.xdr.specs.Reading.{Reads, ◌then◌, number_at, fixed_at, opaque_at}
+use Rattle.xdr.specs.laws.Reads.{bind_ok, guard_ok, Begins-then, reads_then, reads_as, reads_number, reads_fixed, reads_opaque}
 use Rattle.nfs_rpc.specs.declared.auth_sys.TheConstants.{GID_LIMIT, MACHINE_NAME_LIMIT}
 use Rattle.nfs_rpc.specs.AuthSys.{AuthSys, AuthSysIsRead, Gids, auth_sys_at, gids_at}
 

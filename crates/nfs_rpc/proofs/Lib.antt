@@ -5,4 +5,3 @@ pub mod Taking
 pub mod Splitting
 pub mod AuthSysBodies
 pub mod Limits
-pub mod Writing

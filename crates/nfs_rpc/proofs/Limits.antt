@@ -4,33 +4,32 @@ use Rattle.std.specs.Prelude.{MatchBool, IfOk}
 use Rattle.std.proofs.lemmas.Bool.{ltb-false}
 use Rattle.std.proofs.lemmas.List.{length-append, length-drop}
 use Rattle.byteorder.specs.Endian.{big_number}
-use Rattle.nfs_xdr.specs.declared.wire_error.WireError.{WireError}
-use Rattle.nfs_xdr.specs.declared.wire_error.WireError.TheVariants as errors
-use Rattle.nfs_xdr.specs.Layout.{padding_of}
-use Rattle.nfs_xdr.specs.Reading.{Read, Answers, ◌>>=◌, ◌then◌, as_value, number_at, padded_at, opaque_at}
-use Rattle.nfs_xdr.specs.Writing.{written_u32}
-use Rattle.nfs_xdr.proofs.BasicForms.{bind_ok, guard_ok, ok_is}
+use Rattle.xdr.specs.declared.wire_error.WireError.{WireError}
+use Rattle.xdr.specs.declared.wire_error.WireError.TheVariants as errors
+use Rattle.xdr.specs.Layout.{padding_of}
+use Rattle.xdr.specs.Reading.{Read, Answers, ◌>>=◌, ◌then◌, as_value, number_at, padded_at, opaque_at}
+use Rattle.xdr.specs.Writing.{written_number, written_opaque}
+use Rattle.xdr.specs.laws.Reads.{bind_ok, guard_ok, ok_is}
 use Rattle.nfs_rpc.specs.declared.call.Header.{Header}
 use Rattle.nfs_rpc.specs.declared.call.Start.{Start}
-use Rattle.nfs_rpc.specs.declared.call.TheConstants.{NFS_VERSION, RPC_VERSION}
 use Rattle.nfs_rpc.specs.declared.credential.TheConstants.{BODY_LIMIT}
 use Rattle.nfs_rpc.specs.declared.reply.Reply.TheVariants as replies
-use Rattle.nfs_rpc.specs.Credential.{credential_at, opaque_auth_at, principal_of}
+use Rattle.nfs_rpc.specs.Credential.{credential_at, opaque_auth, principal_of}
 use Rattle.nfs_xdr.specs.declared.compound.Compound.{Compound}
 use Rattle.nfs_xdr.specs.declared.compound.Request.{Request}
 use Rattle.nfs_xdr.specs.declared.compound.Request.TheVariants.{MinorVersion, TooMany, Operations}
-use Rattle.nfs_xdr.specs.declared.op.Op.{Op}
+use Rattle.nfs_xdr.specs.declared.arg_op.ArgOp.{ArgOp}
 use Rattle.nfs_xdr.specs.Compound.{HoldOperations, IsRequest, IsCompound}
-use Rattle.nfs_xdr.specs.Op.{ends_list}
-use Rattle.nfs_rpc.specs.Call.{HasFewOperations, IsShortReply, IsWithinLimits, header_at, start_at}
-use Rattle.nfs_rpc.specs.declared.reply.TheConstants.{ACCEPTED_LEN, ACCEPTED_PROG_MISMATCH, AUTH_BADCRED, DENIED_AUTH_ERROR, DENIED_RPC_MISMATCH, SHORT_REPLY_LEN}
-use Rattle.nfs_rpc.specs.Reply.{written_accepted, written_denied, written_no_verifier, written_only_version, written_reply_head}
+use Rattle.nfs_xdr.specs.ArgOp.{ends_list}
+use Rattle.nfs_rpc.specs.Call.{HasFewOperations, IsWithinLimits, header_at, start_at}
+use Rattle.nfs_rpc.specs.declared.reply.TheConstants.{ACCEPTED_LEN, SHORT_REPLY_LEN}
+use Rattle.nfs_rpc.specs.Reply.{accepted, accepted_fields, written_reply}
 
-held_rest : (count : ℕ) (rest : List ℕ) (ops : List Op) (b : Bool) → ((ops : List Op) → HoldOperations count rest ops → length ops ≤ count) → MatchBool b (ops ≡ []) (HoldOperations count rest ops) → length ops ≤ count
+held_rest : (count : ℕ) (rest : List ℕ) (ops : List ArgOp) (b : Bool) → ((ops : List ArgOp) → HoldOperations count rest ops → length ops ≤ count) → MatchBool b (ops ≡ []) (HoldOperations count rest ops) → length ops ≤ count
 held_rest count rest ops true below held = omega (arith, ap length held)
 held_rest count rest ops false below held = below ops held
 
-few_held : (count : ℕ) (bytes : List ℕ) (ops : List Op) → HoldOperations count bytes ops → length ops ≤ count
+few_held : (count : ℕ) (bytes : List ℕ) (ops : List ArgOp) → HoldOperations count bytes ops → length ops ≤ count
 few_held zero bytes ops held = omega (arith, ap length held)
 few_held (suc count) bytes [] held = absurd held
 few_held (suc count) bytes (op ∷ ops) held =
@@ -74,6 +73,7 @@ takes_as n make f p bytes value rest e =
     omega (arith, p bytes a.0.0 a.0.1 a.1, ap length same)
 
 takes_number : Takes 4 (number_at 4)
+unfolding number_at
 takes_number bytes value rest e =
     let g = guard_ok (ltb (length bytes) 4) errors.Short (Ok (big_number 4 bytes, drop 4 bytes)) (value, rest) e in
     let same : drop 4 bytes ≡ rest = rest_is (big_number 4 bytes) value (drop 4 bytes) rest (Ok (big_number 4 bytes, drop 4 bytes)) refl g.1 in
@@ -90,11 +90,11 @@ takes_opaque limit bytes value rest e =
     let same : drop padded n.0.1 ≡ rest = rest_is (take count n.0.1) value (drop padded n.0.1) rest (Ok (take count n.0.1, drop padded n.0.1)) refl k.1 in
     omega (arith, takes_number bytes n.0.0 n.0.1 n.1, length-drop padded n.0.1, ap length same)
 
-takes_opaque_auth : Takes 8 opaque_auth_at
+takes_opaque_auth : Takes 8 opaque_auth.at
 takes_opaque_auth = takes_then 4 4 (number_at 4) (opaque_at BODY_LIMIT) takes_number (takes_opaque BODY_LIMIT)
 
 takes_credential : Takes 8 credential_at
-takes_credential = takes_as 8 (λ (p : ℕ × List ℕ). principal_of p.0 p.1) opaque_auth_at takes_opaque_auth
+takes_credential = takes_as 8 (λ (p : ℕ × List ℕ). principal_of p.0 p.1) opaque_auth.at takes_opaque_auth
 
 takes_word : {B : Type 0} (n : ℕ) (g : List ℕ → Read B) → Takes n g → Takes (4 + n) (number_at 4 then g)
 takes_word n g p = takes_then 4 n (number_at 4) g takes_number p
@@ -107,10 +107,10 @@ takes_start = takes_as 12 _ (number_at 4 then number_at 4 then number_at 4)
 takes_header : Takes 28 header_at
 unfolding header_at
 takes_header =
-    takes_as 28 _ (number_at 4 then number_at 4 then number_at 4 then credential_at then opaque_auth_at)
-    (takes_word 24 (number_at 4 then number_at 4 then credential_at then opaque_auth_at)
-    (takes_word 20 (number_at 4 then credential_at then opaque_auth_at)
-    (takes_word 16 (credential_at then opaque_auth_at) (takes_then 8 8 credential_at opaque_auth_at takes_credential takes_opaque_auth))))
+    takes_as 28 _ (number_at 4 then number_at 4 then number_at 4 then credential_at then opaque_auth.at)
+    (takes_word 24 (number_at 4 then number_at 4 then credential_at then opaque_auth.at)
+    (takes_word 20 (number_at 4 then credential_at then opaque_auth.at)
+    (takes_word 16 (credential_at then opaque_auth.at) (takes_then 8 8 credential_at opaque_auth.at takes_credential takes_opaque_auth))))
 
 takes_if_ok : {A X : Type 0} (n : ℕ) (f : List ℕ → Read A) → Takes n f → (view : X → A × List ℕ) (bytes : List ℕ) (r : Result X WireError) → Answers view r (f bytes) → IfOk r (λ x. length (view x).1 + n ≤ length bytes)
 takes_if_ok n f p view bytes (Ok x) e = p bytes (view x).0 (view x).1 e
@@ -122,29 +122,21 @@ start_shortens = takes_if_ok 12 start_at takes_start
 pub header_shortens : {X : Type 0} (view : X → Header × List ℕ) (bytes : List ℕ) (r : Result X WireError) → Answers view r (header_at bytes) → IfOk r (λ x. length (view x).1 + 28 ≤ length bytes)
 header_shortens = takes_if_ok 28 header_at takes_header
 
-length_accepted : (xid state : ℕ) → length (written_accepted xid state) ≡ ACCEPTED_LEN
-unfolding written_accepted written_reply_head written_no_verifier
+pub length_accepted : (xid state : ℕ) → length ((accepted state).spelling (accepted_fields xid)) ≡ ACCEPTED_LEN
+unfolding written_number written_opaque
 length_accepted xid state = refl
 
-length_denied : (xid state : ℕ) → length (written_denied xid state) ≡ 16
-unfolding written_denied written_reply_head
-length_denied xid state = refl
-
-length_only_version : (version : ℕ) → length (written_only_version version) ≡ 8
-unfolding written_only_version
-length_only_version version = refl
-
-pub accepted_is_short : (xid state : ℕ) → length (written_accepted xid state) ≤ SHORT_REPLY_LEN
+pub accepted_is_short : (xid state : ℕ) → length ((accepted state).spelling (accepted_fields xid)) ≤ SHORT_REPLY_LEN
 accepted_is_short xid state = omega (arith, length_accepted xid state)
 
-pub prog_mismatch_is_short : (xid : ℕ) → IsShortReply xid replies.ProgMismatch
-prog_mismatch_is_short xid =
-    (omega (arith, length-append (written_accepted xid ACCEPTED_PROG_MISMATCH) (written_only_version NFS_VERSION), length_accepted xid ACCEPTED_PROG_MISMATCH, length_only_version NFS_VERSION), λ no. no)
+pub prog_mismatch_is_short : (xid : ℕ) → length (written_reply xid replies.ProgMismatch) ≤ SHORT_REPLY_LEN
+unfolding written_number written_opaque
+prog_mismatch_is_short xid = omega arith
 
-pub rpc_mismatch_is_short : (xid : ℕ) → IsShortReply xid replies.RpcMismatch
-rpc_mismatch_is_short xid =
-    (omega (arith, length-append (written_denied xid DENIED_RPC_MISMATCH) (written_only_version RPC_VERSION), length_denied xid DENIED_RPC_MISMATCH, length_only_version RPC_VERSION), λ no. no)
+pub rpc_mismatch_is_short : (xid : ℕ) → length (written_reply xid replies.RpcMismatch) ≤ SHORT_REPLY_LEN
+unfolding written_number
+rpc_mismatch_is_short xid = omega arith
 
-pub auth_error_is_short : (xid : ℕ) → IsShortReply xid replies.AuthError
-auth_error_is_short xid =
-    (omega (arith, length-append (written_denied xid DENIED_AUTH_ERROR) (written_u32 AUTH_BADCRED), length_denied xid DENIED_AUTH_ERROR), λ no. no)
+pub auth_error_is_short : (xid : ℕ) → length (written_reply xid replies.AuthError) ≤ SHORT_REPLY_LEN
+unfolding written_number
+auth_error_is_short xid = omega arith

@@ -1,9 +1,9 @@
 -- The body of a credential of AUTH_SYS (RFC 5531, appendix A): who a client says that it acts for.
 use Rattle.std.specs.Prelude.{ℕ, ◌*◌, ◌≤◌, List, Err, nat_lt, if◌then◌else◌}
 use Rattle.nfs_rpc.specs.declared.auth_sys.TheConstants.{GID_LIMIT, MACHINE_NAME_LIMIT}
-use Rattle.nfs_xdr.specs.declared.wire_error.WireError.TheVariants as errors
-use Rattle.nfs_xdr.specs.Layout.{◌⨾◌, U32, Fixed, Opaque}
-use Rattle.nfs_xdr.specs.Reading.{Read, Reads, ◌>>=◌, ◌then◌, as_value, number_at, fixed_at, opaque_at}
+use Rattle.xdr.specs.declared.wire_error.WireError.TheVariants as errors
+use Rattle.xdr.specs.Layout.{◌⨾◌, U32, Fixed, Opaque}
+use Rattle.xdr.specs.Reading.{Read, Reads, ◌>>=◌, ◌then◌, as_value, number_at, fixed_at, opaque_at}
 
 -- a stamp, the name of the machine, the user, its group, and the bytes of its other groups
 pub record AuthSys : Type 0 where

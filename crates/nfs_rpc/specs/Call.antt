@@ -8,16 +8,16 @@ use Rattle.nfs_rpc.specs.declared.call.TheConstants.{MESSAGE_CALL, NFS_PROGRAM, 
 use Rattle.nfs_rpc.specs.declared.reply.Reply.{Reply}
 use Rattle.nfs_rpc.specs.declared.reply.Reply.TheVariants.{RpcMismatch, AuthError, ProgUnavail, ProgMismatch, ProcUnavail, GarbageArgs, SystemError}
 use Rattle.nfs_rpc.specs.declared.reply.TheConstants.{SHORT_REPLY_LEN}
-use Rattle.nfs_rpc.specs.Credential.{credential_at, opaque_auth_at}
-use Rattle.nfs_rpc.specs.Reply.{IsReplyTooLong, written_reply}
+use Rattle.nfs_rpc.specs.Credential.{credential_at, opaque_auth}
+use Rattle.nfs_rpc.specs.Reply.{IsWritable, written_reply}
 use Rattle.nfs_xdr.specs.declared.principal.Principal.{Principal}
-use Rattle.nfs_xdr.specs.declared.wire_error.WireError.{WireError}
+use Rattle.xdr.specs.declared.wire_error.WireError.{WireError}
 use Rattle.nfs_xdr.specs.Compound.{compound_at}
 use Rattle.nfs_xdr.specs.declared.compound.Compound.{Compound as CompoundArgs}
 use Rattle.nfs_xdr.specs.declared.compound.Request.{Request}
 use Rattle.nfs_xdr.specs.declared.compound.Request.TheVariants.{MinorVersion, TooMany, Operations}
 use Rattle.nfs_xdr.specs.declared.compound.TheConstants.{OPERATION_LIMIT}
-use Rattle.nfs_xdr.specs.Reading.{Read, ◌then◌, as_value, number_at}
+use Rattle.xdr.specs.Reading.{Read, ◌then◌, as_value, number_at}
 
 -- xid, message type and RPC version
 unfoldable pub start_at : List ℕ → Read Start
@@ -29,7 +29,7 @@ start_at =
 unfoldable pub header_at : List ℕ → Read Header
 header_at =
     as_value (λ p. record { program = p.0; version = p.1.0; procedure = p.1.1.0; principal = p.1.1.1.0 })
-    (number_at 4 then number_at 4 then number_at 4 then credential_at then opaque_auth_at)
+    (number_at 4 then number_at 4 then number_at 4 then credential_at then opaque_auth.at)
 
 -- what the arguments of a COMPOUND make of it, given the xid and the principal
 abbrev pub Arguments : Type 0
@@ -86,7 +86,7 @@ HasFewOperations (Operations ops) = length ops ≤ OPERATION_LIMIT
 
 -- an answer without the service is short
 abbrev pub IsShortReply : ℕ → Reply → Type 0
-IsShortReply xid reply = (length (written_reply xid reply) ≤ SHORT_REPLY_LEN) × ¬ IsReplyTooLong reply
+IsShortReply xid reply = (length (written_reply xid reply) ≤ SHORT_REPLY_LEN) × IsWritable xid reply
 
 -- Beside its tag a record that is a COMPOUND has the 40 bytes of a header with empty bodies, and 12 of the tag's length, the
 -- minor version and the count.

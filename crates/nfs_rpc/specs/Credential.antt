@@ -4,11 +4,12 @@ use Rattle.nfs_rpc.specs.declared.credential.TheConstants.{AUTH_NONE, AUTH_SYS, 
 use Rattle.nfs_rpc.specs.AuthSys.{AuthSys, auth_sys_at}
 use Rattle.nfs_xdr.specs.declared.principal.Principal.{Principal}
 use Rattle.nfs_xdr.specs.declared.principal.Principal.TheVariants as principals
-use Rattle.nfs_xdr.specs.Reading.{Read, ◌then◌, as_value, number_at, opaque_at}
+use Rattle.xdr.specs.Form.{Form, ◌and◌, u32, opaque}
+use Rattle.xdr.specs.Reading.{Read, as_value}
 
--- a flavor and a body
-abbrev pub opaque_auth_at : List ℕ → Read (ℕ × List ℕ)
-opaque_auth_at = number_at 4 then opaque_at BODY_LIMIT
+-- struct opaque_auth { auth_flavor flavor; opaque body<400>; };
+abbrev pub opaque_auth : Form (ℕ × List ℕ)
+opaque_auth = u32 and opaque BODY_LIMIT
 
 -- the user, where the body could be read
 abbrev pub user_of : Read AuthSys → Option Principal
@@ -25,4 +26,4 @@ principal_of flavor body =
 
 -- a credential, as the principal that it is of
 abbrev pub credential_at : List ℕ → Read (Option Principal)
-credential_at = as_value (λ p. principal_of p.0 p.1) opaque_auth_at
+credential_at = as_value (λ p. principal_of p.0 p.1) opaque_auth.at

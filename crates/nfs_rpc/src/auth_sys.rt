@@ -1,7 +1,7 @@
 ghost use Rattle.nfs_rpc.specs.AuthSys.{AuthSysIsRead, auth_sys_at, gids_at};
-ghost use Rattle.nfs_xdr.specs.Reading.{Answers, as_value};
+ghost use Rattle.xdr.specs.Reading.{Answers, as_value};
 
-use nfs_xdr::{WireError, read_opaque, read_u32};
+use xdr::{WireError, read_opaque, read_u32};
 
 /// The most bytes of the name of a machine (RFC 5531, appendix A).
 pub const MACHINE_NAME_LIMIT: u32 = 255;
@@ -22,7 +22,7 @@ pub(crate) fn read_uid(body: &[u8]) -> Result<(u32, &[u8]), WireError>
     Ok((uid, rest))
 }
 
-#[tactic(auto, unfolding(crate::specs::AuthSys::gids_at))]
+#[tactic(auto, unfolding(crate::specs::AuthSys::gids_at, xdr::specs::Reading::fixed_at))]
 fn read_gids(bytes: &[u8]) -> Result<(&[u8], &[u8]), WireError>
     ensures { Answers (λ x. (x.0.now, x.1.now)) result (gids_at bytes.now) }
 {

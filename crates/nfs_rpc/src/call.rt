@@ -1,11 +1,12 @@
 ghost use Rattle.std.specs.Prelude.{◌≡◌, ◌+◌, ◌≤◌, ◌⊎◌, IfOk, length};
 ghost use Rattle.nfs_rpc.specs.Call.{IsCall, IsCallWithinLimits, header_at, read_arguments, refused_arguments, start_at};
-ghost use Rattle.nfs_xdr.specs.Reading.{Answers};
+ghost use Rattle.xdr.specs.Reading.{Answers};
 
 use crate::Reply;
 use crate::credential::{read_credential, read_opaque_auth};
-use nfs_xdr::{Compound, Principal, WireError, read_compound, read_u32};
+use nfs_xdr::{Compound, Principal, read_compound};
 use std::alloc::Global;
+use xdr::{WireError, read_u32};
 
 /// The type of a message that is a call (RFC 5531, section 9).
 pub const MESSAGE_CALL: u32 = 0;

@@ -1,5 +1,6 @@
-ghost use Rattle.std.specs.Prelude.{◌≡◌, ◌+◌, ◌-◌, ◌^◌, ◌<◌, ◌≤◌, ◌↔◌, MatchBool, IfOk, OnErr, IsErrOf};
+ghost use Rattle.std.specs.Prelude.{◌≡◌, ◌+◌, ◌-◌, ◌^◌, ◌<◌, ◌≤◌, ◌↔◌, false, MatchBool, IfOk, OnErr, IsErrOf};
 ghost use Rattle.std.specs.Vec.{vec_len, vec_capacity};
+ghost use Rattle.nfs_xdr.specs.operations.Setclientid as setclientid;
 ghost use Rattle.nfs_core.specs.Registry.{IsWithinLimit, IsAboveLimit};
 ghost use Rattle.nfs_core.specs.operations.Setclientid.{Again, Arrival, Sets, SetsBy, IsFull, IsFullBy, arriving, with_arriving};
 
@@ -12,6 +13,7 @@ use std::alloc::AllocError;
 impl Clients {
     /// SETCLIENTID (RFC 7530, section 16.33.5) in the server's run `epoch`; `has_state` is whether the
     /// client of the id's confirmed record has state. At an error nothing changes.
+    #[tactic(auto, unfolding(nfs_xdr::specs::ClientAnswer::client_answer, nfs_xdr::specs::Status::status, nfs_xdr::specs::operations::SetclientidConfirm::arguments, nfs_xdr::specs::ClientId::client_id))]
     pub(crate) fn set(
         &mut self,
         epoch: u32,
@@ -21,6 +23,7 @@ impl Clients {
     ) -> Result<Outcome, ClientsError>
         requires { self.old.last_confirm < 2 ^ 64 - 1 }
         ensures ok { IfOk result (λ answer. Sets epoch has_state self.old principal args.now answer self.new) }
+        ensures form { IfOk result (λ answer. has_state ≡ false → setclientid.result.Fits answer) }
         ensures full { IsErrOf result ClientsError.Full ↔ IsFull has_state self.old principal args.now }
         ensures err { OnErr result (self.new ≡ self.old) }
     {
@@ -41,6 +44,7 @@ impl Clients {
     }
 
     // A confirmed client asks again: it keeps its clientid.
+    #[tactic(auto, unfolding(nfs_xdr::specs::ClientAnswer::client_answer, nfs_xdr::specs::Status::status, nfs_xdr::specs::operations::SetclientidConfirm::arguments, nfs_xdr::specs::ClientId::client_id))]
     fn set_again(
         &mut self,
         principal: Principal,
@@ -49,6 +53,7 @@ impl Clients {
     ) -> Result<Outcome, ClientsError>
         requires { self.old.last_confirm < 2 ^ 64 - 1 }
         ensures ok { IfOk result (λ answer. SetsBy (Again client) client.epoch self.old principal args.now answer self.new) }
+        ensures form { IfOk result (λ answer. setclientid.result.Fits answer) }
         ensures full { IsErrOf result ClientsError.Full ↔ IsFullBy (Again client) self.old args.now }
         ensures err { OnErr result (self.new ≡ self.old) }
     {
@@ -60,6 +65,7 @@ impl Clients {
     }
 
     // A client that gets a number.
+    #[tactic(auto, unfolding(nfs_xdr::specs::ClientAnswer::client_answer, nfs_xdr::specs::Status::status, nfs_xdr::specs::operations::SetclientidConfirm::arguments, nfs_xdr::specs::ClientId::client_id))]
     fn set_arrival(
         &mut self,
         epoch: u32,
@@ -68,6 +74,7 @@ impl Clients {
     ) -> Result<Outcome, ClientsError>
         requires { self.old.last_confirm < 2 ^ 64 - 1 }
         ensures ok { IfOk result (λ answer. SetsBy Arrival epoch self.old principal args.now answer self.new) }
+        ensures form { IfOk result (λ answer. setclientid.result.Fits answer) }
         ensures full { IsErrOf result ClientsError.Full ↔ IsFullBy Arrival self.old args.now }
         ensures err { OnErr result (self.new ≡ self.old) }
     {

@@ -30,6 +30,7 @@ pub(crate) fn getattr(
         (record { journal = journal.new; state = tables.now })
         (call_of moment principal (Op.Getattr mask.now) filehandle r.0)) }
     ensures short { IfSome result (λ r. length (op_result.spelling r.0) ≤ ANSWER_LIMIT) }
+    ensures form { IfSome result (λ r. op_result.Fits r.0) }
     ensures number { IfSome result (λ r. r.1 ≡ length journal.old.entries) }
     ensures refused { IfNone result (journal.new ≡ journal.old) }
 {
@@ -59,6 +60,7 @@ fn attributes(
     requires node { IsFilehandle journal.now filehandle }
     ensures told { IfOk result (λ r. r ≡ got_attributes journal.now tables.now filehandle mask.now) }
     ensures short { IfOk result (λ r. length (getattr.result.spelling r) ≤ ANSWER_LIMIT - 4) }
+    ensures form { IfOk result (λ r. getattr.result.Fits r) }
 {
     let Some(node) = filehandle else {
         return Ok(Answer::Refused(Refusal::NoFileHandle));

@@ -26,6 +26,7 @@ pub(crate) fn setclientid_confirm(
         (record { journal = journal.new; state = tables.new })
         (call_of moment principal (Op.SetclientidConfirm args.now) filehandle r.0)) }
     ensures short { IfSome result (λ r. length (op_result.spelling r.0) ≤ ANSWER_LIMIT) }
+    ensures form { IfSome result (λ r. op_result.Fits r.0) }
     ensures number { IfSome result (λ r. r.1 ≡ length journal.old.entries) }
     ensures refused { IfNone result ((journal.new ≡ journal.old) × (tables.new ≡ tables.old)) }
 {

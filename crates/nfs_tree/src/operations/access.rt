@@ -55,6 +55,7 @@ impl Filehandles {
         ensures effect { record { answer = result; after = self.now }
             ≡ access tree.now self.now asked }
         ensures short { length (op_result.spelling result) ≤ TREE_ANSWER_LIMIT }
+        ensures form { op_result.Fits result }
     {
         match self.current {
             Some(node) => OpResult::Access(Answer::Done(tree.access(node, asked))),

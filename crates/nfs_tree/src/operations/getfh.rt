@@ -12,6 +12,7 @@ impl Filehandles {
     pub(crate) fn getfh(&self) -> OpResult
         ensures effect { record { answer = result; after = self.now } ≡ getfh self.now }
         ensures short { length (op_result.spelling result) ≤ TREE_ANSWER_LIMIT }
+        ensures form { op_result.Fits result }
     {
         match self.current {
             Some(node) => {

@@ -15,6 +15,7 @@ impl Filehandles {
         ensures effect { record { answer = result; after = self.new }
             ≡ lookup tree.now self.old name.now }
         ensures short { length (op_result.spelling result) ≤ TREE_ANSWER_LIMIT }
+        ensures form { op_result.Fits result }
         ensures nodes { AreNodes tree.now self.new }
     {
         match self.current {
@@ -30,6 +31,7 @@ impl Filehandles {
         ensures effect { record { answer = result; after = self.new }
             ≡ lookup_in tree.now self.old node name.now }
         ensures short { length (op_result.spelling result) ≤ TREE_ANSWER_LIMIT }
+        ensures form { op_result.Fits result }
         ensures nodes { AreNodes tree.now self.new }
     {
         if !tree.is_directory(node) {

@@ -15,6 +15,7 @@ impl Filehandles {
         ensures effect { record { answer = result; after = self.new }
             ≡ putfh tree.now self.old handle.now }
         ensures short { length (op_result.spelling result) ≤ TREE_ANSWER_LIMIT }
+        ensures form { op_result.Fits result }
         ensures nodes { AreNodes tree.now self.new }
     {
         match tree.node_of(handle) {
