@@ -1,7 +1,9 @@
 -- How long the attributes of a node are at most.
-use Rattle.std.proofs.Common.{◌≡◌, ℕ, ◌*◌, ◌≤◌, Bool, true, false, List, [], ◌∷◌, length, arith}
-use Rattle.std.specs.Prelude.{if◌then◌else◌}
-use Rattle.std.specs.List.{flat_map}
+use Rattle.std.proofs.Common.{◌≡◌, ℕ, zero, suc, ◌*◌, ◌<◌, ◌≤◌, ◌^◌, Bool, true, false, List, [], ◌∷◌, length, arith}
+use Rattle.std.specs.Prelude.{◌==◌, if◌then◌else◌}
+use Rattle.std.specs.List.{All, flat_map}
+use Rattle.std.proofs.lemmas.List.Elements.{All-nil}
+use Rattle.std.proofs.lemmas.Nat.{and_le_r}
 use Rattle.std.proofs.lemmas.List.{length-append, length-take}
 use Rattle.nfs_xdr.specs.declared.fattr.Fattr.{Fattr}
 use Rattle.nfs_xdr.specs.declared.answer.Answer.TheVariants.{Done}
@@ -14,7 +16,7 @@ use Rattle.xdr.specs.Writing.{written_number, written_opaque, written_u32, zeros
 use Rattle.nfs_tree.specs.declared.attribute.Attribute.{Attribute}
 use Rattle.nfs_tree.specs.declared.attribute.Attribute.TheVariants as attributes
 use Rattle.nfs_tree.specs.declared.attribute.Subject.{Subject}
-use Rattle.nfs_tree.specs.Attributes.{all_attributes, asked, attributes_of, has, mask_of, value_asked, value_of, values_of}
+use Rattle.nfs_tree.specs.Attributes.{all_attributes, asked, attributes_of, has, mask_of, supported, value_asked, value_of, values_of}
 
 value_len : (s : Subject) (a : Attribute) → length (value_of s a) ≤ 16
 unfolding written_number written_opaque
@@ -67,3 +69,21 @@ told_len f mask values =
 -- the result of GETATTR
 pub attributes_len : (f : Fattr) (s : Subject) (words : List ℕ) → f ≡ attributes_of s words → length (getattr.result.spelling (Done f)) ≤ 2032
 attributes_len f s words is = rw is (told_len (attributes_of s words) (mask_len words) (all_len s (asked words)))
+
+-- Each attribute that is answered has a form: the mask is a word of four bytes, and the values are few.
+one_word : (word : ℕ) → word < 2 ^ 32 → All (λ w. w < 2 ^ 32) (word ∷ [])
+one_word word small zero d lt = small
+one_word word small (suc k) d lt = absurd (omega (arith, lt))
+
+mask_fits : (b : Bool) (word : ℕ) → word < 2 ^ 32 → All (λ w. w < 2 ^ 32) (if b then [] else word ∷ [])
+mask_fits true word small = All-nil (λ w. w < 2 ^ 32)
+mask_fits false word small = one_word word small
+
+asked_fits : (words : List ℕ) → asked words < 2 ^ 32
+asked_fits [] = omega arith
+asked_fits (word ∷ words) = omega (arith, and_le_r word supported)
+
+pub attributes_fit : (f : Fattr) (s : Subject) (words : List ℕ) → f ≡ attributes_of s words → getattr.result.Fits (Done f)
+unfolding answer fattr status
+attributes_fit f s words is =
+    rw is (omega arith, ((omega (arith, mask_len words), omega (arith, mask_len words), mask_fits (asked words == 0) (asked words) (asked_fits words)), (omega (arith, all_len s (asked words)), omega (arith, all_len s (asked words)))))
