@@ -9,6 +9,8 @@ use Rattle.nfs_core.specs.Registry.{Registry}
 use Rattle.nfs_core.specs.Server.{Server, Applies}
 use Rattle.nfs_core.specs.operations.Setclientid.{Finding, InUse, Again, Arrival, SetsBy}
 use Rattle.nfs_core.specs.operations.SetclientidConfirm.{Confirmation, Stale, Refused, Before, Becomes, ConfirmsBy}
+use Rattle.nfs_core.specs.operations.Setclientid as setclientid
+use Rattle.nfs_core.specs.operations.SetclientidConfirm as confirm
 use Rattle.nfs_core.specs.State.{State, History}
 use Rattle.nfs_core.specs.Step.{StepOp, call_of, resource}
 use Rattle.nfs_server.specs.Asking.{Question}
@@ -20,21 +22,20 @@ use Rattle.nfs_xdr.specs.declared.op.Op.TheVariants as ops
 use Rattle.nfs_xdr.specs.declared.op_result.OpResult.{OpResult}
 use Rattle.nfs_xdr.specs.declared.op_result.OpResult.TheVariants as results
 use Rattle.nfs_xdr.specs.declared.operations.setclientid.Setclientid.{Setclientid}
-use Rattle.nfs_xdr.specs.declared.set_client_id.SetClientIdResult.{SetClientIdResult}
-use Rattle.nfs_xdr.specs.declared.status.Status.{Status}
+use Rattle.nfs_xdr.specs.declared.fattr.Fattr.{Fattr}
 
-SetsBy-not_resource : (found : Finding) (epoch : ℕ) (old : Registry) (principal : Principal) (args : Setclientid) (answer : SetClientIdResult) (new : Registry) → SetsBy found epoch old principal args answer new → results.Setclientid answer ≢ resource (ops.Setclientid args)
+SetsBy-not_resource : (found : Finding) (epoch : ℕ) (old : Registry) (principal : Principal) (args : Setclientid) (answer : setclientid.Outcome) (new : Registry) → SetsBy found epoch old principal args answer new → results.Setclientid answer ≢ resource (ops.Setclientid args)
 SetsBy-not_resource (InUse address) epoch old principal args answer new s same = let e = s.0 in cc
 SetsBy-not_resource (Again client) epoch old principal args answer new s same = let e = s.1 in cc
 SetsBy-not_resource Arrival epoch old principal args answer new s same = let e = s.2 in cc
 
-ConfirmsBy-not_resource : (path : PathMark) (found : Confirmation) (old : Registry) (args : _) (answer : Status) (new : Registry) → ConfirmsBy path found old answer new → results.SetclientidConfirm answer ≢ resource (ops.SetclientidConfirm args)
+ConfirmsBy-not_resource : (path : PathMark) (found : Confirmation) (old : Registry) (args : _) (answer : confirm.Outcome) (new : Registry) → ConfirmsBy path found old answer new → results.SetclientidConfirm answer ≢ resource (ops.SetclientidConfirm args)
 ConfirmsBy-not_resource path Stale old args answer new s same = let e = s.0 in cc
 ConfirmsBy-not_resource path Refused old args answer new s same = let e = s.0 in cc
 ConfirmsBy-not_resource path Before old args answer new s same = let e = s.0 in cc
 ConfirmsBy-not_resource path (Becomes r) old args answer new s same = let e = s.0 in cc
 
-GotAttributes-not_resource : (journal : History) (old : State) (filehandle : Option ℕ) (mask : List ℕ) (answer : GetAttrResult) → answer ≡ got_attributes journal old filehandle mask → results.Getattr answer ≢ resource (ops.Getattr mask)
+GotAttributes-not_resource : (journal : History) (old : State) (filehandle : Option ℕ) (mask : List ℕ) (answer : Answer Fattr) → answer ≡ got_attributes journal old filehandle mask → results.Getattr answer ≢ resource (ops.Getattr mask)
 GotAttributes-not_resource journal old None mask answer told same = cc
 GotAttributes-not_resource journal old (Some node) mask answer told same = cc
 

@@ -21,5 +21,5 @@ pub use fault::Fault;
 pub use numbers::limits_of_connections;
 pub use once::run_once;
 pub use serve_error::ServeError;
-pub use service::{ANSWER_ROOM, Lent, Service, questions_are_entries};
+pub use service::{Lent, Service, questions_are_entries};
 pub use tree_file::read_tree;

@@ -10,9 +10,6 @@ ghost use Rattle.nfs_xdr.specs.OpResult.{op_result};
 use nfs_core::{Core, Moment};
 use nfs_xdr::{Op, OpResult, Principal};
 
-/// The room of a reply that an operation asks for before it is run.
-pub const ANSWER_ROOM: usize = 2048;
-
 /// What answers the operations that need the state.
 pub trait Service {
     /// From a state, the service may answer a question so and go on to a state.
@@ -32,7 +29,8 @@ pub trait Service {
         requires node { IfSome filehandle (λ node. node < node_count (serves self.old).nodes) }
         ensures gives { gives self.old (record { moment = moment; principal = principal; op = op.now; filehandle = filehandle }) result self.new }
         ensures serves { serves self.new ≡ serves self.old }
-        ensures fits { length (op_result.spelling result) ≤ ANSWER_LIMIT };
+        ensures fits { length (op_result.spelling result) ≤ ANSWER_LIMIT }
+        ensures form { op_result.Fits result };
 }
 
 /// A core that is lent to one connection after another.
