@@ -72,8 +72,14 @@ impl Op {
             Opnum::Putrootfh => Ok((Op::Putrootfh, bytes)),
             Opnum::Restorefh => Ok((Op::Restorefh, bytes)),
             Opnum::Savefh => Ok((Op::Savefh, bytes)),
-            Opnum::Setclientid => Setclientid::read(alloc, bytes).map(|(v, rest)| (Op::Setclientid(v), rest)),
-            Opnum::SetclientidConfirm => SetclientidConfirm::read(alloc, bytes).map(|(v, rest)| (Op::SetclientidConfirm(v), rest)),
+            Opnum::Setclientid => Setclientid::read(alloc, bytes).map(|(v, rest)| (
+                Op::Setclientid(v),
+                rest,
+            )),
+            Opnum::SetclientidConfirm => SetclientidConfirm::read(alloc, bytes).map(|(v, rest)| (
+                Op::SetclientidConfirm(v),
+                rest,
+            )),
             Opnum::Unsupported(_) | Opnum::Illegal => Err(WireError::Short),
         }
     }

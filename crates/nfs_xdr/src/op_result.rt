@@ -84,16 +84,46 @@ impl OpResult {
         ensures { Gives (λ x. (x.0, x.1.now)) result (case_at (result_case opnum) bytes.now) }
     {
         match opnum {
-            Opnum::Access => access::Outcome::read(alloc, bytes).map(|(v, r)| (OpResult::Access(v), r)),
-            Opnum::Getattr => getattr::Outcome::read(alloc, bytes).map(|(v, r)| (OpResult::Getattr(v), r)),
-            Opnum::Getfh => getfh::Outcome::read(alloc, bytes).map(|(v, r)| (OpResult::Getfh(v), r)),
-            Opnum::Lookup => lookup::Outcome::read(alloc, bytes).map(|(v, r)| (OpResult::Lookup(v), r)),
-            Opnum::Putfh => putfh::Outcome::read(alloc, bytes).map(|(v, r)| (OpResult::Putfh(v), r)),
-            Opnum::Putrootfh => putrootfh::Outcome::read(alloc, bytes).map(|(v, r)| (OpResult::Putrootfh(v), r)),
-            Opnum::Restorefh => restorefh::Outcome::read(alloc, bytes).map(|(v, r)| (OpResult::Restorefh(v), r)),
-            Opnum::Savefh => savefh::Outcome::read(alloc, bytes).map(|(v, r)| (OpResult::Savefh(v), r)),
-            Opnum::Setclientid => setclientid::Outcome::read(alloc, bytes).map(|(v, r)| (OpResult::Setclientid(v), r)),
-            Opnum::SetclientidConfirm => setclientid_confirm::Outcome::read(alloc, bytes).map(|(v, r)| (OpResult::SetclientidConfirm(v), r)),
+            Opnum::Access => access::Outcome::read(alloc, bytes).map(|(v, r)| (
+                OpResult::Access(v),
+                r,
+            )),
+            Opnum::Getattr => getattr::Outcome::read(alloc, bytes).map(|(v, r)| (
+                OpResult::Getattr(v),
+                r,
+            )),
+            Opnum::Getfh => getfh::Outcome::read(alloc, bytes).map(|(v, r)| (
+                OpResult::Getfh(v),
+                r,
+            )),
+            Opnum::Lookup => lookup::Outcome::read(alloc, bytes).map(|(v, r)| (
+                OpResult::Lookup(v),
+                r,
+            )),
+            Opnum::Putfh => putfh::Outcome::read(alloc, bytes).map(|(v, r)| (
+                OpResult::Putfh(v),
+                r,
+            )),
+            Opnum::Putrootfh => putrootfh::Outcome::read(alloc, bytes).map(|(v, r)| (
+                OpResult::Putrootfh(v),
+                r,
+            )),
+            Opnum::Restorefh => restorefh::Outcome::read(alloc, bytes).map(|(v, r)| (
+                OpResult::Restorefh(v),
+                r,
+            )),
+            Opnum::Savefh => savefh::Outcome::read(alloc, bytes).map(|(v, r)| (
+                OpResult::Savefh(v),
+                r,
+            )),
+            Opnum::Setclientid => setclientid::Outcome::read(alloc, bytes).map(|(v, r)| (
+                OpResult::Setclientid(v),
+                r,
+            )),
+            Opnum::SetclientidConfirm => setclientid_confirm::Outcome::read(alloc, bytes).map(|(
+                v,
+                r,
+            )| (OpResult::SetclientidConfirm(v), r)),
             Opnum::Unsupported(op) => read_unsupported(op, bytes),
             Opnum::Illegal => Answer::read(alloc, bytes).map(|(v, r)| (OpResult::Illegal(v), r)),
         }
@@ -118,7 +148,9 @@ impl Opnum {
             Opnum::Restorefh => OpResult::Restorefh(Answer::Refused(refusal)),
             Opnum::Savefh => OpResult::Savefh(Answer::Refused(refusal)),
             Opnum::Setclientid => OpResult::Setclientid(ClientAnswer::Refused(refusal)),
-            Opnum::SetclientidConfirm => OpResult::SetclientidConfirm(ClientAnswer::Refused(refusal)),
+            Opnum::SetclientidConfirm => OpResult::SetclientidConfirm(ClientAnswer::Refused(
+                refusal,
+            )),
             Opnum::Unsupported(op) => OpResult::Unsupported(op),
             Opnum::Illegal => OpResult::Illegal(Answer::Refused(refusal)),
         }
@@ -161,7 +193,11 @@ impl Wire for OpResult {
             OpResult::Restorefh(answer) => write_two(out, &Opnum::Restorefh, answer),
             OpResult::Savefh(answer) => write_two(out, &Opnum::Savefh, answer),
             OpResult::Setclientid(answer) => write_two(out, &Opnum::Setclientid, answer),
-            OpResult::SetclientidConfirm(answer) => write_two(out, &Opnum::SetclientidConfirm, answer),
+            OpResult::SetclientidConfirm(answer) => write_two(
+                out,
+                &Opnum::SetclientidConfirm,
+                answer,
+            ),
             OpResult::Unsupported(op) => write_unsupported(out, *op),
             OpResult::Illegal(answer) => write_two(out, &Opnum::Illegal, answer),
         }
