@@ -3,5 +3,6 @@ pub mod Places
 pub mod Gathering
 pub mod Splitting
 pub mod Taking
-pub mod AuthSysBodies
 pub mod Limits
+pub mod Groups
+pub mod Calls
