@@ -3,5 +3,6 @@ pub mod Standing
 pub mod Finding
 pub mod Taking
 pub mod Splitting
-pub mod AuthSysBodies
 pub mod Limits
+pub mod Groups
+pub mod Calls

@@ -4,3 +4,4 @@ pub mod AuthSys
 pub mod Credential
 pub mod Reply
 pub mod Call
+pub mod ReadingCalls

@@ -5,7 +5,7 @@ use Rattle.nfs_rpc.specs.declared.credential.TheConstants.{AUTH_NONE}
 use Rattle.nfs_rpc.specs.declared.reply.Reply.{Reply}
 use Rattle.nfs_rpc.specs.declared.reply.Reply.TheVariants.{Null, Compound, ProgUnavail, ProgMismatch, ProcUnavail, GarbageArgs, SystemError, RpcMismatch, AuthError}
 use Rattle.nfs_rpc.specs.declared.reply.TheConstants.{ACCEPTED_GARBAGE_ARGS, ACCEPTED_PROC_UNAVAIL, ACCEPTED_PROG_MISMATCH, ACCEPTED_PROG_UNAVAIL, ACCEPTED_SUCCESS, ACCEPTED_SYSTEM_ERR, AUTH_BADCRED, DENIED_AUTH_ERROR, DENIED_RPC_MISMATCH, MESSAGE_REPLY, REPLY_ACCEPTED, REPLY_DENIED}
-use Rattle.nfs_rpc.specs.Credential.{opaque_auth}
+use Rattle.nfs_rpc.specs.Credential.{OpaqueAuth, opaque_auth}
 use Rattle.nfs_xdr.specs.Compound.{compound_result}
 use Rattle.xdr.specs.Form.{Form, ◌and◌, u32, constant}
 use Rattle.xdr.specs.Switch.{Arm, arm}
@@ -23,7 +23,7 @@ Fix = Unit {0}
 -- struct accepted_reply { opaque_auth verf; union switch (accept_stat stat)
 --   { case SUCCESS: opaque results[0]; case PROG_MISMATCH: struct { unsigned int low; unsigned int high; } mismatch_info;
 --     default: void; } reply_data; };
-abbrev pub accepted : ℕ → Form (ℕ × (Fix × (Fix × ((ℕ × List ℕ) × Fix))))
+abbrev pub accepted : ℕ → Form (ℕ × (Fix × (Fix × (OpaqueAuth × Fix))))
 accepted state = u32 and constant MESSAGE_REPLY and constant REPLY_ACCEPTED and opaque_auth and constant state
 
 -- A denied reply, up to what comes with its state.
@@ -37,7 +37,7 @@ abbrev pub only_version : ℕ → Form (Fix × Fix)
 only_version version = constant version and constant version
 
 -- The fields of an accepted reply to the call of this xid. The verifier is empty.
-abbrev pub accepted_fields : ℕ → ℕ × (Fix × (Fix × ((ℕ × List ℕ) × Fix)))
+abbrev pub accepted_fields : ℕ → ℕ × (Fix × (Fix × (OpaqueAuth × Fix)))
 accepted_fields xid = (xid, (tt, (tt, ((AUTH_NONE, []), tt))))
 
 abbrev pub denied_fields : ℕ → ℕ × (Fix × (Fix × Fix))

@@ -10,9 +10,10 @@ mod records;
 mod reply;
 mod unfinished;
 
-pub use auth_sys::{GID_LIMIT, MACHINE_NAME_LIMIT, auth_sys_is_read};
+pub use auth_sys::{GID_LIMIT, MACHINE_NAME_LIMIT};
 pub use call::{
-    Call, MESSAGE_CALL, NFS_PROGRAM, NFS_VERSION, PROC_COMPOUND, PROC_NULL, RPC_VERSION, read_call,
+    Call, MESSAGE_CALL, NFS_PROGRAM, NFS_VERSION, PROC_COMPOUND, PROC_NULL, RPC_VERSION, one_call,
+    read_call,
 };
 pub use credential::{AUTH_NONE, AUTH_SYS, BODY_LIMIT};
 pub use numbers::numbers_of_messages;
