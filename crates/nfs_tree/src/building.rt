@@ -9,8 +9,8 @@ use crate::path::names_of;
 use crate::{
     DIRECTORY_LIMIT, Entry, FILE_LIMIT, Node, NodeKind, PATH_LIMIT, TEXT_LIMIT, Tree, TreeError,
 };
-use xdr::Bytes;
 use std::alloc::{AllocError, Global};
+use xdr::Bytes;
 
 /// The document of the tree that a server has without one of its own.
 pub const DEFAULT_TREE: &str = "[[file]]
