@@ -13,13 +13,15 @@ use Rattle.xdr.specs.Form.{Form, ◌and◌, of, u32, constant}
 use Rattle.xdr.specs.Switch.{Arm, arm}
 use Rattle.xdr.specs.Writing.{written_u32}
 
--- struct rpc_msg { unsigned int xid; union switch (msg_type mtype) { case REPLY: reply_body rbody; .. } body; };
+-- struct rpc_msg { unsigned int xid; union switch (msg_type mtype)
+--   { case CALL: call_body cbody; case REPLY: reply_body rbody; } body; };
 -- union reply_body switch (reply_stat stat)
 --   { case MSG_ACCEPTED: accepted_reply areply; case MSG_DENIED: rejected_reply rreply; };
 
 -- An accepted reply, up to what comes with its state: an xid and a verifier.
 -- struct accepted_reply { opaque_auth verf; union switch (accept_stat stat)
---   { case SUCCESS: opaque results[0]; case PROG_MISMATCH: struct { unsigned int low; unsigned int high; } mismatch_info;
+--   { case SUCCESS: opaque results[0];
+--     case PROG_MISMATCH: struct { unsigned int low; unsigned int high; } mismatch_info;
 --     default: void; } reply_data; };
 abbrev pub accepted : ℕ → Form (ℕ × OpaqueAuth)
 accepted state =
@@ -28,7 +30,8 @@ accepted state =
 
 -- A denied reply, up to what comes with its state: an xid.
 -- union rejected_reply switch (reject_stat stat)
---   { case RPC_MISMATCH: struct { unsigned int low; unsigned int high; } mismatch_info; case AUTH_ERROR: auth_stat stat; };
+--   { case RPC_MISMATCH: struct { unsigned int low; unsigned int high; } mismatch_info;
+--     case AUTH_ERROR: auth_stat stat; };
 abbrev pub denied : ℕ → Form ℕ
 denied state =
     of (λ p. p.0) (λ xid. (xid, (tt, (tt, tt)))) (λ p. refl) (λ xid. refl)
@@ -49,16 +52,21 @@ reply_arm xid (Compound c) =
     arm (accepted ACCEPTED_SUCCESS and compound_result)
     (λ v. Compound (record { status = v.1.0; tag = v.1.1.0; results = v.1.1.1 }))
     ((xid, no_verifier), (c.status, (c.tag, c.results)))
-reply_arm xid ProgUnavail = arm (accepted ACCEPTED_PROG_UNAVAIL) (λ v. ProgUnavail) (xid, no_verifier)
+reply_arm xid ProgUnavail =
+    arm (accepted ACCEPTED_PROG_UNAVAIL) (λ v. ProgUnavail) (xid, no_verifier)
 reply_arm xid ProgMismatch =
     arm (accepted ACCEPTED_PROG_MISMATCH and mismatch_info NFS_VERSION) (λ v. ProgMismatch)
     ((xid, no_verifier), (tt, tt))
-reply_arm xid ProcUnavail = arm (accepted ACCEPTED_PROC_UNAVAIL) (λ v. ProcUnavail) (xid, no_verifier)
-reply_arm xid GarbageArgs = arm (accepted ACCEPTED_GARBAGE_ARGS) (λ v. GarbageArgs) (xid, no_verifier)
+reply_arm xid ProcUnavail =
+    arm (accepted ACCEPTED_PROC_UNAVAIL) (λ v. ProcUnavail) (xid, no_verifier)
+reply_arm xid GarbageArgs =
+    arm (accepted ACCEPTED_GARBAGE_ARGS) (λ v. GarbageArgs) (xid, no_verifier)
 reply_arm xid SystemError = arm (accepted ACCEPTED_SYSTEM_ERR) (λ v. SystemError) (xid, no_verifier)
 reply_arm xid RpcMismatch =
-    arm (denied DENIED_RPC_MISMATCH and mismatch_info RPC_VERSION) (λ v. RpcMismatch) (xid, (tt, tt))
-reply_arm xid AuthError = arm (denied DENIED_AUTH_ERROR and constant AUTH_BADCRED) (λ v. AuthError) (xid, tt)
+    arm (denied DENIED_RPC_MISMATCH and mismatch_info RPC_VERSION) (λ v. RpcMismatch)
+    (xid, (tt, tt))
+reply_arm xid AuthError =
+    arm (denied DENIED_AUTH_ERROR and constant AUTH_BADCRED) (λ v. AuthError) (xid, tt)
 
 -- an accepted reply up to what comes with its state
 abbrev pub written_accepted : ℕ → ℕ → List ℕ

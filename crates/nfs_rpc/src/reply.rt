@@ -79,7 +79,8 @@ pub enum Reply {
 /// Writes the reply to the call of this xid at the end, or nothing. TooLong only where a length in it is above what four
 /// bytes can say.
 pub fn write_reply(out: &mut Vec<u8>, xid: u32, reply: &Reply) -> Result<(), WireError>
-    ensures { Writes out.old out.new result (written_reply xid reply.now) (IsWritable xid reply.now) }
+    ensures { Writes out.old out.new result
+        (written_reply xid reply.now) (IsWritable xid reply.now) }
 {
     match reply {
         Reply::Null => write_accepted(out, xid, ACCEPTED_SUCCESS),
@@ -115,7 +116,8 @@ fn write_compound(out: &mut Vec<u8>, xid: u32, reply: &CompoundReply) -> Result<
 }
 
 fn write_prog_mismatch(out: &mut Vec<u8>, xid: u32) -> Result<(), WireError>
-    ensures { Writes out.old out.new result (written_reply xid Reply.ProgMismatch) (IsWritable xid Reply.ProgMismatch) }
+    ensures { Writes out.old out.new result
+        (written_reply xid Reply.ProgMismatch) (IsWritable xid Reply.ProgMismatch) }
 {
     let start = out.len();
     write_accepted(out, xid, ACCEPTED_PROG_MISMATCH)?;
@@ -136,7 +138,8 @@ fn write_denied<A: Wire>(
     reason: &A,
 ) -> Result<(), WireError>
     ensures { Writes out.old out.new result
-        ((denied state and A.form).spelling (xid, reason.now)) ((denied state and A.form).Fits (xid, reason.now)) }
+        ((denied state and A.form).spelling (xid, reason.now))
+        ((denied state and A.form).Fits (xid, reason.now)) }
 {
     let start = out.len();
     write_four(out, &xid, &MESSAGE_REPLY, &REPLY_DENIED, &state)?;
