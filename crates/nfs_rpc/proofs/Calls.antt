@@ -18,7 +18,7 @@ use Rattle.nfs_rpc.specs.declared.credential.TheConstants.{AUTH_NONE, AUTH_SYS}
 use Rattle.nfs_rpc.specs.declared.reply.Reply.TheVariants.{RpcMismatch, AuthError, ProcUnavail, SystemError}
 use Rattle.nfs_rpc.specs.AuthSys.{AuthSys, auth_sys}
 use Rattle.nfs_rpc.specs.Credential.{IsOf, OpaqueAuth, principal_of, user_of}
-use Rattle.nfs_rpc.specs.Call.{Body, CallsFor, First, HasAnotherProcedure, HasAnotherProgram, HasAnotherRpc, HasAnotherVersion, HasCompound, HasGarbage, HasHeader, HasNoHeader, HasNoPrincipal, HasNull, IsCall, OneCall, OrRefused, body, header, start}
+use Rattle.nfs_rpc.specs.Call.{Body, CallHeader, CallsFor, First, HasAnotherProcedure, HasAnotherProgram, HasAnotherRpc, HasAnotherVersion, HasCompound, HasGarbage, HasHeader, HasNoHeader, HasNoPrincipal, HasNull, IsCall, OneCall, OrRefused, body, header, start}
 use Rattle.nfs_rpc.specs.ReadingCalls.{call_of, compound_or_garbage, header_call, header_of, procedure_call, read_or, some_or, start_call}
 
 -- what stands there is read
@@ -62,15 +62,15 @@ one_principal a p q first second =
     let same : ◌≡◌ {A = Option Principal} (Some p) (Some q) = sym (principal_complete a p first) ∙ principal_complete a q second in cc
 
 -- Headers. One that is read is the one that stands there.
-the_header : (Is : Start × Body → List ℕ → Type 0) (message : List ℕ) (h : Start × Body) (rest : List ℕ) → header.at message ≡ Ok (h, rest) → HasHeader Is message → Is h rest
+the_header : (Is : CallHeader → List ℕ → Type 0) (message : List ℕ) (h : CallHeader) (rest : List ℕ) → header.at message ≡ Ok (h, rest) → HasHeader Is message → Is h rest
 the_header Is message h rest read has =
     let same : (h, rest) ≡ (has.0, has.1) = ok_is (h, rest) (has.0, has.1) (sym read ∙ reads_there header message has.0 has.1 has.2) in
-    subst (λ (x : (Start × Body) × List ℕ). Is x.0 x.1) (sym same) has.3
+    subst (λ (x : CallHeader × List ℕ). Is x.0 x.1) (sym same) has.3
 
-has_header : (Is : Start × Body → List ℕ → Type 0) (message : List ℕ) (h : Start × Body) (rest : List ℕ) → header.at message ≡ Ok (h, rest) → Is h rest → HasHeader Is message
+has_header : (Is : CallHeader → List ℕ → Type 0) (message : List ℕ) (h : CallHeader) (rest : List ℕ) → header.at message ≡ Ok (h, rest) → Is h rest → HasHeader Is message
 has_header Is message h rest read is = (h, rest, header.reads.sound message h rest read, is)
 
-no_header : (message : List ℕ) (e : WireError) → header.at message ≡ Err e → (h : Start × Body) (rest : List ℕ) → Begins (header.layout h) message rest → ⊥
+no_header : (message : List ℕ) (e : WireError) → header.at message ≡ Err e → (h : CallHeader) (rest : List ℕ) → Begins (header.layout h) message rest → ⊥
 no_header = lacks header.layout header.at header.reads
 
 -- The rules in their order.
@@ -223,7 +223,7 @@ single_start message a b x y =
     let same : (x.0, x.1) ≡ (y.0, y.1) = ok_is (x.0, x.1) (y.0, y.1) (sym (reads_there start message x.0 x.1 x.2) ∙ reads_there start message y.0 y.1 y.2) in
     x.4 ∙ ap (λ (s : Start × List ℕ). Answer s.0.xid RpcMismatch) same ∙ sym y.4
 
-single_header : (message : List ℕ) (Is : Call → Start × Body → List ℕ → Type 0) → ((h : Start × Body) (rest : List ℕ) (a b : Call) → Is a h rest → Is b h rest → a ≡ b) → Single (λ call. HasHeader (Is call) message)
+single_header : (message : List ℕ) (Is : Call → CallHeader → List ℕ → Type 0) → ((h : CallHeader) (rest : List ℕ) (a b : Call) → Is a h rest → Is b h rest → a ≡ b) → Single (λ call. HasHeader (Is call) message)
 single_header message Is single a b x y =
     single x.0 x.1 a b x.3 (the_header (Is b) message x.0 x.1 (reads_there header message x.0 x.1 x.2) y)
 

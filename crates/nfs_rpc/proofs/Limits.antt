@@ -21,7 +21,7 @@ use Rattle.nfs_xdr.specs.ArgOp.{ends_list}
 use Rattle.nfs_rpc.specs.Call.{Body, HasFewOperations, IsWithinLimits, body, start}
 use Rattle.nfs_rpc.specs.ReadingCalls.{header_at, header_of}
 use Rattle.nfs_rpc.specs.declared.reply.TheConstants.{ACCEPTED_LEN, SHORT_REPLY_LEN}
-use Rattle.nfs_rpc.specs.Reply.{accepted, accepted_fields, written_reply}
+use Rattle.nfs_rpc.specs.Reply.{written_accepted, written_reply}
 
 held_rest : (count : ℕ) (rest : List ℕ) (ops : List ArgOp) (b : Bool) → ((ops : List ArgOp) → HoldOperations count rest ops → length ops ≤ count) → MatchBool b (ops ≡ []) (HoldOperations count rest ops) → length ops ≤ count
 held_rest count rest ops true below held = omega (arith, ap length held)
@@ -103,11 +103,11 @@ as_shortens view bytes (Err d) read given e = tt
 pub header_shortens : {X : Type 0} (view : X → Header × List ℕ) (bytes : List ℕ) (r : Result X WireError) → Answers view r (header_at bytes) → IfOk r (λ x. length (view x).1 + 28 ≤ length bytes)
 header_shortens view bytes r e = as_shortens view bytes r (body.at bytes) refl e
 
-pub length_accepted : (xid state : ℕ) → length ((accepted state).spelling (accepted_fields xid)) ≡ ACCEPTED_LEN
+pub length_accepted : (xid state : ℕ) → length (written_accepted xid state) ≡ ACCEPTED_LEN
 unfolding written_number written_opaque
 length_accepted xid state = refl
 
-pub accepted_is_short : (xid state : ℕ) → length ((accepted state).spelling (accepted_fields xid)) ≤ SHORT_REPLY_LEN
+pub accepted_is_short : (xid state : ℕ) → length (written_accepted xid state) ≤ SHORT_REPLY_LEN
 accepted_is_short xid state = omega (arith, length_accepted xid state)
 
 pub prog_mismatch_is_short : (xid : ℕ) → length (written_reply xid replies.ProgMismatch) ≤ SHORT_REPLY_LEN

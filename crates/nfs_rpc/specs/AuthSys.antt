@@ -15,10 +15,11 @@ pub record AuthSys : Type 0 where
 abbrev pub gids : Form (List ℕ)
 gids = many GID_LIMIT u32
 
--- struct authsys_parms
---   { unsigned int stamp; string machinename<255>; unsigned int uid; unsigned int gid; unsigned int gids<16>; };
+-- struct authsys_parms { unsigned int stamp; string machinename<255>; unsigned int uid; unsigned int gid;
+--   unsigned int gids<16>; };
 unfoldable pub auth_sys : Form AuthSys
 auth_sys =
-    of (λ p. record { stamp = p.0; machine_name = p.1.0; uid = p.1.1.0; gid = p.1.1.1.0; gids = p.1.1.1.1 })
+    of
+    (λ p. record { stamp = p.0; machine_name = p.1.0; uid = p.1.1.0; gid = p.1.1.1.0; gids = p.1.1.1.1 })
     (λ a. (a.stamp, (a.machine_name, (a.uid, (a.gid, a.gids))))) (λ p. refl) (λ a. refl)
     (u32 and opaque MACHINE_NAME_LIMIT and u32 and u32 and gids)

@@ -27,7 +27,8 @@ use Rattle.xdr.specs.Reading.{Begins}
 -- what a call begins with, which is judged whatever follows it: xid, CALL, rpcvers
 unfoldable pub start : Form Start
 start =
-    of (λ p. record { xid = p.0; rpc_version = p.1.1 }) (λ s. (s.xid, (tt, s.rpc_version))) (λ p. refl) (λ s. refl)
+    of (λ p. record { xid = p.0; rpc_version = p.1.1 }) (λ s. (s.xid, (tt, s.rpc_version)))
+    (λ p. refl) (λ s. refl)
     (u32 and constant MESSAGE_CALL and u32)
 
 -- prog, vers, proc, cred, verf
@@ -40,12 +41,23 @@ pub record Body : Type 0 where
 
 unfoldable pub body : Form Body
 body =
-    of (λ p. record { program = p.0; version = p.1.0; procedure = p.1.1.0; credential = p.1.1.1.0; verifier = p.1.1.1.1 })
-    (λ b. (b.program, (b.version, (b.procedure, (b.credential, b.verifier))))) (λ p. refl) (λ b. refl)
+    of
+    (λ p. record {
+      program = p.0;
+      version = p.1.0;
+      procedure = p.1.1.0;
+      credential = p.1.1.1.0;
+      verifier = p.1.1.1.1;
+    })
+    (λ b. (b.program, (b.version, (b.procedure, (b.credential, b.verifier)))))
+    (λ p. refl) (λ b. refl)
     (u32 and u32 and u32 and opaque_auth and opaque_auth)
 
 -- all that stands before the arguments
-abbrev pub header : Form (Start × Body)
+abbrev pub CallHeader : Type 0
+CallHeader = Start × Body
+
+abbrev pub header : Form CallHeader
 header = start and body
 
 -- The rules by which a record calls for something, in their order.
@@ -59,12 +71,12 @@ HasAnotherRpc message call =
 -- Where no header stands nothing is said.
 abbrev pub HasNoHeader : List ℕ → Call → Type 0
 HasNoHeader message call =
-    ((h : Start × Body) (rest : List ℕ) → Begins (header.layout h) message rest → ⊥) × (call ≡ Silent)
+    ((h : CallHeader) (rest : List ℕ) → Begins (header.layout h) message rest → ⊥) × (call ≡ Silent)
 
 -- a header stands there, of which, and of what is behind it, this is so
-abbrev pub HasHeader : (Start × Body → List ℕ → Type 0) → List ℕ → Type 0
+abbrev pub HasHeader : (CallHeader → List ℕ → Type 0) → List ℕ → Type 0
 HasHeader Is message =
-    (h : Start × Body) × (rest : List ℕ) × Begins (header.layout h) message rest × Is h rest
+    (h : CallHeader) × (rest : List ℕ) × Begins (header.layout h) message rest × Is h rest
 
 -- A credential that is of no principal is denied.
 abbrev pub HasNoPrincipal : List ℕ → Call → Type 0
@@ -74,24 +86,29 @@ HasNoPrincipal message call =
 
 abbrev pub HasAnotherProgram : List ℕ → Call → Type 0
 HasAnotherProgram message call =
-    HasHeader (λ h rest. (h.1.program ≡ NFS_PROGRAM → ⊥) × (call ≡ Answer h.0.xid ProgUnavail)) message
+    HasHeader (λ h rest.
+    (h.1.program ≡ NFS_PROGRAM → ⊥) × (call ≡ Answer h.0.xid ProgUnavail)) message
 
 abbrev pub HasAnotherVersion : List ℕ → Call → Type 0
 HasAnotherVersion message call =
-    HasHeader (λ h rest. (h.1.version ≡ NFS_VERSION → ⊥) × (call ≡ Answer h.0.xid ProgMismatch)) message
+    HasHeader (λ h rest.
+    (h.1.version ≡ NFS_VERSION → ⊥) × (call ≡ Answer h.0.xid ProgMismatch)) message
 
 abbrev pub HasNull : List ℕ → Call → Type 0
-HasNull message call = HasHeader (λ h rest. (h.1.procedure ≡ PROC_NULL) × (call ≡ Null h.0.xid)) message
+HasNull message call =
+    HasHeader (λ h rest. (h.1.procedure ≡ PROC_NULL) × (call ≡ Null h.0.xid)) message
 
 abbrev pub HasAnotherProcedure : List ℕ → Call → Type 0
 HasAnotherProcedure message call =
-    HasHeader (λ h rest. (h.1.procedure ≡ PROC_COMPOUND → ⊥) × (call ≡ Answer h.0.xid ProcUnavail)) message
+    HasHeader (λ h rest.
+    (h.1.procedure ≡ PROC_COMPOUND → ⊥) × (call ≡ Answer h.0.xid ProcUnavail)) message
 
 -- The arguments of a COMPOUND stand behind the header.
 abbrev pub HasCompound : List ℕ → Call → Type 0
 HasCompound message call =
     HasHeader (λ h rest.
-    (principal : Principal) × (compound : CompoundArgs) × IsOf h.1.credential principal × IsCompound compound rest
+    (principal : Principal) × (compound : CompoundArgs)
+    × IsOf h.1.credential principal × IsCompound compound rest
     × (call ≡ Compound h.0.xid principal compound)) message
 
 -- Anything else behind a header of COMPOUND is garbage.
@@ -107,24 +124,26 @@ First {V = V} (rule ∷ rules) value = rule value ⊎ (((any : V) → rule any �
 abbrev pub CallsFor : List ℕ → Call → Type 0
 CallsFor message =
     First (
-    HasAnotherRpc message ∷ HasNoHeader message ∷ HasNoPrincipal message ∷ HasAnotherProgram message
-    ∷ HasAnotherVersion message ∷ HasNull message ∷ HasAnotherProcedure message ∷ HasCompound message
-    ∷ HasGarbage message ∷ [])
+    HasAnotherRpc message ∷ HasNoHeader message ∷ HasNoPrincipal message
+    ∷ HasAnotherProgram message ∷ HasAnotherVersion message
+    ∷ HasNull message ∷ HasAnotherProcedure message ∷ HasCompound message ∷ HasGarbage message ∷ [])
 
 -- each record calls for one thing
 abbrev pub OneCall : Type 0
 OneCall =
     (message : List ℕ)
-    → (call : Call) × CallsFor message call × ((other : Call) → CallsFor message other → other ≡ call)
+    → (call : Call) × CallsFor message call
+    × ((other : Call) → CallsFor message other → other ≡ call)
 
 -- The call itself, or SYSTEM_ERR in place of a COMPOUND for which memory was refused.
 abbrev pub OrRefused : (Call → Type 0) → Call → Type 0
 OrRefused Is call =
     Is call
-    ⊎ ((xid : ℕ) × (principal : Principal) × (compound : CompoundArgs) × Is (Compound xid principal compound)
-    × (call ≡ Answer xid SystemError))
+    ⊎ ((xid : ℕ) × (principal : Principal) × (compound : CompoundArgs)
+    × Is (Compound xid principal compound) × (call ≡ Answer xid SystemError))
 
--- The call that is read. What is no COMPOUND is never answered SYSTEM_ERR, and garbage always GARBAGE_ARGS.
+-- The call that is read. What is no COMPOUND is never answered SYSTEM_ERR, and garbage always
+-- GARBAGE_ARGS.
 abbrev pub IsCall : List ℕ → Call → Type 0
 IsCall message = OrRefused (CallsFor message)
 
@@ -138,8 +157,8 @@ HasFewOperations (Operations ops) = length ops ≤ OPERATION_LIMIT
 abbrev pub IsShortReply : ℕ → Reply → Type 0
 IsShortReply xid reply = (length (written_reply xid reply) ≤ SHORT_REPLY_LEN) × IsWritable xid reply
 
--- Beside its tag a record that is a COMPOUND has the 40 bytes of a header with empty bodies, and 12 of the tag's length, the
--- minor version and the count.
+-- Beside its tag a record that is a COMPOUND has the 40 bytes of a header with empty bodies, and 12 of
+-- the tag's length, the minor version and the count.
 abbrev pub IsWithinLimits : ℕ → CompoundArgs → Type 0
 IsWithinLimits len c = (length c.tag + 52 ≤ len) × HasFewOperations c.request
 

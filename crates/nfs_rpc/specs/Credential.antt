@@ -14,13 +14,14 @@ OpaqueAuth = ℕ × List ℕ
 abbrev pub opaque_auth : Form OpaqueAuth
 opaque_auth = u32 and opaque BODY_LIMIT
 
--- The principal that a credential is of. AUTH_NONE is with any body, and of AUTH_SYS what is behind the groups is
--- ignored.
+-- The principal that a credential is of. AUTH_NONE is with any body, and of AUTH_SYS what is behind the
+-- groups is ignored.
 abbrev pub IsOf : OpaqueAuth → Principal → Type 0
 IsOf credential principals.AuthNone = credential.0 ≡ AUTH_NONE
 IsOf credential (principals.AuthSys uid) =
     (credential.0 ≡ AUTH_SYS)
-    × ((a : AuthSys) × (rest : List ℕ) × Begins (auth_sys.layout a) credential.1 rest × (a.uid ≡ uid))
+    × ((a : AuthSys) × (rest : List ℕ) × Begins (auth_sys.layout a) credential.1 rest
+    × (a.uid ≡ uid))
 
 -- Reading: the user, where the body could be read.
 abbrev pub user_of : Read AuthSys → Option Principal

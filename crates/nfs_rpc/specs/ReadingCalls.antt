@@ -1,4 +1,5 @@
--- What a record calls for, as it is read, check by check. The code does just this, and it is what `CallsFor` says.
+-- What a record calls for, as it is read, check by check. The code does just this, and it is what
+-- `CallsFor` says.
 use Rattle.std.specs.Prelude.{ℕ, ◌==◌, not, List, Option, Some, None, Result, Ok, Err, if◌then◌else◌}
 use Rattle.nfs_rpc.specs.declared.call.Call.{Call}
 use Rattle.nfs_rpc.specs.declared.call.Call.TheVariants.{Silent, Null, Compound, Answer}
@@ -17,7 +18,12 @@ use Rattle.xdr.specs.Reading.{Read, as_value}
 -- what is kept of a header behind the RPC version
 abbrev pub header_of : Body → Header
 header_of b =
-    record { program = b.program; version = b.version; procedure = b.procedure; principal = principal_of b.credential }
+    record {
+      program = b.program;
+      version = b.version;
+      procedure = b.procedure;
+      principal = principal_of b.credential;
+    }
 
 abbrev pub header_at : List ℕ → Read Header
 header_at = as_value header_of body.at

@@ -1,65 +1,79 @@
 -- RPC replies (RFC 5531, section 9).
 use Rattle.std.specs.Prelude.{ℕ, ◌+◌, ◌^◌, List, [], ◌++◌, length}
+use Rattle.std.proofs.Common.{refl}
 use Rattle.nfs_rpc.specs.declared.call.TheConstants.{NFS_VERSION, RPC_VERSION}
 use Rattle.nfs_rpc.specs.declared.credential.TheConstants.{AUTH_NONE}
+use Rattle.nfs_rpc.specs.declared.reply.CompoundReply.{CompoundReply}
 use Rattle.nfs_rpc.specs.declared.reply.Reply.{Reply}
 use Rattle.nfs_rpc.specs.declared.reply.Reply.TheVariants.{Null, Compound, ProgUnavail, ProgMismatch, ProcUnavail, GarbageArgs, SystemError, RpcMismatch, AuthError}
 use Rattle.nfs_rpc.specs.declared.reply.TheConstants.{ACCEPTED_GARBAGE_ARGS, ACCEPTED_PROC_UNAVAIL, ACCEPTED_PROG_MISMATCH, ACCEPTED_PROG_UNAVAIL, ACCEPTED_SUCCESS, ACCEPTED_SYSTEM_ERR, AUTH_BADCRED, DENIED_AUTH_ERROR, DENIED_RPC_MISMATCH, MESSAGE_REPLY, REPLY_ACCEPTED, REPLY_DENIED}
 use Rattle.nfs_rpc.specs.Credential.{OpaqueAuth, opaque_auth}
 use Rattle.nfs_xdr.specs.Compound.{compound_result}
-use Rattle.xdr.specs.Form.{Form, ◌and◌, u32, constant}
+use Rattle.xdr.specs.Form.{Form, ◌and◌, of, u32, constant}
 use Rattle.xdr.specs.Switch.{Arm, arm}
 use Rattle.xdr.specs.Writing.{written_u32}
 
--- what a constant leaves to say
-abbrev Fix : Type 0
-Fix = Unit {0}
-
--- struct rpc_msg { unsigned int xid; union switch (msg_type mtype) { case REPLY: reply_body rbody; } body; };
+-- struct rpc_msg { unsigned int xid; union switch (msg_type mtype)
+--   { case CALL: call_body cbody; case REPLY: reply_body rbody; } body; };
 -- union reply_body switch (reply_stat stat)
 --   { case MSG_ACCEPTED: accepted_reply areply; case MSG_DENIED: rejected_reply rreply; };
 
--- An accepted reply, up to what comes with its state.
+-- An accepted reply, up to what comes with its state: an xid and a verifier.
 -- struct accepted_reply { opaque_auth verf; union switch (accept_stat stat)
---   { case SUCCESS: opaque results[0]; case PROG_MISMATCH: struct { unsigned int low; unsigned int high; } mismatch_info;
+--   { case SUCCESS: opaque results[0];
+--     case PROG_MISMATCH: struct { unsigned int low; unsigned int high; } mismatch_info;
 --     default: void; } reply_data; };
-abbrev pub accepted : ℕ → Form (ℕ × (Fix × (Fix × (OpaqueAuth × Fix))))
-accepted state = u32 and constant MESSAGE_REPLY and constant REPLY_ACCEPTED and opaque_auth and constant state
+abbrev pub accepted : ℕ → Form (ℕ × OpaqueAuth)
+accepted state =
+    of (λ p. (p.0, p.1.1.1.0)) (λ v. (v.0, (tt, (tt, (v.1, tt))))) (λ p. refl) (λ v. refl)
+    (u32 and constant MESSAGE_REPLY and constant REPLY_ACCEPTED and opaque_auth and constant state)
 
--- A denied reply, up to what comes with its state.
+-- A denied reply, up to what comes with its state: an xid.
 -- union rejected_reply switch (reject_stat stat)
---   { case RPC_MISMATCH: struct { unsigned int low; unsigned int high; } mismatch_info; case AUTH_ERROR: auth_stat stat; };
-abbrev pub denied : ℕ → Form (ℕ × (Fix × (Fix × Fix)))
-denied state = u32 and constant MESSAGE_REPLY and constant REPLY_DENIED and constant state
+--   { case RPC_MISMATCH: struct { unsigned int low; unsigned int high; } mismatch_info;
+--     case AUTH_ERROR: auth_stat stat; };
+abbrev pub denied : ℕ → Form ℕ
+denied state =
+    of (λ p. p.0) (λ xid. (xid, (tt, (tt, tt)))) (λ p. refl) (λ xid. refl)
+    (u32 and constant MESSAGE_REPLY and constant REPLY_DENIED and constant state)
 
 -- struct { unsigned int low; unsigned int high; } mismatch_info, where one version is served
-abbrev pub only_version : ℕ → Form (Fix × Fix)
-only_version version = constant version and constant version
+abbrev pub mismatch_info : ℕ → Form (Unit {0} × Unit {0})
+mismatch_info version = constant version and constant version
 
--- The fields of an accepted reply to the call of this xid. The verifier is empty.
-abbrev pub accepted_fields : ℕ → ℕ × (Fix × (Fix × (OpaqueAuth × Fix)))
-accepted_fields xid = (xid, (tt, (tt, ((AUTH_NONE, []), tt))))
+-- the verifier of all replies
+abbrev pub no_verifier : OpaqueAuth
+no_verifier = (AUTH_NONE, [])
 
-abbrev pub denied_fields : ℕ → ℕ × (Fix × (Fix × Fix))
-denied_fields xid = (xid, (tt, (tt, tt)))
-
--- the form of a reply, and the reply to the call of this xid as a value of it
+-- A reply to the call of this xid: its form, and the value that is written in it.
 abbrev pub reply_arm : ℕ → Reply → Arm Reply
-reply_arm xid Null = arm (accepted ACCEPTED_SUCCESS) (λ v. Null) (accepted_fields xid)
+reply_arm xid Null = arm (accepted ACCEPTED_SUCCESS) (λ v. Null) (xid, no_verifier)
 reply_arm xid (Compound c) =
     arm (accepted ACCEPTED_SUCCESS and compound_result)
     (λ v. Compound (record { status = v.1.0; tag = v.1.1.0; results = v.1.1.1 }))
-    (accepted_fields xid, (c.status, (c.tag, c.results)))
-reply_arm xid ProgUnavail = arm (accepted ACCEPTED_PROG_UNAVAIL) (λ v. ProgUnavail) (accepted_fields xid)
+    ((xid, no_verifier), (c.status, (c.tag, c.results)))
+reply_arm xid ProgUnavail =
+    arm (accepted ACCEPTED_PROG_UNAVAIL) (λ v. ProgUnavail) (xid, no_verifier)
 reply_arm xid ProgMismatch =
-    arm (accepted ACCEPTED_PROG_MISMATCH and only_version NFS_VERSION) (λ v. ProgMismatch)
-    (accepted_fields xid, (tt, tt))
-reply_arm xid ProcUnavail = arm (accepted ACCEPTED_PROC_UNAVAIL) (λ v. ProcUnavail) (accepted_fields xid)
-reply_arm xid GarbageArgs = arm (accepted ACCEPTED_GARBAGE_ARGS) (λ v. GarbageArgs) (accepted_fields xid)
-reply_arm xid SystemError = arm (accepted ACCEPTED_SYSTEM_ERR) (λ v. SystemError) (accepted_fields xid)
+    arm (accepted ACCEPTED_PROG_MISMATCH and mismatch_info NFS_VERSION) (λ v. ProgMismatch)
+    ((xid, no_verifier), (tt, tt))
+reply_arm xid ProcUnavail =
+    arm (accepted ACCEPTED_PROC_UNAVAIL) (λ v. ProcUnavail) (xid, no_verifier)
+reply_arm xid GarbageArgs =
+    arm (accepted ACCEPTED_GARBAGE_ARGS) (λ v. GarbageArgs) (xid, no_verifier)
+reply_arm xid SystemError = arm (accepted ACCEPTED_SYSTEM_ERR) (λ v. SystemError) (xid, no_verifier)
 reply_arm xid RpcMismatch =
-    arm (denied DENIED_RPC_MISMATCH and only_version RPC_VERSION) (λ v. RpcMismatch) (denied_fields xid, (tt, tt))
-reply_arm xid AuthError = arm (denied DENIED_AUTH_ERROR and constant AUTH_BADCRED) (λ v. AuthError) (denied_fields xid, tt)
+    arm (denied DENIED_RPC_MISMATCH and mismatch_info RPC_VERSION) (λ v. RpcMismatch)
+    (xid, (tt, tt))
+reply_arm xid AuthError =
+    arm (denied DENIED_AUTH_ERROR and constant AUTH_BADCRED) (λ v. AuthError) (xid, tt)
+
+-- an accepted reply up to what comes with its state
+abbrev pub written_accepted : ℕ → ℕ → List ℕ
+written_accepted xid state = (accepted state).spelling (xid, no_verifier)
+
+abbrev pub written_compound_reply : CompoundReply → List ℕ
+written_compound_reply c = compound_result.spelling (c.status, (c.tag, c.results))
 
 -- the one spelling of a reply to the call of this xid
 abbrev pub written_reply : ℕ → Reply → List ℕ

@@ -13,7 +13,8 @@ pub const GID_LIMIT: u32 = 16;
 // The user that the body of a credential of AUTH_SYS is of. The rest is read and passed over.
 #[tactic(auto, unfolding(crate::specs::AuthSys::auth_sys))]
 pub(crate) fn read_uid(body: &[u8]) -> Result<(u32, &[u8]), WireError>
-    ensures { Answers (λ x. (x.0, x.1.now)) result (as_value (λ (a : AuthSys). a.uid) auth_sys.at body.now) }
+    ensures { Answers (λ x. (x.0, x.1.now)) result
+        (as_value (λ (a : AuthSys). a.uid) auth_sys.at body.now) }
 {
     let (_, rest) = read_u32(body)?;
     let (_, rest) = read_opaque(rest, MACHINE_NAME_LIMIT)?;
@@ -26,7 +27,8 @@ pub(crate) fn read_uid(body: &[u8]) -> Result<(u32, &[u8]), WireError>
 // The groups are passed over.
 #[tactic(auto, unfolding(xdr::specs::Reading::many_at, xdr::specs::Reading::number_at))]
 fn pass_gids(bytes: &[u8]) -> Result<((), &[u8]), WireError>
-    ensures { Answers (λ x. (x.0, x.1.now)) result (as_value (λ (numbers : List ℕ). tt) gids.at bytes.now) }
+    ensures { Answers (λ x. (x.0, x.1.now)) result
+        (as_value (λ (numbers : List ℕ). tt) gids.at bytes.now) }
 {
     let (count, rest) = read_u32(bytes)?;
     if count > GID_LIMIT {

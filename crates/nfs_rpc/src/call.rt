@@ -59,7 +59,7 @@ struct Header {
 /// A call is refused by the first of these that is so: another RPC version, a credential that isn't served or can't be read,
 /// another program, another version of it, no such procedure, arguments of COMPOUND that can't be read. Nothing is said where
 /// a record isn't a call, or ends before its verifier does, but for the RPC version, which is judged at once. Where memory
-/// is refused while a COMPOUND is read, it is to be answered SYSTEM_ERR.
+/// is refused for a COMPOUND whose arguments are there, it is to be answered SYSTEM_ERR.
 pub fn read_call(alloc: Global, message: &[u8]) -> Call
     ensures call { IsCall message.now result }
     ensures limits { IsCallWithinLimits (length message.now) result }
@@ -99,7 +99,8 @@ fn call_from(alloc: Global, message: &[u8]) -> Call
 
 // The call of COMPOUND with these arguments, behind a header of at least 40 bytes.
 fn compound_call(alloc: Global, xid: u32, principal: Principal, bytes: &[u8]) -> Call
-    ensures call { OrRefused (λ call. call ≡ compound_or_garbage xid principal (compound_at bytes.now)) result }
+    ensures call { OrRefused
+        (λ call. call ≡ compound_or_garbage xid principal (compound_at bytes.now)) result }
     ensures limits { IsCallWithinLimits (40 + length bytes.now) result }
 {
     match read_compound(alloc, bytes) {

@@ -17,7 +17,8 @@ pub const BODY_LIMIT: u32 = 400;
 
 // The principal of a credential, or `None` where its flavor isn't served or its body can't be read.
 pub(crate) fn read_credential(bytes: &[u8]) -> Result<(Option<Principal>, &[u8]), WireError>
-    ensures { Answers (λ x. (x.0, x.1.now)) result (as_value principal_of opaque_auth.at bytes.now) }
+    ensures { Answers (λ x. (x.0, x.1.now)) result
+        (as_value principal_of opaque_auth.at bytes.now) }
 {
     let ((flavor, body), rest) = read_opaque_auth(bytes)?;
     Ok((principal_of(flavor, body), rest))

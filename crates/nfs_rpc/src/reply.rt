@@ -1,5 +1,5 @@
 ghost use Rattle.std.specs.Prelude.{[]};
-ghost use Rattle.nfs_rpc.specs.Reply.{IsWritable, accepted, accepted_fields, denied, denied_fields, written_reply};
+ghost use Rattle.nfs_rpc.specs.Reply.{IsWritable, accepted, denied, no_verifier, written_accepted, written_reply};
 ghost use Rattle.nfs_xdr.specs.Compound.{compound_result};
 ghost use Rattle.xdr.specs.Form.{◌and◌};
 ghost use Rattle.xdr.specs.Writing.{Writes};
@@ -79,7 +79,8 @@ pub enum Reply {
 /// Writes the reply to the call of this xid at the end, or nothing. TooLong only where a length in it is above what four
 /// bytes can say.
 pub fn write_reply(out: &mut Vec<u8>, xid: u32, reply: &Reply) -> Result<(), WireError>
-    ensures { Writes out.old out.new result (written_reply xid reply.now) (IsWritable xid reply.now) }
+    ensures { Writes out.old out.new result
+        (written_reply xid reply.now) (IsWritable xid reply.now) }
 {
     match reply {
         Reply::Null => write_accepted(out, xid, ACCEPTED_SUCCESS),
@@ -115,7 +116,8 @@ fn write_compound(out: &mut Vec<u8>, xid: u32, reply: &CompoundReply) -> Result<
 }
 
 fn write_prog_mismatch(out: &mut Vec<u8>, xid: u32) -> Result<(), WireError>
-    ensures { Writes out.old out.new result (written_reply xid Reply.ProgMismatch) (IsWritable xid Reply.ProgMismatch) }
+    ensures { Writes out.old out.new result
+        (written_reply xid Reply.ProgMismatch) (IsWritable xid Reply.ProgMismatch) }
 {
     let start = out.len();
     write_accepted(out, xid, ACCEPTED_PROG_MISMATCH)?;
@@ -136,8 +138,8 @@ fn write_denied<A: Wire>(
     reason: &A,
 ) -> Result<(), WireError>
     ensures { Writes out.old out.new result
-        ((denied state and A.form).spelling (denied_fields xid, reason.now))
-        ((denied state and A.form).Fits (denied_fields xid, reason.now)) }
+        ((denied state and A.form).spelling (xid, reason.now))
+        ((denied state and A.form).Fits (xid, reason.now)) }
 {
     let start = out.len();
     write_four(out, &xid, &MESSAGE_REPLY, &REPLY_DENIED, &state)?;
@@ -154,7 +156,7 @@ fn write_denied<A: Wire>(
 #[tactic(auto, unfolding(xdr::specs::Writing::written_opaque, xdr::specs::Writing::written_number))]
 fn write_accepted(out: &mut Vec<u8>, xid: u32, state: u32) -> Result<(), WireError>
     ensures { Writes out.old out.new result
-        ((accepted state).spelling (accepted_fields xid)) ((accepted state).Fits (accepted_fields xid)) }
+        (written_accepted xid state) ((accepted state).Fits (xid, no_verifier)) }
 {
     write_five(
         out,
