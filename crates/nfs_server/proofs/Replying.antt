@@ -14,7 +14,7 @@ use Rattle.nfs_server.specs.Answering.{compound_outcome, compound_reply, head_si
 use Rattle.nfs_server.specs.Asking.{Asks, Question, question_of}
 use Rattle.nfs_rpc.specs.Call.{IsCall}
 use Rattle.nfs_server.specs.Connection.{Exchange, IsExchanged, written_for}
-use Rattle.nfs_rpc.specs.Reply.{accepted, accepted_fields, written_record, written_reply}
+use Rattle.nfs_rpc.specs.Reply.{written_accepted, written_record, written_reply}
 use Rattle.nfs_xdr.specs.declared.compound.Compound.{Compound}
 use Rattle.nfs_xdr.specs.Compound.{compound_result}
 use Rattle.nfs_xdr.specs.Status.{status}
@@ -24,7 +24,7 @@ use Rattle.nfs_xdr.specs.OpResult.{op_result}
 use Rattle.xdr.specs.Writing.{written_number, written_opaque, written_u32, zeros}
 use Rattle.xdr.specs.Layout.{padding_of}
 
-pub length_accepted : (xid state : ℕ) → length ((accepted state).spelling (accepted_fields xid)) ≡ ACCEPTED_LEN
+pub length_accepted : (xid state : ℕ) → length (written_accepted xid state) ≡ ACCEPTED_LEN
 unfolding written_opaque written_number
 length_accepted xid state = refl
 
@@ -44,7 +44,7 @@ reply_len reply = omega (arith, length-append (written_opaque reply.tag) (writte
 
 -- the reply to a COMPOUND has room
 pub reply_fits : (xid : ℕ) (reply : CompoundReply) → ACCEPTED_LEN + length (result_of reply) ≤ RECORD_LIMIT → length (written_reply xid (replies.Compound reply)) ≤ RECORD_LIMIT
-reply_fits xid reply fits = omega (arith, length-append ((accepted ACCEPTED_SUCCESS).spelling (accepted_fields xid)) (result_of reply), length_accepted xid ACCEPTED_SUCCESS)
+reply_fits xid reply fits = omega (arith, length-append (written_accepted xid ACCEPTED_SUCCESS) (result_of reply), length_accepted xid ACCEPTED_SUCCESS)
 
 pub on_ok : {T E : Type 0} (r : Result T E) (P Q : Type 0) → (P → Q) → OnOk r P → OnOk r Q
 on_ok (Ok x) P Q f p = f p
