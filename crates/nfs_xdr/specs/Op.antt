@@ -2,7 +2,7 @@
 use Rattle.std.specs.Prelude.{Bool}
 use Rattle.std.proofs.Common.{refl}
 use Rattle.nfs_xdr.specs.declared.op.Op.{Op}
-use Rattle.nfs_xdr.specs.declared.op.Op.TheVariants.{Access, Getattr, Getfh, Lookup, Putfh, Putrootfh, Restorefh, Savefh, Setclientid, SetclientidConfirm}
+use Rattle.nfs_xdr.specs.declared.op.Op.TheVariants as ops
 use Rattle.nfs_xdr.specs.declared.opnum.Opnum.{Opnum}
 use Rattle.nfs_xdr.specs.declared.opnum.Opnum.TheVariants as opnums
 use Rattle.nfs_xdr.specs.Opnum.{class_of, is_entered, is_of_tree, opnum}
@@ -21,43 +21,43 @@ use Rattle.xdr.specs.Switch.{Case, case, no_case, Arm, arm, Agrees, IsRead}
 use Rattle.xdr.specs.Union.{switch}
 
 abbrev pub opnum_of : Op → Opnum
-opnum_of (Access arguments) = opnums.Access
-opnum_of (Getattr arguments) = opnums.Getattr
-opnum_of Getfh = opnums.Getfh
-opnum_of (Lookup arguments) = opnums.Lookup
-opnum_of (Putfh arguments) = opnums.Putfh
-opnum_of Putrootfh = opnums.Putrootfh
-opnum_of Restorefh = opnums.Restorefh
-opnum_of Savefh = opnums.Savefh
-opnum_of (Setclientid arguments) = opnums.Setclientid
-opnum_of (SetclientidConfirm arguments) = opnums.SetclientidConfirm
+opnum_of (ops.Access arguments) = opnums.Access
+opnum_of (ops.Getattr arguments) = opnums.Getattr
+opnum_of ops.Getfh = opnums.Getfh
+opnum_of (ops.Lookup arguments) = opnums.Lookup
+opnum_of (ops.Putfh arguments) = opnums.Putfh
+opnum_of ops.Putrootfh = opnums.Putrootfh
+opnum_of ops.Restorefh = opnums.Restorefh
+opnum_of ops.Savefh = opnums.Savefh
+opnum_of (ops.Setclientid arguments) = opnums.Setclientid
+opnum_of (ops.SetclientidConfirm arguments) = opnums.SetclientidConfirm
 
 -- union nfs_argop4 switch (nfs_opnum4 argop)
 abbrev pub op_case : Opnum → Case Op
-op_case opnums.Access = case access.arguments Access
-op_case opnums.Getattr = case getattr.arguments Getattr
-op_case opnums.Getfh = case getfh.arguments (λ v. Getfh)
-op_case opnums.Lookup = case lookup.arguments Lookup
-op_case opnums.Putfh = case putfh.arguments Putfh
-op_case opnums.Putrootfh = case putrootfh.arguments (λ v. Putrootfh)
-op_case opnums.Restorefh = case restorefh.arguments (λ v. Restorefh)
-op_case opnums.Savefh = case savefh.arguments (λ v. Savefh)
-op_case opnums.Setclientid = case setclientid.arguments Setclientid
-op_case opnums.SetclientidConfirm = case setclientid_confirm.arguments SetclientidConfirm
+op_case opnums.Access = case access.arguments ops.Access
+op_case opnums.Getattr = case getattr.arguments ops.Getattr
+op_case opnums.Getfh = case getfh.arguments (λ v. ops.Getfh)
+op_case opnums.Lookup = case lookup.arguments ops.Lookup
+op_case opnums.Putfh = case putfh.arguments ops.Putfh
+op_case opnums.Putrootfh = case putrootfh.arguments (λ v. ops.Putrootfh)
+op_case opnums.Restorefh = case restorefh.arguments (λ v. ops.Restorefh)
+op_case opnums.Savefh = case savefh.arguments (λ v. ops.Savefh)
+op_case opnums.Setclientid = case setclientid.arguments ops.Setclientid
+op_case opnums.SetclientidConfirm = case setclientid_confirm.arguments ops.SetclientidConfirm
 op_case (opnums.Unsupported o) = no_case
 op_case opnums.Illegal = no_case
 
 abbrev pub op_arm : Op → Arm Op
-op_arm (Access v) = arm access.arguments Access v
-op_arm (Getattr v) = arm getattr.arguments Getattr v
-op_arm Getfh = arm getfh.arguments (λ v. Getfh) tt
-op_arm (Lookup v) = arm lookup.arguments Lookup v
-op_arm (Putfh v) = arm putfh.arguments Putfh v
-op_arm Putrootfh = arm putrootfh.arguments (λ v. Putrootfh) tt
-op_arm Restorefh = arm restorefh.arguments (λ v. Restorefh) tt
-op_arm Savefh = arm savefh.arguments (λ v. Savefh) tt
-op_arm (Setclientid v) = arm setclientid.arguments Setclientid v
-op_arm (SetclientidConfirm v) = arm setclientid_confirm.arguments SetclientidConfirm v
+op_arm (ops.Access v) = arm access.arguments ops.Access v
+op_arm (ops.Getattr v) = arm getattr.arguments ops.Getattr v
+op_arm ops.Getfh = arm getfh.arguments (λ v. ops.Getfh) tt
+op_arm (ops.Lookup v) = arm lookup.arguments ops.Lookup v
+op_arm (ops.Putfh v) = arm putfh.arguments ops.Putfh v
+op_arm ops.Putrootfh = arm putrootfh.arguments (λ v. ops.Putrootfh) tt
+op_arm ops.Restorefh = arm restorefh.arguments (λ v. ops.Restorefh) tt
+op_arm ops.Savefh = arm savefh.arguments (λ v. ops.Savefh) tt
+op_arm (ops.Setclientid v) = arm setclientid.arguments ops.Setclientid v
+op_arm (ops.SetclientidConfirm v) = arm setclientid_confirm.arguments ops.SetclientidConfirm v
 
 pub op_agrees : (o : Opnum) → Agrees opnum_of op_arm o (op_case o)
 op_agrees opnums.Illegal = tt
@@ -65,7 +65,7 @@ op_agrees (opnums.Unsupported o) = tt
 op_agrees o = λ v. (refl, refl)
 
 pub op_is_read : (o : Op) → IsRead op_case opnum_of op_arm o
-op_is_read Savefh = record { is = refl; reads = λ bytes. refl }
+op_is_read ops.Savefh = record { is = refl; reads = λ bytes. refl }
 op_is_read o = record { is = refl; reads = λ bytes. refl }
 
 unfoldable pub op : Form Op

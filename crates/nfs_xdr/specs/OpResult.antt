@@ -3,7 +3,7 @@ use Rattle.std.proofs.Common.{refl}
 use Rattle.nfs_xdr.specs.declared.answer.Answer.TheVariants as answers
 use Rattle.nfs_xdr.specs.declared.client_answer.ClientAnswer.TheVariants as client_answers
 use Rattle.nfs_xdr.specs.declared.op_result.OpResult.{OpResult}
-use Rattle.nfs_xdr.specs.declared.op_result.OpResult.TheVariants.{Access, Getattr, Getfh, Lookup, Putfh, Putrootfh, Restorefh, Savefh, Setclientid, SetclientidConfirm, Unsupported, Illegal}
+use Rattle.nfs_xdr.specs.declared.op_result.OpResult.TheVariants as results
 use Rattle.nfs_xdr.specs.declared.opnum.Opnum.{Opnum}
 use Rattle.nfs_xdr.specs.declared.opnum.Opnum.TheVariants as opnums
 use Rattle.nfs_xdr.specs.declared.opnum.Unsupported.{Unsupported as UnsupportedOp}
@@ -30,32 +30,32 @@ use Rattle.xdr.specs.Switch.{Case, case, Arm, arm, Agrees, IsRead}
 use Rattle.xdr.specs.Union.{switch}
 
 abbrev pub opnum_of : OpResult → Opnum
-opnum_of (Access answer) = opnums.Access
-opnum_of (Getattr answer) = opnums.Getattr
-opnum_of (Getfh answer) = opnums.Getfh
-opnum_of (Lookup answer) = opnums.Lookup
-opnum_of (Putfh answer) = opnums.Putfh
-opnum_of (Putrootfh answer) = opnums.Putrootfh
-opnum_of (Restorefh answer) = opnums.Restorefh
-opnum_of (Savefh answer) = opnums.Savefh
-opnum_of (Setclientid answer) = opnums.Setclientid
-opnum_of (SetclientidConfirm answer) = opnums.SetclientidConfirm
-opnum_of (Unsupported o) = opnums.Unsupported o
-opnum_of (Illegal answer) = opnums.Illegal
+opnum_of (results.Access answer) = opnums.Access
+opnum_of (results.Getattr answer) = opnums.Getattr
+opnum_of (results.Getfh answer) = opnums.Getfh
+opnum_of (results.Lookup answer) = opnums.Lookup
+opnum_of (results.Putfh answer) = opnums.Putfh
+opnum_of (results.Putrootfh answer) = opnums.Putrootfh
+opnum_of (results.Restorefh answer) = opnums.Restorefh
+opnum_of (results.Savefh answer) = opnums.Savefh
+opnum_of (results.Setclientid answer) = opnums.Setclientid
+opnum_of (results.SetclientidConfirm answer) = opnums.SetclientidConfirm
+opnum_of (results.Unsupported o) = opnums.Unsupported o
+opnum_of (results.Illegal answer) = opnums.Illegal
 
 abbrev pub status_of : OpResult → Status
-status_of (Access a) = answer.status_of a
-status_of (Getattr a) = answer.status_of a
-status_of (Getfh a) = answer.status_of a
-status_of (Lookup a) = answer.status_of a
-status_of (Putfh a) = answer.status_of a
-status_of (Putrootfh a) = answer.status_of a
-status_of (Restorefh a) = answer.status_of a
-status_of (Savefh a) = answer.status_of a
-status_of (Setclientid a) = client_answer.status_of a
-status_of (SetclientidConfirm a) = client_answer.status_of a
-status_of (Unsupported o) = statuses.Refused refusals.NotSupp
-status_of (Illegal a) = answer.status_of a
+status_of (results.Access a) = answer.status_of a
+status_of (results.Getattr a) = answer.status_of a
+status_of (results.Getfh a) = answer.status_of a
+status_of (results.Lookup a) = answer.status_of a
+status_of (results.Putfh a) = answer.status_of a
+status_of (results.Putrootfh a) = answer.status_of a
+status_of (results.Restorefh a) = answer.status_of a
+status_of (results.Savefh a) = answer.status_of a
+status_of (results.Setclientid a) = client_answer.status_of a
+status_of (results.SetclientidConfirm a) = client_answer.status_of a
+status_of (results.Unsupported o) = statuses.Refused refusals.NotSupp
+status_of (results.Illegal a) = answer.status_of a
 
 -- NFS4ERR_NOTSUPP. SETATTR's result has a bitmap with every status: here an empty one.
 abbrev pub unsupported_answer : UnsupportedOp → Form (Unit {0} × Unit {0})
@@ -64,39 +64,39 @@ unsupported_answer o = constant 10004 and nothing
 
 -- union nfs_resop4 switch (nfs_opnum4 resop)
 abbrev pub result_case : Opnum → Case OpResult
-result_case opnums.Access = case access.result Access
-result_case opnums.Getattr = case getattr.result Getattr
-result_case opnums.Getfh = case getfh.result Getfh
-result_case opnums.Lookup = case lookup.result Lookup
-result_case opnums.Putfh = case putfh.result Putfh
-result_case opnums.Putrootfh = case putrootfh.result Putrootfh
-result_case opnums.Restorefh = case restorefh.result Restorefh
-result_case opnums.Savefh = case savefh.result Savefh
-result_case opnums.Setclientid = case setclientid.result Setclientid
-result_case opnums.SetclientidConfirm = case setclientid_confirm.result SetclientidConfirm
-result_case (opnums.Unsupported o) = case (unsupported_answer o) (λ v. Unsupported o)
-result_case opnums.Illegal = case (answer.answer nothing) Illegal
+result_case opnums.Access = case access.result results.Access
+result_case opnums.Getattr = case getattr.result results.Getattr
+result_case opnums.Getfh = case getfh.result results.Getfh
+result_case opnums.Lookup = case lookup.result results.Lookup
+result_case opnums.Putfh = case putfh.result results.Putfh
+result_case opnums.Putrootfh = case putrootfh.result results.Putrootfh
+result_case opnums.Restorefh = case restorefh.result results.Restorefh
+result_case opnums.Savefh = case savefh.result results.Savefh
+result_case opnums.Setclientid = case setclientid.result results.Setclientid
+result_case opnums.SetclientidConfirm = case setclientid_confirm.result results.SetclientidConfirm
+result_case (opnums.Unsupported o) = case (unsupported_answer o) (λ v. results.Unsupported o)
+result_case opnums.Illegal = case (answer.answer nothing) results.Illegal
 
 abbrev pub result_arm : OpResult → Arm OpResult
-result_arm (Access a) = arm access.result Access a
-result_arm (Getattr a) = arm getattr.result Getattr a
-result_arm (Getfh a) = arm getfh.result Getfh a
-result_arm (Lookup a) = arm lookup.result Lookup a
-result_arm (Putfh a) = arm putfh.result Putfh a
-result_arm (Putrootfh a) = arm putrootfh.result Putrootfh a
-result_arm (Restorefh a) = arm restorefh.result Restorefh a
-result_arm (Savefh a) = arm savefh.result Savefh a
-result_arm (Setclientid a) = arm setclientid.result Setclientid a
-result_arm (SetclientidConfirm a) = arm setclientid_confirm.result SetclientidConfirm a
-result_arm (Unsupported o) = arm (unsupported_answer o) (λ v. Unsupported o) (tt, tt)
-result_arm (Illegal a) = arm (answer.answer nothing) Illegal a
+result_arm (results.Access a) = arm access.result results.Access a
+result_arm (results.Getattr a) = arm getattr.result results.Getattr a
+result_arm (results.Getfh a) = arm getfh.result results.Getfh a
+result_arm (results.Lookup a) = arm lookup.result results.Lookup a
+result_arm (results.Putfh a) = arm putfh.result results.Putfh a
+result_arm (results.Putrootfh a) = arm putrootfh.result results.Putrootfh a
+result_arm (results.Restorefh a) = arm restorefh.result results.Restorefh a
+result_arm (results.Savefh a) = arm savefh.result results.Savefh a
+result_arm (results.Setclientid a) = arm setclientid.result results.Setclientid a
+result_arm (results.SetclientidConfirm a) = arm setclientid_confirm.result results.SetclientidConfirm a
+result_arm (results.Unsupported o) = arm (unsupported_answer o) (λ v. results.Unsupported o) (tt, tt)
+result_arm (results.Illegal a) = arm (answer.answer nothing) results.Illegal a
 
 pub result_agrees : (o : Opnum) → Agrees opnum_of result_arm o (result_case o)
 result_agrees opnums.Illegal = λ a. (refl, refl)
 result_agrees o = λ a. (refl, refl)
 
 pub result_is_read : (r : OpResult) → IsRead result_case opnum_of result_arm r
-result_is_read (Illegal a) = record { is = refl; reads = λ bytes. refl }
+result_is_read (results.Illegal a) = record { is = refl; reads = λ bytes. refl }
 result_is_read r = record { is = refl; reads = λ bytes. refl }
 
 unfoldable pub op_result : Form OpResult
@@ -104,15 +104,15 @@ op_result = switch opnum result_case opnum_of result_arm result_agrees result_is
 
 -- The result of an operation that is refused with this status. One without a rule has but one result.
 abbrev pub refusal_of : Opnum → Refusal → OpResult
-refusal_of opnums.Access r = Access (answers.Refused r)
-refusal_of opnums.Getattr r = Getattr (answers.Refused r)
-refusal_of opnums.Getfh r = Getfh (answers.Refused r)
-refusal_of opnums.Lookup r = Lookup (answers.Refused r)
-refusal_of opnums.Putfh r = Putfh (answers.Refused r)
-refusal_of opnums.Putrootfh r = Putrootfh (answers.Refused r)
-refusal_of opnums.Restorefh r = Restorefh (answers.Refused r)
-refusal_of opnums.Savefh r = Savefh (answers.Refused r)
-refusal_of opnums.Setclientid r = Setclientid (client_answers.Refused r)
-refusal_of opnums.SetclientidConfirm r = SetclientidConfirm (client_answers.Refused r)
-refusal_of (opnums.Unsupported o) r = Unsupported o
-refusal_of opnums.Illegal r = Illegal (answers.Refused r)
+refusal_of opnums.Access r = results.Access (answers.Refused r)
+refusal_of opnums.Getattr r = results.Getattr (answers.Refused r)
+refusal_of opnums.Getfh r = results.Getfh (answers.Refused r)
+refusal_of opnums.Lookup r = results.Lookup (answers.Refused r)
+refusal_of opnums.Putfh r = results.Putfh (answers.Refused r)
+refusal_of opnums.Putrootfh r = results.Putrootfh (answers.Refused r)
+refusal_of opnums.Restorefh r = results.Restorefh (answers.Refused r)
+refusal_of opnums.Savefh r = results.Savefh (answers.Refused r)
+refusal_of opnums.Setclientid r = results.Setclientid (client_answers.Refused r)
+refusal_of opnums.SetclientidConfirm r = results.SetclientidConfirm (client_answers.Refused r)
+refusal_of (opnums.Unsupported o) r = results.Unsupported o
+refusal_of opnums.Illegal r = results.Illegal (answers.Refused r)

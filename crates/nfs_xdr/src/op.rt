@@ -8,6 +8,57 @@ use crate::{Bitmap, Class, FileHandle, Opnum, Setclientid, SetclientidConfirm};
 use std::alloc::Global;
 use xdr::{Bytes, Wire, WireError, write_two};
 
+// One line for each operation: those with arguments, and those without.
+macro_rules! each_op {
+    ($then:ident, $($given:tt)*) => {
+        $then!(
+            [
+                Access,
+                Getattr,
+                Lookup,
+                Putfh,
+                Setclientid,
+                SetclientidConfirm,
+            ]
+            [
+                Getfh,
+                Putrootfh,
+                Restorefh,
+                Savefh,
+            ]
+            $($given)*
+        )
+    };
+}
+
+macro_rules! opnum_of_op {
+    ([$($With:ident,)*] [$($Without:ident,)*] $op:expr) => {
+        match $op {
+            $(Op::$With(_) => Opnum::$With,)*
+            $(Op::$Without => Opnum::$Without,)*
+        }
+    };
+}
+
+macro_rules! read_arguments_of {
+    ([$($With:ident,)*] [$($Without:ident,)*] $opnum:expr, $alloc:expr, $bytes:expr) => {
+        match $opnum {
+            $(Opnum::$With => Wire::read($alloc, $bytes).map(|(v, rest)| (Op::$With(v), rest)),)*
+            $(Opnum::$Without => Ok((Op::$Without, $bytes)),)*
+            Opnum::Unsupported(_) | Opnum::Illegal => Err(WireError::Short),
+        }
+    };
+}
+
+macro_rules! write_op_of {
+    ([$($With:ident,)*] [$($Without:ident,)*] $op:expr, $out:expr) => {
+        match $op {
+            $(Op::$With(v) => write_two($out, &Opnum::$With, v),)*
+            $(Op::$Without => write_two($out, &Opnum::$Without, &()),)*
+        }
+    };
+}
+
 /// An operation of a COMPOUND that this server has a rule for, with its arguments (nfs_argop4).
 #[derive(Clone, Debug, PartialEq, Drop)]
 pub enum Op {
@@ -27,18 +78,7 @@ impl Op {
     pub fn opnum(&self) -> Opnum
         ensures { result ≡ opnum_of self.now }
     {
-        match self {
-            Op::Access(_) => Opnum::Access,
-            Op::Getattr(_) => Opnum::Getattr,
-            Op::Getfh => Opnum::Getfh,
-            Op::Lookup(_) => Opnum::Lookup,
-            Op::Putfh(_) => Opnum::Putfh,
-            Op::Putrootfh => Opnum::Putrootfh,
-            Op::Restorefh => Opnum::Restorefh,
-            Op::Savefh => Opnum::Savefh,
-            Op::Setclientid(_) => Opnum::Setclientid,
-            Op::SetclientidConfirm(_) => Opnum::SetclientidConfirm,
-        }
+        each_op!(opnum_of_op, self)
     }
 
     /// Whether it is answered by a rule over the state, so that each answer but NFS4ERR_RESOURCE is an entry of the journal.
@@ -63,25 +103,7 @@ impl Op {
     ) -> Result<(Op, &[u8]), WireError>
         ensures { Gives (λ x. (x.0, x.1.now)) result (case_at (op_case opnum) bytes.now) }
     {
-        match opnum {
-            Opnum::Access => u32::read(alloc, bytes).map(|(v, rest)| (Op::Access(v), rest)),
-            Opnum::Getattr => Bitmap::read(alloc, bytes).map(|(v, rest)| (Op::Getattr(v), rest)),
-            Opnum::Getfh => Ok((Op::Getfh, bytes)),
-            Opnum::Lookup => Bytes::read(alloc, bytes).map(|(v, rest)| (Op::Lookup(v), rest)),
-            Opnum::Putfh => FileHandle::read(alloc, bytes).map(|(v, rest)| (Op::Putfh(v), rest)),
-            Opnum::Putrootfh => Ok((Op::Putrootfh, bytes)),
-            Opnum::Restorefh => Ok((Op::Restorefh, bytes)),
-            Opnum::Savefh => Ok((Op::Savefh, bytes)),
-            Opnum::Setclientid => Setclientid::read(alloc, bytes).map(|(v, rest)| (
-                Op::Setclientid(v),
-                rest,
-            )),
-            Opnum::SetclientidConfirm => SetclientidConfirm::read(alloc, bytes).map(|(v, rest)| (
-                Op::SetclientidConfirm(v),
-                rest,
-            )),
-            Opnum::Unsupported(_) | Opnum::Illegal => Err(WireError::Short),
-        }
+        each_op!(read_arguments_of, opnum, alloc, bytes)
     }
 }
 
@@ -96,17 +118,6 @@ impl Wire for Op {
 
     #[tactic(auto, unfolding(crate::specs::Op::op))]
     fn write(&self, out: &mut Vec<u8>) -> Result<(), WireError> {
-        match self {
-            Op::Access(v) => write_two(out, &Opnum::Access, v),
-            Op::Getattr(v) => write_two(out, &Opnum::Getattr, v),
-            Op::Getfh => write_two(out, &Opnum::Getfh, &()),
-            Op::Lookup(v) => write_two(out, &Opnum::Lookup, v),
-            Op::Putfh(v) => write_two(out, &Opnum::Putfh, v),
-            Op::Putrootfh => write_two(out, &Opnum::Putrootfh, &()),
-            Op::Restorefh => write_two(out, &Opnum::Restorefh, &()),
-            Op::Savefh => write_two(out, &Opnum::Savefh, &()),
-            Op::Setclientid(v) => write_two(out, &Opnum::Setclientid, v),
-            Op::SetclientidConfirm(v) => write_two(out, &Opnum::SetclientidConfirm, v),
-        }
+        each_op!(write_op_of, self, out)
     }
 }

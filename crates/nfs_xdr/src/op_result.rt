@@ -8,27 +8,84 @@ ghost use Rattle.xdr.specs.Form.{◌and◌};
 ghost use Rattle.xdr.specs.Switch.{case_at};
 ghost use Rattle.xdr.specs.Writing.{Writes};
 
-use crate::operations::{
-    access, getattr, getfh, lookup, putfh, putrootfh, restorefh, savefh, setclientid,
-    setclientid_confirm,
-};
-use crate::{Answer, ClientAnswer, Opnum, Refusal, Status, Unsupported};
+use crate::{Answer, ClientAnswer, Opnum, Refusal, Status, Unsupported, operations as of};
 use std::alloc::Global;
 use xdr::{Measure, Wire, WireError, read_constant, write_three, write_two};
+
+// One line for each operation with a rule: the rest is what stands for the operations without one.
+macro_rules! each_result {
+    ($then:ident, $($given:tt)*) => {
+        $then!(
+            [
+                Access,
+                Getattr,
+                Getfh,
+                Lookup,
+                Putfh,
+                Putrootfh,
+                Restorefh,
+                Savefh,
+                Setclientid,
+                SetclientidConfirm,
+            ]
+            $($given)*
+        )
+    };
+}
+
+// What is so of the answer within the result.
+macro_rules! of_answer {
+    ([$($Name:ident,)*] $result:expr, $answer:ident => $told:expr; $($rest:tt)*) => {
+        match $result {
+            $(OpResult::$Name($answer) => $told,)*
+            $($rest)*
+        }
+    };
+}
+
+macro_rules! opnum_of_result {
+    ([$($Name:ident,)*] $result:expr) => {
+        match $result {
+            $(OpResult::$Name(_) => Opnum::$Name,)*
+            OpResult::Unsupported(op) => Opnum::Unsupported(*op),
+            OpResult::Illegal(_) => Opnum::Illegal,
+        }
+    };
+}
+
+macro_rules! read_answer_of {
+    ([$($Name:ident,)*] $opnum:expr, $alloc:expr, $bytes:expr) => {
+        match $opnum {
+            $(Opnum::$Name => Wire::read($alloc, $bytes).map(|(v, r)| (OpResult::$Name(v), r)),)*
+            Opnum::Unsupported(op) => read_unsupported(op, $bytes),
+            Opnum::Illegal => Wire::read($alloc, $bytes).map(|(v, r)| (OpResult::Illegal(v), r)),
+        }
+    };
+}
+
+macro_rules! write_result_of {
+    ([$($Name:ident,)*] $result:expr, $out:expr) => {
+        match $result {
+            $(OpResult::$Name(answer) => write_two($out, &Opnum::$Name, answer),)*
+            OpResult::Unsupported(op) => write_unsupported($out, *op),
+            OpResult::Illegal(answer) => write_two($out, &Opnum::Illegal, answer),
+        }
+    };
+}
 
 /// The result of an operation (nfs_resop4).
 #[derive(Clone, Debug, PartialEq, Drop)]
 pub enum OpResult {
-    Access(access::Outcome),
-    Getattr(getattr::Outcome),
-    Getfh(getfh::Outcome),
-    Lookup(lookup::Outcome),
-    Putfh(putfh::Outcome),
-    Putrootfh(putrootfh::Outcome),
-    Restorefh(restorefh::Outcome),
-    Savefh(savefh::Outcome),
-    Setclientid(setclientid::Outcome),
-    SetclientidConfirm(setclientid_confirm::Outcome),
+    Access(of::access::Outcome),
+    Getattr(of::getattr::Outcome),
+    Getfh(of::getfh::Outcome),
+    Lookup(of::lookup::Outcome),
+    Putfh(of::putfh::Outcome),
+    Putrootfh(of::putrootfh::Outcome),
+    Restorefh(of::restorefh::Outcome),
+    Savefh(of::savefh::Outcome),
+    Setclientid(of::setclientid::Outcome),
+    SetclientidConfirm(of::setclientid_confirm::Outcome),
     /// NFS4ERR_NOTSUPP of an operation without a rule.
     Unsupported(Unsupported),
     /// The status of an operation that doesn't exist.
@@ -40,39 +97,18 @@ impl OpResult {
     pub fn opnum(&self) -> Opnum
         ensures { result ≡ opnum_of self.now }
     {
-        match self {
-            OpResult::Access(_) => Opnum::Access,
-            OpResult::Getattr(_) => Opnum::Getattr,
-            OpResult::Getfh(_) => Opnum::Getfh,
-            OpResult::Lookup(_) => Opnum::Lookup,
-            OpResult::Putfh(_) => Opnum::Putfh,
-            OpResult::Putrootfh(_) => Opnum::Putrootfh,
-            OpResult::Restorefh(_) => Opnum::Restorefh,
-            OpResult::Savefh(_) => Opnum::Savefh,
-            OpResult::Setclientid(_) => Opnum::Setclientid,
-            OpResult::SetclientidConfirm(_) => Opnum::SetclientidConfirm,
-            OpResult::Unsupported(op) => Opnum::Unsupported(*op),
-            OpResult::Illegal(_) => Opnum::Illegal,
-        }
+        each_result!(opnum_of_result, self)
     }
 
     pub fn status(&self) -> Status
         ensures { result ≡ status_of self.now }
     {
-        match self {
-            OpResult::Access(answer) => answer.status(),
-            OpResult::Getattr(answer) => answer.status(),
-            OpResult::Getfh(answer) => answer.status(),
-            OpResult::Lookup(answer) => answer.status(),
-            OpResult::Putfh(answer) => answer.status(),
-            OpResult::Putrootfh(answer) => answer.status(),
-            OpResult::Restorefh(answer) => answer.status(),
-            OpResult::Savefh(answer) => answer.status(),
-            OpResult::Setclientid(answer) => answer.status(),
-            OpResult::SetclientidConfirm(answer) => answer.status(),
+        each_result!(
+            of_answer,
+            self, answer => answer.status();
             OpResult::Unsupported(_) => Status::Refused(Refusal::NotSupp),
             OpResult::Illegal(answer) => answer.status(),
-        }
+        )
     }
 
     // The result of an operation by what follows its number.
@@ -83,50 +119,7 @@ impl OpResult {
     ) -> Result<(OpResult, &[u8]), WireError>
         ensures { Gives (λ x. (x.0, x.1.now)) result (case_at (result_case opnum) bytes.now) }
     {
-        match opnum {
-            Opnum::Access => access::Outcome::read(alloc, bytes).map(|(v, r)| (
-                OpResult::Access(v),
-                r,
-            )),
-            Opnum::Getattr => getattr::Outcome::read(alloc, bytes).map(|(v, r)| (
-                OpResult::Getattr(v),
-                r,
-            )),
-            Opnum::Getfh => getfh::Outcome::read(alloc, bytes).map(|(v, r)| (
-                OpResult::Getfh(v),
-                r,
-            )),
-            Opnum::Lookup => lookup::Outcome::read(alloc, bytes).map(|(v, r)| (
-                OpResult::Lookup(v),
-                r,
-            )),
-            Opnum::Putfh => putfh::Outcome::read(alloc, bytes).map(|(v, r)| (
-                OpResult::Putfh(v),
-                r,
-            )),
-            Opnum::Putrootfh => putrootfh::Outcome::read(alloc, bytes).map(|(v, r)| (
-                OpResult::Putrootfh(v),
-                r,
-            )),
-            Opnum::Restorefh => restorefh::Outcome::read(alloc, bytes).map(|(v, r)| (
-                OpResult::Restorefh(v),
-                r,
-            )),
-            Opnum::Savefh => savefh::Outcome::read(alloc, bytes).map(|(v, r)| (
-                OpResult::Savefh(v),
-                r,
-            )),
-            Opnum::Setclientid => setclientid::Outcome::read(alloc, bytes).map(|(v, r)| (
-                OpResult::Setclientid(v),
-                r,
-            )),
-            Opnum::SetclientidConfirm => setclientid_confirm::Outcome::read(alloc, bytes).map(|(
-                v,
-                r,
-            )| (OpResult::SetclientidConfirm(v), r)),
-            Opnum::Unsupported(op) => read_unsupported(op, bytes),
-            Opnum::Illegal => Answer::read(alloc, bytes).map(|(v, r)| (OpResult::Illegal(v), r)),
-        }
+        each_result!(read_answer_of, opnum, alloc, bytes)
     }
 }
 
@@ -183,24 +176,7 @@ impl Wire for OpResult {
 
     #[tactic(auto, unfolding(crate::specs::OpResult::op_result))]
     fn write(&self, out: &mut Vec<u8>) -> Result<(), WireError> {
-        match self {
-            OpResult::Access(answer) => write_two(out, &Opnum::Access, answer),
-            OpResult::Getattr(answer) => write_two(out, &Opnum::Getattr, answer),
-            OpResult::Getfh(answer) => write_two(out, &Opnum::Getfh, answer),
-            OpResult::Lookup(answer) => write_two(out, &Opnum::Lookup, answer),
-            OpResult::Putfh(answer) => write_two(out, &Opnum::Putfh, answer),
-            OpResult::Putrootfh(answer) => write_two(out, &Opnum::Putrootfh, answer),
-            OpResult::Restorefh(answer) => write_two(out, &Opnum::Restorefh, answer),
-            OpResult::Savefh(answer) => write_two(out, &Opnum::Savefh, answer),
-            OpResult::Setclientid(answer) => write_two(out, &Opnum::Setclientid, answer),
-            OpResult::SetclientidConfirm(answer) => write_two(
-                out,
-                &Opnum::SetclientidConfirm,
-                answer,
-            ),
-            OpResult::Unsupported(op) => write_unsupported(out, *op),
-            OpResult::Illegal(answer) => write_two(out, &Opnum::Illegal, answer),
-        }
+        each_result!(write_result_of, self, out)
     }
 }
 
@@ -218,20 +194,12 @@ fn write_unsupported(out: &mut Vec<u8>, op: Unsupported) -> Result<(), WireError
 impl Measure for OpResult {
     #[tactic(auto, unfolding(crate::specs::OpResult::op_result, crate::specs::Opnum::opnum, xdr::specs::Writing::written_number))]
     fn written_len(&self) -> usize {
-        match self {
-            OpResult::Access(answer) => 4 + answer.written_len(),
-            OpResult::Getattr(answer) => 4 + answer.written_len(),
-            OpResult::Getfh(answer) => 4 + answer.written_len(),
-            OpResult::Lookup(answer) => 4 + answer.written_len(),
-            OpResult::Putfh(answer) => 4 + answer.written_len(),
-            OpResult::Putrootfh(answer) => 4 + answer.written_len(),
-            OpResult::Restorefh(answer) => 4 + answer.written_len(),
-            OpResult::Savefh(answer) => 4 + answer.written_len(),
-            OpResult::Setclientid(answer) => 4 + answer.written_len(),
-            OpResult::SetclientidConfirm(answer) => 4 + answer.written_len(),
+        each_result!(
+            of_answer,
+            self, answer => 4 + answer.written_len();
             OpResult::Unsupported(Unsupported::Setattr) => 12,
             OpResult::Unsupported(_) => 8,
             OpResult::Illegal(answer) => 4 + answer.written_len(),
-        }
+        )
     }
 }
