@@ -4,35 +4,13 @@ ghost use Rattle.nfs_xdr.specs.Op.{op_case, opnum_of};
 ghost use Rattle.xdr.specs.Reading.{Gives};
 ghost use Rattle.xdr.specs.Switch.{case_at};
 
+use crate::operations::each_operation;
 use crate::{Bitmap, Class, FileHandle, Opnum, Setclientid, SetclientidConfirm};
 use std::alloc::Global;
 use xdr::{Bytes, Wire, WireError, write_two};
 
-// One line for each operation: those with arguments, and those without.
-macro_rules! each_op {
-    ($then:ident, $($given:tt)*) => {
-        $then!(
-            [
-                Access,
-                Getattr,
-                Lookup,
-                Putfh,
-                Setclientid,
-                SetclientidConfirm,
-            ]
-            [
-                Getfh,
-                Putrootfh,
-                Restorefh,
-                Savefh,
-            ]
-            $($given)*
-        )
-    };
-}
-
 macro_rules! opnum_of_op {
-    ([$($With:ident,)*] [$($Without:ident,)*] $op:expr) => {
+    ([$($With:ident = $n:literal $c:ident $a:ident,)*] [$($Without:ident = $m:literal $d:ident $b:ident,)*] $op:expr) => {
         match $op {
             $(Op::$With(_) => Opnum::$With,)*
             $(Op::$Without => Opnum::$Without,)*
@@ -41,7 +19,7 @@ macro_rules! opnum_of_op {
 }
 
 macro_rules! read_arguments_of {
-    ([$($With:ident,)*] [$($Without:ident,)*] $opnum:expr, $alloc:expr, $bytes:expr) => {
+    ([$($With:ident = $n:literal $c:ident $a:ident,)*] [$($Without:ident = $m:literal $d:ident $b:ident,)*] $opnum:expr, $alloc:expr, $bytes:expr) => {
         match $opnum {
             $(Opnum::$With => Wire::read($alloc, $bytes).map(|(v, rest)| (Op::$With(v), rest)),)*
             $(Opnum::$Without => Ok((Op::$Without, $bytes)),)*
@@ -51,7 +29,7 @@ macro_rules! read_arguments_of {
 }
 
 macro_rules! write_op_of {
-    ([$($With:ident,)*] [$($Without:ident,)*] $op:expr, $out:expr) => {
+    ([$($With:ident = $n:literal $c:ident $a:ident,)*] [$($Without:ident = $m:literal $d:ident $b:ident,)*] $op:expr, $out:expr) => {
         match $op {
             $(Op::$With(v) => write_two($out, &Opnum::$With, v),)*
             $(Op::$Without => write_two($out, &Opnum::$Without, &()),)*
@@ -78,7 +56,7 @@ impl Op {
     pub fn opnum(&self) -> Opnum
         ensures { result ≡ opnum_of self.now }
     {
-        each_op!(opnum_of_op, self)
+        each_operation!(opnum_of_op self)
     }
 
     /// Whether it is answered by a rule over the state, so that each answer but NFS4ERR_RESOURCE is an entry of the journal.
@@ -103,7 +81,7 @@ impl Op {
     ) -> Result<(Op, &[u8]), WireError>
         ensures { Gives (λ x. (x.0, x.1.now)) result (case_at (op_case opnum) bytes.now) }
     {
-        each_op!(read_arguments_of, opnum, alloc, bytes)
+        each_operation!(read_arguments_of opnum, alloc, bytes)
     }
 }
 
@@ -118,6 +96,6 @@ impl Wire for Op {
 
     #[tactic(auto, unfolding(crate::specs::Op::op))]
     fn write(&self, out: &mut Vec<u8>) -> Result<(), WireError> {
-        each_op!(write_op_of, self, out)
+        each_operation!(write_op_of self, out)
     }
 }

@@ -8,45 +8,27 @@ ghost use Rattle.xdr.specs.Form.{◌and◌};
 ghost use Rattle.xdr.specs.Switch.{case_at};
 ghost use Rattle.xdr.specs.Writing.{Writes};
 
+use crate::operations::each_operation;
 use crate::{Answer, ClientAnswer, Opnum, Refusal, Status, Unsupported, operations as of};
 use std::alloc::Global;
 use xdr::{Measure, Wire, WireError, read_constant, write_three, write_two};
 
-// One line for each operation with a rule: the rest is what stands for the operations without one.
-macro_rules! each_result {
-    ($then:ident, $($given:tt)*) => {
-        $then!(
-            [
-                Access,
-                Getattr,
-                Getfh,
-                Lookup,
-                Putfh,
-                Putrootfh,
-                Restorefh,
-                Savefh,
-                Setclientid,
-                SetclientidConfirm,
-            ]
-            $($given)*
-        )
-    };
-}
-
 // What is so of the answer within the result.
 macro_rules! of_answer {
-    ([$($Name:ident,)*] $result:expr, $answer:ident => $told:expr; $($rest:tt)*) => {
+    ([$($X:ident = $n:literal $c:ident $a:ident,)*] [$($Y:ident = $m:literal $d:ident $b:ident,)*] $result:expr, $answer:ident => $told:expr; $($rest:tt)*) => {
         match $result {
-            $(OpResult::$Name($answer) => $told,)*
+            $(OpResult::$X($answer) => $told,)*
+            $(OpResult::$Y($answer) => $told,)*
             $($rest)*
         }
     };
 }
 
 macro_rules! opnum_of_result {
-    ([$($Name:ident,)*] $result:expr) => {
+    ([$($X:ident = $n:literal $c:ident $a:ident,)*] [$($Y:ident = $m:literal $d:ident $b:ident,)*] $result:expr) => {
         match $result {
-            $(OpResult::$Name(_) => Opnum::$Name,)*
+            $(OpResult::$X(_) => Opnum::$X,)*
+            $(OpResult::$Y(_) => Opnum::$Y,)*
             OpResult::Unsupported(op) => Opnum::Unsupported(*op),
             OpResult::Illegal(_) => Opnum::Illegal,
         }
@@ -54,9 +36,10 @@ macro_rules! opnum_of_result {
 }
 
 macro_rules! read_answer_of {
-    ([$($Name:ident,)*] $opnum:expr, $alloc:expr, $bytes:expr) => {
+    ([$($X:ident = $n:literal $c:ident $a:ident,)*] [$($Y:ident = $m:literal $d:ident $b:ident,)*] $opnum:expr, $alloc:expr, $bytes:expr) => {
         match $opnum {
-            $(Opnum::$Name => Wire::read($alloc, $bytes).map(|(v, r)| (OpResult::$Name(v), r)),)*
+            $(Opnum::$X => Wire::read($alloc, $bytes).map(|(v, r)| (OpResult::$X(v), r)),)*
+            $(Opnum::$Y => Wire::read($alloc, $bytes).map(|(v, r)| (OpResult::$Y(v), r)),)*
             Opnum::Unsupported(op) => read_unsupported(op, $bytes),
             Opnum::Illegal => Wire::read($alloc, $bytes).map(|(v, r)| (OpResult::Illegal(v), r)),
         }
@@ -64,11 +47,23 @@ macro_rules! read_answer_of {
 }
 
 macro_rules! write_result_of {
-    ([$($Name:ident,)*] $result:expr, $out:expr) => {
+    ([$($X:ident = $n:literal $c:ident $a:ident,)*] [$($Y:ident = $m:literal $d:ident $b:ident,)*] $result:expr, $out:expr) => {
         match $result {
-            $(OpResult::$Name(answer) => write_two($out, &Opnum::$Name, answer),)*
+            $(OpResult::$X(answer) => write_two($out, &Opnum::$X, answer),)*
+            $(OpResult::$Y(answer) => write_two($out, &Opnum::$Y, answer),)*
             OpResult::Unsupported(op) => write_unsupported($out, *op),
             OpResult::Illegal(answer) => write_two($out, &Opnum::Illegal, answer),
+        }
+    };
+}
+
+macro_rules! refusal_of_opnum {
+    ([$($X:ident = $n:literal $c:ident $a:ident,)*] [$($Y:ident = $m:literal $d:ident $b:ident,)*] $opnum:expr, $refusal:expr) => {
+        match $opnum {
+            $(Opnum::$X => OpResult::$X($a::Refused($refusal)),)*
+            $(Opnum::$Y => OpResult::$Y($b::Refused($refusal)),)*
+            Opnum::Unsupported(op) => OpResult::Unsupported(op),
+            Opnum::Illegal => OpResult::Illegal(Answer::Refused($refusal)),
         }
     };
 }
@@ -97,15 +92,14 @@ impl OpResult {
     pub fn opnum(&self) -> Opnum
         ensures { result ≡ opnum_of self.now }
     {
-        each_result!(opnum_of_result, self)
+        each_operation!(opnum_of_result self)
     }
 
     pub fn status(&self) -> Status
         ensures { result ≡ status_of self.now }
     {
-        each_result!(
-            of_answer,
-            self, answer => answer.status();
+        each_operation!(
+            of_answer self, answer => answer.status();
             OpResult::Unsupported(_) => Status::Refused(Refusal::NotSupp),
             OpResult::Illegal(answer) => answer.status(),
         )
@@ -119,7 +113,7 @@ impl OpResult {
     ) -> Result<(OpResult, &[u8]), WireError>
         ensures { Gives (λ x. (x.0, x.1.now)) result (case_at (result_case opnum) bytes.now) }
     {
-        each_result!(read_answer_of, opnum, alloc, bytes)
+        each_operation!(read_answer_of opnum, alloc, bytes)
     }
 }
 
@@ -131,22 +125,7 @@ impl Opnum {
         ensures form { results.op_result.Fits result }
         ensures short { length (results.op_result.spelling result) ≤ 12 }
     {
-        match self {
-            Opnum::Access => OpResult::Access(Answer::Refused(refusal)),
-            Opnum::Getattr => OpResult::Getattr(Answer::Refused(refusal)),
-            Opnum::Getfh => OpResult::Getfh(Answer::Refused(refusal)),
-            Opnum::Lookup => OpResult::Lookup(Answer::Refused(refusal)),
-            Opnum::Putfh => OpResult::Putfh(Answer::Refused(refusal)),
-            Opnum::Putrootfh => OpResult::Putrootfh(Answer::Refused(refusal)),
-            Opnum::Restorefh => OpResult::Restorefh(Answer::Refused(refusal)),
-            Opnum::Savefh => OpResult::Savefh(Answer::Refused(refusal)),
-            Opnum::Setclientid => OpResult::Setclientid(ClientAnswer::Refused(refusal)),
-            Opnum::SetclientidConfirm => OpResult::SetclientidConfirm(ClientAnswer::Refused(
-                refusal,
-            )),
-            Opnum::Unsupported(op) => OpResult::Unsupported(op),
-            Opnum::Illegal => OpResult::Illegal(Answer::Refused(refusal)),
-        }
+        each_operation!(refusal_of_opnum self, refusal)
     }
 }
 
@@ -176,7 +155,7 @@ impl Wire for OpResult {
 
     #[tactic(auto, unfolding(crate::specs::OpResult::op_result))]
     fn write(&self, out: &mut Vec<u8>) -> Result<(), WireError> {
-        each_result!(write_result_of, self, out)
+        each_operation!(write_result_of self, out)
     }
 }
 
@@ -194,9 +173,8 @@ fn write_unsupported(out: &mut Vec<u8>, op: Unsupported) -> Result<(), WireError
 impl Measure for OpResult {
     #[tactic(auto, unfolding(crate::specs::OpResult::op_result, crate::specs::Opnum::opnum, xdr::specs::Writing::written_number))]
     fn written_len(&self) -> usize {
-        each_result!(
-            of_answer,
-            self, answer => 4 + answer.written_len();
+        each_operation!(
+            of_answer self, answer => 4 + answer.written_len();
             OpResult::Unsupported(Unsupported::Setattr) => 12,
             OpResult::Unsupported(_) => 8,
             OpResult::Illegal(answer) => 4 + answer.written_len(),

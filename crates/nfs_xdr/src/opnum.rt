@@ -2,6 +2,7 @@ ghost use Rattle.std.specs.Prelude.{◌≡◌};
 ghost use Rattle.nfs_xdr.specs.Opnum as opnums;
 ghost use Rattle.nfs_xdr.specs.Opnum.{class_of, number_of, number_of_unsupported, opnum_of, room_of};
 
+use crate::operations::each_operation;
 use std::alloc::Global;
 use xdr::{Wire, WireError, read_u32, write_u32};
 
@@ -75,67 +76,72 @@ pub enum Class {
     Unruled,
 }
 
-/// Every operation, in order of its number.
-pub const OPNUMS: [Opnum; 38] = [
-    Opnum::Access,
+macro_rules! number_of_opnum {
+    ([$($X:ident = $n:literal $c:ident $a:ident,)*] [$($Y:ident = $m:literal $d:ident $b:ident,)*] $opnum:expr) => {
+        match $opnum {
+            $(Opnum::$X => $n,)*
+            $(Opnum::$Y => $m,)*
+            Opnum::Unsupported(op) => op.number(),
+            Opnum::Illegal => 10044,
+        }
+    };
+}
+
+macro_rules! class_of_opnum {
+    ([$($X:ident = $n:literal $c:ident $a:ident,)*] [$($Y:ident = $m:literal $d:ident $b:ident,)*] $opnum:expr) => {
+        match $opnum {
+            $(Opnum::$X => Class::$c,)*
+            $(Opnum::$Y => Class::$d,)*
+            Opnum::Unsupported(_) | Opnum::Illegal => Class::Unruled,
+        }
+    };
+}
+
+macro_rules! all_opnums {
+    ([$($X:ident = $n:literal $c:ident $a:ident,)*] [$($Y:ident = $m:literal $d:ident $b:ident,)*] $($other:expr,)*) => {
+        [$(Opnum::$X,)* $(Opnum::$Y,)* $($other,)*]
+    };
+}
+
+/// Every operation: those with a rule, and then those without, in order of their numbers.
+pub const OPNUMS: [Opnum; 38] = each_operation!(
+    all_opnums
     Opnum::Unsupported(Unsupported::Close),
     Opnum::Unsupported(Unsupported::Commit),
     Opnum::Unsupported(Unsupported::Create),
     Opnum::Unsupported(Unsupported::Delegpurge),
     Opnum::Unsupported(Unsupported::Delegreturn),
-    Opnum::Getattr,
-    Opnum::Getfh,
     Opnum::Unsupported(Unsupported::Link),
     Opnum::Unsupported(Unsupported::Lock),
     Opnum::Unsupported(Unsupported::Lockt),
     Opnum::Unsupported(Unsupported::Locku),
-    Opnum::Lookup,
     Opnum::Unsupported(Unsupported::Lookupp),
     Opnum::Unsupported(Unsupported::Nverify),
     Opnum::Unsupported(Unsupported::Open),
     Opnum::Unsupported(Unsupported::Openattr),
     Opnum::Unsupported(Unsupported::OpenConfirm),
     Opnum::Unsupported(Unsupported::OpenDowngrade),
-    Opnum::Putfh,
     Opnum::Unsupported(Unsupported::Putpubfh),
-    Opnum::Putrootfh,
     Opnum::Unsupported(Unsupported::Read),
     Opnum::Unsupported(Unsupported::Readdir),
     Opnum::Unsupported(Unsupported::Readlink),
     Opnum::Unsupported(Unsupported::Remove),
     Opnum::Unsupported(Unsupported::Rename),
     Opnum::Unsupported(Unsupported::Renew),
-    Opnum::Restorefh,
-    Opnum::Savefh,
     Opnum::Unsupported(Unsupported::Secinfo),
     Opnum::Unsupported(Unsupported::Setattr),
-    Opnum::Setclientid,
-    Opnum::SetclientidConfirm,
     Opnum::Unsupported(Unsupported::Verify),
     Opnum::Unsupported(Unsupported::Write),
     Opnum::Unsupported(Unsupported::ReleaseLockowner),
     Opnum::Illegal,
-];
+);
 
 impl Opnum {
     /// Its number on the wire.
     pub fn number(self) -> u32
         ensures { result ≡ number_of self }
     {
-        match self {
-            Opnum::Access => 3,
-            Opnum::Getattr => 9,
-            Opnum::Getfh => 10,
-            Opnum::Lookup => 15,
-            Opnum::Putfh => 22,
-            Opnum::Putrootfh => 24,
-            Opnum::Restorefh => 31,
-            Opnum::Savefh => 32,
-            Opnum::Setclientid => 35,
-            Opnum::SetclientidConfirm => 36,
-            Opnum::Unsupported(op) => op.number(),
-            Opnum::Illegal => 10044,
-        }
+        each_operation!(number_of_opnum self)
     }
 
     /// The operation of a number, if there is one.
@@ -149,19 +155,7 @@ impl Opnum {
     pub fn class(self) -> Class
         ensures { result ≡ class_of self }
     {
-        match self {
-            Opnum::Access => Class::OnTree,
-            Opnum::Getattr => Class::Entered,
-            Opnum::Getfh => Class::OnTree,
-            Opnum::Lookup => Class::OnTree,
-            Opnum::Putfh => Class::OnTree,
-            Opnum::Putrootfh => Class::OnTree,
-            Opnum::Restorefh => Class::OnTree,
-            Opnum::Savefh => Class::OnTree,
-            Opnum::Setclientid => Class::Entered,
-            Opnum::SetclientidConfirm => Class::Entered,
-            Opnum::Unsupported(_) | Opnum::Illegal => Class::Unruled,
-        }
+        each_operation!(class_of_opnum self)
     }
 
     /// The room in the reply that it is run only with.
