@@ -20,18 +20,6 @@ use Rattle.xdr.specs.Form.{Form}
 use Rattle.xdr.specs.Switch.{Case, case, no_case, Arm, arm, Agrees, IsRead}
 use Rattle.xdr.specs.Union.{switch}
 
-abbrev pub opnum_of : Op → Opnum
-opnum_of (ops.Access arguments) = opnums.Access
-opnum_of (ops.Getattr arguments) = opnums.Getattr
-opnum_of ops.Getfh = opnums.Getfh
-opnum_of (ops.Lookup arguments) = opnums.Lookup
-opnum_of (ops.Putfh arguments) = opnums.Putfh
-opnum_of ops.Putrootfh = opnums.Putrootfh
-opnum_of ops.Restorefh = opnums.Restorefh
-opnum_of ops.Savefh = opnums.Savefh
-opnum_of (ops.Setclientid arguments) = opnums.Setclientid
-opnum_of (ops.SetclientidConfirm arguments) = opnums.SetclientidConfirm
-
 -- union nfs_argop4 switch (nfs_opnum4 argop)
 abbrev pub op_case : Opnum → Case Op
 op_case opnums.Access = case access.arguments ops.Access
@@ -47,17 +35,24 @@ op_case opnums.SetclientidConfirm = case setclientid_confirm.arguments ops.Setcl
 op_case (opnums.Unsupported o) = no_case
 op_case opnums.Illegal = no_case
 
+-- its number's operation, and how it is written behind that
+abbrev pub said : Op → Opnum × Arm Op
+said (ops.Access v) = (opnums.Access, arm access.arguments ops.Access v)
+said (ops.Getattr v) = (opnums.Getattr, arm getattr.arguments ops.Getattr v)
+said ops.Getfh = (opnums.Getfh, arm getfh.arguments (λ v. ops.Getfh) tt)
+said (ops.Lookup v) = (opnums.Lookup, arm lookup.arguments ops.Lookup v)
+said (ops.Putfh v) = (opnums.Putfh, arm putfh.arguments ops.Putfh v)
+said ops.Putrootfh = (opnums.Putrootfh, arm putrootfh.arguments (λ v. ops.Putrootfh) tt)
+said ops.Restorefh = (opnums.Restorefh, arm restorefh.arguments (λ v. ops.Restorefh) tt)
+said ops.Savefh = (opnums.Savefh, arm savefh.arguments (λ v. ops.Savefh) tt)
+said (ops.Setclientid v) = (opnums.Setclientid, arm setclientid.arguments ops.Setclientid v)
+said (ops.SetclientidConfirm v) = (opnums.SetclientidConfirm, arm setclientid_confirm.arguments ops.SetclientidConfirm v)
+
+abbrev pub opnum_of : Op → Opnum
+opnum_of o = (said o).0
+
 abbrev pub op_arm : Op → Arm Op
-op_arm (ops.Access v) = arm access.arguments ops.Access v
-op_arm (ops.Getattr v) = arm getattr.arguments ops.Getattr v
-op_arm ops.Getfh = arm getfh.arguments (λ v. ops.Getfh) tt
-op_arm (ops.Lookup v) = arm lookup.arguments ops.Lookup v
-op_arm (ops.Putfh v) = arm putfh.arguments ops.Putfh v
-op_arm ops.Putrootfh = arm putrootfh.arguments (λ v. ops.Putrootfh) tt
-op_arm ops.Restorefh = arm restorefh.arguments (λ v. ops.Restorefh) tt
-op_arm ops.Savefh = arm savefh.arguments (λ v. ops.Savefh) tt
-op_arm (ops.Setclientid v) = arm setclientid.arguments ops.Setclientid v
-op_arm (ops.SetclientidConfirm v) = arm setclientid_confirm.arguments ops.SetclientidConfirm v
+op_arm o = (said o).1
 
 pub op_agrees : (o : Opnum) → Agrees opnum_of op_arm o (op_case o)
 op_agrees opnums.Illegal = tt

@@ -29,67 +29,68 @@ use Rattle.xdr.specs.Form.{Form, ◌and◌, nothing, constant}
 use Rattle.xdr.specs.Switch.{Case, case, Arm, arm, Agrees, IsRead}
 use Rattle.xdr.specs.Union.{switch}
 
-abbrev pub opnum_of : OpResult → Opnum
-opnum_of (results.Access answer) = opnums.Access
-opnum_of (results.Getattr answer) = opnums.Getattr
-opnum_of (results.Getfh answer) = opnums.Getfh
-opnum_of (results.Lookup answer) = opnums.Lookup
-opnum_of (results.Putfh answer) = opnums.Putfh
-opnum_of (results.Putrootfh answer) = opnums.Putrootfh
-opnum_of (results.Restorefh answer) = opnums.Restorefh
-opnum_of (results.Savefh answer) = opnums.Savefh
-opnum_of (results.Setclientid answer) = opnums.Setclientid
-opnum_of (results.SetclientidConfirm answer) = opnums.SetclientidConfirm
-opnum_of (results.Unsupported o) = opnums.Unsupported o
-opnum_of (results.Illegal answer) = opnums.Illegal
-
-abbrev pub status_of : OpResult → Status
-status_of (results.Access a) = answer.status_of a
-status_of (results.Getattr a) = answer.status_of a
-status_of (results.Getfh a) = answer.status_of a
-status_of (results.Lookup a) = answer.status_of a
-status_of (results.Putfh a) = answer.status_of a
-status_of (results.Putrootfh a) = answer.status_of a
-status_of (results.Restorefh a) = answer.status_of a
-status_of (results.Savefh a) = answer.status_of a
-status_of (results.Setclientid a) = client_answer.status_of a
-status_of (results.SetclientidConfirm a) = client_answer.status_of a
-status_of (results.Unsupported o) = statuses.Refused refusals.NotSupp
-status_of (results.Illegal a) = answer.status_of a
-
 -- NFS4ERR_NOTSUPP. SETATTR's result has a bitmap with every status: here an empty one.
 abbrev pub unsupported_answer : UnsupportedOp → Form (Unit {0} × Unit {0})
 unsupported_answer unsupported.Setattr = constant 10004 and constant 0
 unsupported_answer o = constant 10004 and nothing
 
--- union nfs_resop4 switch (nfs_opnum4 resop)
-abbrev pub result_case : Opnum → Case OpResult
-result_case opnums.Access = case access.result results.Access
-result_case opnums.Getattr = case getattr.result results.Getattr
-result_case opnums.Getfh = case getfh.result results.Getfh
-result_case opnums.Lookup = case lookup.result results.Lookup
-result_case opnums.Putfh = case putfh.result results.Putfh
-result_case opnums.Putrootfh = case putrootfh.result results.Putrootfh
-result_case opnums.Restorefh = case restorefh.result results.Restorefh
-result_case opnums.Savefh = case savefh.result results.Savefh
-result_case opnums.Setclientid = case setclientid.result results.Setclientid
-result_case opnums.SetclientidConfirm = case setclientid_confirm.result results.SetclientidConfirm
-result_case (opnums.Unsupported o) = case (unsupported_answer o) (λ v. results.Unsupported o)
-result_case opnums.Illegal = case (answer.answer nothing) results.Illegal
+-- A result: whose it is, its status, and how it is written.
+pub record Told : Type 1 where
+  pub opnum : Opnum
+  pub status : Status
+  pub arm : Arm OpResult
+
+abbrev told_by : Opnum → Status → Arm OpResult → Told
+told_by opnum status arm = record { opnum = opnum; status = status; arm = arm }
+
+abbrev pub told : OpResult → Told
+told (results.Access a) = told_by opnums.Access (answer.status_of a) (arm access.result results.Access a)
+told (results.Getattr a) = told_by opnums.Getattr (answer.status_of a) (arm getattr.result results.Getattr a)
+told (results.Getfh a) = told_by opnums.Getfh (answer.status_of a) (arm getfh.result results.Getfh a)
+told (results.Lookup a) = told_by opnums.Lookup (answer.status_of a) (arm lookup.result results.Lookup a)
+told (results.Putfh a) = told_by opnums.Putfh (answer.status_of a) (arm putfh.result results.Putfh a)
+told (results.Putrootfh a) = told_by opnums.Putrootfh (answer.status_of a) (arm putrootfh.result results.Putrootfh a)
+told (results.Restorefh a) = told_by opnums.Restorefh (answer.status_of a) (arm restorefh.result results.Restorefh a)
+told (results.Savefh a) = told_by opnums.Savefh (answer.status_of a) (arm savefh.result results.Savefh a)
+told (results.Setclientid a) = told_by opnums.Setclientid (client_answer.status_of a) (arm setclientid.result results.Setclientid a)
+told (results.SetclientidConfirm a) = told_by opnums.SetclientidConfirm (client_answer.status_of a) (arm setclientid_confirm.result results.SetclientidConfirm a)
+told (results.Unsupported o) = told_by (opnums.Unsupported o) (statuses.Refused refusals.NotSupp) (arm (unsupported_answer o) (λ v. results.Unsupported o) (tt, tt))
+told (results.Illegal a) = told_by opnums.Illegal (answer.status_of a) (arm (answer.answer nothing) results.Illegal a)
+
+abbrev pub opnum_of : OpResult → Opnum
+opnum_of r = (told r).opnum
+
+abbrev pub status_of : OpResult → Status
+status_of r = (told r).status
 
 abbrev pub result_arm : OpResult → Arm OpResult
-result_arm (results.Access a) = arm access.result results.Access a
-result_arm (results.Getattr a) = arm getattr.result results.Getattr a
-result_arm (results.Getfh a) = arm getfh.result results.Getfh a
-result_arm (results.Lookup a) = arm lookup.result results.Lookup a
-result_arm (results.Putfh a) = arm putfh.result results.Putfh a
-result_arm (results.Putrootfh a) = arm putrootfh.result results.Putrootfh a
-result_arm (results.Restorefh a) = arm restorefh.result results.Restorefh a
-result_arm (results.Savefh a) = arm savefh.result results.Savefh a
-result_arm (results.Setclientid a) = arm setclientid.result results.Setclientid a
-result_arm (results.SetclientidConfirm a) = arm setclientid_confirm.result results.SetclientidConfirm a
-result_arm (results.Unsupported o) = arm (unsupported_answer o) (λ v. results.Unsupported o) (tt, tt)
-result_arm (results.Illegal a) = arm (answer.answer nothing) results.Illegal a
+result_arm r = (told r).arm
+
+-- What an operation may answer: its result's form, and its result where it is refused.
+pub record Answers : Type 1 where
+  pub read : Case OpResult
+  pub refused : Refusal → OpResult
+
+abbrev answers_by : Case OpResult → (Refusal → OpResult) → Answers
+answers_by read refused = record { read = read; refused = refused }
+
+-- union nfs_resop4 switch (nfs_opnum4 resop). One without a rule has but one result.
+abbrev pub answers_of : Opnum → Answers
+answers_of opnums.Access = answers_by (case access.result results.Access) (λ r. results.Access (answers.Refused r))
+answers_of opnums.Getattr = answers_by (case getattr.result results.Getattr) (λ r. results.Getattr (answers.Refused r))
+answers_of opnums.Getfh = answers_by (case getfh.result results.Getfh) (λ r. results.Getfh (answers.Refused r))
+answers_of opnums.Lookup = answers_by (case lookup.result results.Lookup) (λ r. results.Lookup (answers.Refused r))
+answers_of opnums.Putfh = answers_by (case putfh.result results.Putfh) (λ r. results.Putfh (answers.Refused r))
+answers_of opnums.Putrootfh = answers_by (case putrootfh.result results.Putrootfh) (λ r. results.Putrootfh (answers.Refused r))
+answers_of opnums.Restorefh = answers_by (case restorefh.result results.Restorefh) (λ r. results.Restorefh (answers.Refused r))
+answers_of opnums.Savefh = answers_by (case savefh.result results.Savefh) (λ r. results.Savefh (answers.Refused r))
+answers_of opnums.Setclientid = answers_by (case setclientid.result results.Setclientid) (λ r. results.Setclientid (client_answers.Refused r))
+answers_of opnums.SetclientidConfirm = answers_by (case setclientid_confirm.result results.SetclientidConfirm) (λ r. results.SetclientidConfirm (client_answers.Refused r))
+answers_of (opnums.Unsupported o) = answers_by (case (unsupported_answer o) (λ v. results.Unsupported o)) (λ r. results.Unsupported o)
+answers_of opnums.Illegal = answers_by (case (answer.answer nothing) results.Illegal) (λ r. results.Illegal (answers.Refused r))
+
+abbrev pub result_case : Opnum → Case OpResult
+result_case o = (answers_of o).read
 
 pub result_agrees : (o : Opnum) → Agrees opnum_of result_arm o (result_case o)
 result_agrees opnums.Illegal = λ a. (refl, refl)
@@ -102,17 +103,6 @@ result_is_read r = record { is = refl; reads = λ bytes. refl }
 unfoldable pub op_result : Form OpResult
 op_result = switch opnum result_case opnum_of result_arm result_agrees result_is_read
 
--- The result of an operation that is refused with this status. One without a rule has but one result.
+-- The result of an operation that is refused with this status.
 abbrev pub refusal_of : Opnum → Refusal → OpResult
-refusal_of opnums.Access r = results.Access (answers.Refused r)
-refusal_of opnums.Getattr r = results.Getattr (answers.Refused r)
-refusal_of opnums.Getfh r = results.Getfh (answers.Refused r)
-refusal_of opnums.Lookup r = results.Lookup (answers.Refused r)
-refusal_of opnums.Putfh r = results.Putfh (answers.Refused r)
-refusal_of opnums.Putrootfh r = results.Putrootfh (answers.Refused r)
-refusal_of opnums.Restorefh r = results.Restorefh (answers.Refused r)
-refusal_of opnums.Savefh r = results.Savefh (answers.Refused r)
-refusal_of opnums.Setclientid r = results.Setclientid (client_answers.Refused r)
-refusal_of opnums.SetclientidConfirm r = results.SetclientidConfirm (client_answers.Refused r)
-refusal_of (opnums.Unsupported o) r = results.Unsupported o
-refusal_of opnums.Illegal r = results.Illegal (answers.Refused r)
+refusal_of o = (answers_of o).refused

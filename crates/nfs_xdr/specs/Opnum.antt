@@ -41,33 +41,26 @@ number_of_unsupported without.Verify = 37
 number_of_unsupported without.Write = 38
 number_of_unsupported without.ReleaseLockowner = 39
 
+-- its number, and what it is asked of
+abbrev pub entry_of : Opnum → ℕ × Class
+entry_of op.Access = (3, OnTree)
+entry_of op.Getattr = (9, Entered)
+entry_of op.Getfh = (10, OnTree)
+entry_of op.Lookup = (15, OnTree)
+entry_of op.Putfh = (22, OnTree)
+entry_of op.Putrootfh = (24, OnTree)
+entry_of op.Restorefh = (31, OnTree)
+entry_of op.Savefh = (32, OnTree)
+entry_of op.Setclientid = (35, Entered)
+entry_of op.SetclientidConfirm = (36, Entered)
+entry_of (op.Unsupported o) = (number_of_unsupported o, Unruled)
+entry_of op.Illegal = (10044, Unruled)
+
 abbrev pub number_of : Opnum → ℕ
-number_of op.Access = 3
-number_of op.Getattr = 9
-number_of op.Getfh = 10
-number_of op.Lookup = 15
-number_of op.Putfh = 22
-number_of op.Putrootfh = 24
-number_of op.Restorefh = 31
-number_of op.Savefh = 32
-number_of op.Setclientid = 35
-number_of op.SetclientidConfirm = 36
-number_of (op.Unsupported o) = number_of_unsupported o
-number_of op.Illegal = 10044
+number_of o = (entry_of o).0
 
 abbrev pub class_of : Opnum → Class
-class_of op.Access = OnTree
-class_of op.Getattr = Entered
-class_of op.Getfh = OnTree
-class_of op.Lookup = OnTree
-class_of op.Putfh = OnTree
-class_of op.Putrootfh = OnTree
-class_of op.Restorefh = OnTree
-class_of op.Savefh = OnTree
-class_of op.Setclientid = Entered
-class_of op.SetclientidConfirm = Entered
-class_of (op.Unsupported o) = Unruled
-class_of op.Illegal = Unruled
+class_of o = (entry_of o).1
 
 abbrev pub is_entered : Class → Bool
 is_entered OnTree = false
