@@ -12,7 +12,8 @@ use Rattle.nfs_tree.specs.declared.filehandles.Filehandles.{Filehandles}
 use Rattle.nfs_server.specs.Answering.{ends_with, is_ok, outcome_of}
 use Rattle.nfs_server.specs.Asking.{Question, question_of}
 use Rattle.nfs_tree.specs.Effect.{Effect}
-use Rattle.nfs_tree.specs.Filehandles.{effect_of, no_filehandles}
+use Rattle.nfs_tree.specs.Filehandles.{no_filehandles}
+use Rattle.nfs_tree.specs.operations.{effect_of}
 use Rattle.nfs_tree.specs.Tree.{Files}
 use Rattle.nfs_server.specs.Folding.{IsAnswer, AreAnswers, IsDetermined}
 use Rattle.nfs_xdr.specs.declared.principal.Principal.{Principal}

@@ -7,7 +7,8 @@ use Rattle.nfs_rpc.specs.declared.reply.CompoundReply.{CompoundReply}
 use Rattle.nfs_rpc.specs.declared.reply.Reply.TheVariants as replies
 use Rattle.nfs_rpc.specs.declared.reply.TheConstants.{ACCEPTED_LEN}
 use Rattle.nfs_tree.specs.declared.filehandles.Filehandles.{Filehandles}
-use Rattle.nfs_tree.specs.Filehandles.{effect_of, no_filehandles}
+use Rattle.nfs_tree.specs.Filehandles.{no_filehandles}
+use Rattle.nfs_tree.specs.operations.{effect_of}
 use Rattle.nfs_tree.specs.Tree.{Files}
 use Rattle.nfs_rpc.specs.Reply.{written_reply}
 use Rattle.nfs_core.specs.Step.{resource}

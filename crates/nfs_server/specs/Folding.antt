@@ -2,7 +2,7 @@
 use Rattle.std.specs.Prelude.{◌≡◌, ℕ, ◌+◌, nat_le, List, [], ◌∷◌, length, map, MatchBool, MatchOption}
 use Rattle.nfs_rpc.specs.declared.records.TheConstants.{RECORD_LIMIT}
 use Rattle.nfs_tree.specs.declared.filehandles.Filehandles.{Filehandles}
-use Rattle.nfs_tree.specs.Filehandles.{effect_of}
+use Rattle.nfs_tree.specs.operations.{effect_of}
 use Rattle.nfs_tree.specs.Tree.{Files}
 use Rattle.nfs_server.specs.Answering.{compound_outcome, is_ok, outcome_of}
 use Rattle.nfs_xdr.specs.declared.compound.Compound.{Compound}

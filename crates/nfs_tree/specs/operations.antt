@@ -1,3 +1,17 @@
+-- The operations that ask the tree and the filehandles alone.
+use Rattle.std.specs.Prelude.{Option, Some, None}
+use Rattle.nfs_tree.specs.declared.filehandles.Filehandles.{Filehandles}
+use Rattle.nfs_tree.specs.Effect.{Effect}
+use Rattle.nfs_tree.specs.operations.Access.{access}
+use Rattle.nfs_tree.specs.operations.Getfh.{getfh}
+use Rattle.nfs_tree.specs.operations.Lookup.{lookup}
+use Rattle.nfs_tree.specs.operations.Putfh.{putfh}
+use Rattle.nfs_tree.specs.operations.Putrootfh.{putrootfh}
+use Rattle.nfs_tree.specs.operations.Restorefh.{restorefh}
+use Rattle.nfs_tree.specs.operations.Savefh.{savefh}
+use Rattle.nfs_tree.specs.Tree.{Files}
+use Rattle.nfs_xdr.specs.declared.op.Op.{Op}
+use Rattle.nfs_xdr.specs.declared.op.Op.TheVariants as ops
 pub mod Access
 pub mod Getfh
 pub mod Lookup
@@ -5,3 +19,14 @@ pub mod Putfh
 pub mod Putrootfh
 pub mod Restorefh
 pub mod Savefh
+
+-- What an operation does that asks the tree and the filehandles alone. No other operation has an effect here.
+abbrev pub effect_of : Files → Filehandles → Op → Option Effect
+effect_of tree old (ops.Access asked) = Some (access tree old asked)
+effect_of tree old ops.Getfh = Some (getfh old)
+effect_of tree old (ops.Lookup name) = Some (lookup tree old name)
+effect_of tree old (ops.Putfh handle) = Some (putfh tree old handle)
+effect_of tree old ops.Putrootfh = Some (putrootfh old)
+effect_of tree old ops.Restorefh = Some (restorefh old)
+effect_of tree old ops.Savefh = Some (savefh old)
+effect_of tree old op = None

@@ -60,7 +60,7 @@ op_agrees (opnums.Unsupported o) = tt
 op_agrees o = λ v. (refl, refl)
 
 pub op_is_read : (o : Op) → IsRead op_case opnum_of op_arm o
-op_is_read ops.Savefh = record { is = refl; reads = λ bytes. refl }
+op_is_read (ops.Access v) = record { is = refl; reads = λ bytes. refl }
 op_is_read o = record { is = refl; reads = λ bytes. refl }
 
 unfoldable pub op : Form Op
