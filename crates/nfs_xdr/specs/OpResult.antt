@@ -57,7 +57,7 @@ status_of (SetclientidConfirm a) = client_answer.status_of a
 status_of (Unsupported o) = statuses.Refused refusals.NotSupp
 status_of (Illegal a) = answer.status_of a
 
--- NFS4ERR_NOTSUPP. SETATTR's result has a bitmap with every status: here an empty one.
+-- An operation without a rule has one result, NFS4ERR_NOTSUPP. SETATTR's has a bitmap behind it: an empty one.
 abbrev pub unsupported_answer : UnsupportedOp → Form (Unit {0} × Unit {0})
 unsupported_answer unsupported.Setattr = constant 10004 and constant 0
 unsupported_answer o = constant 10004 and nothing

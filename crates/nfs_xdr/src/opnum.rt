@@ -75,7 +75,7 @@ pub enum Class {
     Unruled,
 }
 
-/// Every operation, in order of its number.
+/// Every operation.
 pub const OPNUMS: [Opnum; 38] = [
     Opnum::Access,
     Opnum::Unsupported(Unsupported::Close),

@@ -65,7 +65,7 @@ flag = record {
   stands = λ b fits. flag_stands b;
 }
 
--- opaque value[count]
+-- opaque value[count], of a count that is a multiple of four, so that no padding follows
 abbrev pub fixed : ℕ → Form (List ℕ)
 fixed count = record {
   layout = Fixed count;
