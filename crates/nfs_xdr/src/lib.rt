@@ -10,6 +10,7 @@ mod client_id;
 mod compound;
 mod fattr;
 mod file_handle;
+mod limits;
 mod op;
 mod op_result;
 mod operations;
@@ -29,6 +30,7 @@ pub use compound::{
 };
 pub use fattr::Fattr;
 pub use file_handle::{FILE_HANDLE_LIMIT, FileHandle};
+pub use limits::limits_of_forms;
 pub use op::Op;
 pub use op_result::OpResult;
 pub use operations::access::AccessBits;
