@@ -1,19 +1,25 @@
 -- How long the attributes of a node are at most.
-use Rattle.std.proofs.Common.{◌≡◌, ℕ, ◌*◌, ◌≤◌, Bool, true, false, List, [], ◌∷◌, length, arith}
-use Rattle.std.specs.Prelude.{if◌then◌else◌}
-use Rattle.std.specs.List.{flat_map}
+use Rattle.std.proofs.Common.{◌≡◌, ℕ, zero, suc, ◌*◌, ◌<◌, ◌≤◌, ◌^◌, Bool, true, false, List, [], ◌∷◌, length, arith}
+use Rattle.std.specs.Prelude.{◌==◌, if◌then◌else◌}
+use Rattle.std.specs.List.{All, flat_map}
+use Rattle.std.proofs.lemmas.List.Elements.{All-nil}
+use Rattle.std.proofs.lemmas.Nat.{and_le_r}
 use Rattle.std.proofs.lemmas.List.{length-append, length-take}
 use Rattle.nfs_xdr.specs.declared.fattr.Fattr.{Fattr}
-use Rattle.nfs_xdr.specs.declared.get_attr.GetAttrResult.TheVariants.{Done}
-use Rattle.nfs_xdr.specs.GetAttr.{written_get_attr_result}
-use Rattle.nfs_xdr.specs.Layout.{padding_of}
-use Rattle.nfs_xdr.specs.Writing.{written_u32, zeros}
+use Rattle.nfs_xdr.specs.declared.answer.Answer.TheVariants.{Done}
+use Rattle.nfs_xdr.specs.Answer.{answer}
+use Rattle.nfs_xdr.specs.Fattr.{fattr}
+use Rattle.nfs_xdr.specs.Status.{status}
+use Rattle.nfs_xdr.specs.operations.Getattr as getattr
+use Rattle.xdr.specs.Layout.{padding_of}
+use Rattle.xdr.specs.Writing.{written_number, written_opaque, written_u32, zeros}
 use Rattle.nfs_tree.specs.declared.attribute.Attribute.{Attribute}
 use Rattle.nfs_tree.specs.declared.attribute.Attribute.TheVariants as attributes
 use Rattle.nfs_tree.specs.declared.attribute.Subject.{Subject}
-use Rattle.nfs_tree.specs.Attributes.{all_attributes, asked, attributes_of, has, mask_of, value_asked, value_of, values_of}
+use Rattle.nfs_tree.specs.Attributes.{all_attributes, asked, attributes_of, has, mask_of, supported, value_asked, value_of, values_of}
 
 value_len : (s : Subject) (a : Attribute) → length (value_of s a) ≤ 16
+unfolding written_number written_opaque
 value_len s attributes.SupportedAttrs = omega arith
 value_len s attributes.Type = omega arith
 value_len s attributes.FhExpireType = omega arith
@@ -49,15 +55,35 @@ mask_len : (words : List ℕ) → length (mask_of (asked words)) ≤ 1
 mask_len words = either_mask _ _
 
 mask_written : (words : List ℕ) → length words ≤ 1 → length (flat_map written_u32 words) ≤ 4
+unfolding written_number
 mask_written [] few = omega arith
 mask_written (word ∷ []) few = omega arith
 mask_written (word ∷ next ∷ words) few = omega (arith, few)
 
-told_len : (f : Fattr) → length f.mask ≤ 1 → length f.values ≤ 224 → length (written_get_attr_result (Done f)) ≤ 2032
+told_len : (f : Fattr) → length f.mask ≤ 1 → length f.values ≤ 224 → length (getattr.result.spelling (Done f)) ≤ 2032
+unfolding answer fattr status written_number written_opaque
 told_len f mask values =
     let pad : length (zeros (padding_of (length f.values))) ≤ 4 = omega (arith, length-take {A = ℕ} (padding_of (length f.values)) (0 ∷ 0 ∷ 0 ∷ 0 ∷ [])) in
     simp length-append (omega (arith, mask_written f.mask mask, values, pad))
 
 -- the result of GETATTR
-pub attributes_len : (f : Fattr) (s : Subject) (words : List ℕ) → f ≡ attributes_of s words → length (written_get_attr_result (Done f)) ≤ 2032
+pub attributes_len : (f : Fattr) (s : Subject) (words : List ℕ) → f ≡ attributes_of s words → length (getattr.result.spelling (Done f)) ≤ 2032
 attributes_len f s words is = rw is (told_len (attributes_of s words) (mask_len words) (all_len s (asked words)))
+
+-- Each attribute that is answered has a form: the mask is a word of four bytes, and the values are few.
+one_word : (word : ℕ) → word < 2 ^ 32 → All (λ w. w < 2 ^ 32) (word ∷ [])
+one_word word small zero d lt = small
+one_word word small (suc k) d lt = absurd (omega (arith, lt))
+
+mask_fits : (b : Bool) (word : ℕ) → word < 2 ^ 32 → All (λ w. w < 2 ^ 32) (if b then [] else word ∷ [])
+mask_fits true word small = All-nil (λ w. w < 2 ^ 32)
+mask_fits false word small = one_word word small
+
+asked_fits : (words : List ℕ) → asked words < 2 ^ 32
+asked_fits [] = omega arith
+asked_fits (word ∷ words) = omega (arith, and_le_r word supported)
+
+pub attributes_fit : (f : Fattr) (s : Subject) (words : List ℕ) → f ≡ attributes_of s words → getattr.result.Fits (Done f)
+unfolding answer fattr status
+attributes_fit f s words is =
+    rw is (omega arith, ((omega (arith, mask_len words), omega (arith, mask_len words), mask_fits (asked words == 0) (asked words) (asked_fits words)), (omega (arith, all_len s (asked words)), omega (arith, all_len s (asked words)))))

@@ -5,7 +5,7 @@ use Rattle.std.proofs.lemmas.Slice.Eq.{bytes_eq-Decides}
 use Rattle.nfs_core.specs.declared.client_record.ClientRecord.{ClientRecord}
 use Rattle.nfs_core.specs.declared.client_record.PathMark.{PathMark}
 use Rattle.nfs_core.specs.Registry.{is_of}
-use Rattle.nfs_core.specs.SetClientIdConfirm.{with_confirmed}
+use Rattle.nfs_core.specs.operations.SetclientidConfirm.{with_confirmed}
 use Rattle.nfs_core.proofs.Lists.{filter-remove}
 
 -- dropping the records of the id of one that was taken out drops that one too

@@ -1,61 +1,31 @@
 -- How one entry leads from a state to the next.
-use Rattle.std.specs.Prelude.{◌≡◌, ℕ, ◌<◌, length, Option, Some, None, IfSome}
+use Rattle.std.specs.Prelude.{◌≡◌, ℕ, ◌<◌, length, Option, IfSome}
 use Rattle.nfs_xdr.specs.declared.op.Op.{Op}
 use Rattle.nfs_xdr.specs.declared.op.Op.TheVariants as ops
 use Rattle.nfs_xdr.specs.declared.op_result.OpResult.{OpResult}
 use Rattle.nfs_xdr.specs.declared.op_result.OpResult.TheVariants as results
-use Rattle.nfs_xdr.specs.declared.set_client_id.SetClientId.{SetClientId}
-use Rattle.nfs_xdr.specs.declared.set_client_id.SetClientIdResult.{SetClientIdResult}
-use Rattle.nfs_xdr.specs.declared.set_client_id_confirm.SetClientIdConfirm.{SetClientIdConfirm}
-use Rattle.nfs_xdr.specs.declared.status.Status.{Status}
-use Rattle.nfs_xdr.specs.declared.status.Status.TheVariants.{Resource}
-use Rattle.nfs_core.specs.declared.client_record.ClientRecord.{ClientRecord}
-use Rattle.nfs_core.specs.declared.client_record.PathMark.{PathMark}
-use Rattle.nfs_core.specs.declared.client_record.PathMark.TheVariants.{Unknown, Up}
+use Rattle.nfs_xdr.specs.declared.status.Refusal.TheVariants.{Resource}
 use Rattle.nfs_core.specs.declared.entry.Entry.{Entry}
 use Rattle.nfs_core.specs.declared.entry.Entry.TheVariants as entries
 use Rattle.nfs_core.specs.declared.entry.Call.{Call}
 use Rattle.nfs_core.specs.declared.entry.TheConstants.{JOURNAL_LIMIT}
 use Rattle.nfs_xdr.specs.declared.principal.Principal.{Principal}
-use Rattle.nfs_core.specs.GetAttr.{StepGetAttr}
-use Rattle.nfs_core.specs.Registry.{confirmed_of, unconfirmed_with}
-use Rattle.nfs_core.specs.SetClientId.{Sets}
-use Rattle.nfs_core.specs.SetClientIdConfirm.{Confirms}
-use Rattle.nfs_core.specs.State.{State, History, record_has_state}
-use Rattle.nfs_tree.specs.declared.policy.Callbacks.{Callbacks}
-use Rattle.nfs_tree.specs.declared.policy.Callbacks.TheVariants.{Probe, Assume}
+use Rattle.nfs_core.specs.operations.Getattr.{StepGetattr}
+use Rattle.nfs_core.specs.operations.Setclientid.{StepSetclientid}
+use Rattle.nfs_core.specs.operations.SetclientidConfirm.{StepSetclientidConfirm}
+use Rattle.nfs_core.specs.State.{State, History}
 use Rattle.nfs_tree.specs.Tree.{node_count}
-use Rattle.nfs_xdr.specs.OpResult.{refusal}
-
--- SETCLIENTID: whether the client of the id's confirmed record has state is read off the state
-abbrev pub StepSetClientId : History → State → Principal → SetClientId → SetClientIdResult → State → Type 0
-StepSetClientId journal old principal args answer new =
-    (clients : _)
-    × Sets journal.epoch (record_has_state old (confirmed_of old.clients args.id)) old.clients principal args answer clients
-    × (new ≡ record old { clients = clients })
-
--- the id of the unconfirmed record with the call's clientid and value has this confirmed record
-abbrev pub rival_of : State → Option ClientRecord → Option ClientRecord
-rival_of state None = None
-rival_of state (Some r) = confirmed_of state.clients r.id
-
--- what the policy takes of the path of a client that is confirmed now
-abbrev pub path_of : Callbacks → PathMark
-path_of Probe = Unknown
-path_of Assume = Up
-
-abbrev pub StepSetClientIdConfirm : History → State → Principal → SetClientIdConfirm → Status → State → Type 0
-StepSetClientIdConfirm journal old principal args answer new =
-    let rival = rival_of old (unconfirmed_with old.clients args.client args.confirm) in
-    (clients : _)
-    × Confirms (path_of journal.policy.callbacks) (record_has_state old rival) old.clients principal args answer clients
-    × (new ≡ record old { clients = clients })
+use Rattle.nfs_xdr.specs.Op.{opnum_of}
+use Rattle.nfs_xdr.specs.OpResult.{refusal_of}
 
 -- The operation is answered so. An answer of another operation, or to one without an entry, never is.
 abbrev pub StepOp : History → State → Principal → Option ℕ → Op → OpResult → State → Type 0
-StepOp journal old principal filehandle (ops.GetAttr mask) (results.GetAttr answer) new = StepGetAttr journal old filehandle mask answer new
-StepOp journal old principal filehandle (ops.SetClientId args) (results.SetClientId answer) new = StepSetClientId journal old principal args answer new
-StepOp journal old principal filehandle (ops.SetClientIdConfirm args) (results.SetClientIdConfirm answer) new = StepSetClientIdConfirm journal old principal args answer new
+StepOp journal old principal filehandle (ops.Getattr mask) (results.Getattr answer) new =
+    StepGetattr journal old filehandle mask answer new
+StepOp journal old principal filehandle (ops.Setclientid args) (results.Setclientid answer) new =
+    StepSetclientid journal old principal args answer new
+StepOp journal old principal filehandle (ops.SetclientidConfirm args) (results.SetclientidConfirm answer) new =
+    StepSetclientidConfirm journal old principal args answer new
 StepOp journal old principal filehandle op answer new = ⊥
 
 -- the current filehandle, if there is one, is that of a node
@@ -69,7 +39,7 @@ Step journal old (entries.Call call) new =
 
 -- NFS4ERR_RESOURCE as the operation's result
 abbrev pub resource : Op → OpResult
-resource op = refusal op Resource
+resource op = refusal_of (opnum_of op) Resource
 
 -- the entry of an operation that was answered
 abbrev pub call_of : ℕ → Principal → Op → Option ℕ → OpResult → Entry

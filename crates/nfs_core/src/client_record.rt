@@ -1,11 +1,12 @@
 use nfs_tree::Callbacks;
-use nfs_xdr::{Bytes, Callback, ClientId, Principal, SetClientIdConfirm, Verifier};
+use nfs_xdr::{Callback, ClientId, ID_LIMIT, Principal, SetclientidConfirm, Verifier};
+use xdr::Opaque;
 
 /// What the server keeps of a SETCLIENTID: RFC 7530, section 16.33.5, writes it { v, x, c, l, s }.
 #[derive(Debug, Drop)]
 pub struct ClientRecord {
     /// The client's name for itself (x).
-    pub id: Bytes,
+    pub id: Opaque<ID_LIMIT>,
     /// Who sent the SETCLIENTID.
     pub principal: Principal,
     /// The client's start (v).
@@ -35,7 +36,7 @@ pub enum PathMark {
 
 impl PathMark {
     ghost use Rattle.std.specs.Prelude.{◌≡◌};
-    ghost use Rattle.nfs_core.specs.Step.{path_of};
+    ghost use Rattle.nfs_core.specs.operations.SetclientidConfirm.{path_of};
 
     /// The mark of a client that is confirmed now.
     pub(crate) fn at_first(callbacks: Callbacks) -> PathMark
@@ -80,7 +81,7 @@ impl ClientRecord {
     }
 
     /// Whether it has the clientid and the confirm value that the call names.
-    pub(crate) fn has_both(&self, args: &SetClientIdConfirm) -> bool
+    pub(crate) fn has_both(&self, args: &SetclientidConfirm) -> bool
         ensures { result ≡ has_both args.now.client args.now.confirm self.now }
     {
         self.client == args.client && self.confirm == args.confirm

@@ -1,8 +1,8 @@
 ghost use Rattle.std.specs.Prelude.{◌≡◌};
 
 mod clients_error;
-mod set_client_id;
-mod set_client_id_confirm;
+mod confirmation;
+mod registration;
 
 use crate::ClientRecord;
 pub(crate) use clients_error::ClientsError;

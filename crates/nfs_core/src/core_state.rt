@@ -3,15 +3,15 @@ ghost use Rattle.nfs_core.specs.Server.{Applies, Enters, IsLawful};
 ghost use Rattle.nfs_core.specs.State.{empty_server};
 ghost use Rattle.nfs_core.specs.Step.{AtMostOneStep, IsFilehandle, call_of};
 ghost use Rattle.nfs_xdr.specs.Op.{has_entry};
-ghost use Rattle.nfs_xdr.specs.OpResult.{written_result};
+ghost use Rattle.nfs_xdr.specs.OpResult.{op_result};
 
-use crate::get_attr::get_attr;
-use crate::set_client_id::set_client_id;
-use crate::set_client_id_confirm::set_client_id_confirm;
+use crate::operations::getattr::getattr;
+use crate::operations::setclientid::setclientid;
+use crate::operations::setclientid_confirm::setclientid_confirm;
 use crate::tables::Tables;
 use crate::{CoreError, Journal, LEASE_MAX, LEASE_MIN, Moment};
 use nfs_tree::{Policy, Tree};
-use nfs_xdr::{Op, OpResult, Principal, Status};
+use nfs_xdr::{Op, OpResult, Principal, Refusal};
 use std::alloc::Global;
 use std::marker::Model;
 
@@ -64,6 +64,7 @@ impl Core {
     /// Answers an operation that has a rule here (`Op::has_entry`), and gives its entry's number in the
     /// journal. With no number the answer is NFS4ERR_RESOURCE and nothing has changed: the journal is
     /// full, memory was refused, or a limit of the tables is met. `filehandle` is a node of the tree.
+    #[tactic(auto, unfolding(nfs_xdr::specs::OpResult::op_result, nfs_xdr::specs::Opnum::opnum, nfs_xdr::specs::Status::status, xdr::specs::Writing::written_number, nfs_xdr::specs::Answer::answer, nfs_xdr::specs::ClientAnswer::client_answer))]
     pub fn apply(
         &mut self,
         moment: Moment,
@@ -74,7 +75,8 @@ impl Core {
         requires entry { IsTrue (has_entry op.now) }
         requires node { IsFilehandle self.old.journal filehandle }
         ensures applies { Applies self.old self.new moment principal op.now filehandle result.0 result.1 }
-        ensures short { length (written_result result.0) ≤ ANSWER_LIMIT }
+        ensures short { length (op_result.spelling result.0) ≤ ANSWER_LIMIT }
+        ensures form { op_result.Fits result.0 }
         ensures lawful { IsLawful self.new }
     {
         let tables = &mut self.tables;
@@ -83,7 +85,7 @@ impl Core {
             self.alloc, tables, journal, moment, principal, op, filehandle,
         ) {
             Some((answer, number)) => (answer, Some(number)),
-            None => (op.refusal(Status::Resource), None),
+            None => (op.opnum().refusal(Refusal::Resource), None),
         }
     }
 
@@ -113,16 +115,17 @@ fn enter(
         (record { journal = journal.new; state = tables.new })
         (call_of moment principal op.now filehandle r.0)) }
     ensures number { IfSome result (λ r. r.1 ≡ length journal.old.entries) }
-    ensures short { IfSome result (λ r. length (written_result r.0) ≤ ANSWER_LIMIT) }
+    ensures short { IfSome result (λ r. length (op_result.spelling r.0) ≤ ANSWER_LIMIT) }
+    ensures form { IfSome result (λ r. op_result.Fits r.0) }
     ensures refused { IfNone result ((journal.new ≡ journal.old) × (tables.new ≡ tables.old)) }
 {
     match op {
-        Op::GetAttr(mask) => get_attr(alloc, tables, journal, moment, principal, mask, filehandle),
-        Op::SetClientId(args) => {
-            set_client_id(tables, journal, moment, principal, args, filehandle)
+        Op::Getattr(mask) => getattr(alloc, tables, journal, moment, principal, mask, filehandle),
+        Op::Setclientid(args) => {
+            setclientid(tables, journal, moment, principal, args, filehandle)
         }
-        Op::SetClientIdConfirm(args) => {
-            set_client_id_confirm(tables, journal, moment, principal, args, filehandle)
+        Op::SetclientidConfirm(args) => {
+            setclientid_confirm(tables, journal, moment, principal, args, filehandle)
         }
         _ => unreachable!(),
     }

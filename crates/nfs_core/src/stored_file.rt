@@ -1,4 +1,4 @@
-use nfs_xdr::Bytes;
+use xdr::Bytes;
 
 /// A file as it is now (RFC 7530, section 5.8.1).
 #[derive(Debug, Drop)]

@@ -4,9 +4,9 @@ ghost use Rattle.nfs_core.specs.State.{file_of, opening_files};
 
 use crate::StoredFile;
 use nfs_tree::Tree;
-use nfs_xdr::Bytes;
 use std::alloc::{AllocError, Global};
 use std::marker::Model;
+use xdr::Bytes;
 
 /// The files as they are now, in order of the numbers of their nodes.
 #[derive(Debug, Drop)]

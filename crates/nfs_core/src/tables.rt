@@ -25,7 +25,7 @@ impl Model for Tables {
 
 impl Tables {
     ghost use Rattle.std.specs.Option.{option_copied};
-    ghost use Rattle.nfs_core.specs.GetAttr.{change_of, size_of};
+    ghost use Rattle.nfs_core.specs.operations.Getattr.{change_of, size_of};
     ghost use Rattle.nfs_core.specs.State.{empty_server, file_of, has_state, record_has_state};
 
     /// The tree's files, and no client.

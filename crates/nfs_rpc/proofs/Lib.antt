@@ -1,8 +1,8 @@
 pub mod Fragments
-pub mod Places
-pub mod Gathering
-pub mod Splitting
+pub mod Standing
+pub mod Finding
 pub mod Taking
-pub mod AuthSysBodies
+pub mod Splitting
 pub mod Limits
-pub mod Writing
+pub mod Groups
+pub mod Calls

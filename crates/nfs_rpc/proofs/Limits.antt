@@ -1,36 +1,33 @@
 -- What stands in the layout of a COMPOUND has a tag and a list of operations of limited lengths, and reading shortens.
-use Rattle.std.proofs.Common.{◌≡◌, ℕ, zero, suc, ◌+◌, ◌≤◌, Bool, true, false, cond, ltb, List, [], ◌∷◌, length, take, drop, Result, Ok, Err, refl, sym, ap, ◌∙◌, arith}
+use Rattle.std.proofs.Common.{◌≡◌, ℕ, zero, suc, ◌+◌, ◌≤◌, Bool, true, false, List, [], ◌∷◌, length, Result, Ok, Err, refl, ap, ◌∙◌, arith}
 use Rattle.std.specs.Prelude.{MatchBool, IfOk}
-use Rattle.std.proofs.lemmas.Bool.{ltb-false}
-use Rattle.std.proofs.lemmas.List.{length-append, length-drop}
-use Rattle.byteorder.specs.Endian.{big_number}
-use Rattle.nfs_xdr.specs.declared.wire_error.WireError.{WireError}
-use Rattle.nfs_xdr.specs.declared.wire_error.WireError.TheVariants as errors
-use Rattle.nfs_xdr.specs.Layout.{padding_of}
-use Rattle.nfs_xdr.specs.Reading.{Read, Answers, ◌>>=◌, ◌then◌, as_value, number_at, padded_at, opaque_at}
-use Rattle.nfs_xdr.specs.Writing.{written_u32}
-use Rattle.nfs_xdr.proofs.BasicForms.{bind_ok, guard_ok, ok_is}
+use Rattle.std.proofs.lemmas.List.{length-append}
+use Rattle.xdr.specs.declared.wire_error.WireError.{WireError}
+use Rattle.xdr.specs.Layout.{Opaque}
+use Rattle.xdr.specs.Reading.{Read, Reads, Answers, ◌>>=◌}
+use Rattle.xdr.specs.Writing.{written_number, written_opaque}
+use Rattle.xdr.specs.laws.Reads.{ok_is}
 use Rattle.nfs_rpc.specs.declared.call.Header.{Header}
 use Rattle.nfs_rpc.specs.declared.call.Start.{Start}
-use Rattle.nfs_rpc.specs.declared.call.TheConstants.{NFS_VERSION, RPC_VERSION}
 use Rattle.nfs_rpc.specs.declared.credential.TheConstants.{BODY_LIMIT}
 use Rattle.nfs_rpc.specs.declared.reply.Reply.TheVariants as replies
-use Rattle.nfs_rpc.specs.Credential.{credential_at, opaque_auth_at, principal_of}
+use Rattle.nfs_rpc.specs.Credential.{OpaqueAuth, opaque_auth}
 use Rattle.nfs_xdr.specs.declared.compound.Compound.{Compound}
 use Rattle.nfs_xdr.specs.declared.compound.Request.{Request}
 use Rattle.nfs_xdr.specs.declared.compound.Request.TheVariants.{MinorVersion, TooMany, Operations}
-use Rattle.nfs_xdr.specs.declared.op.Op.{Op}
+use Rattle.nfs_xdr.specs.declared.arg_op.ArgOp.{ArgOp}
 use Rattle.nfs_xdr.specs.Compound.{HoldOperations, IsRequest, IsCompound}
-use Rattle.nfs_xdr.specs.Op.{ends_list}
-use Rattle.nfs_rpc.specs.Call.{HasFewOperations, IsShortReply, IsWithinLimits, header_at, start_at}
-use Rattle.nfs_rpc.specs.declared.reply.TheConstants.{ACCEPTED_LEN, ACCEPTED_PROG_MISMATCH, AUTH_BADCRED, DENIED_AUTH_ERROR, DENIED_RPC_MISMATCH, SHORT_REPLY_LEN}
-use Rattle.nfs_rpc.specs.Reply.{written_accepted, written_denied, written_no_verifier, written_only_version, written_reply_head}
+use Rattle.nfs_xdr.specs.ArgOp.{ends_list}
+use Rattle.nfs_rpc.specs.Call.{Body, HasFewOperations, IsWithinLimits, body, start}
+use Rattle.nfs_rpc.specs.ReadingCalls.{header_at, header_of}
+use Rattle.nfs_rpc.specs.declared.reply.TheConstants.{ACCEPTED_LEN, SHORT_REPLY_LEN}
+use Rattle.nfs_rpc.specs.Reply.{written_accepted, written_reply}
 
-held_rest : (count : ℕ) (rest : List ℕ) (ops : List Op) (b : Bool) → ((ops : List Op) → HoldOperations count rest ops → length ops ≤ count) → MatchBool b (ops ≡ []) (HoldOperations count rest ops) → length ops ≤ count
+held_rest : (count : ℕ) (rest : List ℕ) (ops : List ArgOp) (b : Bool) → ((ops : List ArgOp) → HoldOperations count rest ops → length ops ≤ count) → MatchBool b (ops ≡ []) (HoldOperations count rest ops) → length ops ≤ count
 held_rest count rest ops true below held = omega (arith, ap length held)
 held_rest count rest ops false below held = below ops held
 
-few_held : (count : ℕ) (bytes : List ℕ) (ops : List Op) → HoldOperations count bytes ops → length ops ≤ count
+few_held : (count : ℕ) (bytes : List ℕ) (ops : List ArgOp) → HoldOperations count bytes ops → length ops ≤ count
 few_held zero bytes ops held = omega (arith, ap length held)
 few_held (suc count) bytes [] held = absurd held
 few_held (suc count) bytes (op ∷ ops) held =
@@ -53,98 +50,74 @@ within_limits compound bytes is =
     let same : length opaque.1.4.0 ≡ length compound.tag = ap length opaque.1.4.3.1 in
     (omega (arith, opaque.1.3.0, begins.2.4.3.0, begins.2.4.4.0), few_asked is.0 is.1 is.2 compound.request is.4)
 
--- a reading function takes at least so many bytes
-abbrev Takes : {A : Type 0} → ℕ → (List ℕ → Read A) → Type 0
-Takes {A = A} count f = (bytes : List ℕ) (value : A) (rest : List ℕ) → f bytes ≡ Ok (value, rest) → length rest + count ≤ length bytes
+start_len : (s : Start) (front : List ℕ) → start.layout s front → length front ≡ 12
+unfolding start
+start_len s front h = omega (arith, length-append h.0 h.1, ap length h.2, h.3.0, length-append h.4.0 h.4.1, ap length h.4.2, h.4.3.0, h.4.4.0)
 
-rest_is : {A : Type 0} (a b : A) (x y : List ℕ) (r : Read A) → r ≡ Ok (a, x) → r ≡ Ok (b, y) → x ≡ y
-rest_is {A = A} a b x y r p q = ap (λ (z : A × List ℕ). z.1) (ok_is (a, x) (b, y) (sym p ∙ q))
+opaque_len : (limit : ℕ) (value : List ℕ) (front : List ℕ) → Opaque limit value front → 4 ≤ length front
+opaque_len limit value front h = omega (arith, length-append h.1.0 h.1.1, ap length h.1.2, h.1.3.0)
 
-takes_then : {A B : Type 0} (m n : ℕ) (f : List ℕ → Read A) (g : List ℕ → Read B) → Takes m f → Takes n g → Takes (m + n) (f then g)
-takes_then m n f g p q bytes value rest e =
-    let a = bind_ok (f bytes) (λ a. g a.1 >>= λ b. Ok ((a.0, b.0), b.1)) (value, rest) e in
-    let b = bind_ok (g a.0.1) (λ b. Ok ((a.0.0, b.0), b.1)) (value, rest) a.2 in
-    let same : b.0.1 ≡ rest = rest_is (a.0.0, b.0.0) value b.0.1 rest (Ok ((a.0.0, b.0.0), b.0.1)) refl b.2 in
-    omega (arith, p bytes a.0.0 a.0.1 a.1, q a.0.1 b.0.0 b.0.1 b.1, ap length same)
+auth_len : (a : OpaqueAuth) (front : List ℕ) → opaque_auth.layout a front → 8 ≤ length front
+auth_len a front h = omega (arith, length-append h.0 h.1, ap length h.2, h.3.0, opaque_len BODY_LIMIT a.1 h.1 h.4)
 
-takes_as : {A B : Type 0} (n : ℕ) (make : A → B) (f : List ℕ → Read A) → Takes n f → Takes n (as_value make f)
-takes_as n make f p bytes value rest e =
-    let a = bind_ok (f bytes) (λ a. Ok (make a.0, a.1)) (value, rest) e in
-    let same : a.0.1 ≡ rest = rest_is (make a.0.0) value a.0.1 rest (Ok (make a.0.0, a.0.1)) refl a.2 in
-    omega (arith, p bytes a.0.0 a.0.1 a.1, ap length same)
+body_len : (b : Body) (front : List ℕ) → body.layout b front → 28 ≤ length front
+unfolding body
+body_len b front h =
+    let c = h.4 in let d = c.4 in let e = d.4 in
+    omega (
+      arith,
+      length-append h.0 h.1,
+      ap length h.2,
+      h.3.0,
+      length-append c.0 c.1,
+      ap length c.2,
+      c.3.0,
+      length-append d.0 d.1,
+      ap length d.2,
+      d.3.0,
+      length-append e.0 e.1,
+      ap length e.2,
+      auth_len b.credential e.0 e.3,
+      auth_len b.verifier e.1 e.4,
+    )
 
-takes_number : Takes 4 (number_at 4)
-takes_number bytes value rest e =
-    let g = guard_ok (ltb (length bytes) 4) errors.Short (Ok (big_number 4 bytes, drop 4 bytes)) (value, rest) e in
-    let same : drop 4 bytes ≡ rest = rest_is (big_number 4 bytes) value (drop 4 bytes) rest (Ok (big_number 4 bytes, drop 4 bytes)) refl g.1 in
-    omega (arith, ltb-false _ _ g.0, length-drop 4 bytes, ap length same)
+shortens : {A X : Type 0} (n : ℕ) (layout : A → List ℕ → Type 0) (at : List ℕ → Read A) → Reads layout at → ((a : A) (front : List ℕ) → layout a front → n ≤ length front)
+    → (view : X → A × List ℕ) (bytes : List ℕ) (r : Result X WireError) → Answers view r (at bytes) → IfOk r (λ x. length (view x).1 + n ≤ length bytes)
+shortens n layout at reads long view bytes (Ok x) e =
+    let found = reads.sound bytes (view x).0 (view x).1 e in
+    omega (arith, ap length found.1, length-append found.0 (view x).1, long (view x).0 found.0 found.2)
+shortens n layout at reads long view bytes (Err d) e = tt
 
-takes_opaque : (limit : ℕ) → Takes 4 (opaque_at limit)
-unfolding opaque_at
-takes_opaque limit bytes value rest e =
-    let n = bind_ok (number_at 4 bytes) (λ n. cond (ltb limit n.0) (Err errors.TooLong) (padded_at n.0 n.1)) (value, rest) e in
-    let count = n.0.0 in
-    let padded = count + padding_of count in
-    let g = guard_ok (ltb limit count) errors.TooLong (padded_at count n.0.1) (value, rest) n.2 in
-    let k = guard_ok (ltb (length n.0.1) padded) errors.Short (Ok (take count n.0.1, drop padded n.0.1)) (value, rest) g.1 in
-    let same : drop padded n.0.1 ≡ rest = rest_is (take count n.0.1) value (drop padded n.0.1) rest (Ok (take count n.0.1, drop padded n.0.1)) refl k.1 in
-    omega (arith, takes_number bytes n.0.0 n.0.1 n.1, length-drop padded n.0.1, ap length same)
+pub start_shortens : {X : Type 0} (view : X → Start × List ℕ) (bytes : List ℕ) (r : Result X WireError) → Answers view r (start.at bytes) → IfOk r (λ x. length (view x).1 + 12 ≤ length bytes)
+start_shortens = shortens 12 start.layout start.at start.reads (λ s front h. omega (arith, start_len s front h))
 
-takes_opaque_auth : Takes 8 opaque_auth_at
-takes_opaque_auth = takes_then 4 4 (number_at 4) (opaque_at BODY_LIMIT) takes_number (takes_opaque BODY_LIMIT)
-
-takes_credential : Takes 8 credential_at
-takes_credential = takes_as 8 (λ (p : ℕ × List ℕ). principal_of p.0 p.1) opaque_auth_at takes_opaque_auth
-
-takes_word : {B : Type 0} (n : ℕ) (g : List ℕ → Read B) → Takes n g → Takes (4 + n) (number_at 4 then g)
-takes_word n g p = takes_then 4 n (number_at 4) g takes_number p
-
-takes_start : Takes 12 start_at
-unfolding start_at
-takes_start = takes_as 12 _ (number_at 4 then number_at 4 then number_at 4)
-    (takes_word 8 (number_at 4 then number_at 4) (takes_word 4 (number_at 4) takes_number))
-
-takes_header : Takes 28 header_at
-unfolding header_at
-takes_header =
-    takes_as 28 _ (number_at 4 then number_at 4 then number_at 4 then credential_at then opaque_auth_at)
-    (takes_word 24 (number_at 4 then number_at 4 then credential_at then opaque_auth_at)
-    (takes_word 20 (number_at 4 then credential_at then opaque_auth_at)
-    (takes_word 16 (credential_at then opaque_auth_at) (takes_then 8 8 credential_at opaque_auth_at takes_credential takes_opaque_auth))))
-
-takes_if_ok : {A X : Type 0} (n : ℕ) (f : List ℕ → Read A) → Takes n f → (view : X → A × List ℕ) (bytes : List ℕ) (r : Result X WireError) → Answers view r (f bytes) → IfOk r (λ x. length (view x).1 + n ≤ length bytes)
-takes_if_ok n f p view bytes (Ok x) e = p bytes (view x).0 (view x).1 e
-takes_if_ok n f p view bytes (Err d) e = tt
-
-pub start_shortens : {X : Type 0} (view : X → Start × List ℕ) (bytes : List ℕ) (r : Result X WireError) → Answers view r (start_at bytes) → IfOk r (λ x. length (view x).1 + 12 ≤ length bytes)
-start_shortens = takes_if_ok 12 start_at takes_start
+-- reading the header, made into another value, shortens as much
+as_shortens : {X : Type 0} (view : X → Header × List ℕ) (bytes : List ℕ) (r : Result X WireError) (read : Read Body) → body.at bytes ≡ read → Answers view r (read >>= λ a. Ok (header_of a.0, a.1)) → IfOk r (λ x. length (view x).1 + 28 ≤ length bytes)
+as_shortens view bytes (Ok x) (Ok b) given e =
+    let found = body.reads.sound bytes b.0 b.1 given in
+    let same : b.1 ≡ (view x).1 = ap (λ (h : Header × List ℕ). h.1) (ok_is (header_of b.0, b.1) (view x) e) in
+    omega (arith, ap length found.1, length-append found.0 b.1, body_len b.0 found.0 found.2, ap length same)
+as_shortens view bytes (Ok x) (Err d) given e = absurd cc
+as_shortens view bytes (Err d) read given e = tt
 
 pub header_shortens : {X : Type 0} (view : X → Header × List ℕ) (bytes : List ℕ) (r : Result X WireError) → Answers view r (header_at bytes) → IfOk r (λ x. length (view x).1 + 28 ≤ length bytes)
-header_shortens = takes_if_ok 28 header_at takes_header
+header_shortens view bytes r e = as_shortens view bytes r (body.at bytes) refl e
 
-length_accepted : (xid state : ℕ) → length (written_accepted xid state) ≡ ACCEPTED_LEN
-unfolding written_accepted written_reply_head written_no_verifier
+pub length_accepted : (xid state : ℕ) → length (written_accepted xid state) ≡ ACCEPTED_LEN
+unfolding written_number written_opaque
 length_accepted xid state = refl
-
-length_denied : (xid state : ℕ) → length (written_denied xid state) ≡ 16
-unfolding written_denied written_reply_head
-length_denied xid state = refl
-
-length_only_version : (version : ℕ) → length (written_only_version version) ≡ 8
-unfolding written_only_version
-length_only_version version = refl
 
 pub accepted_is_short : (xid state : ℕ) → length (written_accepted xid state) ≤ SHORT_REPLY_LEN
 accepted_is_short xid state = omega (arith, length_accepted xid state)
 
-pub prog_mismatch_is_short : (xid : ℕ) → IsShortReply xid replies.ProgMismatch
-prog_mismatch_is_short xid =
-    (omega (arith, length-append (written_accepted xid ACCEPTED_PROG_MISMATCH) (written_only_version NFS_VERSION), length_accepted xid ACCEPTED_PROG_MISMATCH, length_only_version NFS_VERSION), λ no. no)
+pub prog_mismatch_is_short : (xid : ℕ) → length (written_reply xid replies.ProgMismatch) ≤ SHORT_REPLY_LEN
+unfolding written_number written_opaque
+prog_mismatch_is_short xid = omega arith
 
-pub rpc_mismatch_is_short : (xid : ℕ) → IsShortReply xid replies.RpcMismatch
-rpc_mismatch_is_short xid =
-    (omega (arith, length-append (written_denied xid DENIED_RPC_MISMATCH) (written_only_version RPC_VERSION), length_denied xid DENIED_RPC_MISMATCH, length_only_version RPC_VERSION), λ no. no)
+pub rpc_mismatch_is_short : (xid : ℕ) → length (written_reply xid replies.RpcMismatch) ≤ SHORT_REPLY_LEN
+unfolding written_number
+rpc_mismatch_is_short xid = omega arith
 
-pub auth_error_is_short : (xid : ℕ) → IsShortReply xid replies.AuthError
-auth_error_is_short xid =
-    (omega (arith, length-append (written_denied xid DENIED_AUTH_ERROR) (written_u32 AUTH_BADCRED), length_denied xid DENIED_AUTH_ERROR), λ no. no)
+pub auth_error_is_short : (xid : ℕ) → length (written_reply xid replies.AuthError) ≤ SHORT_REPLY_LEN
+unfolding written_number
+auth_error_is_short xid = omega arith

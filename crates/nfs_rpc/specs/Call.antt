@@ -1,82 +1,151 @@
 -- RPC calls (RFC 5531, section 9): what a record calls for.
-use Rattle.std.specs.Prelude.{◌≡◌, ℕ, ◌+◌, ◌≤◌, ◌==◌, not, ◌⊎◌, List, length, Option, Some, None, Result, Ok, Err, if◌then◌else◌}
+use Rattle.std.specs.Prelude.{◌≡◌, ℕ, ◌+◌, ◌≤◌, ◌⊎◌, List, [], ◌∷◌, length}
+use Rattle.std.proofs.Common.{refl}
 use Rattle.nfs_rpc.specs.declared.call.Call.{Call}
 use Rattle.nfs_rpc.specs.declared.call.Call.TheVariants.{Silent, Null, Compound, Answer}
-use Rattle.nfs_rpc.specs.declared.call.Header.{Header}
 use Rattle.nfs_rpc.specs.declared.call.Start.{Start}
 use Rattle.nfs_rpc.specs.declared.call.TheConstants.{MESSAGE_CALL, NFS_PROGRAM, NFS_VERSION, PROC_COMPOUND, PROC_NULL, RPC_VERSION}
 use Rattle.nfs_rpc.specs.declared.reply.Reply.{Reply}
 use Rattle.nfs_rpc.specs.declared.reply.Reply.TheVariants.{RpcMismatch, AuthError, ProgUnavail, ProgMismatch, ProcUnavail, GarbageArgs, SystemError}
 use Rattle.nfs_rpc.specs.declared.reply.TheConstants.{SHORT_REPLY_LEN}
-use Rattle.nfs_rpc.specs.Credential.{credential_at, opaque_auth_at}
-use Rattle.nfs_rpc.specs.Reply.{IsReplyTooLong, written_reply}
+use Rattle.nfs_rpc.specs.Credential.{IsOf, OpaqueAuth, opaque_auth}
+use Rattle.nfs_rpc.specs.Reply.{IsWritable, written_reply}
 use Rattle.nfs_xdr.specs.declared.principal.Principal.{Principal}
-use Rattle.nfs_xdr.specs.declared.wire_error.WireError.{WireError}
-use Rattle.nfs_xdr.specs.Compound.{compound_at}
+use Rattle.nfs_xdr.specs.Compound.{IsCompound}
 use Rattle.nfs_xdr.specs.declared.compound.Compound.{Compound as CompoundArgs}
 use Rattle.nfs_xdr.specs.declared.compound.Request.{Request}
 use Rattle.nfs_xdr.specs.declared.compound.Request.TheVariants.{MinorVersion, TooMany, Operations}
 use Rattle.nfs_xdr.specs.declared.compound.TheConstants.{OPERATION_LIMIT}
-use Rattle.nfs_xdr.specs.Reading.{Read, ◌then◌, as_value, number_at}
+use Rattle.xdr.specs.Form.{Form, ◌and◌, of, u32, constant}
+use Rattle.xdr.specs.Reading.{Begins}
 
--- xid, message type and RPC version
-unfoldable pub start_at : List ℕ → Read Start
-start_at =
-    as_value (λ p. record { xid = p.0; message_type = p.1.0; rpc_version = p.1.1 })
-    (number_at 4 then number_at 4 then number_at 4)
+-- struct rpc_msg { unsigned int xid; union switch (msg_type mtype)
+--   { case CALL: call_body cbody; case REPLY: reply_body rbody; } body; };
+-- struct call_body { unsigned int rpcvers; unsigned int prog; unsigned int vers; unsigned int proc;
+--   opaque_auth cred; opaque_auth verf; /* procedure-specific parameters start here */ };
 
--- program, version, procedure, credential, and a verifier, which is passed over
-unfoldable pub header_at : List ℕ → Read Header
-header_at =
-    as_value (λ p. record { program = p.0; version = p.1.0; procedure = p.1.1.0; principal = p.1.1.1.0 })
-    (number_at 4 then number_at 4 then number_at 4 then credential_at then opaque_auth_at)
+-- what a call begins with, which is judged whatever follows it: xid, CALL, rpcvers
+unfoldable pub start : Form Start
+start =
+    of (λ p. record { xid = p.0; rpc_version = p.1.1 }) (λ s. (s.xid, (tt, s.rpc_version)))
+    (λ p. refl) (λ s. refl)
+    (u32 and constant MESSAGE_CALL and u32)
 
--- what the arguments of a COMPOUND make of it, given the xid and the principal
-abbrev pub Arguments : Type 0
-Arguments = ℕ → Principal → List ℕ → Call
+-- prog, vers, proc, cred, verf
+pub record Body : Type 0 where
+  pub program : ℕ
+  pub version : ℕ
+  pub procedure : ℕ
+  pub credential : OpaqueAuth
+  pub verifier : OpaqueAuth
 
--- what was read goes on to the next check, and else this is the call
-abbrev pub read_or : {A : Type 0} → Call → Read A → (A → List ℕ → Call) → Call
-read_or call (Ok x) check = check x.0 x.1
-read_or call (Err e) check = call
+unfoldable pub body : Form Body
+body =
+    of
+    (λ p. record {
+      program = p.0;
+      version = p.1.0;
+      procedure = p.1.1.0;
+      credential = p.1.1.1.0;
+      verifier = p.1.1.1.1;
+    })
+    (λ b. (b.program, (b.version, (b.procedure, (b.credential, b.verifier)))))
+    (λ p. refl) (λ b. refl)
+    (u32 and u32 and u32 and opaque_auth and opaque_auth)
 
-abbrev pub some_or : {A : Type 0} → Call → Option A → (A → Call) → Call
-some_or call (Some x) check = check x
-some_or call None check = call
+-- all that stands before the arguments
+abbrev pub CallHeader : Type 0
+CallHeader = Start × Body
 
--- The checks of a record in their order, each with what the record calls for where it isn't met.
-abbrev pub call_by : Arguments → List ℕ → Call
-call_by arguments message =
-    read_or Silent (start_at message) (λ start rest.
-    if not (start.message_type == MESSAGE_CALL) then Silent
-    else if not (start.rpc_version == RPC_VERSION) then Answer start.xid RpcMismatch
-    else read_or Silent (header_at rest) (λ header behind.
-    some_or (Answer start.xid AuthError) header.principal (λ principal.
-    if not (header.program == NFS_PROGRAM) then Answer start.xid ProgUnavail
-    else if not (header.version == NFS_VERSION) then Answer start.xid ProgMismatch
-    else if header.procedure == PROC_NULL then Null start.xid
-    else if header.procedure == PROC_COMPOUND then arguments start.xid principal behind
-    else Answer start.xid ProcUnavail)))
+abbrev pub header : Form CallHeader
+header = start and body
 
--- a COMPOUND, where its arguments can be read
-abbrev pub compound_or_garbage : ℕ → Principal → Result CompoundArgs WireError → Call
-compound_or_garbage xid principal (Ok compound) = Compound xid principal compound
-compound_or_garbage xid principal (Err e) = Answer xid GarbageArgs
+-- The rules by which a record calls for something, in their order.
 
-abbrev pub read_arguments : Arguments
-read_arguments xid principal bytes = compound_or_garbage xid principal (compound_at bytes)
+-- Another version of RPC is denied.
+abbrev pub HasAnotherRpc : List ℕ → Call → Type 0
+HasAnotherRpc message call =
+    (s : Start) × (rest : List ℕ) × Begins (start.layout s) message rest
+    × (s.rpc_version ≡ RPC_VERSION → ⊥) × (call ≡ Answer s.xid RpcMismatch)
 
--- the same where memory is refused for them
-abbrev pub refused_arguments : Arguments
-refused_arguments xid principal bytes = Answer xid SystemError
+-- Where no header stands nothing is said.
+abbrev pub HasNoHeader : List ℕ → Call → Type 0
+HasNoHeader message call =
+    ((h : CallHeader) (rest : List ℕ) → Begins (header.layout h) message rest → ⊥) × (call ≡ Silent)
 
--- what a record's bytes call for
-abbrev pub call_of : List ℕ → Call
-call_of = call_by read_arguments
+-- a header stands there, of which, and of what is behind it, this is so
+abbrev pub HasHeader : (CallHeader → List ℕ → Type 0) → List ℕ → Type 0
+HasHeader Is message =
+    (h : CallHeader) × (rest : List ℕ) × Begins (header.layout h) message rest × Is h rest
 
--- The call that is read: what the bytes call for, or SYSTEM_ERR in place of a COMPOUND for which memory was refused.
+-- A credential that is of no principal is denied.
+abbrev pub HasNoPrincipal : List ℕ → Call → Type 0
+HasNoPrincipal message call =
+    HasHeader (λ h rest.
+    ((p : Principal) → IsOf h.1.credential p → ⊥) × (call ≡ Answer h.0.xid AuthError)) message
+
+abbrev pub HasAnotherProgram : List ℕ → Call → Type 0
+HasAnotherProgram message call =
+    HasHeader (λ h rest.
+    (h.1.program ≡ NFS_PROGRAM → ⊥) × (call ≡ Answer h.0.xid ProgUnavail)) message
+
+abbrev pub HasAnotherVersion : List ℕ → Call → Type 0
+HasAnotherVersion message call =
+    HasHeader (λ h rest.
+    (h.1.version ≡ NFS_VERSION → ⊥) × (call ≡ Answer h.0.xid ProgMismatch)) message
+
+abbrev pub HasNull : List ℕ → Call → Type 0
+HasNull message call =
+    HasHeader (λ h rest. (h.1.procedure ≡ PROC_NULL) × (call ≡ Null h.0.xid)) message
+
+abbrev pub HasAnotherProcedure : List ℕ → Call → Type 0
+HasAnotherProcedure message call =
+    HasHeader (λ h rest.
+    (h.1.procedure ≡ PROC_COMPOUND → ⊥) × (call ≡ Answer h.0.xid ProcUnavail)) message
+
+-- The arguments of a COMPOUND stand behind the header.
+abbrev pub HasCompound : List ℕ → Call → Type 0
+HasCompound message call =
+    HasHeader (λ h rest.
+    (principal : Principal) × (compound : CompoundArgs)
+    × IsOf h.1.credential principal × IsCompound compound rest
+    × (call ≡ Compound h.0.xid principal compound)) message
+
+-- Anything else behind a header of COMPOUND is garbage.
+abbrev pub HasGarbage : List ℕ → Call → Type 0
+HasGarbage message call = HasHeader (λ h rest. call ≡ Answer h.0.xid GarbageArgs) message
+
+-- what the first rule says that says anything
+abbrev pub First : {V : Type 0} → List (V → Type 0) → V → Type 0
+First [] value = ⊥
+First {V = V} (rule ∷ rules) value = rule value ⊎ (((any : V) → rule any → ⊥) × First rules value)
+
+-- What a record calls for. Each rule speaks only where none before it does.
+abbrev pub CallsFor : List ℕ → Call → Type 0
+CallsFor message =
+    First (
+    HasAnotherRpc message ∷ HasNoHeader message ∷ HasNoPrincipal message
+    ∷ HasAnotherProgram message ∷ HasAnotherVersion message
+    ∷ HasNull message ∷ HasAnotherProcedure message ∷ HasCompound message ∷ HasGarbage message ∷ [])
+
+-- each record calls for one thing
+abbrev pub OneCall : Type 0
+OneCall =
+    (message : List ℕ)
+    → (call : Call) × CallsFor message call
+    × ((other : Call) → CallsFor message other → other ≡ call)
+
+-- The call itself, or SYSTEM_ERR in place of a COMPOUND for which memory was refused.
+abbrev pub OrRefused : (Call → Type 0) → Call → Type 0
+OrRefused Is call =
+    Is call
+    ⊎ ((xid : ℕ) × (principal : Principal) × (compound : CompoundArgs)
+    × Is (Compound xid principal compound) × (call ≡ Answer xid SystemError))
+
+-- The call that is read. What is no COMPOUND is never answered SYSTEM_ERR, and garbage always
+-- GARBAGE_ARGS.
 abbrev pub IsCall : List ℕ → Call → Type 0
-IsCall message call = (call ≡ call_of message) ⊎ (call ≡ call_by refused_arguments message)
+IsCall message = OrRefused (CallsFor message)
 
 -- no more operations than a COMPOUND may have
 abbrev pub HasFewOperations : Request → Type 0
@@ -86,10 +155,10 @@ HasFewOperations (Operations ops) = length ops ≤ OPERATION_LIMIT
 
 -- an answer without the service is short
 abbrev pub IsShortReply : ℕ → Reply → Type 0
-IsShortReply xid reply = (length (written_reply xid reply) ≤ SHORT_REPLY_LEN) × ¬ IsReplyTooLong reply
+IsShortReply xid reply = (length (written_reply xid reply) ≤ SHORT_REPLY_LEN) × IsWritable xid reply
 
--- Beside its tag a record that is a COMPOUND has the 40 bytes of a header with empty bodies, and 12 of the tag's length, the
--- minor version and the count.
+-- Beside its tag a record that is a COMPOUND has the 40 bytes of a header with empty bodies, and 12 of
+-- the tag's length, the minor version and the count.
 abbrev pub IsWithinLimits : ℕ → CompoundArgs → Type 0
 IsWithinLimits len c = (length c.tag + 52 ≤ len) × HasFewOperations c.request
 

@@ -1,5 +1,7 @@
 pub mod Records
-pub mod Reply
+pub mod Keeping
 pub mod AuthSys
 pub mod Credential
+pub mod Reply
 pub mod Call
+pub mod ReadingCalls

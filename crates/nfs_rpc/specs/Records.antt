@@ -1,13 +1,11 @@
 -- A stream of records, each of one or more fragments (RFC 5531, section 11).
-use Rattle.std.specs.Prelude.{◌≡◌, ℕ, ◌+◌, ◌^◌, ◌<◌, ◌≤◌, ◌↔◌, Bool, true, false, List, [], ◌∷◌, ◌++◌, length, take, drop, IsTrue, if◌then◌else◌}
+use Rattle.std.specs.Prelude.{◌≡◌, ℕ, ◌+◌, ◌^◌, ◌<◌, ◌≤◌, ◌↔◌, Bool, true, false, List, [], ◌∷◌, ◌++◌, length, take, IsTrue, if◌then◌else◌}
 use Rattle.std.specs.List.{concat}
 use Rattle.byteorder.specs.Endian.{big_number}
 use Rattle.nfs_rpc.specs.declared.records.TheConstants.{RECORD_LIMIT}
-use Rattle.nfs_rpc.specs.declared.records.Place.{Place}
-use Rattle.nfs_rpc.specs.declared.records.Unfinished.{Unfinished}
-use Rattle.nfs_rpc.specs.declared.records.Front.{Front}
-use Rattle.nfs_rpc.specs.declared.records.Front.TheVariants.{Whole, Partial}
-use Rattle.nfs_rpc.specs.declared.records.Tail.{Tail}
+use Rattle.nfs_rpc.specs.declared.place.Place.{Place}
+use Rattle.nfs_rpc.specs.declared.place.Place.TheVariants.{InHeader, InBody}
+use Rattle.nfs_rpc.specs.declared.unfinished.Unfinished.{Unfinished}
 
 -- Four bytes: the top bit says that the fragment is its record's last, and the other 31 are its length.
 pub record IsHeader (last : Bool) (len : ℕ) (bytes : List ℕ) : Type 0 where
@@ -68,62 +66,59 @@ SplitGoesOn =
     (text piece : List ℕ) (records found : List (List ℕ)) (rest remainder : List ℕ)
     → Splits text records rest → Splits (rest ++ piece) found remainder → Splits (text ++ piece) (records ++ found) remainder
 
--- A stream to its readers: the whole records not yet taken, the bytes of no whole record yet, how many bytes came
--- in all, and whether a record is too long.
+-- Of these bytes, which are no whole record, these bodies are kept and this place. The bytes are open fragments and then a part
+-- of a header, or open fragments, a header and a part of its body, of which `wanted` bytes are not there yet.
+abbrev pub IsAt : List ℕ → List ℕ → Place → Type 0
+IsAt text kept (InHeader bytes len) =
+    (bodies : List (List ℕ)) × (front : List ℕ)
+    × (text ≡ front ++ take len bytes) × AreOpen bodies front × (kept ≡ concat bodies) × (len < 4)
+IsAt text kept (InBody wanted last) =
+    (bodies : List (List ℕ)) × (front : List ℕ) × (header : List ℕ) × (body : List ℕ)
+    × (text ≡ front ++ (header ++ body)) × AreOpen bodies front × IsHeader last (length body + wanted) header
+    × (kept ≡ concat bodies ++ body)
+
+-- Of a rest with these bytes this is kept: the bodies so far and a place, how many bytes they are, and whether a record is too
+-- long there. Of one that is too long the bodies and the place mean nothing any more.
+pub record IsUnfinished (rest bodies : List ℕ) (first : Unfinished) : Type 0 where
+  pub none_left : IsRest rest
+  pub too_long : IsTrue first.is_too_long ↔ IsTooLong rest
+  pub stands : first.is_too_long ≡ false → IsAt rest bodies first.place
+  pub count : first.count ≡ length rest
+
+-- A stream to its readers: the whole records not yet taken; of the bytes of no whole record yet the bodies, the place where they
+-- end, their number and whether their record is too long; and how many bytes came in all.
 pub record Stream : Type 0 where
   pub ready : List (List ℕ)
-  pub rest : List ℕ
-  pub fed : ℕ
+  pub bodies : List ℕ
+  pub place : Place
+  pub count : ℕ
   pub is_too_long : Bool
+  pub fed : ℕ
+
+-- of a rest with these bytes the stream keeps what it has
+abbrev pub Keeps : List ℕ → Stream → Type 0
+Keeps rest stream =
+    IsUnfinished rest stream.bodies
+    (record { place = stream.place; count = stream.count; is_too_long = stream.is_too_long })
 
 -- what is so of every stream
 pub record IsStream (stream : Stream) : Type 0 where
-  pub none_left : IsRest stream.rest
-  pub too_long : IsTrue stream.is_too_long ↔ IsTooLong stream.rest
+  pub keeps : (rest : List ℕ) × Keeps rest stream
+  pub few : length stream.bodies ≤ RECORD_LIMIT
   pub bounded : stream.fed ≤ 2 ^ 40
 
--- a piece came: the records that are whole now stand behind those that were
+-- nothing came yet
+pub record IsNew (stream : Stream) : Type 0 where
+  pub keeps : Keeps [] stream
+  pub idle : stream.ready ≡ []
+  pub goes : stream.is_too_long ≡ false
+  pub fed : stream.fed ≡ 0
+
+-- A piece came. The records that are whole now stand behind those that were: of the rest that was kept and the piece they are
+-- split off, and the new rest is kept.
 pub record TakesPiece (old new : Stream) (piece : List ℕ) : Type 0 where
   pub found : List (List ℕ)
-  pub split : Splits (old.rest ++ piece) found new.rest
+  pub split : (rest : List ℕ) → Keeps rest old
+      → (remainder : List ℕ) × Splits (rest ++ piece) found remainder × Keeps remainder new
   pub ready : new.ready ≡ old.ready ++ found
   pub fed : new.fed ≡ old.fed + length piece
-
--- `end` bytes into a text: what stands before is open fragments of its first record, whose bodies have `gathered` bytes
-pub record IsPlace (text : List ℕ) (place : Place) : Type 0 where
-  pub bodies : List (List ℕ)
-  pub front : List ℕ
-  pub back : List ℕ
-  pub whole : text ≡ front ++ back
-  pub fragments : AreOpen bodies front
-  pub ends : place.end ≡ length front
-  pub gathers : place.gathered ≡ length (concat bodies)
-  pub within : place.gathered ≤ RECORD_LIMIT
-
--- the text's first record ends `end` bytes into it, and has `gathered` bytes
-pub record EndsRecord (text : List ℕ) (place : Place) : Type 0 where
-  pub message : List ℕ
-  pub front : List ℕ
-  pub back : List ℕ
-  pub whole : text ≡ front ++ back
-  pub is_record : IsRecord message front
-  pub ends : place.end ≡ length front
-  pub gathers : place.gathered ≡ length message
-  pub within : place.gathered ≤ RECORD_LIMIT
-
--- no record within the limit stands at the front; how far its fragments are there, and whether it is too long
-pub record IsUnfinished (text : List ℕ) (first : Unfinished) : Type 0 where
-  pub up_to : IsPlace text first.place
-  pub none_left : IsRest text
-  pub too_long : IsTrue first.is_too_long ↔ IsTooLong text
-
--- what there is at the front of a text
-abbrev pub IsFront : List ℕ → Front → Type 0
-IsFront text (Whole place) = EndsRecord text place
-IsFront text (Partial first) = IsUnfinished text first
-
--- these are all whole records of a text, and this is behind them
-pub record AreFound (text : List ℕ) (messages : List (List ℕ)) (tail : Tail) : Type 0 where
-  pub within : tail.start ≤ length text
-  pub are_records : AreRecords messages (take tail.start text)
-  pub unfinished : IsUnfinished (drop tail.start text) tail.first

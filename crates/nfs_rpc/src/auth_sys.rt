@@ -1,7 +1,8 @@
-ghost use Rattle.nfs_rpc.specs.AuthSys.{AuthSysIsRead, auth_sys_at, gids_at};
-ghost use Rattle.nfs_xdr.specs.Reading.{Answers, as_value};
+ghost use Rattle.std.specs.Prelude.{List, ℕ};
+ghost use Rattle.nfs_rpc.specs.AuthSys.{AuthSys, auth_sys, gids};
+ghost use Rattle.xdr.specs.Reading.{Answers, as_value};
 
-use nfs_xdr::{WireError, read_opaque, read_u32};
+use xdr::{WireError, read_opaque, read_u32};
 
 /// The most bytes of the name of a machine (RFC 5531, appendix A).
 pub const MACHINE_NAME_LIMIT: u32 = 255;
@@ -10,21 +11,24 @@ pub const MACHINE_NAME_LIMIT: u32 = 255;
 pub const GID_LIMIT: u32 = 16;
 
 // The user that the body of a credential of AUTH_SYS is of. The rest is read and passed over.
-#[tactic(auto, unfolding(crate::specs::AuthSys::auth_sys_at))]
+#[tactic(auto, unfolding(crate::specs::AuthSys::auth_sys))]
 pub(crate) fn read_uid(body: &[u8]) -> Result<(u32, &[u8]), WireError>
-    ensures { Answers (λ x. (x.0, x.1.now)) result (as_value (λ a. a.uid) auth_sys_at body.now) }
+    ensures { Answers (λ x. (x.0, x.1.now)) result
+        (as_value (λ (a : AuthSys). a.uid) auth_sys.at body.now) }
 {
     let (_, rest) = read_u32(body)?;
     let (_, rest) = read_opaque(rest, MACHINE_NAME_LIMIT)?;
     let (uid, rest) = read_u32(rest)?;
     let (_, rest) = read_u32(rest)?;
-    let (_, rest) = read_gids(rest)?;
+    let (_, rest) = pass_gids(rest)?;
     Ok((uid, rest))
 }
 
-#[tactic(auto, unfolding(crate::specs::AuthSys::gids_at))]
-fn read_gids(bytes: &[u8]) -> Result<(&[u8], &[u8]), WireError>
-    ensures { Answers (λ x. (x.0.now, x.1.now)) result (gids_at bytes.now) }
+// The groups are passed over.
+#[tactic(auto, unfolding(xdr::specs::Reading::many_at, xdr::specs::Reading::number_at))]
+fn pass_gids(bytes: &[u8]) -> Result<((), &[u8]), WireError>
+    ensures { Answers (λ x. (x.0, x.1.now)) result
+        (as_value (λ (numbers : List ℕ). tt) gids.at bytes.now) }
 {
     let (count, rest) = read_u32(bytes)?;
     if count > GID_LIMIT {
@@ -34,10 +38,5 @@ fn read_gids(bytes: &[u8]) -> Result<(&[u8], &[u8]), WireError>
     if rest.len() < len {
         return Err(WireError::Short);
     }
-    Ok((&rest[..len], &rest[len..]))
+    Ok(((), &rest[len..]))
 }
-
-/// The law that the bodies of AUTH_SYS that are read are those that stand in its layout, whatever follows.
-pub fn auth_sys_is_read()
-    ensures { AuthSysIsRead }
-{}

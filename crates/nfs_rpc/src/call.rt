@@ -1,11 +1,14 @@
-ghost use Rattle.std.specs.Prelude.{◌≡◌, ◌+◌, ◌≤◌, ◌⊎◌, IfOk, length};
-ghost use Rattle.nfs_rpc.specs.Call.{IsCall, IsCallWithinLimits, header_at, read_arguments, refused_arguments, start_at};
-ghost use Rattle.nfs_xdr.specs.Reading.{Answers};
+ghost use Rattle.std.specs.Prelude.{◌≡◌, ◌+◌, ◌≤◌, IfOk, length};
+ghost use Rattle.nfs_rpc.specs.Call.{IsCall, IsCallWithinLimits, OneCall, OrRefused, start};
+ghost use Rattle.nfs_rpc.specs.ReadingCalls.{call_of, compound_or_garbage, header_at};
+ghost use Rattle.nfs_xdr.specs.Compound.{compound_at};
+ghost use Rattle.xdr.specs.Reading.{Answers};
 
 use crate::Reply;
 use crate::credential::{read_credential, read_opaque_auth};
-use nfs_xdr::{Compound, Principal, WireError, read_compound, read_u32};
+use nfs_xdr::{Compound, Principal, one_request_stands, read_compound};
 use std::alloc::Global;
+use xdr::{WireError, read_constant, read_u32};
 
 /// The type of a message that is a call (RFC 5531, section 9).
 pub const MESSAGE_CALL: u32 = 0;
@@ -38,7 +41,6 @@ pub enum Call {
 #[derive(Clone, Copy)]
 struct Start {
     xid: u32,
-    message_type: u32,
     rpc_version: u32,
 }
 
@@ -57,17 +59,22 @@ struct Header {
 /// A call is refused by the first of these that is so: another RPC version, a credential that isn't served or can't be read,
 /// another program, another version of it, no such procedure, arguments of COMPOUND that can't be read. Nothing is said where
 /// a record isn't a call, or ends before its verifier does, but for the RPC version, which is judged at once. Where memory
-/// is refused while a COMPOUND is read, it is to be answered SYSTEM_ERR.
+/// is refused for a COMPOUND whose arguments are there, it is to be answered SYSTEM_ERR.
 pub fn read_call(alloc: Global, message: &[u8]) -> Call
     ensures call { IsCall message.now result }
+    ensures limits { IsCallWithinLimits (length message.now) result }
+{
+    one_request_stands();
+    call_from(alloc, message)
+}
+
+fn call_from(alloc: Global, message: &[u8]) -> Call
+    ensures call { OrRefused (λ call. call ≡ call_of message.now) result }
     ensures limits { IsCallWithinLimits (length message.now) result }
 {
     let Ok((start, rest)) = read_start(message) else {
         return Call::Silent;
     };
-    if start.message_type != MESSAGE_CALL {
-        return Call::Silent;
-    }
     if start.rpc_version != RPC_VERSION {
         return Call::Answer(start.xid, Reply::RpcMismatch);
     }
@@ -92,7 +99,8 @@ pub fn read_call(alloc: Global, message: &[u8]) -> Call
 
 // The call of COMPOUND with these arguments, behind a header of at least 40 bytes.
 fn compound_call(alloc: Global, xid: u32, principal: Principal, bytes: &[u8]) -> Call
-    ensures call { (result ≡ read_arguments xid principal bytes.now) ⊎ (result ≡ refused_arguments xid principal bytes.now) }
+    ensures call { OrRefused
+        (λ call. call ≡ compound_or_garbage xid principal (compound_at bytes.now)) result }
     ensures limits { IsCallWithinLimits (40 + length bytes.now) result }
 {
     match read_compound(alloc, bytes) {
@@ -103,25 +111,20 @@ fn compound_call(alloc: Global, xid: u32, principal: Principal, bytes: &[u8]) ->
 }
 
 fn read_start(bytes: &[u8]) -> Result<(Start, &[u8]), WireError>
-    ensures start { Answers (λ x. (x.0, x.1.now)) result (start_at bytes.now) }
+    ensures start { Answers (λ x. (x.0, x.1.now)) result (start.at bytes.now) }
     ensures shorter { IfOk result (λ x. length x.1.now + 12 ≤ length bytes.now) }
 {
     start_from(bytes)
 }
 
-#[tactic(auto, unfolding(crate::specs::Call::start_at))]
+#[tactic(auto, unfolding(crate::specs::Call::start))]
 fn start_from(bytes: &[u8]) -> Result<(Start, &[u8]), WireError>
-    ensures { Answers (λ x. (x.0, x.1.now)) result (start_at bytes.now) }
+    ensures { Answers (λ x. (x.0, x.1.now)) result (start.at bytes.now) }
 {
     let (xid, rest) = read_u32(bytes)?;
-    let (message_type, rest) = read_u32(rest)?;
+    let (_, rest) = read_constant(rest, MESSAGE_CALL)?;
     let (rpc_version, rest) = read_u32(rest)?;
-    let start = Start {
-        xid,
-        message_type,
-        rpc_version,
-    };
-    Ok((start, rest))
+    Ok((Start { xid, rpc_version }, rest))
 }
 
 fn read_header(bytes: &[u8]) -> Result<(Header, &[u8]), WireError>
@@ -131,7 +134,7 @@ fn read_header(bytes: &[u8]) -> Result<(Header, &[u8]), WireError>
     header_from(bytes)
 }
 
-#[tactic(auto, unfolding(crate::specs::Call::header_at))]
+#[tactic(auto, unfolding(crate::specs::Call::body))]
 fn header_from(bytes: &[u8]) -> Result<(Header, &[u8]), WireError>
     ensures { Answers (λ x. (x.0, x.1.now)) result (header_at bytes.now) }
 {
@@ -147,4 +150,11 @@ fn header_from(bytes: &[u8]) -> Result<(Header, &[u8]), WireError>
         principal,
     };
     Ok((header, rest))
+}
+
+/// Each record calls for one thing.
+pub fn one_call()
+    ensures { OneCall }
+{
+    one_request_stands();
 }

@@ -1,10 +1,11 @@
 ghost use Rattle.std.specs.Prelude.{◌≡◌};
-ghost use Rattle.nfs_rpc.specs.AuthSys.{auth_sys_at};
-ghost use Rattle.nfs_rpc.specs.Credential.{credential_at, opaque_auth_at, principal_of, user_of};
-ghost use Rattle.nfs_xdr.specs.Reading.{Answers};
+ghost use Rattle.nfs_rpc.specs.AuthSys.{auth_sys};
+ghost use Rattle.nfs_rpc.specs.Credential.{opaque_auth, principal_of, user_of};
+ghost use Rattle.xdr.specs.Reading.{Answers, as_value};
 
 use crate::auth_sys::read_uid;
-use nfs_xdr::{Principal, WireError, read_opaque, read_u32};
+use nfs_xdr::Principal;
+use xdr::{WireError, read_opaque, read_u32};
 
 /// The flavors of credentials that are served (RFC 5531, section 8.2).
 pub const AUTH_NONE: u32 = 0;
@@ -16,7 +17,8 @@ pub const BODY_LIMIT: u32 = 400;
 
 // The principal of a credential, or `None` where its flavor isn't served or its body can't be read.
 pub(crate) fn read_credential(bytes: &[u8]) -> Result<(Option<Principal>, &[u8]), WireError>
-    ensures { Answers (λ x. (x.0, x.1.now)) result (credential_at bytes.now) }
+    ensures { Answers (λ x. (x.0, x.1.now)) result
+        (as_value principal_of opaque_auth.at bytes.now) }
 {
     let ((flavor, body), rest) = read_opaque_auth(bytes)?;
     Ok((principal_of(flavor, body), rest))
@@ -24,7 +26,7 @@ pub(crate) fn read_credential(bytes: &[u8]) -> Result<(Option<Principal>, &[u8])
 
 // The flavor and the body of a credential or a verifier.
 pub(crate) fn read_opaque_auth(bytes: &[u8]) -> Result<((u32, &[u8]), &[u8]), WireError>
-    ensures { Answers (λ x. ((x.0.0, x.0.1.now), x.1.now)) result (opaque_auth_at bytes.now) }
+    ensures { Answers (λ x. ((x.0.0, x.0.1.now), x.1.now)) result (opaque_auth.at bytes.now) }
 {
     let (flavor, rest) = read_u32(bytes)?;
     let (body, rest) = read_opaque(rest, BODY_LIMIT)?;
@@ -32,7 +34,7 @@ pub(crate) fn read_opaque_auth(bytes: &[u8]) -> Result<((u32, &[u8]), &[u8]), Wi
 }
 
 fn principal_of(flavor: u32, body: &[u8]) -> Option<Principal>
-    ensures { result ≡ principal_of flavor body.now }
+    ensures { result ≡ principal_of (flavor, body.now) }
 {
     match flavor {
         AUTH_NONE => Some(Principal::AuthNone),
@@ -42,7 +44,7 @@ fn principal_of(flavor: u32, body: &[u8]) -> Option<Principal>
 }
 
 fn user_of(body: &[u8]) -> Option<Principal>
-    ensures { result ≡ user_of (auth_sys_at body.now) }
+    ensures { result ≡ user_of (auth_sys.at body.now) }
 {
     match read_uid(body) {
         Ok((uid, _)) => Some(Principal::AuthSys(uid)),

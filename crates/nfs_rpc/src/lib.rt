@@ -5,12 +5,15 @@ mod auth_sys;
 mod call;
 mod credential;
 mod numbers;
+mod place;
 mod records;
 mod reply;
+mod unfinished;
 
-pub use auth_sys::{GID_LIMIT, MACHINE_NAME_LIMIT, auth_sys_is_read};
+pub use auth_sys::{GID_LIMIT, MACHINE_NAME_LIMIT};
 pub use call::{
-    Call, MESSAGE_CALL, NFS_PROGRAM, NFS_VERSION, PROC_COMPOUND, PROC_NULL, RPC_VERSION, read_call,
+    Call, MESSAGE_CALL, NFS_PROGRAM, NFS_VERSION, PROC_COMPOUND, PROC_NULL, RPC_VERSION, one_call,
+    read_call,
 };
 pub use credential::{AUTH_NONE, AUTH_SYS, BODY_LIMIT};
 pub use numbers::numbers_of_messages;
@@ -20,5 +23,6 @@ pub use records::{
 pub use reply::{
     ACCEPTED_GARBAGE_ARGS, ACCEPTED_LEN, ACCEPTED_PROC_UNAVAIL, ACCEPTED_PROG_MISMATCH,
     ACCEPTED_PROG_UNAVAIL, ACCEPTED_SUCCESS, ACCEPTED_SYSTEM_ERR, AUTH_BADCRED, CompoundReply,
-    DENIED_AUTH_ERROR, DENIED_RPC_MISMATCH, Reply, SHORT_REPLY_LEN, write_reply,
+    DENIED_AUTH_ERROR, DENIED_RPC_MISMATCH, MESSAGE_REPLY, REPLY_ACCEPTED, REPLY_DENIED, Reply,
+    SHORT_REPLY_LEN, write_reply,
 };

@@ -1,8 +1,9 @@
-ghost use Rattle.std.specs.Prelude.{◌≡◌, ◌+◌, ◌^◌, ◌≤◌, ◌↔◌, ◌∷◌, [], ◌++◌, ℕ, List, map, false, length, take, drop, IfOk, OnOk, OnErr, IsErrOf, IfSome, IfNone, IsTrue};
-ghost use Rattle.nfs_rpc.specs.Records.{IsHeader, IsRecord, IsRest, IsTooLong, Splits, Stream, IsStream, TakesPiece, OneSplit, SplitGoesOn, IsPlace, EndsRecord, IsFront, IsUnfinished, AreFound};
+ghost use Rattle.std.specs.Prelude.{◌≡◌, ◌+◌, ◌^◌, ◌≤◌, ◌↔◌, ◌∷◌, [], ℕ, List, false, length, OnOk, IsErrOf, IfSome, IfNone, IsTrue};
+ghost use Rattle.nfs_rpc.specs.Records.{IsRest, IsTooLong, Stream, Keeps, IsStream, IsNew, TakesPiece, OneSplit, SplitGoesOn};
+ghost use Rattle.nfs_rpc.specs.Keeping.{IsSound, messages_of};
 
-use byteorder::{BigEndian, ByteOrder};
-use std::alloc::{AllocError, Global};
+use crate::unfinished::{Unfinished, take_piece};
+use std::alloc::Global;
 use std::collections::VecDeque;
 use std::marker::Model;
 use thiserror::Error;
@@ -27,226 +28,17 @@ pub enum RecordError {
     Memory = 2,
 }
 
-/// What the four bytes before a fragment say of it (RFC 5531, section 11).
-#[derive(Clone, Copy)]
-struct Header {
-    is_last: bool,
-    /// The bytes of the fragment without this header.
-    len: usize,
-}
-
-/// A place between two fragments of a record.
-#[derive(Clone, Copy)]
-struct Place {
-    /// The bytes of the record before it.
-    end: usize,
-    /// The same without the headers.
-    gathered: usize,
-}
-
-impl Place {
-    /// Before the first fragment.
-    const START: Place = Place {
-        end: 0,
-        gathered: 0,
-    };
-}
-
-/// How far a record is there that is not whole.
-#[derive(Clone, Copy)]
-struct Unfinished {
-    /// Behind its last whole fragment.
-    place: Place,
-    /// Whether the header there brings it above `RECORD_LIMIT`.
-    is_too_long: bool,
-}
-
-/// What stands at the front of a text.
-enum Front {
-    /// A record, up to here.
-    Whole(Place),
-    /// Nothing yet, or a part of a record.
-    Partial(Unfinished),
-}
-
-/// What stands behind the whole records of a text.
-#[derive(Clone, Copy)]
-struct Tail {
-    /// The bytes of the records, headers included.
-    start: usize,
-    first: Unfinished,
-}
-
-/// The whole records of a text, and what is behind them.
-#[derive(Drop)]
-struct Found {
-    records: VecDeque<Vec<u8>>,
-    tail: Tail,
-}
-
-/// Reads the header at the front of a text.
-fn header_at(text: &[u8]) -> Header
-    requires { 4 ≤ length text.now }
-    ensures { IsHeader result.is_last result.len (take 4 text.now) }
-{
-    let word = BigEndian::read_u32(text);
-    Header {
-        is_last: word >= LAST_FRAGMENT,
-        len: (word % LAST_FRAGMENT) as usize,
-    }
-}
-
-/// Goes over the fragments of a text's first record, from a place between them.
-fn scan(text: &[u8], from: Place) -> Front
-    requires { IsPlace text.now from }
-    ensures { IsFront text.now result }
-{
-    let mut place = from;
-    loop {
-        let rest = &text[place.end..];
-        if rest.len() < HEADER_LEN {
-            return Front::Partial(Unfinished {
-                place,
-                is_too_long: false,
-            });
-        }
-        let header = header_at(rest);
-        if place.gathered + header.len > RECORD_LIMIT {
-            return Front::Partial(Unfinished {
-                place,
-                is_too_long: true,
-            });
-        }
-        if rest.len() - HEADER_LEN < header.len {
-            return Front::Partial(Unfinished {
-                place,
-                is_too_long: false,
-            });
-        }
-        place = Place {
-            end: place.end + HEADER_LEN + header.len,
-            gathered: place.gathered + header.len,
-        };
-        if header.is_last {
-            return Front::Whole(place);
-        }
-    }
-}
-
-/// The bodies of the fragments of a text's first record, one after the other.
-fn gather(alloc: Global, text: &[u8], whole: Place) -> Result<Vec<u8>, AllocError>
-    requires { EndsRecord text.now whole }
-    ensures { IfOk result (λ message. IsRecord message.items (take whole.end text.now)) }
-{
-    let mut message = Vec::with_capacity(alloc, whole.gathered)?;
-    let mut rest = text;
-    loop {
-        let header = header_at(rest);
-        let (body, behind) = rest[HEADER_LEN..].split_at(header.len);
-        message.extend_from_slice(body)?;
-        if header.is_last {
-            return Ok(message);
-        }
-        rest = behind;
-    }
-}
-
-/// All whole records of a text, of whose first record the fragments up to a place are known.
-fn find(alloc: Global, text: &[u8], known: Place) -> Result<Found, AllocError>
-    requires { IsPlace text.now known }
-    ensures { IfOk result (λ found.
-        AreFound text.now (map (λ message. message.items) found.records.items) found.tail) }
-{
-    let mut records = VecDeque::new(alloc);
-    let mut rest = text;
-    let mut from = known;
-    loop {
-        match scan(rest, from) {
-            Front::Whole(whole) => {
-                let message = gather(alloc, rest, whole)?;
-                records.push_back(message)?;
-                rest = &rest[whole.end..];
-                from = Place::START;
-            }
-            Front::Partial(first) => {
-                let start = text.len() - rest.len();
-                return Ok(Found {
-                    records,
-                    tail: Tail { start, first },
-                });
-            }
-        }
-    }
-}
-
-/// Adds all whole records of a text to those that are ready. An `Err` leaves these as they were.
-fn add_found(
-    alloc: Global,
-    ready: &mut VecDeque<Vec<u8>>,
-    text: &[u8],
-    known: Place,
-) -> Result<Tail, AllocError>
-    requires { IsPlace text.now known }
-    ensures ok { IfOk result (λ tail.
-        (found : List (List ℕ)) × AreFound text.now found tail
-        × (map (λ message. message.items) ready.new.items ≡ map (λ message. message.items) ready.old.items ++ found)) }
-    ensures err { OnErr result (ready.new.items ≡ ready.old.items) }
-{
-    let mut found = find(alloc, text, known)?;
-    ready.append(&mut found.records)?;
-    Ok(found.tail)
-}
-
-/// Drops the first `len` bytes.
-fn drop_front(bytes: &mut Vec<u8>, len: usize)
-    requires { len ≤ length bytes.old.items }
-    ensures { bytes.new.items ≡ drop len bytes.old.items }
-{
-    if len > 0 {
-        bytes.drain(..len);
-    }
-}
-
-/// Puts a piece behind the rest of a text, and moves all records that are whole now to those that are ready. An `Err`
-/// leaves both as they were.
-fn take_piece(
-    alloc: Global,
-    ready: &mut VecDeque<Vec<u8>>,
-    rest: &mut Vec<u8>,
-    known: Place,
-    piece: &[u8],
-) -> Result<Unfinished, AllocError>
-    requires { IsPlace rest.old.items known }
-    ensures ok { IfOk result (λ first.
-        (found : List (List ℕ)) × Splits (rest.old.items ++ piece.now) found rest.new.items
-        × IsUnfinished rest.new.items first
-        × (map (λ message. message.items) ready.new.items ≡ map (λ message. message.items) ready.old.items ++ found)) }
-    ensures err { OnErr result ((ready.new.items ≡ ready.old.items) × (rest.new.items ≡ rest.old.items)) }
-{
-    let kept = rest.len();
-    rest.extend_from_slice(piece)?;
-    match add_found(alloc, ready, rest, known) {
-        Ok(tail) => {
-            drop_front(rest, tail.start);
-            Ok(tail.first)
-        }
-        Err(error) => {
-            rest.truncate(kept);
-            Err(error)
-        }
-    }
-}
-
 /// A stream of bytes, which comes in any pieces, as records of fragments (RFC 5531, section 11).
 ///
-/// Records that are whole wait until `next` takes them, in their order. The bytes behind them are kept as they
-/// came until their record is whole. Once a record is too long, no more bytes are taken.
+/// Records that are whole wait until `next` takes them, in their order. Of the bytes behind them no more is kept than the bodies
+/// of the fragments, a place in the last of these and the number of the bytes. Once a record is too long, no more bytes are
+/// taken.
 #[derive(Drop)]
 pub struct Records {
     alloc: Global,
     ready: VecDeque<Vec<u8>>,
-    rest: Vec<u8>,
-    /// How far the record at the front of `rest` is there, so that no feed goes over its fragments again.
+    /// Of the fragments of the record that is not whole.
+    bodies: Vec<u8>,
     first: Unfinished,
     fed: u64,
 }
@@ -254,25 +46,30 @@ pub struct Records {
 impl Model for Records {
     ghost Value = { Stream };
 
-    ghost view = { λ r. record { ready = map (λ message. message.items) r.ready.items; rest = r.rest.items; fed = r.fed; is_too_long = r.first.is_too_long } };
+    ghost view = { λ r. record {
+      ready = messages_of r.ready.items;
+      bodies = r.bodies.items;
+      place = r.first.place;
+      count = r.first.count;
+      is_too_long = r.first.is_too_long;
+      fed = r.fed;
+    } };
 
-    ghost invariant = { λ r. IsUnfinished r.rest.items r.first × (r.fed ≤ 2 ^ 40) };
+    ghost invariant = { λ r.
+        IsSound r.bodies.items r.first × (r.first.count ≤ r.fed) × (r.fed ≤ 2 ^ 40) };
 }
 
 impl Records {
     /// A stream of which nothing has come.
     pub fn new(alloc: Global) -> Records
-        ensures empty { result ≡ record { ready = []; rest = []; fed = 0; is_too_long = false } }
+        ensures empty { IsNew result }
         ensures sound { IsStream result }
     {
         Records {
             alloc,
             ready: VecDeque::new(alloc),
-            rest: Vec::new(alloc),
-            first: Unfinished {
-                place: Place::START,
-                is_too_long: false,
-            },
+            bodies: Vec::new(alloc),
+            first: Unfinished::NONE,
             fed: 0,
         }
     }
@@ -300,8 +97,8 @@ impl Records {
         let first = take_piece(
             self.alloc,
             &mut self.ready,
-            &mut self.rest,
-            self.first.place,
+            &mut self.bodies,
+            self.first,
             piece,
         )
         .map_err(|_| RecordError::Memory)?;
@@ -324,10 +121,19 @@ impl Records {
 
     /// How many bytes came behind the last whole record, headers included.
     pub fn rest(&self) -> usize
-        ensures value { result ≡ length self.now.rest }
-        ensures none_left { IsRest self.now.rest }
+        ensures value { (rest : List ℕ) → Keeps rest self.now → result ≡ length rest }
+        ensures none_left { (rest : List ℕ) → Keeps rest self.now → IsRest rest }
+        ensures sound { IsStream self.now }
     {
-        self.rest.len()
+        self.first.count
+    }
+
+    /// How many bytes are held of the record that is not whole.
+    pub fn kept(&self) -> usize
+        ensures value { result ≡ length self.now.bodies }
+        ensures few { result ≤ RECORD_LIMIT }
+    {
+        self.bodies.len()
     }
 
     /// How many bytes came in all.
@@ -341,7 +147,7 @@ impl Records {
     /// Whether a record is above `RECORD_LIMIT`. No more bytes are taken then.
     pub fn is_too_long(&self) -> bool
         ensures value { result ≡ self.now.is_too_long }
-        ensures known { IsTrue result ↔ IsTooLong self.now.rest }
+        ensures known { (rest : List ℕ) → Keeps rest self.now → (IsTrue result ↔ IsTooLong rest) }
     {
         self.first.is_too_long
     }

@@ -1,10 +1,21 @@
-ghost use Rattle.std.specs.Prelude.{◌++◌};
-ghost use Rattle.nfs_rpc.specs.Reply.{IsReplyTooLong, written_accepted, written_compound_reply, written_denied, written_no_verifier, written_only_version, written_reply, written_reply_head};
-ghost use Rattle.nfs_xdr.specs.Compound.{AreResultsTooLong};
-ghost use Rattle.nfs_xdr.specs.Writing.{Writes, WritesWhole, written_u32};
+ghost use Rattle.std.specs.Prelude.{[]};
+ghost use Rattle.nfs_rpc.specs.Reply.{IsWritable, accepted, denied, no_verifier, written_accepted, written_reply};
+ghost use Rattle.nfs_xdr.specs.Compound.{compound_result};
+ghost use Rattle.xdr.specs.Form.{◌and◌};
+ghost use Rattle.xdr.specs.Writing.{Writes};
 
 use crate::call::{NFS_VERSION, RPC_VERSION};
-use nfs_xdr::{Bytes, OpResult, Sequence, Status, WireError, write_results, write_u32};
+use crate::credential::AUTH_NONE;
+use nfs_xdr::{OpResult, Status, write_results};
+use xdr::{Bytes, Sequence, Wire, WireError, write_five, write_four, write_two};
+
+/// The type of a message that is a reply (RFC 5531, section 9; msg_type).
+pub const MESSAGE_REPLY: u32 = 1;
+
+/// Whether a call is accepted or denied (reply_stat).
+pub const REPLY_ACCEPTED: u32 = 0;
+
+pub const REPLY_DENIED: u32 = 1;
 
 /// The states of an accepted reply (RFC 5531, section 9; accept_stat).
 pub const ACCEPTED_SUCCESS: u32 = 0;
@@ -65,13 +76,37 @@ pub enum Reply {
     AuthError,
 }
 
-/// Writes the reply to the call of this xid at the end. TooLong only where a length in it is above what four bytes can
-/// say; after an error the bytes are as before.
+/// Writes the reply to the call of this xid at the end, or nothing. TooLong only where a length in it is above what four
+/// bytes can say.
 pub fn write_reply(out: &mut Vec<u8>, xid: u32, reply: &Reply) -> Result<(), WireError>
-    ensures { WritesWhole out.old out.new result (written_reply xid reply.now) (IsReplyTooLong reply.now) }
+    ensures { Writes out.old out.new result
+        (written_reply xid reply.now) (IsWritable xid reply.now) }
+{
+    match reply {
+        Reply::Null => write_accepted(out, xid, ACCEPTED_SUCCESS),
+        Reply::Compound(compound) => write_compound(out, xid, compound),
+        Reply::ProgUnavail => write_accepted(out, xid, ACCEPTED_PROG_UNAVAIL),
+        Reply::ProgMismatch => write_prog_mismatch(out, xid),
+        Reply::ProcUnavail => write_accepted(out, xid, ACCEPTED_PROC_UNAVAIL),
+        Reply::GarbageArgs => write_accepted(out, xid, ACCEPTED_GARBAGE_ARGS),
+        Reply::SystemError => write_accepted(out, xid, ACCEPTED_SYSTEM_ERR),
+        Reply::RpcMismatch => write_denied(
+            out,
+            xid,
+            DENIED_RPC_MISMATCH,
+            &(RPC_VERSION, RPC_VERSION),
+        ),
+        Reply::AuthError => write_denied(out, xid, DENIED_AUTH_ERROR, &AUTH_BADCRED),
+    }
+}
+
+fn write_compound(out: &mut Vec<u8>, xid: u32, reply: &CompoundReply) -> Result<(), WireError>
+    ensures { Writes out.old out.new result
+        (written_reply xid (Reply.Compound reply.now)) (IsWritable xid (Reply.Compound reply.now)) }
 {
     let start = out.len();
-    match put_reply(out, xid, reply) {
+    write_accepted(out, xid, ACCEPTED_SUCCESS)?;
+    match write_results(out, reply.status, &reply.tag, &reply.results) {
         Ok(()) => Ok(()),
         Err(error) => {
             out.truncate(start);
@@ -80,95 +115,55 @@ pub fn write_reply(out: &mut Vec<u8>, xid: u32, reply: &Reply) -> Result<(), Wir
     }
 }
 
-// The same, but after an error a part may stand at the end.
-fn put_reply(out: &mut Vec<u8>, xid: u32, reply: &Reply) -> Result<(), WireError>
-    ensures { Writes out.old out.new result (written_reply xid reply.now) (IsReplyTooLong reply.now) }
+fn write_prog_mismatch(out: &mut Vec<u8>, xid: u32) -> Result<(), WireError>
+    ensures { Writes out.old out.new result
+        (written_reply xid Reply.ProgMismatch) (IsWritable xid Reply.ProgMismatch) }
 {
-    match reply {
-        Reply::Null => put_accepted(out, xid, ACCEPTED_SUCCESS),
-        Reply::Compound(compound) => put_compound(out, xid, compound),
-        Reply::ProgUnavail => put_accepted(out, xid, ACCEPTED_PROG_UNAVAIL),
-        Reply::ProgMismatch => put_prog_mismatch(out, xid),
-        Reply::ProcUnavail => put_accepted(out, xid, ACCEPTED_PROC_UNAVAIL),
-        Reply::GarbageArgs => put_accepted(out, xid, ACCEPTED_GARBAGE_ARGS),
-        Reply::SystemError => put_accepted(out, xid, ACCEPTED_SYSTEM_ERR),
-        Reply::RpcMismatch => put_rpc_mismatch(out, xid),
-        Reply::AuthError => put_auth_error(out, xid),
+    let start = out.len();
+    write_accepted(out, xid, ACCEPTED_PROG_MISMATCH)?;
+    match write_two(out, &NFS_VERSION, &NFS_VERSION) {
+        Ok(()) => Ok(()),
+        Err(error) => {
+            out.truncate(start);
+            Err(error)
+        }
     }
 }
 
-fn put_compound(out: &mut Vec<u8>, xid: u32, reply: &CompoundReply) -> Result<(), WireError>
-    ensures { Writes out.old out.new result (written_accepted xid ACCEPTED_SUCCESS ++ written_compound_reply reply.now) (AreResultsTooLong reply.now.tag reply.now.results) }
+// A denied reply, and what comes with its state.
+fn write_denied<A: Wire>(
+    out: &mut Vec<u8>,
+    xid: u32,
+    state: u32,
+    reason: &A,
+) -> Result<(), WireError>
+    ensures { Writes out.old out.new result
+        ((denied state and A.form).spelling (xid, reason.now))
+        ((denied state and A.form).Fits (xid, reason.now)) }
 {
-    put_accepted(out, xid, ACCEPTED_SUCCESS)?;
-    let tag = reply.tag.as_slice();
-    let results = reply.results.as_slice();
-    write_results(out, reply.status, tag, results)
+    let start = out.len();
+    write_four(out, &xid, &MESSAGE_REPLY, &REPLY_DENIED, &state)?;
+    match reason.write(out) {
+        Ok(()) => Ok(()),
+        Err(error) => {
+            out.truncate(start);
+            Err(error)
+        }
+    }
 }
 
-fn put_prog_mismatch(out: &mut Vec<u8>, xid: u32) -> Result<(), WireError>
-    ensures { Writes out.old out.new result (written_accepted xid ACCEPTED_PROG_MISMATCH ++ written_only_version NFS_VERSION) ⊥ }
+// An accepted reply up to what comes with its state. Its verifier is of AUTH_NONE and has no body.
+#[tactic(auto, unfolding(xdr::specs::Writing::written_opaque, xdr::specs::Writing::written_number))]
+fn write_accepted(out: &mut Vec<u8>, xid: u32, state: u32) -> Result<(), WireError>
+    ensures { Writes out.old out.new result
+        (written_accepted xid state) ((accepted state).Fits (xid, no_verifier)) }
 {
-    put_accepted(out, xid, ACCEPTED_PROG_MISMATCH)?;
-    put_only_version(out, NFS_VERSION)
-}
-
-fn put_rpc_mismatch(out: &mut Vec<u8>, xid: u32) -> Result<(), WireError>
-    ensures { Writes out.old out.new result (written_denied xid DENIED_RPC_MISMATCH ++ written_only_version RPC_VERSION) ⊥ }
-{
-    put_denied(out, xid, DENIED_RPC_MISMATCH)?;
-    put_only_version(out, RPC_VERSION)
-}
-
-fn put_auth_error(out: &mut Vec<u8>, xid: u32) -> Result<(), WireError>
-    ensures { Writes out.old out.new result (written_denied xid DENIED_AUTH_ERROR ++ written_u32 AUTH_BADCRED) ⊥ }
-{
-    put_denied(out, xid, DENIED_AUTH_ERROR)?;
-    write_u32(out, AUTH_BADCRED)
-}
-
-// The versions that are served, from the lowest to the highest.
-#[tactic(auto, unfolding(crate::specs::Reply::written_only_version))]
-fn put_only_version(out: &mut Vec<u8>, version: u32) -> Result<(), WireError>
-    ensures { Writes out.old out.new result (written_only_version version) ⊥ }
-{
-    write_u32(out, version)?;
-    write_u32(out, version)
-}
-
-// A denied reply up to its state.
-#[tactic(auto, unfolding(crate::specs::Reply::written_denied))]
-fn put_denied(out: &mut Vec<u8>, xid: u32, state: u32) -> Result<(), WireError>
-    ensures { Writes out.old out.new result (written_denied xid state) ⊥ }
-{
-    put_reply_head(out, xid)?;
-    write_u32(out, 1)?;
-    write_u32(out, state)
-}
-
-// An accepted reply up to its state.
-#[tactic(auto, unfolding(crate::specs::Reply::written_accepted))]
-fn put_accepted(out: &mut Vec<u8>, xid: u32, state: u32) -> Result<(), WireError>
-    ensures { Writes out.old out.new result (written_accepted xid state) ⊥ }
-{
-    put_reply_head(out, xid)?;
-    write_u32(out, 0)?;
-    put_no_verifier(out)?;
-    write_u32(out, state)
-}
-
-#[tactic(auto, unfolding(crate::specs::Reply::written_reply_head))]
-fn put_reply_head(out: &mut Vec<u8>, xid: u32) -> Result<(), WireError>
-    ensures { Writes out.old out.new result (written_reply_head xid) ⊥ }
-{
-    write_u32(out, xid)?;
-    write_u32(out, 1)
-}
-
-#[tactic(auto, unfolding(crate::specs::Reply::written_no_verifier))]
-fn put_no_verifier(out: &mut Vec<u8>) -> Result<(), WireError>
-    ensures { Writes out.old out.new result written_no_verifier ⊥ }
-{
-    write_u32(out, 0)?;
-    write_u32(out, 0)
+    write_five(
+        out,
+        &xid,
+        &MESSAGE_REPLY,
+        &REPLY_ACCEPTED,
+        &(AUTH_NONE, 0u32),
+        &state,
+    )
 }

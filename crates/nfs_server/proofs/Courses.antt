@@ -1,5 +1,5 @@
 -- The course of a connection, as far as it has come.
-use Rattle.std.proofs.Common.{◌≡◌, ℕ, ◌+◌, ◌≤◌, Bool, true, false, List, [], ◌∷◌, ◌++◌, length, Option, Result, Ok, Err, refl, sym, ap, subst, ◌∙◌, append_assoc, arith}
+use Rattle.std.proofs.Common.{◌≡◌, ℕ, ◌+◌, ◌≤◌, true, false, List, [], ◌∷◌, ◌++◌, length, Option, Result, Ok, Err, refl, sym, ap, subst, ◌∙◌, append_assoc, arith}
 use Rattle.std.specs.List.{AllByRecursion}
 use Rattle.std.specs.Io.KnownBytes.{Appends, Consumes}
 use Rattle.std.proofs.KnownBytes.{Appends-nil, Appends-trans, Consumes-nil, Consumes-trans}
@@ -12,7 +12,7 @@ use Rattle.nfs_server.specs.declared.serve_error.ServeError.{ServeError}
 use Rattle.nfs_server.specs.declared.serve_error.ServeError.TheVariants as errors
 use Rattle.nfs_server.specs.Asking.{Question}
 use Rattle.nfs_server.specs.Connection.{EndsWith, HasCourse, HasNoneTooLong, Exchange, AreExchanged, IsCourse, IsServed, messages_of, written_for, written_for_all}
-use Rattle.nfs_rpc.specs.Records.{AreRecords, IsStream, IsTooLong, OneSplit, SplitGoesOn, Splits, Stream, TakesPiece}
+use Rattle.nfs_rpc.specs.Records.{AreRecords, IsNew, IsStream, IsTooLong, Keeps, OneSplit, SplitGoesOn, Splits, Stream, TakesPiece}
 use Rattle.nfs_server.proofs.Serving.{exchanged_then, messages-append}
 use Rattle.nfs_xdr.specs.declared.op_result.OpResult.{OpResult}
 
@@ -21,25 +21,27 @@ pub record IsUnderWay {S C : Type 0} (tree : Files) (gives : S → Question → 
   pub text : List ℕ
   pub exchanges : List Exchange
   pub consumes : Consumes unread unread' text
-  pub split : Splits text (messages_of exchanges) stream.rest
+  pub rest : List ℕ
+  pub split : Splits text (messages_of exchanges) rest
+  pub keeps : Keeps rest stream
   pub exchanged : AreExchanged tree gives tells service clock exchanges service' clock'
   pub appends : Appends unwritten written' (written_for_all tree exchanges)
   pub idle : stream.ready ≡ []
-  pub goes : stream.is_too_long ≡ false
   pub fed : stream.fed ≡ length text
 
-pub starts : {S C : Type 0} (tree : Files) (gives : S → Question → OpResult → S → Type 0) (tells : C → ℕ → C → Type 0) (service : S) (clock : C) (unread unwritten : Option (List ℕ)) (stream : Stream) → stream ≡ record { ready = []; rest = []; fed = 0; is_too_long = false } → IsStream stream
+pub starts : {S C : Type 0} (tree : Files) (gives : S → Question → OpResult → S → Type 0) (tells : C → ℕ → C → Type 0) (service : S) (clock : C) (unread unwritten : Option (List ℕ)) (stream : Stream) → IsNew stream
     → IsUnderWay tree gives tells service clock unread unwritten stream service clock unread unwritten
-starts tree gives tells service clock unread unwritten stream empty sound = record {
+starts tree gives tells service clock unread unwritten stream new = record {
   text = [];
   exchanges = [];
   consumes = Consumes-nil unread;
-  split = record { front = []; whole = sym (ap (λ (s : Stream). s.rest) empty); records = refl; none_left = sound.none_left };
+  rest = [];
+  split = record { front = []; whole = refl; records = refl; none_left = new.keeps.none_left };
+  keeps = new.keeps;
   exchanged = (refl, refl);
   appends = Appends-nil unwritten;
-  idle = ap (λ (s : Stream). s.ready) empty;
-  goes = ap (λ (s : Stream). s.is_too_long) empty;
-  fed = ap (λ (s : Stream). s.fed) empty;
+  idle = new.idle;
+  fed = new.fed;
 }
 
 unanswered-nil : (messages : List (List ℕ)) (text rest : List ℕ) → Splits text messages rest → Splits text (messages ++ []) rest
@@ -48,11 +50,11 @@ unanswered-nil messages text rest split = subst (λ (m : List (List ℕ)). Split
 -- the connection ends where all that was read is answered
 pub ends_answered : {S C : Type 0} (tree : Files) (gives : S → Question → OpResult → S → Type 0) (tells : C → ℕ → C → Type 0) (service service' : S) (clock clock' : C) (unread unwritten unread' unread'' written' : Option (List ℕ)) (stream : Stream) (lost : List ℕ) (result : Result ℕ ServeError)
     → (under_way : IsUnderWay tree gives tells service clock unread unwritten stream service' clock' unread' written') → Consumes unread' unread'' lost
-    → EndsWith tree (record { text = under_way.text ++ lost; fed = under_way.text; lost = lost; exchanges = under_way.exchanges; unanswered = []; rest = stream.rest; written = written_for_all tree under_way.exchanges }) result
+    → EndsWith tree (record { text = under_way.text ++ lost; fed = under_way.text; lost = lost; exchanges = under_way.exchanges; unanswered = []; rest = under_way.rest; written = written_for_all tree under_way.exchanges }) result
     → HasCourse tree gives tells service clock unread unwritten result service' clock' unread'' written'
 ends_answered tree gives tells service service' clock clock' unread unwritten unread' unread'' written' stream lost result u more ends = (
-  record { text = u.text ++ lost; fed = u.text; lost = lost; exchanges = u.exchanges; unanswered = []; rest = stream.rest; written = written_for_all tree u.exchanges },
-  record { whole = refl; split = unanswered-nil (messages_of u.exchanges) u.text stream.rest u.split; exchanged = u.exchanged },
+  record { text = u.text ++ lost; fed = u.text; lost = lost; exchanges = u.exchanges; unanswered = []; rest = u.rest; written = written_for_all tree u.exchanges },
+  record { whole = refl; split = unanswered-nil (messages_of u.exchanges) u.text u.rest u.split; exchanged = u.exchanged },
   ends,
   Consumes-trans unread unread' unread'' u.text lost u.consumes more,
   u.appends,
@@ -67,8 +69,10 @@ within_limit (message ∷ found) front are = (are.4, within_limit found are.1 ar
 pub found_ready : (old new : Stream) (piece : List ℕ) → old.ready ≡ [] → (takes : TakesPiece old new piece) → new.ready ≡ takes.found
 found_ready old new piece idle takes = takes.ready ∙ ap (λ (r : List (List ℕ)). r ++ takes.found) idle
 
-pub ready_within : (old new : Stream) (piece : List ℕ) → old.ready ≡ [] → TakesPiece old new piece → AllByRecursion (λ message. length message ≤ RECORD_LIMIT) new.ready
-ready_within old new piece idle takes = rw (found_ready old new piece idle takes) (within_limit takes.found takes.split.front takes.split.records)
+pub ready_within : (old new : Stream) (piece rest : List ℕ) → old.ready ≡ [] → Keeps rest old → TakesPiece old new piece → AllByRecursion (λ message. length message ≤ RECORD_LIMIT) new.ready
+ready_within old new piece rest idle keeps takes =
+    let w = takes.split rest keeps in
+    rw (found_ready old new piece idle takes) (within_limit takes.found w.1.front w.1.records)
 
 written-append : (tree : Files) (es fs : List Exchange) → written_for_all tree (es ++ fs) ≡ written_for_all tree es ++ written_for_all tree fs
 written-append tree es fs = flat_map-append (written_for tree) es fs
@@ -77,23 +81,24 @@ written-append tree es fs = flat_map-append (written_for tree) es fs
 after_piece : {S C T : Type 0} (goes_on : SplitGoesOn) (tree : Files) (gives : S → Question → OpResult → S → Type 0) (tells : C → ℕ → C → Type 0) (service mid service' : S) (clock between clock' : C) (unread unwritten unread' unread'' here after : Option (List ℕ)) (old new : Stream) (piece : List ℕ) (served : Result T ServeError)
     → (u : IsUnderWay tree gives tells service clock unread unwritten old mid between unread' here) → (takes : TakesPiece old new piece)
     → (s : IsServed {T = T} tree gives tells mid between here new.ready served service' clock' after)
-    → IsCourse tree gives tells service clock (record { text = u.text ++ piece; fed = u.text ++ piece; lost = []; exchanges = u.exchanges ++ s.exchanges; unanswered = s.left; rest = new.rest; written = written_for_all tree u.exchanges ++ s.written }) service' clock'
+    → IsCourse tree gives tells service clock (record { text = u.text ++ piece; fed = u.text ++ piece; lost = []; exchanges = u.exchanges ++ s.exchanges; unanswered = s.left; rest = (takes.split u.rest u.keeps).0; written = written_for_all tree u.exchanges ++ s.written }) service' clock'
 after_piece goes_on tree gives tells service mid service' clock between clock' unread unwritten unread' unread'' here after old new piece served u takes s =
-    let split = goes_on u.text piece (messages_of u.exchanges) takes.found old.rest new.rest u.split takes.split in
+    let w = takes.split u.rest u.keeps in
+    let split = goes_on u.text piece (messages_of u.exchanges) takes.found u.rest w.0 u.split w.1 in
     let all : messages_of u.exchanges ++ takes.found ≡ messages_of (u.exchanges ++ s.exchanges) ++ s.left =
     ap (λ (m : List (List ℕ)). messages_of u.exchanges ++ m) (sym (found_ready old new piece u.idle takes) ∙ s.served)
     ∙ sym (append_assoc (messages_of u.exchanges) (messages_of s.exchanges) s.left)
     ∙ ap (λ (m : List (List ℕ)). m ++ s.left) (sym (messages-append u.exchanges s.exchanges)) in
     record {
       whole = sym (append-nil (u.text ++ piece));
-      split = subst (λ (m : List (List ℕ)). Splits (u.text ++ piece) m new.rest) all split;
+      split = subst (λ (m : List (List ℕ)). Splits (u.text ++ piece) m w.0) all split;
       exchanged = exchanged_then tree gives tells u.exchanges s.exchanges service mid service' clock between clock' u.exchanged s.exchanged;
     }
 
 ends_cut : {S C : Type 0} (tree : Files) (gives : S → Question → OpResult → S → Type 0) (tells : C → ℕ → C → Type 0) (service mid service' : S) (clock between clock' : C) (unread unwritten unread' unread'' here after : Option (List ℕ)) (old new : Stream) (piece : List ℕ) (error : ServeError)
     → (u : IsUnderWay tree gives tells service clock unread unwritten old mid between unread' here) → (takes : TakesPiece old new piece)
     → (s : IsServed {T = Unit {0}} tree gives tells mid between here new.ready (Err error) service' clock' after)
-    → EndsWith tree (record { text = u.text ++ piece; fed = u.text ++ piece; lost = []; exchanges = u.exchanges ++ s.exchanges; unanswered = s.left; rest = new.rest; written = written_for_all tree u.exchanges ++ s.written }) (Err error)
+    → EndsWith tree (record { text = u.text ++ piece; fed = u.text ++ piece; lost = []; exchanges = u.exchanges ++ s.exchanges; unanswered = s.left; rest = (takes.split u.rest u.keeps).0; written = written_for_all tree u.exchanges ++ s.written }) (Err error)
 ends_cut tree gives tells service mid service' clock between clock' unread unwritten unread' unread'' here after old new piece errors.Read u takes s = absurd s.outcome
 ends_cut tree gives tells service mid service' clock between clock' unread unwritten unread' unread'' here after old new piece errors.TooLong u takes s = absurd s.outcome
 ends_cut tree gives tells service mid service' clock between clock' unread unwritten unread' unread'' here after old new piece errors.TooMuch u takes s = absurd s.outcome
@@ -121,7 +126,7 @@ pub ends_serving : {S C : Type 0} (goes_on : SplitGoesOn) (tree : Files) (gives 
     → IsServed {T = Unit {0}} tree gives tells mid between here new.ready (Err error) service' clock' after
     → HasCourse tree gives tells service clock unread unwritten result service' clock' unread'' after
 ends_serving goes_on tree gives tells service mid service' clock between clock' unread unwritten unread' unread'' here after old new piece error result failed u more takes s = (
-  record { text = u.text ++ piece; fed = u.text ++ piece; lost = []; exchanges = u.exchanges ++ s.exchanges; unanswered = s.left; rest = new.rest; written = written_for_all tree u.exchanges ++ s.written },
+  record { text = u.text ++ piece; fed = u.text ++ piece; lost = []; exchanges = u.exchanges ++ s.exchanges; unanswered = s.left; rest = (takes.split u.rest u.keeps).0; written = written_for_all tree u.exchanges ++ s.written },
   after_piece goes_on tree gives tells service mid service' clock between clock' unread unwritten unread' unread'' here after old new piece (Err error) u takes s,
   rw failed (ends_cut tree gives tells service mid service' clock between clock' unread unwritten unread' unread'' here after old new piece error u takes s),
   Consumes-trans unread unread' unread'' u.text piece u.consumes more,
@@ -129,60 +134,53 @@ ends_serving goes_on tree gives tells service mid service' clock between clock' 
 )
 
 -- a piece was taken, and all its records were served
-served_piece : {S C : Type 0} (goes_on : SplitGoesOn) (tree : Files) (gives : S → Question → OpResult → S → Type 0) (tells : C → ℕ → C → Type 0) (service mid service' : S) (clock between clock' : C) (unread unwritten unread' unread'' here after : Option (List ℕ)) (old new last : Stream) (piece : List ℕ)
+pub more_served : {S C : Type 0} (goes_on : SplitGoesOn) (tree : Files) (gives : S → Question → OpResult → S → Type 0) (tells : C → ℕ → C → Type 0) (service mid service' : S) (clock between clock' : C) (unread unwritten unread' unread'' here after : Option (List ℕ)) (old new last : Stream) (piece : List ℕ)
     → IsUnderWay tree gives tells service clock unread unwritten old mid between unread' here → Consumes unread' unread'' piece → TakesPiece old new piece
     → IsServed {T = Unit {0}} tree gives tells mid between here new.ready (Ok tt) service' clock' after → last ≡ record new { ready = [] }
-    → IsUnderWay tree gives tells service clock unread unwritten (record last { is_too_long = false }) service' clock' unread'' after
-served_piece goes_on tree gives tells service mid service' clock between clock' unread unwritten unread' unread'' here after old new last piece u more takes s same =
+    → IsUnderWay tree gives tells service clock unread unwritten last service' clock' unread'' after
+more_served goes_on tree gives tells service mid service' clock between clock' unread unwritten unread' unread'' here after old new last piece u more takes s same =
     let course = after_piece goes_on tree gives tells service mid service' clock between clock' unread unwritten unread' unread'' here after old new piece (Ok tt) u takes s in
     let messages : messages_of (u.exchanges ++ s.exchanges) ++ s.left ≡ messages_of (u.exchanges ++ s.exchanges) =
     ap (λ (l : List (List ℕ)). messages_of (u.exchanges ++ s.exchanges) ++ l) s.outcome.1 ∙ append-nil (messages_of (u.exchanges ++ s.exchanges)) in
-    let rest : new.rest ≡ last.rest = sym (ap (λ (x : Stream). x.rest) same) in
+    let w = takes.split u.rest u.keeps in
     record {
       text = u.text ++ piece;
       exchanges = u.exchanges ++ s.exchanges;
       consumes = Consumes-trans unread unread' unread'' u.text piece u.consumes more;
-      split = subst (λ (r : List ℕ). Splits (u.text ++ piece) (messages_of (u.exchanges ++ s.exchanges)) r) rest (subst (λ (m : List (List ℕ)). Splits (u.text ++ piece) m new.rest) messages course.split);
+      rest = w.0;
+      split = subst (λ (m : List (List ℕ)). Splits (u.text ++ piece) m w.0) messages course.split;
+      keeps = subst (λ (x : Stream). Keeps w.0 x) (sym same) w.2;
       exchanged = course.exchanged;
       appends = subst (λ (w : List ℕ). Appends unwritten after w) (ap (λ (w : List ℕ). written_for_all tree u.exchanges ++ w) s.outcome.0 ∙ sym (written-append tree u.exchanges s.exchanges)) (Appends-trans unwritten here after (written_for_all tree u.exchanges) s.written u.appends s.appends);
       idle = ap (λ (x : Stream). x.ready) same;
-      goes = refl;
       fed = ap (λ (x : Stream). x.fed) same ∙ takes.fed ∙ ap (λ (n : ℕ). n + length piece) u.fed ∙ sym (length-append u.text piece);
     }
 
-pub more_served : {S C : Type 0} (goes_on : SplitGoesOn) (tree : Files) (gives : S → Question → OpResult → S → Type 0) (tells : C → ℕ → C → Type 0) (service mid service' : S) (clock between clock' : C) (unread unwritten unread' unread'' here after : Option (List ℕ)) (old new last : Stream) (piece : List ℕ)
-    → IsUnderWay tree gives tells service clock unread unwritten old mid between unread' here → Consumes unread' unread'' piece → TakesPiece old new piece
-    → IsServed {T = Unit {0}} tree gives tells mid between here new.ready (Ok tt) service' clock' after → last ≡ record new { ready = [] } → last.is_too_long ≡ false
-    → IsUnderWay tree gives tells service clock unread unwritten last service' clock' unread'' after
-more_served goes_on tree gives tells service mid service' clock between clock' unread unwritten unread' unread'' here after old new last piece u more takes s same goes =
-    subst (λ (b : Bool). IsUnderWay tree gives tells service clock unread unwritten (record last { is_too_long = b }) service' clock' unread'' after) (sym goes)
-    (served_piece goes_on tree gives tells service mid service' clock between clock' unread unwritten unread' unread'' here after old new last piece u more takes s same)
-
 -- nothing is too long in a text whose rest isn't
-none_too_long : (one : OneSplit) (stream : Stream) (text : List ℕ) (records : List (List ℕ)) → Splits text records stream.rest → IsStream stream → stream.is_too_long ≡ false → HasNoneTooLong text
-none_too_long one stream text records split sound goes messages rest other long =
-    let same : stream.rest ≡ rest = (one text records messages stream.rest rest split other).1 in
-    let told : stream.is_too_long ≡ true = sound.too_long.1 (rw same long) in
+none_too_long : (one : OneSplit) (stream : Stream) (text : List ℕ) (records : List (List ℕ)) (kept : List ℕ) → Splits text records kept → Keeps kept stream → stream.is_too_long ≡ false → HasNoneTooLong text
+none_too_long one stream text records kept split keeps goes messages rest other long =
+    let same : kept ≡ rest = (one text records messages kept rest split other).1 in
+    let told : stream.is_too_long ≡ true = keeps.too_long.1 (rw same long) in
     let clash : true ≡ false = sym told ∙ goes in
     cc
 
 pub ends_too_long : {S C : Type 0} (goes_on : SplitGoesOn) (one : OneSplit) (tree : Files) (gives : S → Question → OpResult → S → Type 0) (tells : C → ℕ → C → Type 0) (service mid service' : S) (clock between clock' : C) (unread unwritten unread' unread'' here after : Option (List ℕ)) (old new last : Stream) (piece : List ℕ)
     → IsUnderWay tree gives tells service clock unread unwritten old mid between unread' here → Consumes unread' unread'' piece → TakesPiece old new piece
-    → IsServed {T = Unit {0}} tree gives tells mid between here new.ready (Ok tt) service' clock' after → last ≡ record new { ready = [] } → IsStream old → length piece ≤ PIECE_LEN → IsTooLong last.rest
+    → IsServed {T = Unit {0}} tree gives tells mid between here new.ready (Ok tt) service' clock' after → last ≡ record new { ready = [] } → old.is_too_long ≡ false → length piece ≤ PIECE_LEN → last.is_too_long ≡ true
     → HasCourse tree gives tells service clock unread unwritten (Err errors.TooLong) service' clock' unread'' after
-unfolding served_piece
-ends_too_long goes_on one tree gives tells service mid service' clock between clock' unread unwritten unread' unread'' here after old new last piece u more takes s same sound short long =
-    let none = none_too_long one old u.text (messages_of u.exchanges) u.split sound u.goes in
-    ends_answered tree gives tells service service' clock clock' unread unwritten unread'' unread'' after (record last { is_too_long = false }) [] (Err errors.TooLong)
-    (served_piece goes_on tree gives tells service mid service' clock between clock' unread unwritten unread' unread'' here after old new last piece u more takes s same)
-    (Consumes-nil unread'') ((refl, refl), refl, long, (u.text, piece, append-nil (u.text ++ piece), short, none))
+unfolding more_served
+ends_too_long goes_on one tree gives tells service mid service' clock between clock' unread unwritten unread' unread'' here after old new last piece u more takes s same goes short told =
+    let none = none_too_long one old u.text (messages_of u.exchanges) u.rest u.split u.keeps goes in
+    let now = more_served goes_on tree gives tells service mid service' clock between clock' unread unwritten unread' unread'' here after old new last piece u more takes s same in
+    ends_answered tree gives tells service service' clock clock' unread unwritten unread'' unread'' after last [] (Err errors.TooLong) now
+    (Consumes-nil unread'') ((refl, refl), refl, now.keeps.too_long.0 told, (u.text, piece, append-nil (u.text ++ piece), short, none))
 
 -- memory is refused before anything is read
-pub ends_at_once : {S C : Type 0} (tree : Files) (gives : S → Question → OpResult → S → Type 0) (tells : C → ℕ → C → Type 0) (service : S) (clock : C) (unread unwritten : Option (List ℕ)) (stream : Stream) → stream ≡ record { ready = []; rest = []; fed = 0; is_too_long = false } → IsStream stream
+pub ends_at_once : {S C : Type 0} (tree : Files) (gives : S → Question → OpResult → S → Type 0) (tells : C → ℕ → C → Type 0) (service : S) (clock : C) (unread unwritten : Option (List ℕ)) (stream : Stream) → IsNew stream
     → HasCourse tree gives tells service clock unread unwritten (Err errors.Memory) service clock unread unwritten
-ends_at_once tree gives tells service clock unread unwritten stream empty sound =
+ends_at_once tree gives tells service clock unread unwritten stream new =
     ends_answered tree gives tells service service clock clock unread unwritten unread unread unwritten stream [] (Err errors.Memory)
-    (starts tree gives tells service clock unread unwritten stream empty sound) (Consumes-nil unread) (refl, omega arith)
+    (starts tree gives tells service clock unread unwritten stream new) (Consumes-nil unread) (refl, omega arith)
 
 abbrev pub errs : ServeError → Result (Unit {0}) ServeError
 errs e = Err e
@@ -192,8 +190,9 @@ error_is e f same = cc
 
 -- nothing but the records that are ready changes, so what is so of every stream stays
 pub still_stream : (old new : Stream) → new ≡ record old { ready = [] } → IsStream old → IsStream new
-still_stream old new same sound = rw same (record { none_left = sound.none_left; too_long = sound.too_long; bounded = sound.bounded })
+still_stream old new same sound = rw same (record { keeps = sound.keeps; few = sound.few; bounded = sound.bounded })
 
 -- more can come
-pub goes_on_from : (stream : Stream) (text : List ℕ) → IsStream stream → stream.is_too_long ≡ false → stream.fed ≡ length text → (IsTooLong stream.rest → ⊥) × (length text ≤ STREAM_LIMIT)
-goes_on_from stream text sound goes fed = ((λ long. let told : stream.is_too_long ≡ true = sound.too_long.1 long in let clash : true ≡ false = sym told ∙ goes in cc), omega (arith, sound.bounded))
+pub goes_on_from : (stream : Stream) (text rest : List ℕ) → Keeps rest stream → IsStream stream → stream.is_too_long ≡ false → stream.fed ≡ length text → (IsTooLong rest → ⊥) × (length text ≤ STREAM_LIMIT)
+goes_on_from stream text rest keeps sound goes fed =
+    ((λ long. let told : stream.is_too_long ≡ true = keeps.too_long.1 long in let clash : true ≡ false = sym told ∙ goes in cc), omega (arith, sound.bounded))

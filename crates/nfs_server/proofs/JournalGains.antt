@@ -4,47 +4,48 @@ use Rattle.std.proofs.lemmas.List.{append-nil}
 use Rattle.nfs_core.specs.declared.entry.Entry.{Entry}
 use Rattle.nfs_xdr.specs.declared.principal.Principal.{Principal}
 use Rattle.nfs_core.specs.declared.client_record.PathMark.{PathMark}
-use Rattle.nfs_core.specs.GetAttr.{got_attributes}
+use Rattle.nfs_core.specs.operations.Getattr.{got_attributes}
 use Rattle.nfs_core.specs.Registry.{Registry}
 use Rattle.nfs_core.specs.Server.{Server, Applies}
-use Rattle.nfs_core.specs.SetClientId.{Finding, InUse, Again, Arrival, SetsBy}
-use Rattle.nfs_core.specs.SetClientIdConfirm.{Confirmation, Stale, Refused, Before, Becomes, ConfirmsBy}
+use Rattle.nfs_core.specs.operations.Setclientid.{Finding, InUse, Again, Arrival, SetsBy}
+use Rattle.nfs_core.specs.operations.SetclientidConfirm.{Confirmation, Stale, Refused, Before, Becomes, ConfirmsBy}
+use Rattle.nfs_core.specs.operations.Setclientid as setclientid
+use Rattle.nfs_core.specs.operations.SetclientidConfirm as confirm
 use Rattle.nfs_core.specs.State.{State, History}
 use Rattle.nfs_core.specs.Step.{StepOp, call_of, resource}
 use Rattle.nfs_server.specs.Asking.{Question}
 use Rattle.nfs_server.specs.Entries.{AreEntries, QuestionsAreEntries}
 use Rattle.nfs_server.specs.declared.service.Lent.{Lent}
-use Rattle.nfs_xdr.specs.declared.get_attr.GetAttrResult.{GetAttrResult}
+use Rattle.nfs_xdr.specs.declared.answer.Answer.{Answer}
 use Rattle.nfs_xdr.specs.declared.op.Op.{Op}
 use Rattle.nfs_xdr.specs.declared.op.Op.TheVariants as ops
 use Rattle.nfs_xdr.specs.declared.op_result.OpResult.{OpResult}
 use Rattle.nfs_xdr.specs.declared.op_result.OpResult.TheVariants as results
-use Rattle.nfs_xdr.specs.declared.set_client_id.SetClientId.{SetClientId}
-use Rattle.nfs_xdr.specs.declared.set_client_id.SetClientIdResult.{SetClientIdResult}
-use Rattle.nfs_xdr.specs.declared.status.Status.{Status}
+use Rattle.nfs_xdr.specs.declared.operations.setclientid.Setclientid.{Setclientid}
+use Rattle.nfs_xdr.specs.declared.fattr.Fattr.{Fattr}
 
-SetsBy-not_resource : (found : Finding) (epoch : ℕ) (old : Registry) (principal : Principal) (args : SetClientId) (answer : SetClientIdResult) (new : Registry) → SetsBy found epoch old principal args answer new → results.SetClientId answer ≢ resource (ops.SetClientId args)
+SetsBy-not_resource : (found : Finding) (epoch : ℕ) (old : Registry) (principal : Principal) (args : Setclientid) (answer : setclientid.Outcome) (new : Registry) → SetsBy found epoch old principal args answer new → results.Setclientid answer ≢ resource (ops.Setclientid args)
 SetsBy-not_resource (InUse address) epoch old principal args answer new s same = let e = s.0 in cc
 SetsBy-not_resource (Again client) epoch old principal args answer new s same = let e = s.1 in cc
 SetsBy-not_resource Arrival epoch old principal args answer new s same = let e = s.2 in cc
 
-ConfirmsBy-not_resource : (path : PathMark) (found : Confirmation) (old : Registry) (args : _) (answer : Status) (new : Registry) → ConfirmsBy path found old answer new → results.SetClientIdConfirm answer ≢ resource (ops.SetClientIdConfirm args)
+ConfirmsBy-not_resource : (path : PathMark) (found : Confirmation) (old : Registry) (args : _) (answer : confirm.Outcome) (new : Registry) → ConfirmsBy path found old answer new → results.SetclientidConfirm answer ≢ resource (ops.SetclientidConfirm args)
 ConfirmsBy-not_resource path Stale old args answer new s same = let e = s.0 in cc
 ConfirmsBy-not_resource path Refused old args answer new s same = let e = s.0 in cc
 ConfirmsBy-not_resource path Before old args answer new s same = let e = s.0 in cc
 ConfirmsBy-not_resource path (Becomes r) old args answer new s same = let e = s.0 in cc
 
-GotAttributes-not_resource : (journal : History) (old : State) (filehandle : Option ℕ) (mask : List ℕ) (answer : GetAttrResult) → answer ≡ got_attributes journal old filehandle mask → results.GetAttr answer ≢ resource (ops.GetAttr mask)
+GotAttributes-not_resource : (journal : History) (old : State) (filehandle : Option ℕ) (mask : List ℕ) (answer : Answer Fattr) → answer ≡ got_attributes journal old filehandle mask → results.Getattr answer ≢ resource (ops.Getattr mask)
 GotAttributes-not_resource journal old None mask answer told same = cc
 GotAttributes-not_resource journal old (Some node) mask answer told same = cc
 
 -- an entry's answer is not NFS4ERR_RESOURCE
 StepOp-not_resource : (journal : History) (old : State) (principal : Principal) (filehandle : Option ℕ) (op : Op) (answer : OpResult) (new : State) → StepOp journal old principal filehandle op answer new → answer ≢ resource op
-StepOp-not_resource journal old principal filehandle (ops.GetAttr mask) (results.GetAttr answer) new s =
+StepOp-not_resource journal old principal filehandle (ops.Getattr mask) (results.Getattr answer) new s =
     GotAttributes-not_resource journal old filehandle mask answer s.0
-StepOp-not_resource journal old principal filehandle (ops.SetClientId args) (results.SetClientId answer) new s =
+StepOp-not_resource journal old principal filehandle (ops.Setclientid args) (results.Setclientid answer) new s =
     SetsBy-not_resource _ journal.epoch old.clients principal args answer s.0 s.1
-StepOp-not_resource journal old principal filehandle (ops.SetClientIdConfirm args) (results.SetClientIdConfirm answer) new s =
+StepOp-not_resource journal old principal filehandle (ops.SetclientidConfirm args) (results.SetclientidConfirm answer) new s =
     ConfirmsBy-not_resource _ _ old.clients args answer s.0 s.1
 StepOp-not_resource journal old principal filehandle op answer new s = absurd s
 

@@ -14,30 +14,37 @@ use Rattle.nfs_server.specs.Answering.{compound_outcome, compound_reply, head_si
 use Rattle.nfs_server.specs.Asking.{Asks, Question, question_of}
 use Rattle.nfs_rpc.specs.Call.{IsCall}
 use Rattle.nfs_server.specs.Connection.{Exchange, IsExchanged, written_for}
-use Rattle.nfs_rpc.specs.Reply.{written_accepted, written_compound_reply, written_no_verifier, written_record, written_reply, written_reply_head}
+use Rattle.nfs_rpc.specs.Reply.{written_accepted, written_record, written_reply}
 use Rattle.nfs_xdr.specs.declared.compound.Compound.{Compound}
+use Rattle.nfs_xdr.specs.Compound.{compound_result}
+use Rattle.nfs_xdr.specs.Status.{status}
 use Rattle.nfs_xdr.specs.declared.op_result.OpResult.{OpResult}
 use Rattle.std.specs.List.{flat_map}
-use Rattle.nfs_xdr.specs.OpResult.{written_result}
-use Rattle.nfs_xdr.specs.Writing.{written_opaque, written_u32, zeros}
-use Rattle.nfs_xdr.specs.Layout.{padding_of}
+use Rattle.nfs_xdr.specs.OpResult.{op_result}
+use Rattle.xdr.specs.Writing.{written_number, written_opaque, written_u32, zeros}
+use Rattle.xdr.specs.Layout.{padding_of}
 
 pub length_accepted : (xid state : ℕ) → length (written_accepted xid state) ≡ ACCEPTED_LEN
-unfolding written_accepted written_reply_head written_no_verifier
+unfolding written_opaque written_number
 length_accepted xid state = refl
 
 pub head_size_le : (tag : List ℕ) → head_size tag ≤ length tag + 39
+unfolding written_opaque written_number
 head_size_le tag =
     let pad : length (zeros (padding_of (length tag))) ≤ 3 = omega (arith, length-take {A = ℕ} (padding_of (length tag)) (0 ∷ 0 ∷ 0 ∷ 0 ∷ [])) in
     omega (arith, length-append tag (zeros (padding_of (length tag))))
 
+abbrev result_of : CompoundReply → List ℕ
+result_of reply = compound_result.spelling (reply.status, (reply.tag, reply.results))
+
 -- the reply's record is its head and the results
-pub reply_len : (reply : CompoundReply) → ACCEPTED_LEN + length (written_compound_reply reply) ≡ head_size reply.tag + length (flat_map written_result reply.results)
-reply_len reply = omega (arith, length-append (written_opaque reply.tag) (written_u32 (length reply.results) ++ flat_map written_result reply.results))
+pub reply_len : (reply : CompoundReply) → ACCEPTED_LEN + length (result_of reply) ≡ head_size reply.tag + length (flat_map op_result.spelling reply.results)
+unfolding status written_number
+reply_len reply = omega (arith, length-append (written_opaque reply.tag) (written_u32 (length reply.results) ++ flat_map op_result.spelling reply.results))
 
 -- the reply to a COMPOUND has room
-pub reply_fits : (xid : ℕ) (reply : CompoundReply) → ACCEPTED_LEN + length (written_compound_reply reply) ≤ RECORD_LIMIT → length (written_reply xid (replies.Compound reply)) ≤ RECORD_LIMIT
-reply_fits xid reply fits = omega (arith, length-append (written_accepted xid ACCEPTED_SUCCESS) (written_compound_reply reply), length_accepted xid ACCEPTED_SUCCESS)
+pub reply_fits : (xid : ℕ) (reply : CompoundReply) → ACCEPTED_LEN + length (result_of reply) ≤ RECORD_LIMIT → length (written_reply xid (replies.Compound reply)) ≤ RECORD_LIMIT
+reply_fits xid reply fits = omega (arith, length-append (written_accepted xid ACCEPTED_SUCCESS) (result_of reply), length_accepted xid ACCEPTED_SUCCESS)
 
 pub on_ok : {T E : Type 0} (r : Result T E) (P Q : Type 0) → (P → Q) → OnOk r P → OnOk r Q
 on_ok (Ok x) P Q f p = f p

@@ -6,30 +6,30 @@ use Rattle.nfs_rpc.specs.declared.records.TheConstants.{RECORD_LIMIT}
 use Rattle.nfs_rpc.specs.declared.reply.CompoundReply.{CompoundReply}
 use Rattle.nfs_rpc.specs.declared.reply.Reply.TheVariants as replies
 use Rattle.nfs_rpc.specs.declared.reply.TheConstants.{ACCEPTED_LEN}
-use Rattle.nfs_server.specs.declared.filehandles.Filehandles.{Filehandles}
-use Rattle.nfs_server.specs.declared.service.TheConstants.{ANSWER_ROOM}
-use Rattle.nfs_server.specs.Filehandles.{no_filehandles, on_tree}
+use Rattle.nfs_tree.specs.declared.filehandles.Filehandles.{Filehandles}
+use Rattle.nfs_tree.specs.Filehandles.{effect_of, no_filehandles}
 use Rattle.nfs_tree.specs.Tree.{Files}
 use Rattle.nfs_rpc.specs.Reply.{written_reply}
 use Rattle.nfs_core.specs.Step.{resource}
+use Rattle.nfs_xdr.specs.declared.arg_op.ArgOp.{ArgOp}
+use Rattle.nfs_xdr.specs.declared.arg_op.ArgOp.TheVariants.{Run, BadArgs, Unsupported, Illegal}
 use Rattle.nfs_xdr.specs.declared.compound.Compound.{Compound}
 use Rattle.nfs_xdr.specs.declared.compound.Request.{Request}
 use Rattle.nfs_xdr.specs.declared.compound.Request.TheVariants.{MinorVersion, TooMany, Operations}
 use Rattle.nfs_xdr.specs.declared.op.Op.{Op}
 use Rattle.nfs_xdr.specs.declared.op_result.OpResult.{OpResult}
+use Rattle.nfs_xdr.specs.declared.opnum.Opnum.TheVariants as opnums
+use Rattle.nfs_xdr.specs.declared.status.Refusal.TheVariants as refusals
 use Rattle.nfs_xdr.specs.declared.status.Status.{Status}
 use Rattle.nfs_xdr.specs.declared.status.Status.TheVariants as status
-use Rattle.nfs_xdr.specs.Op.{ends_list, is_on_tree}
-use Rattle.nfs_xdr.specs.OpResult.{refusal, result_status, written_result}
-use Rattle.nfs_xdr.specs.Writing.{written_opaque}
+use Rattle.nfs_xdr.specs.Op.{opnum_of}
+use Rattle.nfs_xdr.specs.Opnum.{room_of}
+use Rattle.nfs_xdr.specs.OpResult.{op_result, refusal_of, status_of}
+use Rattle.xdr.specs.Writing.{written_opaque}
 
 abbrev pub is_ok : Status → Bool
 is_ok status.Ok = true
 is_ok s = false
-
--- What ends the list isn't run. It has one result, whatever the status.
-abbrev pub ending_result : Op → OpResult
-ending_result op = refusal op status.BadXdr
 
 -- an operation that the service is asked, and the node of the current filehandle then
 pub record Asked : Type 0 where
@@ -47,7 +47,7 @@ ends_with answer = record { asked = []; results = answer ∷ [] }
 
 -- An answer other than NFS4_OK is the last.
 abbrev pub goes_on : OpResult → Outcome → Outcome
-goes_on answer more = if is_ok (result_status answer) then record { asked = more.asked; results = answer ∷ more.results } else ends_with answer
+goes_on answer more = if is_ok (status_of answer) then record { asked = more.asked; results = answer ∷ more.results } else ends_with answer
 
 -- the service is asked
 abbrev pub asks : Asked → List OpResult → (OpResult → List OpResult → Outcome) → Outcome
@@ -55,20 +55,30 @@ asks question [] more = record { asked = question ∷ []; results = [] }
 asks question (answer ∷ answers) more =
     let rest = goes_on answer (more answer answers) in record { asked = question ∷ rest.asked; results = rest.results }
 
--- `size` is that of the reply's record so far. An operation is run only where there is room for any answer to it.
-unfoldable pub outcome_of : Files → Filehandles → ℕ → List Op → List OpResult → Outcome
+-- `size` is that of the reply's record so far. What ends the list isn't run. An operation is run only where there is room for any
+-- answer to it: what has an effect on the filehandles is answered so, and the service is asked what has none.
+unfoldable pub outcome_of : Files → Filehandles → ℕ → List ArgOp → List OpResult → Outcome
 outcome_of tree handles size [] answers = record { asked = []; results = [] }
-outcome_of tree handles size (op ∷ ops) answers =
-    if ends_list op then ends_with (ending_result op)
-    else if not (nat_le (size + ANSWER_ROOM) RECORD_LIMIT) then ends_with (resource op)
-    else if is_on_tree op
-    then (let told = on_tree tree handles op in goes_on told.answer (outcome_of tree told.after (size + length (written_result told.answer)) ops answers))
-    else asks (record { op = op; filehandle = handles.current }) answers (λ answer others. outcome_of tree handles (size + length (written_result answer)) ops others)
+outcome_of tree handles size (BadArgs o ∷ ops) answers = ends_with (refusal_of o refusals.BadXdr)
+outcome_of tree handles size (Unsupported o ∷ ops) answers =
+    ends_with (refusal_of (opnums.Unsupported o) refusals.NotSupp)
+outcome_of tree handles size (Illegal number ∷ ops) answers =
+    ends_with (refusal_of opnums.Illegal refusals.OpIllegal)
+outcome_of tree handles size (Run op ∷ ops) answers =
+    if not (nat_le (size + room_of (opnum_of op)) RECORD_LIMIT) then ends_with (resource op)
+    else elim (effect_of tree handles op) [
+      | Some effect ↦
+          let size = size + length (op_result.spelling effect.answer) in
+          goes_on effect.answer (outcome_of tree effect.after size ops answers)
+      | None ↦
+          let question : Asked = record { op = op; filehandle = handles.current } in
+          asks question answers (λ answer others. outcome_of tree handles (size + length (op_result.spelling answer)) ops others)
+    ]
 
 -- the reply's status is that of the last result
 abbrev pub status_or_ok : Option OpResult → Status
 status_or_ok None = status.Ok
-status_or_ok (Some answer) = result_status answer
+status_or_ok (Some answer) = status_of answer
 
 abbrev pub last_status : List OpResult → Status
 last_status results = status_or_ok (slice_get results (length results - 1))
@@ -83,8 +93,8 @@ request_outcome tree c answers (TooMany count) = record { asked = []; results = 
 request_outcome tree c answers (Operations ops) = outcome_of tree no_filehandles (head_size c.tag) ops answers
 
 abbrev pub request_status : List OpResult → Request → Status
-request_status results (MinorVersion minor) = status.MinorVersMismatch
-request_status results (TooMany count) = status.Resource
+request_status results (MinorVersion minor) = status.Refused refusals.MinorVersMismatch
+request_status results (TooMany count) = status.Refused refusals.Resource
 request_status results (Operations ops) = last_status results
 
 abbrev pub compound_outcome : Files → Compound → List OpResult → Outcome

@@ -1,4 +1,3 @@
-pub mod Filehandles
 pub mod Answering
 pub mod Asking
 pub mod Entries

@@ -3,15 +3,16 @@ ghost use Rattle.nfs_server.specs.Answering.{compound_outcome, compound_reply};
 ghost use Rattle.nfs_server.specs.Asking.{Asks, question_of};
 ghost use Rattle.nfs_rpc.specs.Call.{IsWithinLimits};
 ghost use Rattle.nfs_server.specs.Connection.{Exchange, IsExchanged, written_for};
-ghost use Rattle.nfs_rpc.specs.Reply.{IsReplyTooLong, written_record, written_reply};
+ghost use Rattle.nfs_rpc.specs.Reply.{IsWritable, written_record, written_reply};
 ghost use Rattle.nfs_xdr.specs.declared.op_result.OpResult.{OpResult};
 
 use crate::{Clock, Service, run_compound};
 use byteorder::{BigEndian, ByteOrder};
 use nfs_rpc::{Call, HEADER_LEN, LAST_FRAGMENT, RECORD_LIMIT, Reply, read_call, write_reply};
 use nfs_tree::Tree;
-use nfs_xdr::{Compound, OPERATION_LIMIT, Principal, write_u32};
+use nfs_xdr::{Compound, OPERATION_LIMIT, Principal};
 use std::alloc::{AllocError, Global};
+use xdr::write_u32;
 
 /// Room for any reply to a COMPOUND, with its header.
 const REPLY_ROOM: usize = RECORD_LIMIT + 64;
@@ -72,10 +73,11 @@ fn answer_compound<S: Service, C: Clock>(
 }
 
 // Puts a reply into `out`, which is empty, as a record of one fragment (RFC 5531, section 11).
+#[tactic(auto, unfolding(xdr::specs::Writing::written_number))]
 fn put_record(out: &mut Vec<u8>, xid: u32, reply: &Reply) -> Result<(), AllocError>
     requires empty { out.old.items ≡ [] }
     requires short { length (written_reply xid reply.now) < 2 ^ 31 }
-    requires fits { ¬ IsReplyTooLong reply.now }
+    requires fits { IsWritable xid reply.now }
     ensures ok { OnOk result (out.new.items ≡ written_record (written_reply xid reply.now)) }
     ensures room { 4 + length (written_reply xid reply.now) ≤ vec_capacity out.old → IsOk result }
 {

@@ -2,7 +2,7 @@ ghost use Rattle.std.specs.Prelude.{◌≡◌, ◌+◌, ◌-◌, ◌^◌, ◌<�
 ghost use Rattle.std.specs.List.{AllByRecursion};
 ghost use Rattle.std.specs.Io.KnownBytes.{Appends, Consumes, IsAtEnd};
 ghost use Rattle.nfs_server.specs.Connection.{AppendsPart, HasCourse, IsServed, IsServedOne};
-ghost use Rattle.nfs_rpc.specs.Records.{IsStream, TakesPiece};
+ghost use Rattle.nfs_rpc.specs.Records.{IsNew, IsStream, TakesPiece};
 
 use crate::answer::answer;
 use crate::{Clock, DeviceFailed, ServeError, Service, Sink, Source};
@@ -71,7 +71,7 @@ fn serve_stream<R: Source, W: Sink, S: Service, C: Clock>(
     requires reads { R.failures source.old < 2 ^ 64 - 1 }
     requires writes { W.failures sink.old < 2 ^ 64 - 1 }
     requires serves { S.serves service.old ≡ tree.now }
-    requires empty { records ≡ record { ready = []; rest = []; fed = 0; is_too_long = false } }
+    requires empty { IsNew records }
     requires sound { IsStream records }
     requires piece { length buffer.old ≡ PIECE_LEN }
     ensures serves { S.serves service.new ≡ tree.now }

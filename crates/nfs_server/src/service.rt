@@ -5,13 +5,10 @@ ghost use Rattle.nfs_server.specs.Entries.{QuestionsAreEntries};
 ghost use Rattle.nfs_core.specs.declared.core_state.TheConstants.{ANSWER_LIMIT};
 ghost use Rattle.nfs_tree.specs.Tree.{Files, node_count};
 ghost use Rattle.nfs_xdr.specs.declared.op_result.OpResult.{OpResult};
-ghost use Rattle.nfs_xdr.specs.OpResult.{written_result};
+ghost use Rattle.nfs_xdr.specs.OpResult.{op_result};
 
 use nfs_core::{Core, Moment};
 use nfs_xdr::{Op, OpResult, Principal};
-
-/// The room of a reply that an operation asks for before it is run.
-pub const ANSWER_ROOM: usize = 2048;
 
 /// What answers the operations that need the state.
 pub trait Service {
@@ -32,7 +29,8 @@ pub trait Service {
         requires node { IfSome filehandle (λ node. node < node_count (serves self.old).nodes) }
         ensures gives { gives self.old (record { moment = moment; principal = principal; op = op.now; filehandle = filehandle }) result self.new }
         ensures serves { serves self.new ≡ serves self.old }
-        ensures fits { length (written_result result) ≤ ANSWER_LIMIT };
+        ensures fits { length (op_result.spelling result) ≤ ANSWER_LIMIT }
+        ensures form { op_result.Fits result };
 }
 
 /// A core that is lent to one connection after another.

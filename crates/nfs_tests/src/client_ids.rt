@@ -4,11 +4,12 @@ ghost use Rattle.nfs_xdr.specs.Op.{has_entry};
 use nfs_core::{CLIENT_LIMIT, Core, LEASE_MAX, LEASE_MIN, Moment, at_most_one_step};
 use nfs_tree::{Callbacks, Delegations, Policy, Tree};
 use nfs_xdr::{
-    Address, Bitmap, Bytes, Callback, ClientId, GetAttrResult, Op, OpResult, Principal,
-    SetClientId, SetClientIdConfirm, SetClientIdResult, Status, Verifier,
+    Address, Answer, Bitmap, Callback, ClientAnswer, ClientId, Op, OpResult, Principal, Refusal,
+    Setclientid, SetclientidConfirm, Status, Verifier,
 };
 use std::alloc::{AllocError, Global};
 use std::test::Fail;
+use xdr::{Bytes, Opaque};
 
 const EPOCH: u32 = 7;
 
@@ -46,23 +47,27 @@ const OK: Want = Want::Is(Status::Ok);
 
 const IN_USE: Want = Want::Is(Status::ClidInUse);
 
-const STALE: Want = Want::Is(Status::StaleClientId);
+const STALE: Want = Want::Is(Status::Refused(Refusal::StaleClientId));
 
 impl Want {
     /// Whether the answer is what is wanted.
     fn is(self, answer: &OpResult) -> bool {
         match (self, answer) {
-            (Want::Given(number, value), OpResult::SetClientId(answer)) => {
+            (Want::Given(number, value), OpResult::Setclientid(answer)) => {
                 let client = ClientId {
                     epoch: EPOCH,
                     number,
                 };
-                *answer == SetClientIdResult::Done(client, value)
+                *answer
+                    == ClientAnswer::Done(SetclientidConfirm {
+                        client,
+                        confirm: value,
+                    })
             }
-            (Want::Refused, OpResult::SetClientId(answer)) => {
-                *answer == SetClientIdResult::Refused(Status::Resource)
+            (Want::Refused, OpResult::Setclientid(answer)) => {
+                *answer == ClientAnswer::Refused(Refusal::Resource)
             }
-            (Want::Is(status), OpResult::SetClientIdConfirm(answer)) => *answer == status,
+            (Want::Is(status), OpResult::SetclientidConfirm(answer)) => answer.status() == status,
             _ => false,
         }
     }
@@ -75,10 +80,10 @@ fn set_args(
     verifier: u8,
     netid: usize,
     addr: usize,
-) -> Result<SetClientId, AllocError> {
-    Ok(SetClientId {
+) -> Result<Setclientid, AllocError> {
+    Ok(Setclientid {
         verifier: Verifier([verifier; 8]),
-        id: Bytes::copied(alloc, &[id])?,
+        id: Opaque::copied(alloc, &[id])?,
         callback: Callback {
             program: 0x4000_0000,
             address: Address {
@@ -95,11 +100,11 @@ fn op_of(alloc: Global, ask: Ask) -> Result<Op, AllocError>
     ensures { IfOk result (λ op. IsTrue (has_entry op)) }
 {
     match ask {
-        Ask::Set(id, verifier) => Ok(Op::SetClientId(set_args(alloc, id, verifier, 3, 13)?)),
-        Ask::SetAt(netid, addr) => Ok(Op::SetClientId(set_args(alloc, b'a', 1, netid, addr)?)),
+        Ask::Set(id, verifier) => Ok(Op::Setclientid(set_args(alloc, id, verifier, 3, 13)?)),
+        Ask::SetAt(netid, addr) => Ok(Op::Setclientid(set_args(alloc, b'a', 1, netid, addr)?)),
         Ask::Confirm(epoch, number, confirm) => {
             let client = ClientId { epoch, number };
-            Ok(Op::SetClientIdConfirm(SetClientIdConfirm { client, confirm }))
+            Ok(Op::SetclientidConfirm(SetclientidConfirm { client, confirm }))
         }
     }
 }
@@ -213,7 +218,8 @@ fn gives_again(
     if entry == Some(number) {
         return Ok(want.is(&answer));
     }
-    let refused = Want::Refused.is(&answer) || Want::Is(Status::Resource).is(&answer);
+    let refused = Want::Refused.is(&answer)
+        || Want::Is(Status::Refused(Refusal::Resource)).is(&answer);
     if !refused || core.journal().entries().len() != number as usize {
         return Ok(false);
     }
@@ -279,7 +285,7 @@ fn opens_empty(rt: HostRuntime) -> Result<(), Fail> {
     assert_eq!(rt; journal.lease(), 86_400);
     assert!(rt; journal.entries().is_empty());
     assert_eq!(rt; journal.tree().nodes().len(), 1);
-    assert!(rt; !Op::BadArgs(35).has_entry());
+    assert!(rt; !Op::Savefh.has_entry());
     at_most_one_step();
     Ok(())
 }
@@ -293,14 +299,14 @@ fn attributes_of(
     if node >= core.journal().tree().len() {
         return Err("no such node".into());
     }
-    let op = Op::GetAttr(Bitmap::new(vec![in alloc; 0x1a_u32; 1]?));
+    let op = Op::Getattr(Bitmap::new(vec![in alloc; 0x1a_u32; 1]?));
     Ok(core.apply(start(), NONE, &op, Some(node)))
 }
 
 /// Whether these are the values of type, change and size, and no others.
 fn tells(answer: &OpResult, values: &[u8]) -> bool {
     match answer {
-        OpResult::GetAttr(GetAttrResult::Done(told)) => {
+        OpResult::Getattr(Answer::Done(told)) => {
             told.mask.as_slice() == [0x1a_u32].as_slice() && told.values.as_slice() == values
         }
         _ => false,
@@ -328,9 +334,9 @@ fn attributes(rt: HostRuntime) -> Result<(), Fail> {
 fn attributes_of_nothing(rt: HostRuntime) -> Result<(), Fail> {
     let alloc = rt.alloc();
     let mut core = opened(alloc, 90, Callbacks::Probe)?;
-    let op = Op::GetAttr(Bitmap::new(vec![in alloc; 0x1a_u32; 1]?));
+    let op = Op::Getattr(Bitmap::new(vec![in alloc; 0x1a_u32; 1]?));
     let (answer, number) = core.apply(start(), NONE, &op, None);
-    assert!(rt; answer == OpResult::GetAttr(GetAttrResult::Refused(Status::NoFileHandle)));
+    assert!(rt; answer == OpResult::Getattr(Answer::Refused(Refusal::NoFileHandle)));
     assert_eq!(rt; number, Some(0));
     Ok(())
 }

@@ -4,10 +4,10 @@ use nfs_core::CoreError;
 use nfs_rpc::RecordError;
 use nfs_server::ServeError;
 use nfs_tree::TreeError;
-use nfs_xdr::WireError;
 use std::alloc::Global;
 use std::fmt::Display;
 use std::test::Fail;
+use xdr::WireError;
 
 #[test]
 fn numbers(rt: HostRuntime) {

@@ -161,11 +161,12 @@ fn records_refused_once(rt: HostRuntime) -> Result<(), Fail> {
     let messages: [&[u8]; 3] = [&[1], &[2, 3], &[4, 5]];
     let mut records = Records::new(rt.alloc());
     for piece in pieces {
-        let (rest, fed) = (records.rest(), records.fed());
+        let (rest, kept, fed) = (records.rest(), records.kept(), records.fed());
         assert!(rt; fed + piece.len() as u64 <= 1 << 40);
         let mut taken = records.feed(piece);
         if taken == Err(RecordError::Memory) {
-            assert_eq!(rt; (records.rest(), records.fed()), (rest, fed));
+            assert_eq!(rt; (records.rest(), records.kept()), (rest, kept));
+            assert_eq!(rt; records.fed(), fed);
             assert!(rt; !records.is_too_long());
             taken = records.feed(piece);
         }

@@ -16,12 +16,12 @@ fn feed_if_few(rt: &impl Abort, records: &mut Records, piece: &[u8]) -> Result<(
 
 /// Feeds a piece, and once more where memory was refused, which must have left all as it was.
 fn feed(rt: &impl Abort, records: &mut Records, piece: &[u8]) -> Result<(), RecordError> {
-    let (rest, fed) = (records.rest(), records.fed());
+    let (rest, kept, fed) = (records.rest(), records.kept(), records.fed());
     let answer = feed_if_few(rt, records, piece);
     if answer != Err(RecordError::Memory) {
         return answer;
     }
-    assert_eq!(rt; records.rest(), rest);
+    assert_eq!(rt; (records.rest(), records.kept()), (rest, kept));
     assert_eq!(rt; records.fed(), fed);
     feed_if_few(rt, records, piece)
 }
@@ -123,6 +123,53 @@ fn takes_empty_fragments(rt: HostRuntime) {
     assert_next(&rt, &mut records, &[7]);
     assert_next(&rt, &mut records, &[]);
     assert_no_next(&rt, &mut records);
+}
+
+/// A million empty fragments, of which nothing is kept, and then the last fragment of their record.
+#[test]
+fn keeps_nothing_of_empty_fragments(rt: HostRuntime) {
+    let mut records = Records::new(rt.alloc());
+    for _ in 0..1000 {
+        feed_all(&rt, &mut records, &[&ZEROS]);
+        assert_eq!(rt; records.kept(), 0);
+    }
+    assert_eq!(rt; records.rest(), 4_096_000);
+    assert_no_next(&rt, &mut records);
+    feed_all(&rt, &mut records, &[&[0x80, 0, 0, 1, 7]]);
+    assert_eq!(rt; records.rest(), 0);
+    assert_next(&rt, &mut records, &[7]);
+    assert_no_next(&rt, &mut records);
+}
+
+/// Fragments of one byte: of each that one is kept.
+#[test]
+fn keeps_the_bodies_of_fragments(rt: HostRuntime) {
+    let mut records = Records::new(rt.alloc());
+    for (index, byte) in NULL_CALL.iter().enumerate() {
+        assert_eq!(rt; records.kept(), index);
+        feed_all(&rt, &mut records, &[&[0, 0, 0, 1, *byte]]);
+    }
+    assert_eq!(rt; (records.kept(), records.rest()), (40, 200));
+    feed_all(&rt, &mut records, &[&[0x80, 0, 0, 0]]);
+    assert_eq!(rt; (records.kept(), records.rest()), (0, 0));
+    assert_next(&rt, &mut records, &NULL_CALL);
+    assert_no_next(&rt, &mut records);
+}
+
+/// A record in three fragments and the beginning of another, cut at each byte.
+#[test]
+fn takes_a_record_cut_anywhere(rt: HostRuntime) {
+    let text = [
+        0, 0, 0, 2, 1, 2, 0, 0, 0, 0, 0x80, 0, 0, 1, 3, 0x80, 0, 0, 2, 4,
+    ];
+    for cut in 0..text.len() {
+        let mut records = Records::new(rt.alloc());
+        let (front, behind) = text.split_at(cut);
+        feed_all(&rt, &mut records, &[front, behind]);
+        assert_eq!(rt; (records.kept(), records.rest()), (1, 5));
+        assert_next(&rt, &mut records, &[1, 2, 3]);
+        assert_no_next(&rt, &mut records);
+    }
 }
 
 #[test]

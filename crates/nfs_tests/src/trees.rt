@@ -1,10 +1,10 @@
 use nfs_tree::{
     Callbacks, DEFAULT_TREE, Delegations, FILE_LIMIT, NodeKind, Policy, TEXT_LIMIT, Tree,
-    TreeError, paths_are_joined_names,
+    TreeError, paths_are_joined_names, trees_are_their_entries,
 };
-use nfs_xdr::{WireError, write_u32};
 use std::alloc::{AllocError, Global};
 use std::test::Fail;
+use xdr::{WireError, write_u32};
 
 /// The default tree's nodes beside the root: parent, name, and a file's text.
 const DEFAULT_NODES: [(u32, &str, Option<&str>); 4] = [
@@ -39,6 +39,7 @@ fn default_tree_has_its_nodes(rt: HostRuntime) -> Result<(), Fail> {
     assert_eq!(rt; copy.len(), 5);
     assert!(rt; copy.policy() == tree.policy());
     paths_are_joined_names();
+    trees_are_their_entries();
     Ok(())
 }
 

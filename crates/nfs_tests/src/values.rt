@@ -2,11 +2,12 @@
 
 use crate::messages::bytes_of;
 use nfs_xdr::{
-    Address, Bytes, ClientId, Op, OpResult, SetClientIdConfirm, SetClientIdResult, Status,
-    WireError, read_flag, read_op, read_result, write_flag, write_op, write_result,
+    Address, Answer, ArgOp, ClientAnswer, ClientId, Op, OpResult, Refusal, SetclientidConfirm,
+    Unsupported, read_op,
 };
 use std::alloc::Global;
 use std::test::Fail;
+use xdr::{Bytes, Wire, WireError, read_flag, write_flag};
 
 #[test]
 fn operations(rt: HostRuntime) -> Result<(), Fail> {
@@ -15,13 +16,13 @@ fn operations(rt: HostRuntime) -> Result<(), Fail> {
         epoch: 1,
         number: 2,
     };
-    let op = Op::SetClientIdConfirm(SetClientIdConfirm { client, confirm: 3 });
+    let op = Op::SetclientidConfirm(SetclientidConfirm { client, confirm: 3 });
     let mut written = Vec::new(alloc);
-    write_op(&mut written, &op)?;
+    op.write(&mut written)?;
     let expected = bytes_of(alloc, &[36, 1, 2, 0, 3])?;
     assert_eq!(rt; written.as_slice(), expected.as_slice());
     let (again, rest) = read_op(alloc, written.as_slice())?;
-    assert!(rt; again == op);
+    assert!(rt; again == ArgOp::Run(op));
     assert!(rt; rest.is_empty());
     Ok(())
 }
@@ -48,19 +49,25 @@ fn results(alloc: Global) -> Result<[(OpResult, Vec<u8>); 5], Fail> {
     ];
     Ok([
         (
-            OpResult::SetClientId(SetClientIdResult::Done(client, 3)),
+            OpResult::Setclientid(ClientAnswer::Done(SetclientidConfirm { client, confirm: 3 })),
             bytes_of(alloc, &[35, 0, 1, 2, 0, 3])?,
         ),
         (
-            OpResult::SetClientId(SetClientIdResult::ClidInUse(address)),
+            OpResult::Setclientid(ClientAnswer::ClidInUse(address)),
             bytes_of(alloc, &in_use)?,
         ),
         (
-            OpResult::SetClientIdConfirm(Status::StaleClientId),
+            OpResult::SetclientidConfirm(ClientAnswer::Refused(Refusal::StaleClientId)),
             bytes_of(alloc, &[36, 10022])?,
         ),
-        (OpResult::Unsupported(34), bytes_of(alloc, &[34, 10004, 0])?),
-        (OpResult::Illegal, bytes_of(alloc, &[10044, 10044])?),
+        (
+            OpResult::Unsupported(Unsupported::Setattr),
+            bytes_of(alloc, &[34, 10004, 0])?,
+        ),
+        (
+            OpResult::Illegal(Answer::Refused(Refusal::OpIllegal)),
+            bytes_of(alloc, &[10044, 10044])?,
+        ),
     ])
 }
 
@@ -69,9 +76,9 @@ fn results_of_operations(rt: HostRuntime) -> Result<(), Fail> {
     let alloc = rt.alloc();
     for (answer, bytes) in &results(alloc)? {
         let mut written = Vec::new(alloc);
-        write_result(&mut written, answer)?;
+        answer.write(&mut written)?;
         assert_eq!(rt; written.as_slice(), bytes.as_slice());
-        let (again, rest) = read_result(alloc, bytes.as_slice())?;
+        let (again, rest) = OpResult::read(alloc, bytes.as_slice())?;
         assert!(rt; again == *answer);
         assert!(rt; rest.is_empty());
     }

@@ -13,7 +13,7 @@ use Rattle.nfs_tree.specs.Tree.{Files, is_name, is_directory, is_directory_kind,
 use Rattle.nfs_tree.proofs.Paths.{names_are_names}
 use Rattle.nfs_tree.proofs.Nodes.{and_parts, option_cases, directory_next, directory_within, ParentsWithin, parents_append, parents_more, parents_of, no_child, fits_append, directories_append, files_append}
 
-or_parts : (a b : Bool) → (a || b) ≡ false → (a ≡ false) × (b ≡ false)
+pub or_parts : (a b : Bool) → (a || b) ≡ false → (a ≡ false) × (b ≡ false)
 or_parts true b h = cc
 or_parts false b h = (refl, h)
 
@@ -41,7 +41,7 @@ way_names nodes from (name ∷ names) h =
 last_empty : (next : List ℕ) (names : List (List ℕ)) → (length (next ∷ names) == 0) ≡ false
 last_empty next names = grind (arith, nat_tests)
 
-kind_of_next : (next : List ℕ) (names : List (List ℕ)) (kind : NodeKind) → kind_before (next ∷ names) kind ≡ Directory
+pub kind_of_next : (next : List ℕ) (names : List (List ℕ)) (kind : NodeKind) → kind_before (next ∷ names) kind ≡ Directory
 kind_of_next next names kind = rw (last_empty next names) refl
 
 text_before : (names : List (List ℕ)) (kind : NodeKind) → HasTextWithin kind → HasTextWithin (kind_before names kind)

@@ -1,5 +1,7 @@
 pub mod Builds
 pub mod Documents
+pub mod Entries
 pub mod Growing
 pub mod Nodes
 pub mod Paths
+pub mod Ways

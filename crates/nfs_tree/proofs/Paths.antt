@@ -95,7 +95,7 @@ names_ok : (b : Bool) (ps names : List (List ℕ)) → cond b (Some ps) None ≡
 names_ok true ps names h = (refl, cc)
 names_ok false ps names h = cc
 
-path_sound : (path : List ℕ) (names : List (List ℕ)) → names_of path ≡ Some names → IsPath names path
+pub path_sound : (path : List ℕ) (names : List (List ℕ)) → names_of path ≡ Some names → IsPath names path
 path_sound path names h =
     let found = names_ok _ (pieces path) names h in
     let tests = and_parts (leb (length (pieces path)) PATH_LIMIT) (list_all is_name (pieces path)) found.0 in
@@ -112,7 +112,7 @@ pieces_of_names : (names : List (List ℕ)) → 1 ≤ length names → list_all 
 pieces_of_names [] some h = absurd (omega arith)
 pieces_of_names (name ∷ names) some h = pieces_joined name names h
 
-path_complete : (path : List ℕ) (names : List (List ℕ)) → IsPath names path → names_of path ≡ Some names
+pub path_complete : (path : List ℕ) (names : List (List ℕ)) → IsPath names path → names_of path ≡ Some names
 path_complete path names is =
     let same : pieces path ≡ names = ap pieces (sym is.is_joined) ∙ pieces_of_names names is.is_some is.are_names in
     let few : leb (length names) PATH_LIMIT ≡ true = le-leb _ _ is.is_few in

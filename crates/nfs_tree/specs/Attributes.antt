@@ -1,8 +1,7 @@
--- The attributes of a node (RFC 7530, section 5), and the bits of ACCESS (section 16.1).
+-- The attributes of a node (RFC 7530, section 5).
 use Rattle.std.specs.Prelude.{ℕ, ◌+◌, ◌^◌, ◌==◌, Bool, true, false, not, if◌then◌else◌, List, [], ◌∷◌, ◌++◌, bit_and}
-use Rattle.nfs_xdr.specs.declared.access.AccessBits.{AccessBits}
 use Rattle.nfs_xdr.specs.declared.fattr.Fattr.{Fattr}
-use Rattle.nfs_xdr.specs.Writing.{written_u32, written_u64, written_flag, written_opaque}
+use Rattle.xdr.specs.Writing.{written_u32, written_u64, written_flag, written_opaque}
 use Rattle.nfs_tree.specs.declared.attribute.Attribute.{Attribute}
 use Rattle.nfs_tree.specs.declared.attribute.Attribute.TheVariants as attributes
 use Rattle.nfs_tree.specs.declared.attribute.Subject.{Subject}
@@ -81,14 +80,3 @@ mask_of word = if word == 0 then [] else word ∷ []
 -- the attributes that a bitmap asks for
 abbrev pub attributes_of : Subject → List ℕ → Fattr
 attributes_of s mask = record { mask = mask_of (asked mask); values = values_of s (asked mask) all_attributes }
-
--- the bits of ACCESS that there are, and those that are allowed
-abbrev pub all_access : ℕ
-all_access = 63
-
-abbrev pub allowed_access : Bool → ℕ
-allowed_access is_directory = if is_directory then 3 else 13
-
--- what ACCESS tells of the bits that were asked
-abbrev pub access_of : Bool → ℕ → AccessBits
-access_of is_directory bits = record { supported = bit_and bits all_access; access = bit_and bits (allowed_access is_directory) }

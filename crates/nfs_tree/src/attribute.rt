@@ -1,11 +1,12 @@
 ghost use Rattle.std.specs.Prelude.{◌≡◌, ◌<◌, ◌^◌, ◌++◌, IfOk, OnOk, if◌then◌else◌};
 ghost use Rattle.nfs_tree.specs.Attributes.{asked, attributes_of, number_of, supported, value_asked, value_of, values_of};
 ghost use Rattle.nfs_tree.specs.Tree.{is_directory};
-ghost use Rattle.nfs_xdr.specs.Writing.{written_u32, written_u64};
+ghost use Rattle.xdr.specs.Writing.{written_u32, written_u64};
 
 use crate::Tree;
-use nfs_xdr::{Bitmap, Bytes, Fattr, WireError, write_flag, write_opaque, write_u32, write_u64};
+use nfs_xdr::{Bitmap, Fattr};
 use std::alloc::{AllocError, Global};
+use xdr::{Bytes, NO_LIMIT, WireError, write_flag, write_opaque, write_u32, write_u64};
 
 /// The attributes that the server answers (RFC 7530, section 5), each with its number.
 #[derive(Clone, Copy, Debug, PartialEq, Eq)]
@@ -180,7 +181,7 @@ fn write_value(out: &mut Vec<u8>, subject: Subject, attribute: Attribute) -> Res
         Attribute::UniqueHandles => write_flag(out, true),
         Attribute::LeaseTime => write_u32(out, subject.lease),
         Attribute::FhExpireType | Attribute::RdattrError => write_u32(out, 0),
-        Attribute::Filehandle => write_opaque(out, &Tree::handle_of(subject.node)),
+        Attribute::Filehandle => write_opaque(out, &Tree::handle_of(subject.node), NO_LIMIT),
         Attribute::Fileid => write_u64(out, u64::from(subject.node) + 1),
     }
 }

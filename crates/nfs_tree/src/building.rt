@@ -1,6 +1,7 @@
 ghost use Rattle.std.specs.Prelude.{◌≡◌, ◌≤◌, ◌<◌, ◌+◌, ◌^◌, IfErr, IfOk, OnOk, Ok, if◌then◌else◌, length};
 ghost use Rattle.nfs_tree.specs.declared.node.NodeKind.TheVariants.{Directory};
 ghost use Rattle.nfs_tree.specs.Building.{FailsToMake, Makes, added, chain, is_too_many, tree_of, way};
+ghost use Rattle.nfs_tree.specs.Leads.{TreesAreTheirEntries};
 ghost use Rattle.nfs_tree.specs.Tree.{directories, files};
 
 use crate::document::read_document;
@@ -8,8 +9,8 @@ use crate::path::names_of;
 use crate::{
     DIRECTORY_LIMIT, Entry, FILE_LIMIT, Node, NodeKind, PATH_LIMIT, TEXT_LIMIT, Tree, TreeError,
 };
-use nfs_xdr::Bytes;
 use std::alloc::{AllocError, Global};
+use xdr::Bytes;
 
 /// The document of the tree that a server has without one of its own.
 pub const DEFAULT_TREE: &str = "[[file]]
@@ -148,3 +149,10 @@ fn kind_at(kind: &NodeKind, is_last: bool) -> Result<NodeKind, AllocError>
         Ok(NodeKind::Directory)
     }
 }
+
+/// The law that the tree of a text is that of its document's entries: the names of each one's path lead from the root to a node
+/// of its kind, with its text; every other node is a directory on the way to one; one way alone leads to a node; and two
+/// entries of one path are of directories.
+pub fn trees_are_their_entries()
+    ensures { TreesAreTheirEntries }
+{}

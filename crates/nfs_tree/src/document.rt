@@ -6,9 +6,9 @@ ghost use Rattle.toml.specs.Data.{as_str, get_member};
 ghost use Rattle.toml.specs.View.{items_view, table_view, view};
 
 use crate::{Callbacks, DEFAULT_POLICY, Delegations, Entry, NodeKind, Policy, TreeError};
-use nfs_xdr::{Bytes, Sequence};
 use std::alloc::Global;
 use toml::{Table, Value};
+use xdr::{Bytes, Sequence};
 
 /// An array of a document: that of its directories, or that of its files.
 #[derive(Clone, Copy, Debug)]

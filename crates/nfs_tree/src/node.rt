@@ -1,7 +1,7 @@
 ghost use Rattle.std.specs.Prelude.{◌≡◌};
 ghost use Rattle.nfs_tree.specs.Tree.{is_directory_kind};
 
-use nfs_xdr::Bytes;
+use xdr::Bytes;
 
 /// What a node is.
 #[derive(Clone, Debug, Drop)]

@@ -4,8 +4,8 @@ ghost use Rattle.nfs_tree.specs.Building.{Names, PathsAreJoinedNames, names_of, 
 ghost use Rattle.nfs_tree.specs.Tree.{is_name, is_name_byte};
 
 use crate::TreeError;
-use nfs_xdr::{Bytes, Sequence};
 use std::alloc::{AllocError, Global};
+use xdr::{Bytes, Sequence};
 
 /// The most bytes of a name.
 pub const NAME_LIMIT: usize = 255;

@@ -110,6 +110,7 @@ impl Tree {
     }
 
     /// The filehandle of a node.
+    #[tactic(auto, unfolding(xdr::specs::Writing::written_number))]
     pub fn handle_of(node: u32) -> [u8; HANDLE_LEN]
         ensures { result ≡ handle_of node }
     {
@@ -119,6 +120,7 @@ impl Tree {
     }
 
     /// The node of a filehandle, if it is one of a node of this tree.
+    #[tactic(auto, unfolding(xdr::specs::Writing::written_number))]
     pub fn node_of(&self, handle: &[u8]) -> Option<u32>
         ensures value { result ≡ node_of self.now.nodes handle.now }
         ensures found { IfSome result (λ n. (n < node_count self.now.nodes) × (handle.now ≡ handle_of n)) }

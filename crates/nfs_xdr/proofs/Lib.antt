@@ -2,3 +2,4 @@ pub mod ArgOps
 pub mod CompoundLists
 pub mod Compounds
 pub mod Words
+pub mod Refusals

@@ -13,7 +13,7 @@ mod file_handle;
 mod limits;
 mod op;
 mod op_result;
-mod operations;
+pub mod operations;
 mod opnum;
 mod principal;
 mod status;

@@ -1,4 +1,4 @@
-ghost use Rattle.std.specs.Prelude.{◌≡◌};
+ghost use Rattle.std.specs.Prelude.{◌≡◌, ◌≤◌, length};
 ghost use Rattle.nfs_xdr.specs.OpResult as results;
 ghost use Rattle.nfs_xdr.specs.declared.opnum.Opnum.TheVariants as opnums;
 ghost use Rattle.nfs_xdr.specs.Opnum.{opnum};
@@ -132,8 +132,11 @@ impl OpResult {
 
 impl Opnum {
     /// The result of the operation where it is refused with this status. One without a rule has but one result.
+    #[tactic(auto, using(crate::proofs::Refusals::unsupported_fits, crate::proofs::Refusals::unsupported_len, crate::proofs::Refusals::refusal_fits), unfolding(crate::specs::OpResult::op_result, crate::specs::Opnum::opnum, crate::specs::Answer::answer, crate::specs::ClientAnswer::client_answer, crate::specs::Status::status, xdr::specs::Writing::written_number))]
     pub fn refusal(self, refusal: Refusal) -> OpResult
-        ensures { result ≡ refusal_of self refusal }
+        ensures value { result ≡ refusal_of self refusal }
+        ensures form { results.op_result.Fits result }
+        ensures short { length (results.op_result.spelling result) ≤ 12 }
     {
         match self {
             Opnum::Access => OpResult::Access(Answer::Refused(refusal)),

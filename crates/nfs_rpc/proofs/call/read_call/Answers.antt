@@ -1,18 +1,5 @@
-use Rattle.nfs_rpc.specs.declared.reply.TheConstants.{ACCEPTED_PROC_UNAVAIL, ACCEPTED_PROG_UNAVAIL}
-use Rattle.nfs_rpc.proofs.Limits.{accepted_is_short, auth_error_is_short, prog_mismatch_is_short, rpc_mismatch_is_short}
+use Rattle.nfs_rpc.proofs.Calls.{call_stands}
 use Rattle.nfs_rpc.proofs.call.read_call.Goals as goal
 
-pub returns-then-start-ne-RPC_VERSION-clause-limits : goal.returns-then-start-ne-RPC_VERSION-clause-limits
-returns-then-start-ne-RPC_VERSION-clause-limits c = rpc_mismatch_is_short c.in-Ok.start.xid
-
-pub returns-in_default-principal-clause-limits : goal.returns-in_default-principal-clause-limits
-returns-in_default-principal-clause-limits c = auth_error_is_short c.in-Ok.start.xid
-
-pub returns-then-header-ne-NFS_PROGRAM-clause-limits : goal.returns-then-header-ne-NFS_PROGRAM-clause-limits
-returns-then-header-ne-NFS_PROGRAM-clause-limits c = (accepted_is_short c.in-Ok.start.xid ACCEPTED_PROG_UNAVAIL, λ no. no)
-
-pub returns-then-header-ne-NFS_VERSION-clause-limits : goal.returns-then-header-ne-NFS_VERSION-clause-limits
-returns-then-header-ne-NFS_VERSION-clause-limits c = prog_mismatch_is_short c.in-Ok.start.xid
-
-pub returns-in_default-procedure-clause-limits : goal.returns-in_default-procedure-clause-limits
-returns-in_default-procedure-clause-limits c = (accepted_is_short c.in-Ok.start.xid ACCEPTED_PROC_UNAVAIL, λ no. no)
+pub returns-clause-call : goal.returns-clause-call
+returns-clause-call c = call_stands c.one_request_stands.ensures.compound c.args.message.now c.call_from.result c.call_from.ensures.call

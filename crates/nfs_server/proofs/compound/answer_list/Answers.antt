@@ -1,4 +1,4 @@
-use Rattle.nfs_server.specs.Filehandles.{no_filehandles}
+use Rattle.nfs_tree.specs.Filehandles.{no_filehandles}
 use Rattle.nfs_server.proofs.Folding.{determined}
 use Rattle.nfs_server.proofs.compound.answer_list.Goals as goal
 

@@ -1,4 +1,6 @@
 use Rattle.std.proofs.Common.{◌∙◌, sym, arith}
+use Rattle.std.proofs.lemmas.List.Elements.{All-push}
+use Rattle.nfs_xdr.specs.OpResult.{op_result}
 use Rattle.nfs_server.proofs.Folding.{completes_more, completes_last, completes_none, length_with}
 use Rattle.nfs_server.proofs.compound.answer_operations.Goals as goal
 
@@ -16,6 +18,7 @@ loop-op-preserved g c = record {
   count = omega (arith, c.push_reserved.ensures.len);
   room = c.push_reserved.ensures.capacity ∙ c.loop-op.invariant.room;
   size = rw (c.push_reserved.ensures.items, length_with, c.written_len-size.ensures) (omega (arith, c.loop-op.invariant.size));
+  form = rw c.push_reserved.ensures.items (All-push op_result.Fits c.loop-op.results.items c.answer_one-answer.result c.loop-op.invariant.form c.answer_one-answer.ensures.form);
   serves = c.answer_one-answer.ensures.serves;
   nodes = c.answer_one-answer.ensures.nodes;
   within = omega (arith, c.answer_one-answer.ensures.asked (sym c.is_ok-goes_on.ensures ∙ c.if-not-goes_on.false), c.written_len-size.ensures);
@@ -23,3 +26,7 @@ loop-op-preserved g c = record {
 
 pub returns-clause-answers : goal.returns-clause-answers
 returns-clause-answers g c = completes_none g.S.Service.gives c.args.tree.now c.args.start c.loop-op.size c.args.moment c.args.principal c.args.ops.now c.loop-op.handles c.loop-op.op-index c.args.service.now c.loop-op.service c.loop-op.results.items c.loop-op-test.false c.loop-op.invariant.completes
+
+pub returns-then-not-goes_on-clause-form : goal.returns-then-not-goes_on-clause-form
+returns-then-not-goes_on-clause-form g c =
+    rw c.push_reserved.ensures.items (All-push op_result.Fits c.loop-op.results.items c.answer_one-answer.result c.loop-op.invariant.form c.answer_one-answer.ensures.form)

@@ -1,9 +1,9 @@
 use Rattle.std.proofs.Common.{◌≡◌, ◌+◌, ◌-◌, ◌≤◌, max, drop, length, vec_len}
 use Rattle.std.specs.Prelude.{vec_capacity}
-use Rattle.std.specs.List.{flat_map}
+use Rattle.std.specs.List.{All, flat_map}
 use Rattle.nfs_rpc.specs.declared.records.TheConstants.{RECORD_LIMIT}
-use Rattle.nfs_xdr.specs.OpResult.{written_result}
-use Rattle.nfs_server.specs.Filehandles.{AreNodes}
+use Rattle.nfs_xdr.specs.OpResult.{op_result}
+use Rattle.nfs_tree.specs.Filehandles.{AreNodes}
 use Rattle.nfs_server.proofs.Folding.{Completes}
 use Rattle.nfs_server.proofs.compound.answer_operations.Given as goal
 
@@ -12,8 +12,9 @@ invariant-loop-op g l = record {
   completes : Completes g.S.Service.gives l.tree l.start l.size l.moment l.principal l.ops l.handles (drop l.op-index l.ops) l.fn.service l.service l.results.items;
   count : vec_len l.results ≡ l.op-index;
   room : vec_capacity l.results ≡ vec_capacity l.fn.results;
-  size : l.size ≡ l.start + length (flat_map written_result l.results.items);
+  size : l.size ≡ l.start + length (flat_map op_result.spelling l.results.items);
   within : l.size ≤ max l.start (RECORD_LIMIT - 12);
+  form : All op_result.Fits l.results.items;
   serves : g.S.Service.serves l.service ≡ l.tree;
   nodes : AreNodes l.tree l.handles;
 }

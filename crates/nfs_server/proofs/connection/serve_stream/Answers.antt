@@ -10,7 +10,8 @@ use Rattle.nfs_server.proofs.connection.serve_stream.Goals as goal
 
 pub loop-records-init : goal.loop-records-init
 loop-records-init g c = record {
-  under_way = starts c.args.tree.now g.S.Service.gives g.C.Clock.tells c.args.service.now c.args.clock.now (g.R.Source.remaining c.args.source.now) (g.W.Sink.contents c.args.sink.now) c.args.records c.requires.empty c.requires.sound;
+  under_way = starts c.args.tree.now g.S.Service.gives g.C.Clock.tells c.args.service.now c.args.clock.now (g.R.Source.remaining c.args.source.now) (g.W.Sink.contents c.args.sink.now) c.args.records c.requires.empty;
+  goes = c.requires.empty.goes;
   sound = c.requires.sound;
   serves = c.requires.serves;
   reads = refl;
@@ -19,17 +20,17 @@ loop-records-init g c = record {
 
 pub returns-in-Ok-eq0-clause-course : goal.returns-in-Ok-eq0-clause-course
 returns-in-Ok-eq0-clause-course g c =
-    let goes = goes_on_from c.loop-records.records (c.loop-records.invariant.under_way.text ++ []) c.loop-records.invariant.sound c.loop-records.invariant.under_way.goes
+    let goes = goes_on_from c.loop-records.records (c.loop-records.invariant.under_way.text ++ []) c.loop-records.invariant.under_way.rest c.loop-records.invariant.under_way.keeps c.loop-records.invariant.sound c.loop-records.invariant.goes
     (c.loop-records.invariant.under_way.fed ∙ ap length (sym (append-nil c.loop-records.invariant.under_way.text))) in
     let none : Consumes (g.R.Source.remaining c.loop-records.source) (g.R.Source.remaining c.read.new.self) [] =
     subst (λ (n : ℕ). Consumes (g.R.Source.remaining c.loop-records.source) (g.R.Source.remaining c.read.new.self) (take n c.read.new.buffer)) c.in-Ok-eq0.field-0-test c.in-Ok-eq0.ensures.bytes.0 in
     ends_answered c.args.tree.now g.S.Service.gives g.C.Clock.tells c.args.service.now c.loop-records.service c.args.clock.now c.loop-records.clock
     (g.R.Source.remaining c.args.source.now) (g.W.Sink.contents c.args.sink.now) (g.R.Source.remaining c.loop-records.source) (g.R.Source.remaining c.read.new.self) (g.W.Sink.contents c.loop-records.sink)
-    c.loop-records.records [] (Ok c.rest.result) c.loop-records.invariant.under_way none ((refl, refl), refl, goes, c.rest.ensures.value)
+    c.loop-records.records [] (Ok c.rest.result) c.loop-records.invariant.under_way none ((refl, refl), refl, goes, c.rest.ensures.value c.loop-records.invariant.under_way.rest c.loop-records.invariant.under_way.keeps)
 
 pub returns-in-Err-clause-course : goal.returns-in-Err-clause-course
 returns-in-Err-clause-course g c =
-    let goes = goes_on_from c.loop-records.records (c.loop-records.invariant.under_way.text ++ []) c.loop-records.invariant.sound c.loop-records.invariant.under_way.goes
+    let goes = goes_on_from c.loop-records.records (c.loop-records.invariant.under_way.text ++ []) c.loop-records.invariant.under_way.rest c.loop-records.invariant.under_way.keeps c.loop-records.invariant.sound c.loop-records.invariant.goes
     (c.loop-records.invariant.under_way.fed ∙ ap length (sym (append-nil c.loop-records.invariant.under_way.text))) in
     ends_answered c.args.tree.now g.S.Service.gives g.C.Clock.tells c.args.service.now c.loop-records.service c.args.clock.now c.loop-records.clock
     (g.R.Source.remaining c.args.source.now) (g.W.Sink.contents c.args.sink.now) (g.R.Source.remaining c.loop-records.source) (g.R.Source.remaining c.read.new.self) (g.W.Sink.contents c.loop-records.sink)
@@ -59,7 +60,7 @@ returns-in_err-take_in-clause-course g c =
     (refl, omega (arith, length-take c.in-Ok.count c.read.new.buffer, c.in-Ok.ensures.within)))
 
 pub serve_ready-requires-clause-limits : goal.serve_ready-requires-clause-limits
-serve_ready-requires-clause-limits g c = ready_within c.loop-records.records c.take_in.new.records (take c.in-Ok.count c.read.new.buffer) c.loop-records.invariant.under_way.idle c.in_ok-take_in.ensures.ok
+serve_ready-requires-clause-limits g c = ready_within c.loop-records.records c.take_in.new.records (take c.in-Ok.count c.read.new.buffer) c.loop-records.invariant.under_way.rest c.loop-records.invariant.under_way.idle c.loop-records.invariant.under_way.keeps c.in_ok-take_in.ensures.ok
 
 pub returns-in_err-serve_ready-clause-course : goal.returns-in_err-serve_ready-clause-course
 returns-in_err-serve_ready-clause-course g c =
@@ -75,16 +76,16 @@ returns-then-is_too_long-clause-course g c =
     (g.R.Source.remaining c.args.source.now) (g.W.Sink.contents c.args.sink.now) (g.R.Source.remaining c.loop-records.source) (g.R.Source.remaining c.read.new.self) (g.W.Sink.contents c.loop-records.sink) (g.W.Sink.contents c.serve_ready.new.sink)
     c.loop-records.records c.take_in.new.records c.serve_ready.new.records (take c.in-Ok.count c.read.new.buffer)
     c.loop-records.invariant.under_way c.in-Ok.ensures.bytes.0 c.in_ok-take_in.ensures.ok c.in_ok-serve_ready.ensures.served c.in_ok-serve_ready.ensures.taken
-    c.loop-records.invariant.sound (omega (arith, length-take c.in-Ok.count c.read.new.buffer, c.in-Ok.ensures.within))
-    (c.is_too_long.ensures.known.0 c.if-is_too_long.true)
+    c.loop-records.invariant.goes (omega (arith, length-take c.in-Ok.count c.read.new.buffer, c.in-Ok.ensures.within))
+    (sym c.is_too_long.ensures.value ∙ c.if-is_too_long.true)
 
 pub loop-records-preserved : goal.loop-records-preserved
 loop-records-preserved g c = record {
   under_way = more_served c.split_goes_on.ensures c.args.tree.now g.S.Service.gives g.C.Clock.tells c.args.service.now c.loop-records.service c.serve_ready.new.service c.args.clock.now c.loop-records.clock c.serve_ready.new.clock
       (g.R.Source.remaining c.args.source.now) (g.W.Sink.contents c.args.sink.now) (g.R.Source.remaining c.loop-records.source) (g.R.Source.remaining c.read.new.self) (g.W.Sink.contents c.loop-records.sink) (g.W.Sink.contents c.serve_ready.new.sink)
       c.loop-records.records c.take_in.new.records c.serve_ready.new.records (take c.in-Ok.count c.read.new.buffer)
-      c.loop-records.invariant.under_way c.in-Ok.ensures.bytes.0 c.in_ok-take_in.ensures.ok c.in_ok-serve_ready.ensures.served c.in_ok-serve_ready.ensures.taken
-      (sym c.is_too_long.ensures.value ∙ c.if-is_too_long.false);
+      c.loop-records.invariant.under_way c.in-Ok.ensures.bytes.0 c.in_ok-take_in.ensures.ok c.in_ok-serve_ready.ensures.served c.in_ok-serve_ready.ensures.taken;
+  goes = sym c.is_too_long.ensures.value ∙ c.if-is_too_long.false;
   sound = still_stream c.take_in.new.records c.serve_ready.new.records c.in_ok-serve_ready.ensures.taken c.in_ok-take_in.ensures.sound;
   serves = c.in_ok-serve_ready.ensures.serves;
   reads = c.in-Ok.ensures.ok ∙ c.loop-records.invariant.reads;

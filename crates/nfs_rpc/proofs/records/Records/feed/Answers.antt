@@ -1,27 +1,32 @@
-use Rattle.std.proofs.Common.{◌≡◌, ◌+◌, length, Ok, ap, rules, arith}
+use Rattle.std.proofs.Common.{◌≡◌, Ok, ap, rules, arith}
 use Rattle.std.proofs.lemmas.Result.{IfOk-at_ok}
-use Rattle.nfs_rpc.proofs.Taking.{unfinished_stream}
+use Rattle.nfs_rpc.proofs.Taking.{sound_after, count_after}
 use Rattle.nfs_rpc.proofs.records.Records.feed.Goals as goal
 
-pub returns-then-self-clause-sound : goal.returns-then-self-clause-sound
-returns-then-self-clause-sound c =
-    rw (← c.self.view_is) (unfinished_stream _ _ _ c.self.inside.first c.self.invariant.0 c.self.invariant.1)
-
-pub returns-in_err-first-clause-sound : goal.returns-in_err-first-clause-sound
-returns-in_err-first-clause-sound c =
-    let same : c.take_piece.new.rest.items ≡ c.self.inside.rest.items = search rules in
-    rw same (unfinished_stream _ _ _ c.self.inside.first c.self.invariant.0 c.self.invariant.1)
-
-pub returns-then-first-clause-sound : goal.returns-then-first-clause-sound
-returns-then-first-clause-sound c =
+pub invariant_of-self-2 : goal.invariant_of-self-2
+invariant_of-self-2 c =
     let taken : c.take_piece.result ≡ Ok c.in_ok-first.first = search rules in
     let w = IfOk-at_ok _ taken c.take_piece.ensures.ok in
+    let stands = IfOk-at_ok _ taken c.take_piece.ensures.stands in
+    let few = IfOk-at_ok _ taken c.take_piece.ensures.few in
+    let sound = c.self.invariant.0 in
     let fed : c.self.inside.fed ≡ c.args.self.now.fed = ap (λ s. s.fed) c.self.view_is in
-    unfinished_stream _ _ (c.self.inside.fed + length c.args.piece.now) _ w.2 (omega arith)
+    let count = count_after _ _ c.args.piece.now w.0 c.self.inside.first c.in_ok-first.first c.if-self.false w.1 sound in (
+      sound_after _ _ c.args.piece.now w.0 c.self.inside.first c.in_ok-first.first c.if-self.false w.1 sound stands few,
+      omega (arith, count, c.self.invariant.1),
+      omega arith,
+    )
 
-pub returns-clause-sound : goal.returns-clause-sound
-returns-clause-sound c =
+pub invariant_of-self-then-first : goal.invariant_of-self-then-first
+invariant_of-self-then-first c =
     let taken : c.take_piece.result ≡ Ok c.in_ok-first.first = search rules in
     let w = IfOk-at_ok _ taken c.take_piece.ensures.ok in
+    let stands = IfOk-at_ok _ taken c.take_piece.ensures.stands in
+    let few = IfOk-at_ok _ taken c.take_piece.ensures.few in
+    let sound = c.self.invariant.0 in
     let fed : c.self.inside.fed ≡ c.args.self.now.fed = ap (λ s. s.fed) c.self.view_is in
-    unfinished_stream _ _ (c.self.inside.fed + length c.args.piece.now) _ w.2 (omega arith)
+    let count = count_after _ _ c.args.piece.now w.0 c.self.inside.first c.in_ok-first.first c.if-self.false w.1 sound in (
+      sound_after _ _ c.args.piece.now w.0 c.self.inside.first c.in_ok-first.first c.if-self.false w.1 sound stands few,
+      omega (arith, count, c.self.invariant.1),
+      omega arith,
+    )

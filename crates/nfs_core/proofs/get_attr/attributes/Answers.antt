@@ -1,5 +1,0 @@
-use Rattle.nfs_core.proofs.AttributeLengths.{attributes_len}
-use Rattle.nfs_core.proofs.get_attr.attributes.Goals as goal
-
-pub returns-clause-short : goal.returns-clause-short
-returns-clause-short c = attributes_len c.in_ok-found.found _ _ c.in_ok-found.ensures

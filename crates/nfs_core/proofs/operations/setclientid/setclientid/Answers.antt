@@ -1,0 +1,12 @@
+use Rattle.std.proofs.Common.{rules, List, ap}
+use Rattle.nfs_core.specs.declared.stored_file.StoredFile.{StoredFile}
+use Rattle.nfs_core.specs.State.{State}
+use Rattle.nfs_core.proofs.operations.setclientid.setclientid.Goals as goal
+
+pub returns-clause-entered : goal.returns-clause-entered
+returns-clause-entered c =
+    let kept = ap (λ (s : State). s.files) c.tables.view_is in
+    record {
+      journal = search rules;
+      step = (search rules, c.requires.node, (c.set.new.self, search rules, ap (λ (files : List StoredFile). record { clients = c.set.new.self; files = files }) kept));
+    }

@@ -1,0 +1,3 @@
+pub mod Getattr
+pub mod Setclientid
+pub mod SetclientidConfirm

@@ -1,0 +1,153 @@
+-- The records at the front of a text, and what is kept of the bytes behind them.
+use Rattle.std.proofs.Common.{◌≡◌, ℕ, ◌+◌, ◌<◌, ◌≤◌, Bool, true, false, List, [], ◌∷◌, ◌++◌, length, take, refl, sym, ◌∙◌, ap, subst, arith, append_assoc, length-append, slice_range}
+use Rattle.std.proofs.lemmas.List.{append-nil, take-append-drop, length-take-le}
+use Rattle.std.proofs.lemmas.Slice.{between_to_end}
+use Rattle.nfs_rpc.specs.declared.records.TheConstants.{RECORD_LIMIT}
+use Rattle.nfs_rpc.specs.declared.place.Place.{Place}
+use Rattle.nfs_rpc.specs.declared.place.Place.TheVariants.{InHeader, InBody}
+use Rattle.nfs_rpc.specs.declared.unfinished.Unfinished.{Unfinished}
+use Rattle.nfs_rpc.specs.Records.{IsAt}
+use Rattle.nfs_rpc.specs.Keeping.{IsPlace, Fits, Stands, Begins, first_or, AreFound, AreAllFound}
+use Rattle.nfs_rpc.proofs.Fragments.{AreRecords-push}
+use Rattle.nfs_rpc.proofs.Standing.{at_start, at_open, at_last, at_rest, at_within, at_long, at_long_rest}
+
+pub found_none : (text bodies : List ℕ) (first : Unfinished) → IsAt text bodies first.place → first.count ≡ length text → AreFound text [] bodies first
+found_none text bodies first a count = record { front = []; rest = text; whole = refl; records = refl; stands = a; count = count }
+
+-- more bytes behind
+pub found_more : (text more : List ℕ) (messages : List (List ℕ)) (bodies longer : List ℕ) (first : Unfinished) (place : Place) (long : Bool) (count : ℕ)
+    → ((rest : List ℕ) → IsAt rest bodies first.place → IsAt (rest ++ more) longer place) → count ≡ length more
+    → AreFound text messages bodies first → AreFound (text ++ more) messages longer (record { place = place; count = first.count + count; is_too_long = long })
+found_more text more messages bodies longer first place long count behind is f = record {
+  front = f.front;
+  rest = f.rest ++ more;
+  whole = ap (λ (l : List ℕ). l ++ more) f.whole ∙ append_assoc f.front f.rest more;
+  records = f.records;
+  stands = behind f.rest f.stands;
+  count = omega (arith, f.count, length-append f.rest more);
+}
+
+-- behind an open fragment
+pub found_open : (text bytes : List ℕ) (messages : List (List ℕ)) (bodies : List ℕ) (first : Unfinished) → first.place ≡ InBody 0 false
+    → AreFound text messages bodies first → AreFound text messages bodies (record first { place = InHeader bytes 0 })
+found_open text bytes messages bodies first is f = record {
+  front = f.front;
+  rest = f.rest;
+  whole = f.whole;
+  records = f.records;
+  stands = at_open f.rest bodies bytes (subst (λ (p : Place). IsAt f.rest bodies p) is f.stands);
+  count = f.count;
+}
+
+-- behind the last fragment
+pub found_last : (text bytes : List ℕ) (messages : List (List ℕ)) (bodies : List ℕ) (first : Unfinished) → first.place ≡ InBody 0 true → Fits (length bodies) first.place
+    → AreFound text messages bodies first → AreFound text (messages ++ bodies ∷ []) [] (record { place = InHeader bytes 0; count = 0; is_too_long = false })
+found_last text bytes messages bodies first is fits f =
+    let within : length bodies + 0 ≤ RECORD_LIMIT = subst (λ (p : Place). Fits (length bodies) p) is fits in
+    record {
+      front = f.front ++ f.rest;
+      rest = [];
+      whole = f.whole ∙ sym (append-nil (f.front ++ f.rest));
+      records = AreRecords-push messages f.front bodies f.rest f.records (at_last f.rest bodies (subst (λ (p : Place). IsAt f.rest bodies p) is f.stands)) (omega arith);
+      stands = at_start bytes;
+      count = refl;
+    }
+
+-- where more is wanted all are found
+pub all_found : (text : List ℕ) (messages : List (List ℕ)) (bodies : List ℕ) (first : Unfinished) → Stands bodies first.place → first.is_too_long ≡ false
+    → AreFound text messages bodies first → AreAllFound text messages bodies first
+all_found text messages bodies first s goes f =
+    let none = at_rest f.rest bodies first.place f.stands s.more in (
+      f.rest,
+      record { front = f.front; whole = f.whole; records = f.records; none_left = none },
+      record {
+        none_left = none;
+        too_long = (
+          (λ told. let clash : true ≡ false = sym told ∙ goes in cc),
+          (λ long. absurd (at_within f.rest bodies first.place f.stands s.more s.fits long)),
+        );
+        stands = λ _. f.stands;
+        count = f.count;
+      },
+    )
+
+above_at : (bodies : List ℕ) (place : Place) → IsPlace place → length bodies ≤ RECORD_LIMIT → (Fits (length bodies) place → ⊥)
+    → (wanted : ℕ) × (last : Bool) × (place ≡ InBody wanted last) × (RECORD_LIMIT < length bodies + wanted)
+above_at bodies (InHeader bytes len) is few above = absurd (above few)
+above_at bodies (InBody wanted last) is few above = (wanted, last, refl, omega (arith, above))
+
+-- where a header brings the record above the limit, all are found, and what is behind is the rest's
+pub all_found_long : (text behind : List ℕ) (messages : List (List ℕ)) (bodies : List ℕ) (first : Unfinished) (count : ℕ) → IsPlace first.place → length bodies ≤ RECORD_LIMIT
+    → (Fits (length bodies) first.place → ⊥) → count ≡ length behind → AreFound text messages bodies first
+    → AreAllFound (text ++ behind) messages bodies (record { place = first.place; count = first.count + count; is_too_long = true })
+all_found_long text behind messages bodies first count is few above counts f =
+    let w = above_at bodies first.place is few above in
+    let a = subst (λ (p : Place). IsAt f.rest bodies p) w.2 f.stands in
+    let none = at_long_rest f.rest bodies behind w.0 w.1 a w.3 in (
+      f.rest ++ behind,
+      record {
+        front = f.front;
+        whole = ap (λ (l : List ℕ). l ++ behind) f.whole ∙ append_assoc f.front f.rest behind;
+        records = f.records;
+        none_left = none;
+      },
+      record {
+        none_left = none;
+        too_long = ((λ _. at_long f.rest bodies behind w.0 w.1 a w.3), (λ _. refl));
+        stands = (λ no. let clash : true ≡ false = no in cc);
+        count = omega (arith, f.count, length-append f.rest behind);
+      },
+    )
+
+-- All but the rest of a piece stands behind what was kept.
+abbrev pub AreFoundSoFar : List ℕ → Unfinished → List ℕ → List ℕ → List (List ℕ) → List ℕ → Unfinished → Type 0
+AreFoundSoFar start from piece rest messages bodies first =
+    (done : List ℕ) × (piece ≡ done ++ rest)
+    × ((text : List ℕ) → IsAt text start from.place → from.count ≡ length text → AreFound (text ++ done) messages bodies first)
+
+module _ (start : List ℕ) (from : Unfinished) (piece : List ℕ) where
+  pub so_far_none : AreFoundSoFar start from piece piece [] start from
+  so_far_none = ([], refl, λ text a count. subst (λ (l : List ℕ). AreFound l [] start from) (sym (append-nil text)) (found_none text start from a count))
+
+  -- the front of the rest
+  pub so_far_front : (rest : List ℕ) (messages : List (List ℕ)) (bodies longer : List ℕ) (first : Unfinished) (place : Place) (long : Bool) (count : ℕ) → count ≤ length rest
+      → ((text : List ℕ) → IsAt text bodies first.place → IsAt (text ++ take count rest) longer place)
+      → AreFoundSoFar start from piece rest messages bodies first
+      → AreFoundSoFar start from piece (slice_range rest count (length rest)) messages longer (record { place = place; count = first.count + count; is_too_long = long })
+  so_far_front rest messages bodies longer first place long count within behind f =
+      let parts : take count rest ++ slice_range rest count (length rest) ≡ rest =
+      ap (λ (l : List ℕ). take count rest ++ l) (between_to_end rest count (length rest) (omega arith)) ∙ take-append-drop count rest in
+      let n : count ≡ length (take count rest) = sym (length-take-le count rest within) in (
+        f.0 ++ take count rest,
+        f.1 ∙ ap (λ (l : List ℕ). f.0 ++ l) (sym parts) ∙ sym (append_assoc f.0 (take count rest) (slice_range rest count (length rest))),
+        λ text a counts.
+            subst (λ (l : List ℕ). AreFound l messages longer (record { place = place; count = first.count + count; is_too_long = long })) (append_assoc text f.0 (take count rest))
+            (found_more (text ++ f.0) (take count rest) messages bodies longer first place long count behind n (f.2 text a counts)),
+      )
+
+  -- the same bytes
+  pub so_far_same : (rest : List ℕ) (messages others : List (List ℕ)) (bodies kept : List ℕ) (first next : Unfinished)
+      → ((text : List ℕ) → AreFound text messages bodies first → AreFound text others kept next)
+      → AreFoundSoFar start from piece rest messages bodies first → AreFoundSoFar start from piece rest others kept next
+  so_far_same rest messages others bodies kept first next goes f = (f.0, f.1, λ text a count. goes (text ++ f.0) (f.2 text a count))
+
+  pub so_far_all : (rest : List ℕ) (messages : List (List ℕ)) (bodies : List ℕ) (first : Unfinished) → rest ≡ [] → Stands bodies first.place → first.is_too_long ≡ false
+      → AreFoundSoFar start from piece rest messages bodies first
+      → (text : List ℕ) → IsAt text start from.place → from.count ≡ length text → AreAllFound (text ++ piece) messages bodies first
+  so_far_all rest messages bodies first none stands goes f text a count =
+      let whole : f.0 ≡ piece = sym (append-nil f.0) ∙ ap (λ (l : List ℕ). f.0 ++ l) (sym none) ∙ sym f.1 in
+      subst (λ (l : List ℕ). AreAllFound (text ++ l) messages bodies first) whole (all_found (text ++ f.0) messages bodies first stands goes (f.2 text a count))
+
+  pub so_far_long : (rest : List ℕ) (messages : List (List ℕ)) (bodies : List ℕ) (first : Unfinished) (count : ℕ) → IsPlace first.place → length bodies ≤ RECORD_LIMIT
+      → (Fits (length bodies) first.place → ⊥) → count ≡ length rest → AreFoundSoFar start from piece rest messages bodies first
+      → (text : List ℕ) → IsAt text start from.place → from.count ≡ length text
+      → AreAllFound (text ++ piece) messages bodies (record { place = first.place; count = first.count + count; is_too_long = true })
+  so_far_long rest messages bodies first count is few above counts f text a at =
+      let whole : (text ++ f.0) ++ rest ≡ text ++ piece = append_assoc text f.0 rest ∙ ap (λ (l : List ℕ). text ++ l) (sym f.1) in
+      subst (λ (l : List ℕ). AreAllFound l messages bodies (record { place = first.place; count = first.count + count; is_too_long = true })) whole
+      (all_found_long (text ++ f.0) rest messages bodies first count is few above counts (f.2 text a at))
+
+-- what begins the bodies begins them with more behind, or the first record
+pub begins_longer : (start bodies longer : List ℕ) (messages : List (List ℕ)) → Begins start (first_or messages bodies) → Begins bodies longer → Begins start (first_or messages longer)
+begins_longer start bodies longer [] b more = (b.0 ++ more.0, more.1 ∙ ap (λ (l : List ℕ). l ++ more.0) b.1 ∙ append_assoc start b.0 more.0)
+begins_longer start bodies longer (message ∷ messages) b more = b

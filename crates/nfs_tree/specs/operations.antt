@@ -1,0 +1,7 @@
+pub mod Access
+pub mod Getfh
+pub mod Lookup
+pub mod Putfh
+pub mod Putrootfh
+pub mod Restorefh
+pub mod Savefh

@@ -1,0 +1,18 @@
+-- GETFH (RFC 7530, section 16.8): the current filehandle is told.
+use Rattle.std.specs.Prelude.{ℕ, List, Option, Some, None}
+use Rattle.nfs_tree.specs.declared.filehandles.Filehandles.{Filehandles}
+use Rattle.nfs_tree.specs.Effect.{Effect, stays}
+use Rattle.nfs_tree.specs.Tree.{handle_of}
+use Rattle.nfs_xdr.specs.declared.answer.Answer.{Answer}
+use Rattle.nfs_xdr.specs.declared.answer.Answer.TheVariants.{Done, Refused}
+use Rattle.nfs_xdr.specs.declared.op_result.OpResult.TheVariants as results
+use Rattle.nfs_xdr.specs.declared.status.Refusal.TheVariants as refusals
+
+-- NFS4ERR_NOFILEHANDLE where there is no current filehandle
+abbrev pub filehandle_of : Option ℕ → Answer (List ℕ)
+filehandle_of None = Refused refusals.NoFileHandle
+filehandle_of (Some node) = Done (handle_of node)
+
+-- both filehandles stay
+abbrev pub getfh : Filehandles → Effect
+getfh old = stays old (results.Getfh (filehandle_of old.current))

@@ -1,0 +1,65 @@
+ghost use Rattle.std.specs.Prelude.{◌≡◌, ◌≤◌, length};
+ghost use Rattle.nfs_tree.specs.declared.filehandles.TheConstants.{TREE_ANSWER_LIMIT};
+ghost use Rattle.nfs_tree.specs.operations.Access.{access, access_of};
+ghost use Rattle.nfs_tree.specs.Tree.{is_directory};
+ghost use Rattle.nfs_xdr.specs.OpResult.{op_result};
+
+use crate::{Filehandles, Tree};
+use nfs_xdr::{AccessBits, Answer, OpResult, Refusal};
+
+/// The bits of ACCESS (RFC 7530, section 16.1.2).
+pub const ACCESS_READ: u32 = 1;
+
+pub const ACCESS_LOOKUP: u32 = 2;
+
+pub const ACCESS_MODIFY: u32 = 4;
+
+pub const ACCESS_EXTEND: u32 = 8;
+
+pub const ACCESS_DELETE: u32 = 16;
+
+pub const ACCESS_EXECUTE: u32 = 32;
+
+const ALL_ACCESS: u32 = ACCESS_READ
+    | ACCESS_LOOKUP
+    | ACCESS_MODIFY
+    | ACCESS_EXTEND
+    | ACCESS_DELETE
+    | ACCESS_EXECUTE;
+
+const DIRECTORY_ACCESS: u32 = ACCESS_READ | ACCESS_LOOKUP;
+
+const FILE_ACCESS: u32 = ACCESS_READ | ACCESS_MODIFY | ACCESS_EXTEND;
+
+impl Tree {
+    /// What ACCESS answers of a node: the bits that it knows among these, and those that it allows.
+    pub fn access(&self, node: u32, bits: u32) -> AccessBits
+        ensures { result ≡ access_of (is_directory self.now.nodes node) bits }
+    {
+        let allowed = if self.is_directory(node) {
+            DIRECTORY_ACCESS
+        } else {
+            FILE_ACCESS
+        };
+        AccessBits {
+            supported: bits & ALL_ACCESS,
+            access: bits & allowed,
+        }
+    }
+}
+
+impl Filehandles {
+    /// ACCESS (RFC 7530, section 16.1): tells which of the accesses asked for there are to the current object.
+    #[tactic(auto, unfolding(nfs_xdr::specs::OpResult::op_result, nfs_xdr::specs::Opnum::opnum, nfs_xdr::specs::Answer::answer, nfs_xdr::specs::operations::Access::access_bits, nfs_xdr::specs::Status::status, xdr::specs::Writing::written_number))]
+    pub(crate) fn access(&self, tree: &Tree, asked: u32) -> OpResult
+        ensures effect { record { answer = result; after = self.now }
+            ≡ access tree.now self.now asked }
+        ensures short { length (op_result.spelling result) ≤ TREE_ANSWER_LIMIT }
+        ensures form { op_result.Fits result }
+    {
+        match self.current {
+            Some(node) => OpResult::Access(Answer::Done(tree.access(node, asked))),
+            None => OpResult::Access(Answer::Refused(Refusal::NoFileHandle)),
+        }
+    }
+}

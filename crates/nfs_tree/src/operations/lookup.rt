@@ -1,0 +1,54 @@
+ghost use Rattle.std.specs.Prelude.{◌≡◌, ◌≤◌, length};
+ghost use Rattle.nfs_tree.specs.declared.filehandles.TheConstants.{TREE_ANSWER_LIMIT};
+ghost use Rattle.nfs_tree.specs.Filehandles.{AreNodes};
+ghost use Rattle.nfs_tree.specs.operations.Lookup.{lookup, lookup_in};
+ghost use Rattle.nfs_xdr.specs.OpResult.{op_result};
+
+use crate::{Filehandles, NAME_LIMIT, Tree};
+use nfs_xdr::{Answer, OpResult, Refusal};
+
+impl Filehandles {
+    /// LOOKUP (RFC 7530, section 16.13): looks a name up in the current directory, and what it finds becomes current.
+    #[tactic(auto, unfolding(nfs_xdr::specs::OpResult::op_result, nfs_xdr::specs::Opnum::opnum, nfs_xdr::specs::Answer::answer, nfs_xdr::specs::Status::status, xdr::specs::Writing::written_number))]
+    pub(crate) fn lookup(&mut self, tree: &Tree, name: &[u8]) -> OpResult
+        requires nodes { AreNodes tree.now self.old }
+        ensures effect { record { answer = result; after = self.new }
+            ≡ lookup tree.now self.old name.now }
+        ensures short { length (op_result.spelling result) ≤ TREE_ANSWER_LIMIT }
+        ensures form { op_result.Fits result }
+        ensures nodes { AreNodes tree.now self.new }
+    {
+        match self.current {
+            Some(node) => self.lookup_in(tree, node, name),
+            None => OpResult::Lookup(Answer::Refused(Refusal::NoFileHandle)),
+        }
+    }
+
+    // Looks a name up in a node, and refuses one that is no directory and names that can't be.
+    #[tactic(auto, unfolding(nfs_xdr::specs::OpResult::op_result, nfs_xdr::specs::Opnum::opnum, nfs_xdr::specs::Answer::answer, nfs_xdr::specs::Status::status, xdr::specs::Writing::written_number))]
+    fn lookup_in(&mut self, tree: &Tree, node: u32, name: &[u8]) -> OpResult
+        requires nodes { AreNodes tree.now self.old }
+        ensures effect { record { answer = result; after = self.new }
+            ≡ lookup_in tree.now self.old node name.now }
+        ensures short { length (op_result.spelling result) ≤ TREE_ANSWER_LIMIT }
+        ensures form { op_result.Fits result }
+        ensures nodes { AreNodes tree.now self.new }
+    {
+        if !tree.is_directory(node) {
+            return OpResult::Lookup(Answer::Refused(Refusal::NotDir));
+        }
+        if name.is_empty() {
+            return OpResult::Lookup(Answer::Refused(Refusal::Inval));
+        }
+        if name.len() > NAME_LIMIT {
+            return OpResult::Lookup(Answer::Refused(Refusal::NameTooLong));
+        }
+        match tree.lookup(node, name) {
+            Some(child) => {
+                self.current = Some(child);
+                OpResult::Lookup(Answer::Done(()))
+            }
+            None => OpResult::Lookup(Answer::Refused(Refusal::NoEnt)),
+        }
+    }
+}
