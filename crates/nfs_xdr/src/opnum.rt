@@ -1,6 +1,7 @@
 ghost use Rattle.std.specs.Prelude.{◌≡◌};
 ghost use Rattle.nfs_xdr.specs.Opnum as opnums;
 ghost use Rattle.nfs_xdr.specs.Opnum.{class_of, number_of, number_of_unsupported, opnum_of, room_of};
+ghost use Rattle.xdr.specs.Reading.{Answers};
 
 use std::alloc::Global;
 use xdr::{Wire, WireError, read_u32, write_u32};
@@ -176,7 +177,9 @@ impl Wire for Opnum {
     ghost form = { opnums.opnum };
 
     #[tactic(auto, unfolding(crate::specs::Opnum::opnum, xdr::specs::Reading::value_at))]
-    fn read(alloc: Global, bytes: &[u8]) -> Result<(Opnum, &[u8]), WireError> {
+    fn read(alloc: Global, bytes: &[u8]) -> Result<(Opnum, &[u8]), WireError>
+        ensures { Answers (λ x. (x.0, x.1.now)) result (opnums.opnum.at bytes.now) }
+    {
         let (number, rest) = read_u32(bytes)?;
         match Opnum::from_number(number) {
             Some(opnum) => Ok((opnum, rest)),

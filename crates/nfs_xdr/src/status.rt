@@ -1,6 +1,7 @@
 ghost use Rattle.std.specs.Prelude.{◌≡◌};
 ghost use Rattle.nfs_xdr.specs.Status as statuses;
 ghost use Rattle.nfs_xdr.specs.Status.{number_of, number_of_refusal, status_of};
+ghost use Rattle.xdr.specs.Reading.{Answers};
 
 use std::alloc::Global;
 use xdr::{Wire, WireError, read_u32, write_u32};
@@ -119,7 +120,9 @@ impl Wire for Status {
     ghost form = { statuses.status };
 
     #[tactic(auto, unfolding(crate::specs::Status::status, xdr::specs::Reading::value_at))]
-    fn read(alloc: Global, bytes: &[u8]) -> Result<(Status, &[u8]), WireError> {
+    fn read(alloc: Global, bytes: &[u8]) -> Result<(Status, &[u8]), WireError>
+        ensures { Answers (λ x. (x.0, x.1.now)) result (statuses.status.at bytes.now) }
+    {
         let (number, rest) = read_u32(bytes)?;
         match Status::from_number(number) {
             Some(status) => Ok((status, rest)),
