@@ -28,7 +28,7 @@ pub struct ClientRecord {
 pub enum PathMark {
     /// Nothing yet.
     Unknown,
-    /// A callback was answered.
+    /// A callback was answered, or is taken to be.
     Up,
     /// A callback was not answered, or the address is no address.
     Down,

@@ -58,7 +58,8 @@ struct Header {
 ///
 /// A call is refused by the first of these that is so: another RPC version, a credential that isn't served or can't be read,
 /// another program, another version of it, no such procedure, arguments of COMPOUND that can't be read. Nothing is said where
-/// a record isn't a call, or ends before its verifier does, but for the RPC version, which is judged at once. Where memory
+/// a record isn't a call, or ends before its verifier does, or has a credential or verifier above 400 bytes, but for the RPC
+/// version, which is judged at once. Where memory
 /// is refused for a COMPOUND whose arguments are there, it is to be answered SYSTEM_ERR.
 pub fn read_call(alloc: Global, message: &[u8]) -> Call
     ensures call { IsCall message.now result }

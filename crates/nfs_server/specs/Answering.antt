@@ -57,7 +57,7 @@ asks question (answer ∷ answers) more =
     let rest = goes_on answer (more answer answers) in record { asked = question ∷ rest.asked; results = rest.results }
 
 -- `size` is that of the reply's record so far. What ends the list isn't run. An operation is run only where there is room for any
--- answer to it: what has an effect on the filehandles is answered so, and the service is asked what has none.
+-- answer to it: one on the tree is answered by its effect, and the service is asked any other.
 unfoldable pub outcome_of : Files → Filehandles → ℕ → List ArgOp → List OpResult → Outcome
 outcome_of tree handles size [] answers = record { asked = []; results = [] }
 outcome_of tree handles size (BadArgs o ∷ ops) answers = ends_with (refusal_of o refusals.BadXdr)

@@ -11,7 +11,6 @@ use Rattle.nfs_xdr.specs.declared.principal.Principal.{Principal}
 use Rattle.nfs_core.specs.Step.{resource}
 use Rattle.nfs_xdr.specs.declared.arg_op.ArgOp.{ArgOp}
 use Rattle.nfs_xdr.specs.declared.arg_op.ArgOp.TheVariants.{Run, BadArgs, Unsupported, Illegal}
-use Rattle.nfs_xdr.specs.declared.op.Op.{Op}
 use Rattle.nfs_xdr.specs.declared.opnum.Opnum.TheVariants as opnums
 use Rattle.nfs_xdr.specs.declared.status.Refusal.TheVariants as refusals
 use Rattle.nfs_xdr.specs.declared.op_result.OpResult.{OpResult}

@@ -1,5 +1,5 @@
 -- What is read at the front of a COMPOUND's list stands there, and what stands there is what is read.
-use Rattle.std.proofs.Common.{◌≡◌, ◌≢◌, ℕ, ◌<◌, eqb, ltb, true, false, List, ◌++◌, length, drop, Option, Some, None, Result, Ok, Err, refl, sym, ap, subst, ◌∙◌, inl, inr, ◌⊎◌}
+use Rattle.std.proofs.Common.{◌≡◌, ◌≢◌, ℕ, ◌<◌, eqb, ltb, List, length, drop, Option, Some, None, Result, Ok, Err, refl, sym, ap, subst, ◌∙◌, inl, inr}
 use Rattle.std.specs.Prelude.{IfOk}
 use Rattle.std.proofs.lemmas.Bool.{eqb-true, ltb-true, lt-ltb}
 use Rattle.byteorder.specs.Endian.{big_number}
@@ -17,10 +17,10 @@ use Rattle.nfs_xdr.specs.Opnum.{class_of, known, number_of, opnum, opnum_of}
 use Rattle.xdr.specs.declared.wire_error.WireError.{WireError}
 use Rattle.xdr.specs.declared.wire_error.WireError.TheVariants as errors
 use Rattle.xdr.specs.Layout.{U32}
-use Rattle.xdr.specs.Reading.{Read, Begins, ◌>>=◌, number_at, or_short, value_at}
+use Rattle.xdr.specs.Reading.{Read, Begins, number_at, value_at}
 use Rattle.xdr.specs.Switch.{case_at}
 use Rattle.xdr.specs.laws.Enumerations.{passes}
-use Rattle.xdr.specs.laws.Reads.{decided, bind_ok, lacks, reads_number}
+use Rattle.xdr.specs.laws.Reads.{decided, lacks, reads_number}
 
 -- an operation that has arguments to read
 abbrev IsRuled : Opnum → Type 0

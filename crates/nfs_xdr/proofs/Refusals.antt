@@ -1,5 +1,5 @@
 -- The numbers of statuses and operations fit their forms, and refusals are short.
-use Rattle.std.proofs.Common.{◌≡◌, ℕ, ◌<◌, ◌≤◌, ◌^◌, length, arith}
+use Rattle.std.proofs.Common.{◌<◌, ◌≤◌, ◌^◌, length, arith}
 use Rattle.nfs_xdr.specs.declared.op_result.OpResult.TheVariants as results
 use Rattle.nfs_xdr.specs.declared.opnum.Unsupported.{Unsupported}
 use Rattle.nfs_xdr.specs.declared.opnum.Unsupported.TheVariants as unsupported

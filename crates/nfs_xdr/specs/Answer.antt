@@ -13,7 +13,7 @@ abbrev pub status_of : {A : Type 0} → Answer A → Status
 status_of (Done value) = status.Ok
 status_of (Refused refusal) = status.Refused refusal
 
--- union switch (nfsstat4 status) { case NFS4_OK: resok; default: void; }
+-- union switch (nfsstat4 status) { case NFS4_OK: resok; default: void; }, of the statuses that are refusals
 abbrev pub answer_case : {A : Type 0} → Form A → Status → Case (Answer A)
 answer_case f status.Ok = case f Done
 answer_case f (status.Refused refusal) = case nothing (λ v. Refused refusal)

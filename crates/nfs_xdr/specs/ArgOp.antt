@@ -8,7 +8,7 @@ use Rattle.nfs_xdr.specs.declared.opnum.Class.TheVariants.{Unruled}
 use Rattle.nfs_xdr.specs.declared.opnum.Opnum.{Opnum}
 use Rattle.nfs_xdr.specs.declared.opnum.Opnum.TheVariants as opnums
 use Rattle.nfs_xdr.specs.Op.{op, op_case}
-use Rattle.nfs_xdr.specs.Opnum.{class_of, number_of, opnum, opnum_of}
+use Rattle.nfs_xdr.specs.Opnum.{class_of, number_of, opnum_of}
 use Rattle.xdr.specs.Layout.{U32}
 use Rattle.xdr.specs.Reading.{Read, Begins, number_at}
 use Rattle.xdr.specs.Switch.{case_at}

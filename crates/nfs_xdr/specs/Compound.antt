@@ -11,13 +11,13 @@ use Rattle.nfs_xdr.specs.ArgOp.{StandsAt, arg_op_at, ends_list}
 use Rattle.nfs_xdr.specs.OpResult.{op_result}
 use Rattle.nfs_xdr.specs.Status.{status}
 use Rattle.xdr.specs.declared.wire_error.WireError.{WireError}
-use Rattle.xdr.specs.Form.{Form, ◌and◌, u32, bytes, many}
+use Rattle.xdr.specs.Form.{Form, ◌and◌, u32, bytes as opaque_bytes, many}
 use Rattle.xdr.specs.Layout.{NO_LIMIT}
 use Rattle.xdr.specs.Reading.{Begins, ◌>>=◌}
 
 -- the tag, the minor version and the count of the operations
 abbrev pub head : Form (List ℕ × (ℕ × ℕ))
-head = bytes and u32 and u32
+head = opaque_bytes and u32 and u32
 
 -- So many operations stand at the front, one after the other, or fewer where one of them ends the list.
 -- What is behind them is ignored.
@@ -58,7 +58,7 @@ compound_at bytes =
 
 -- struct COMPOUND4res { nfsstat4 status; utf8str_cs tag; nfs_resop4 resarray<>; };
 abbrev pub compound_result : Form (Status × (List ℕ × List OpResult))
-compound_result = status and bytes and many NO_LIMIT op_result
+compound_result = status and opaque_bytes and many NO_LIMIT op_result
 
 -- What is read is what stands there, so no bytes stand for two requests.
 abbrev pub OneCompoundStands : Type 0

@@ -29,7 +29,7 @@ use Rattle.xdr.specs.Form.{Form, ◌and◌, nothing, constant}
 use Rattle.xdr.specs.Switch.{Case, case, Arm, arm, Agrees, IsRead}
 use Rattle.xdr.specs.Union.{switch}
 
--- NFS4ERR_NOTSUPP. SETATTR's result has a bitmap with every status: here an empty one.
+-- An operation without a rule has one result, NFS4ERR_NOTSUPP. SETATTR's has a bitmap behind it: an empty one.
 abbrev pub unsupported_answer : UnsupportedOp → Form (Unit {0} × Unit {0})
 unsupported_answer unsupported.Setattr = constant 10004 and constant 0
 unsupported_answer o = constant 10004 and nothing

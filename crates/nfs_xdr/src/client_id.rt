@@ -1,4 +1,5 @@
 ghost use Rattle.nfs_xdr.specs.ClientId as forms;
+ghost use Rattle.xdr.specs.Reading.{Answers};
 
 use std::alloc::Global;
 use xdr::{Measure, Wire, WireError, write_two};
@@ -16,7 +17,9 @@ impl Wire for ClientId {
     ghost form = { forms.client_id };
 
     #[tactic(auto, unfolding(crate::specs::ClientId::client_id))]
-    fn read(alloc: Global, bytes: &[u8]) -> Result<(ClientId, &[u8]), WireError> {
+    fn read(alloc: Global, bytes: &[u8]) -> Result<(ClientId, &[u8]), WireError>
+        ensures { Answers (λ x. (x.0, x.1.now)) result (forms.client_id.at bytes.now) }
+    {
         let (epoch, rest) = u32::read(alloc, bytes)?;
         let (number, rest) = u32::read(alloc, rest)?;
         Ok((ClientId { epoch, number }, rest))

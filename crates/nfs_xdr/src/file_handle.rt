@@ -1,5 +1,6 @@
 ghost use Rattle.std.specs.Prelude.{◌≡◌, ◌≤◌, ◌<◌, length, IfSome, IfNone};
 ghost use Rattle.nfs_xdr.specs.FileHandle as forms;
+ghost use Rattle.xdr.specs.Reading.{Answers};
 
 use std::alloc::{AllocError, Global};
 use std::marker::Model;
@@ -78,7 +79,9 @@ impl Clone for FileHandle {
 impl Wire for FileHandle {
     ghost form = { forms.file_handle };
 
-    fn read(alloc: Global, bytes: &[u8]) -> Result<(FileHandle, &[u8]), WireError> {
+    fn read(alloc: Global, bytes: &[u8]) -> Result<(FileHandle, &[u8]), WireError>
+        ensures { Answers (λ x. (x.0, x.1.now)) result (forms.file_handle.at bytes.now) }
+    {
         let (handle, rest) = read_opaque(bytes, FILE_HANDLE_LIMIT as u32)?;
         match FileHandle::new(handle) {
             Some(handle) => Ok((handle, rest)),

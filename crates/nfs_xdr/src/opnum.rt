@@ -1,6 +1,7 @@
 ghost use Rattle.std.specs.Prelude.{◌≡◌};
 ghost use Rattle.nfs_xdr.specs.Opnum as opnums;
 ghost use Rattle.nfs_xdr.specs.Opnum.{class_of, number_of, number_of_unsupported, opnum_of, room_of};
+ghost use Rattle.xdr.specs.Reading.{Answers};
 
 use crate::operations::each_operation;
 use std::alloc::Global;
@@ -103,7 +104,7 @@ macro_rules! all_opnums {
     };
 }
 
-/// Every operation: those with a rule, and then those without, in order of their numbers.
+/// Every operation.
 pub const OPNUMS: [Opnum; 38] = each_operation!(
     all_opnums
     Opnum::Unsupported(Unsupported::Close),
@@ -170,7 +171,9 @@ impl Wire for Opnum {
     ghost form = { opnums.opnum };
 
     #[tactic(auto, unfolding(crate::specs::Opnum::opnum, xdr::specs::Reading::value_at))]
-    fn read(alloc: Global, bytes: &[u8]) -> Result<(Opnum, &[u8]), WireError> {
+    fn read(alloc: Global, bytes: &[u8]) -> Result<(Opnum, &[u8]), WireError>
+        ensures { Answers (λ x. (x.0, x.1.now)) result (opnums.opnum.at bytes.now) }
+    {
         let (number, rest) = read_u32(bytes)?;
         match Opnum::from_number(number) {
             Some(opnum) => Ok((opnum, rest)),

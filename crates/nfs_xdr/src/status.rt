@@ -1,11 +1,12 @@
 ghost use Rattle.std.specs.Prelude.{◌≡◌};
 ghost use Rattle.nfs_xdr.specs.Status as statuses;
 ghost use Rattle.nfs_xdr.specs.Status.{number_of, number_of_refusal, status_of};
+ghost use Rattle.xdr.specs.Reading.{Answers};
 
 use std::alloc::Global;
 use xdr::{Wire, WireError, read_u32, write_u32};
 
-/// The status of an operation that did nothing and says nothing else (nfsstat4), with its number on the wire.
+/// A status other than NFS4_OK that brings nothing with it (nfsstat4), with its number on the wire.
 #[derive(Clone, Copy, Debug, PartialEq, Eq)]
 pub enum Refusal {
     NoEnt = 2,
@@ -54,12 +55,12 @@ pub enum Status {
     Ok,
     /// NFS4ERR_DENIED: behind it stands the lock in the way.
     Denied,
-    /// NFS4ERR_CLID_INUSE: behind it stands where the client with the id is called back.
+    /// NFS4ERR_CLID_INUSE: SETCLIENTID's result tells where the client with the id is called back.
     ClidInUse,
     Refused(Refusal),
 }
 
-/// Every status, in order of its number.
+/// Every status.
 pub const STATUSES: [Status; 31] = [
     Status::Ok,
     Status::Refused(Refusal::NoEnt),
@@ -119,7 +120,9 @@ impl Wire for Status {
     ghost form = { statuses.status };
 
     #[tactic(auto, unfolding(crate::specs::Status::status, xdr::specs::Reading::value_at))]
-    fn read(alloc: Global, bytes: &[u8]) -> Result<(Status, &[u8]), WireError> {
+    fn read(alloc: Global, bytes: &[u8]) -> Result<(Status, &[u8]), WireError>
+        ensures { Answers (λ x. (x.0, x.1.now)) result (statuses.status.at bytes.now) }
+    {
         let (number, rest) = read_u32(bytes)?;
         match Status::from_number(number) {
             Some(status) => Ok((status, rest)),

@@ -1,7 +1,8 @@
 ghost use Rattle.nfs_xdr.specs.Verifier as forms;
+ghost use Rattle.xdr.specs.Reading.{Answers};
 
 use std::alloc::Global;
-use xdr::{Wire, WireError};
+use xdr::{Wire, WireError, read_fixed};
 
 /// Eight bytes that tell one start of a client from another (verifier4).
 #[derive(Clone, Copy, Debug, PartialEq, Eq)]
@@ -11,8 +12,10 @@ impl Wire for Verifier {
     ghost form = { forms.verifier };
 
     #[tactic(auto, unfolding(crate::specs::Verifier::verifier))]
-    fn read(alloc: Global, bytes: &[u8]) -> Result<(Verifier, &[u8]), WireError> {
-        let (verifier, rest) = <[u8; 8]>::read(alloc, bytes)?;
+    fn read(alloc: Global, bytes: &[u8]) -> Result<(Verifier, &[u8]), WireError>
+        ensures { Answers (λ x. (x.0, x.1.now)) result (forms.verifier.at bytes.now) }
+    {
+        let (verifier, rest) = read_fixed::<8>(bytes)?;
         Ok((Verifier(verifier), rest))
     }
 

@@ -1,9 +1,9 @@
 -- Reading values one after the other, as a loop does.
-use Rattle.std.proofs.Common.{◌≡◌, ℕ, zero, suc, ◌+◌, ◌-◌, ◌<◌, ◌≤◌, List, [], ◌∷◌, ◌++◌, Ok, Err, refl, sym, ap, ◌∙◌, append_assoc, arith}
+use Rattle.std.proofs.Common.{◌≡◌, ℕ, suc, ◌+◌, ◌-◌, ◌<◌, ◌≤◌, List, [], ◌∷◌, ◌++◌, Ok, Err, refl, sym, ap, ◌∙◌, append_assoc, arith}
 use Rattle.std.proofs.lemmas.List.{append-nil}
 use Rattle.xdr.specs.declared.wire_error.WireError.{WireError}
 use Rattle.xdr.specs.declared.wire_error.WireError.TheVariants as errors
-use Rattle.xdr.specs.Reading.{Read, Fails, ◌>>=◌, ◌then◌, each_at}
+use Rattle.xdr.specs.Reading.{Read, Fails, ◌>>=◌, each_at}
 
 -- the values of the one list, and then those that are read
 abbrev pub and_then : {A : Type 0} → List A → Read (List A) → Read (List A)

@@ -1,6 +1,6 @@
 -- Writing values one after the other, as a loop does.
-use Rattle.std.proofs.Common.{◌≡◌, ℕ, ◌+◌, ◌<◌, ◌≤◌, List, [], ◌++◌, length, get_or, take, Result, Err, sym, ap, ◌∙◌, append_assoc, arith}
-use Rattle.std.specs.Prelude.{vec_capacity, vec_len, IsErrOf}
+use Rattle.std.proofs.Common.{◌≡◌, ℕ, ◌+◌, ◌<◌, ◌≤◌, List, ◌++◌, length, get_or, take, Err, sym, ap, ◌∙◌, arith}
+use Rattle.std.specs.Prelude.{vec_capacity, vec_len}
 use Rattle.std.specs.List.{All, flat_map}
 use Rattle.std.specs.Global.{Vec}
 use Rattle.std.proofs.lemmas.List.{length-append, take_at}

@@ -2,9 +2,9 @@
 -- from those below, so that the form of a record reads as its declaration in XDR.
 use Rattle.std.specs.Prelude.{◌≡◌, ℕ, ◌^◌, ◌<◌, ◌≤◌, ◌==◌, Bool, Some, List, [], ◌++◌, length, Ok}
 use Rattle.std.specs.List.{All, find}
-use Rattle.xdr.specs.Layout.{◌⨾◌, Nothing, U32, U64, Flag, Fixed, Opaque, Many, NO_LIMIT}
+use Rattle.xdr.specs.Layout.{◌⨾◌, Nothing, Number, U32, Flag, Fixed, Opaque, Many, NO_LIMIT}
 use Rattle.xdr.specs.Reading.{Read, Reads, ◌then◌, as_value, number_at, flag_at, fixed_at, opaque_at, many_at, value_at, constant_at}
-use Rattle.xdr.specs.Writing.{written_u32, written_u64, written_flag, written_opaque, written_many}
+use Rattle.xdr.specs.Writing.{written_number, written_u32, written_flag, written_opaque, written_many}
 use Rattle.xdr.specs.laws.Reads.{reads_nothing, reads_number, reads_constant, reads_flag, reads_fixed, reads_opaque, reads_then, reads_as}
 use Rattle.xdr.specs.laws.Spells.{nothing_stands, number_stands, flag_stands, fixed_stands, opaque_stands, both_stand}
 use Rattle.xdr.specs.laws.Enumerations.{reads_value}
@@ -35,27 +35,24 @@ nothing = record {
   stands = nothing_stands;
 }
 
+-- a number of so many bytes
+abbrev pub number : ℕ → Form ℕ
+number count = record {
+  layout = Number count;
+  at = number_at count;
+  spelling = written_number count;
+  Fits = λ n. n < 256 ^ count;
+  reads = reads_number count;
+  stands = number_stands count;
+}
+
 -- unsigned int
 abbrev pub u32 : Form ℕ
-u32 = record {
-  layout = U32;
-  at = number_at 4;
-  spelling = written_u32;
-  Fits = λ n. n < 2 ^ 32;
-  reads = reads_number 4;
-  stands = number_stands 4;
-}
+u32 = number 4
 
 -- unsigned hyper
 abbrev pub u64 : Form ℕ
-u64 = record {
-  layout = U64;
-  at = number_at 8;
-  spelling = written_u64;
-  Fits = λ n. n < 2 ^ 64;
-  reads = reads_number 8;
-  stands = number_stands 8;
-}
+u64 = number 8
 
 -- bool
 abbrev pub flag : Form Bool
@@ -68,7 +65,7 @@ flag = record {
   stands = λ b fits. flag_stands b;
 }
 
--- opaque value[count]
+-- opaque value[count], of a count that is a multiple of four, so that no padding follows
 abbrev pub fixed : ℕ → Form (List ℕ)
 fixed count = record {
   layout = Fixed count;

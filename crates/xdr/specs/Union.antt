@@ -1,5 +1,5 @@
 -- The form of a union: that of its tag, and behind it what the tag calls for.
-use Rattle.std.specs.Prelude.{List, ◌++◌}
+use Rattle.std.specs.Prelude.{◌++◌}
 use Rattle.xdr.specs.Layout.{◌⨾◌}
 use Rattle.xdr.specs.Reading.{◌>>=◌}
 use Rattle.xdr.specs.Form.{Form}

@@ -11,7 +11,7 @@ use crate::{Sequence, Wire, WireError};
 use std::alloc::Global;
 
 /// The values of a count that stands before them, and the bytes behind them. TooLong where the count is above `limit`, Short where
-/// values are missing. Memory is taken for those that are there, whatever the count says.
+/// values are missing; both also as the values' own form says. Memory is taken value by value.
 #[tactic(auto, unfolding(crate::specs::Reading::many_at))]
 pub fn read_many<T: Wire>(
     alloc: Global,

@@ -2,7 +2,7 @@ ghost use Rattle.std.specs.Prelude.{◌≡◌, ◌++◌, ℕ, List, length};
 ghost use Rattle.xdr.specs.Form as forms;
 ghost use Rattle.xdr.specs.Form.{Form, ◌and◌};
 ghost use Rattle.xdr.specs.Layout.{NO_LIMIT};
-ghost use Rattle.xdr.specs.Reading.{Gives};
+ghost use Rattle.xdr.specs.Reading.{Answers, Gives};
 ghost use Rattle.xdr.specs.Writing.{Writes};
 
 use crate::basic::{
@@ -31,7 +31,9 @@ pub trait Wire: Drop {
 impl Wire for () {
     ghost form = { forms.nothing };
 
-    fn read(alloc: Global, bytes: &[u8]) -> Result<((), &[u8]), WireError> {
+    fn read(alloc: Global, bytes: &[u8]) -> Result<((), &[u8]), WireError>
+        ensures { Answers (λ x. (x.0, x.1.now)) result (forms.nothing.at bytes.now) }
+    {
         Ok(((), bytes))
     }
 
@@ -43,7 +45,9 @@ impl Wire for () {
 impl Wire for u32 {
     ghost form = { forms.u32 };
 
-    fn read(alloc: Global, bytes: &[u8]) -> Result<(u32, &[u8]), WireError> {
+    fn read(alloc: Global, bytes: &[u8]) -> Result<(u32, &[u8]), WireError>
+        ensures { Answers (λ x. (x.0, x.1.now)) result (forms.u32.at bytes.now) }
+    {
         read_u32(bytes)
     }
 
@@ -55,7 +59,9 @@ impl Wire for u32 {
 impl Wire for u64 {
     ghost form = { forms.u64 };
 
-    fn read(alloc: Global, bytes: &[u8]) -> Result<(u64, &[u8]), WireError> {
+    fn read(alloc: Global, bytes: &[u8]) -> Result<(u64, &[u8]), WireError>
+        ensures { Answers (λ x. (x.0, x.1.now)) result (forms.u64.at bytes.now) }
+    {
         read_u64(bytes)
     }
 
@@ -67,7 +73,9 @@ impl Wire for u64 {
 impl Wire for bool {
     ghost form = { forms.flag };
 
-    fn read(alloc: Global, bytes: &[u8]) -> Result<(bool, &[u8]), WireError> {
+    fn read(alloc: Global, bytes: &[u8]) -> Result<(bool, &[u8]), WireError>
+        ensures { Answers (λ x. (x.0, x.1.now)) result (forms.flag.at bytes.now) }
+    {
         read_flag(bytes)
     }
 

@@ -4,7 +4,6 @@ use Rattle.nfs_tree.specs.declared.tree.TheConstants.{ROOT}
 use Rattle.nfs_tree.specs.Effect.{Effect, moves_to}
 use Rattle.nfs_xdr.specs.declared.answer.Answer.TheVariants.{Done}
 use Rattle.nfs_xdr.specs.declared.op_result.OpResult.TheVariants as results
-use Rattle.nfs_xdr.specs.declared.status.Refusal.TheVariants as refusals
 
 abbrev pub putrootfh : Filehandles → Effect
 putrootfh old = moves_to old ROOT (results.Putrootfh (Done tt))

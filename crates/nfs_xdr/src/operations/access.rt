@@ -1,4 +1,5 @@
 ghost use Rattle.nfs_xdr.specs.operations.Access as forms;
+ghost use Rattle.xdr.specs.Reading.{Answers};
 
 use crate::Answer;
 use std::alloc::Global;
@@ -22,7 +23,9 @@ impl Wire for AccessBits {
     ghost form = { forms.access_bits };
 
     #[tactic(auto, unfolding(crate::specs::operations::Access::access_bits))]
-    fn read(alloc: Global, bytes: &[u8]) -> Result<(AccessBits, &[u8]), WireError> {
+    fn read(alloc: Global, bytes: &[u8]) -> Result<(AccessBits, &[u8]), WireError>
+        ensures { Answers (λ x. (x.0, x.1.now)) result (forms.access_bits.at bytes.now) }
+    {
         let (supported, rest) = u32::read(alloc, bytes)?;
         let (access, rest) = u32::read(alloc, rest)?;
         Ok((AccessBits { supported, access }, rest))

@@ -1,4 +1,5 @@
 ghost use Rattle.nfs_xdr.specs.operations.SetclientidConfirm as forms;
+ghost use Rattle.xdr.specs.Reading.{Answers};
 
 use crate::{ClientAnswer, ClientId};
 use std::alloc::Global;
@@ -19,7 +20,9 @@ impl Wire for SetclientidConfirm {
     ghost form = { forms.arguments };
 
     #[tactic(auto, unfolding(crate::specs::operations::SetclientidConfirm::arguments))]
-    fn read(alloc: Global, bytes: &[u8]) -> Result<(SetclientidConfirm, &[u8]), WireError> {
+    fn read(alloc: Global, bytes: &[u8]) -> Result<(SetclientidConfirm, &[u8]), WireError>
+        ensures { Answers (λ x. (x.0, x.1.now)) result (forms.arguments.at bytes.now) }
+    {
         let (client, rest) = ClientId::read(alloc, bytes)?;
         let (confirm, rest) = u64::read(alloc, rest)?;
         Ok((SetclientidConfirm { client, confirm }, rest))

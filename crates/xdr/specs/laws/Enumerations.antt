@@ -1,10 +1,9 @@
 -- What is read of an enumeration is the value of the number there.
-use Rattle.std.proofs.Common.{◌≡◌, ℕ, true, false, cond, eqb, List, [], ◌∷◌, ◌++◌, Bool, Option, Some, None, Ok, Err, refl, sym, ap, subst, ◌∙◌, inl, inr}
+use Rattle.std.proofs.Common.{◌≡◌, ℕ, true, eqb, List, [], ◌∷◌, ◌++◌, Bool, Option, Some, None, Ok, refl, sym, ap, subst, ◌∙◌, inl, inr}
 use Rattle.std.proofs.lemmas.Bool.{eqb-true}
 use Rattle.std.specs.List.{find}
-use Rattle.xdr.specs.declared.wire_error.WireError.TheVariants as errors
 use Rattle.xdr.specs.Layout.{U32}
-use Rattle.xdr.specs.Reading.{Read, Reads, Begins, ◌>>=◌, number_at, or_short, value_at}
+use Rattle.xdr.specs.Reading.{Reads, number_at, or_short, value_at}
 use Rattle.xdr.specs.laws.Reads.{decided, bind_ok, ok_is, reads_number}
 
 -- what is found passes the test

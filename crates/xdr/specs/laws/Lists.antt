@@ -1,9 +1,9 @@
 -- Values one after the other: the laws of reading and spelling them.
-use Rattle.std.proofs.Common.{◌≡◌, ℕ, zero, suc, ◌<◌, ◌≤◌, ◌^◌, false, ltb, cond, List, [], ◌∷◌, ◌++◌, length, Ok, Err, refl, sym, ap, subst, ◌∙◌, append_assoc, arith}
+use Rattle.std.proofs.Common.{◌≡◌, ℕ, zero, suc, ◌<◌, ◌≤◌, ◌^◌, false, ltb, cond, List, [], ◌∷◌, ◌++◌, length, Ok, Err, refl, ap, subst, ◌∙◌, append_assoc, arith}
 use Rattle.std.proofs.lemmas.Bool.{ltb-false, le-ltb}
 use Rattle.std.specs.List.{All, flat_map}
 use Rattle.xdr.specs.declared.wire_error.WireError.TheVariants as errors
-use Rattle.xdr.specs.Layout.{◌⨾◌, Nothing, U32, Each, Many}
+use Rattle.xdr.specs.Layout.{U32, Each, Many}
 use Rattle.xdr.specs.Reading.{Read, Reads, Begins, ◌then◌, number_at, each_at, many_at}
 use Rattle.xdr.specs.Writing.{written_u32, written_many}
 use Rattle.xdr.specs.laws.Reads.{bind_ok, guard_ok, ok_is, Begins-then, reads_then, as_value_gives, reads_number}

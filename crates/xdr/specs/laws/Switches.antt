@@ -1,9 +1,9 @@
 -- What the cases of a union read stands in the layout of its value, and what stands there is read.
-use Rattle.std.proofs.Common.{◌≡◌, ℕ, List, ◌++◌, Ok, Err, refl, sym, ap, subst, ◌∙◌, append_assoc}
+use Rattle.std.proofs.Common.{◌≡◌, ℕ, List, ◌++◌, Ok, refl, sym, ap, subst, ◌∙◌, append_assoc}
 use Rattle.xdr.specs.Layout.{◌⨾◌}
-use Rattle.xdr.specs.Reading.{Read, Reads, Begins, ◌>>=◌, as_value}
+use Rattle.xdr.specs.Reading.{Reads, Begins, ◌>>=◌}
 use Rattle.xdr.specs.Form.{Form}
-use Rattle.xdr.specs.Switch.{Case, case, no_case, Arm, arm, case_at, Agrees, IsRead}
+use Rattle.xdr.specs.Switch.{Case, case, no_case, Arm, case_at, Agrees, IsRead}
 use Rattle.xdr.specs.laws.Reads.{bind_ok, Begins-then, as_value_gives}
 
 -- the bytes begin as the arm of the value says, and its tag is this one

@@ -1,5 +1,4 @@
 use Rattle.std.proofs.Common.{Err, ap, arith}
-use Rattle.nfs_rpc.specs.declared.reply.TheConstants.{ACCEPTED_GARBAGE_ARGS, ACCEPTED_SYSTEM_ERR}
 use Rattle.nfs_rpc.proofs.Calls.{refused_compound}
 use Rattle.nfs_rpc.proofs.Limits.{accepted_is_short, within_limits}
 use Rattle.nfs_rpc.proofs.call.compound_call.Goals as goal
@@ -11,7 +10,7 @@ pub returns-in-Err-Memory-clause-call : goal.returns-in-Err-Memory-clause-call
 returns-in-Err-Memory-clause-call c = refused_compound c.args.xid c.args.principal c.args.bytes.now (c.in-Err-Memory.ensures.memory (ap Err c.in-Err-Memory.field-0-is))
 
 pub returns-in-Err-Memory-clause-limits : goal.returns-in-Err-Memory-clause-limits
-returns-in-Err-Memory-clause-limits c = (accepted_is_short c.args.xid ACCEPTED_SYSTEM_ERR, omega arith)
+returns-in-Err-Memory-clause-limits c = (accepted_is_short c.args.xid _, omega arith)
 
 pub returns-in-Err-clause-limits : goal.returns-in-Err-clause-limits
-returns-in-Err-clause-limits c = (accepted_is_short c.args.xid ACCEPTED_GARBAGE_ARGS, omega arith)
+returns-in-Err-clause-limits c = (accepted_is_short c.args.xid _, omega arith)

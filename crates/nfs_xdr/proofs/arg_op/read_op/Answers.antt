@@ -1,4 +1,3 @@
-use Rattle.nfs_xdr.specs.declared.arg_op.ArgOp.{ArgOp}
 use Rattle.nfs_xdr.proofs.ArgOps.{stands_if_ok}
 use Rattle.nfs_xdr.proofs.arg_op.read_op.Goals as goal
 
