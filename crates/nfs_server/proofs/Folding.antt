@@ -21,13 +21,13 @@ use Rattle.nfs_core.specs.Step.{resource}
 use Rattle.nfs_xdr.specs.declared.op.Op.{Op}
 use Rattle.nfs_xdr.specs.declared.arg_op.ArgOp.{ArgOp}
 use Rattle.nfs_xdr.specs.declared.arg_op.ArgOp.TheVariants.{Run, BadArgs, Unsupported, Illegal}
-use Rattle.nfs_xdr.specs.declared.opnum.Opnum.{Opnum}
-use Rattle.nfs_xdr.specs.declared.opnum.Opnum.TheVariants as opnums
+use Rattle.nfs_xdr.specs.declared.operations.Opnum.{Opnum}
+use Rattle.nfs_xdr.specs.declared.operations.Opnum.TheVariants as opnums
 use Rattle.nfs_xdr.specs.declared.status.Refusal.{Refusal}
 use Rattle.nfs_xdr.specs.declared.status.Refusal.TheVariants as refusals
 use Rattle.nfs_xdr.specs.declared.op_result.OpResult.{OpResult}
 use Rattle.nfs_xdr.specs.Op.{opnum_of}
-use Rattle.nfs_xdr.specs.Opnum.{room_of}
+use Rattle.nfs_xdr.specs.operations.{room_of}
 use Rattle.nfs_xdr.specs.OpResult.{op_result, refusal_of, status_of}
 
 -- a test went one way or the other

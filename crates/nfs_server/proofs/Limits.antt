@@ -9,7 +9,7 @@ use Rattle.nfs_xdr.specs.declared.status.Status.{Status}
 use Rattle.nfs_xdr.specs.declared.status.Status.TheVariants as statuses
 use Rattle.nfs_xdr.specs.declared.status.Refusal.TheVariants as refusals
 use Rattle.nfs_xdr.specs.Compound.{compound_result}
-use Rattle.nfs_xdr.specs.Opnum.{number_of, opnum}
+use Rattle.nfs_xdr.specs.operations.{number_of, opnum}
 use Rattle.nfs_xdr.specs.OpResult.{op_result, opnum_of, result_arm}
 use Rattle.nfs_xdr.specs.Status.{status}
 use Rattle.nfs_rpc.specs.declared.records.TheConstants.{RECORD_LIMIT}

@@ -1,11 +1,11 @@
 -- The numbers of statuses and operations fit their forms, and refusals are short.
 use Rattle.std.proofs.Common.{◌<◌, ◌≤◌, ◌^◌, length, arith}
 use Rattle.nfs_xdr.specs.declared.op_result.OpResult.TheVariants as results
-use Rattle.nfs_xdr.specs.declared.opnum.Unsupported.{Unsupported}
-use Rattle.nfs_xdr.specs.declared.opnum.Unsupported.TheVariants as unsupported
+use Rattle.nfs_xdr.specs.declared.operations.Unsupported.{Unsupported}
+use Rattle.nfs_xdr.specs.declared.operations.Unsupported.TheVariants as unsupported
 use Rattle.nfs_xdr.specs.declared.status.Refusal.{Refusal}
 use Rattle.nfs_xdr.specs.declared.status.Refusal.TheVariants as refusals
-use Rattle.nfs_xdr.specs.Opnum.{opnum}
+use Rattle.nfs_xdr.specs.operations.{opnum}
 use Rattle.nfs_xdr.specs.OpResult.{op_result}
 use Rattle.nfs_xdr.specs.Status.{number_of_refusal}
 use Rattle.xdr.specs.Writing.{written_number}

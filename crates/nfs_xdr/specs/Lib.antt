@@ -6,10 +6,9 @@ pub mod Bitmap
 pub mod Fattr
 pub mod FileHandle
 pub mod Status
-pub mod Opnum
+pub mod operations
 pub mod Answer
 pub mod ClientAnswer
-pub mod operations
 pub mod Op
 pub mod OpResult
 pub mod ArgOp

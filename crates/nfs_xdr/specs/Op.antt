@@ -3,9 +3,9 @@ use Rattle.std.specs.Prelude.{Bool}
 use Rattle.std.proofs.Common.{refl}
 use Rattle.nfs_xdr.specs.declared.op.Op.{Op}
 use Rattle.nfs_xdr.specs.declared.op.Op.TheVariants as ops
-use Rattle.nfs_xdr.specs.declared.opnum.Opnum.{Opnum}
-use Rattle.nfs_xdr.specs.declared.opnum.Opnum.TheVariants as opnums
-use Rattle.nfs_xdr.specs.Opnum.{class_of, is_entered, is_of_tree, opnum}
+use Rattle.nfs_xdr.specs.declared.operations.Opnum.{Opnum}
+use Rattle.nfs_xdr.specs.declared.operations.Opnum.TheVariants as opnums
+use Rattle.nfs_xdr.specs.operations.{class_of, is_entered, is_of_tree, opnum}
 use Rattle.nfs_xdr.specs.operations.Access as access
 use Rattle.nfs_xdr.specs.operations.Getattr as getattr
 use Rattle.nfs_xdr.specs.operations.Getfh as getfh
@@ -35,24 +35,25 @@ op_case opnums.SetclientidConfirm = case setclientid_confirm.arguments ops.Setcl
 op_case (opnums.Unsupported o) = no_case
 op_case opnums.Illegal = no_case
 
--- its number's operation, and how it is written behind that
-abbrev pub said : Op → Opnum × Arm Op
-said (ops.Access v) = (opnums.Access, arm access.arguments ops.Access v)
-said (ops.Getattr v) = (opnums.Getattr, arm getattr.arguments ops.Getattr v)
-said ops.Getfh = (opnums.Getfh, arm getfh.arguments (λ v. ops.Getfh) tt)
-said (ops.Lookup v) = (opnums.Lookup, arm lookup.arguments ops.Lookup v)
-said (ops.Putfh v) = (opnums.Putfh, arm putfh.arguments ops.Putfh v)
-said ops.Putrootfh = (opnums.Putrootfh, arm putrootfh.arguments (λ v. ops.Putrootfh) tt)
-said ops.Restorefh = (opnums.Restorefh, arm restorefh.arguments (λ v. ops.Restorefh) tt)
-said ops.Savefh = (opnums.Savefh, arm savefh.arguments (λ v. ops.Savefh) tt)
-said (ops.Setclientid v) = (opnums.Setclientid, arm setclientid.arguments ops.Setclientid v)
-said (ops.SetclientidConfirm v) = (opnums.SetclientidConfirm, arm setclientid_confirm.arguments ops.SetclientidConfirm v)
+-- its row: its number, and how it is written behind that
+abbrev pub row_of : Op → Opnum × Arm Op
+row_of (ops.Access v) = (opnums.Access, arm access.arguments ops.Access v)
+row_of (ops.Getattr v) = (opnums.Getattr, arm getattr.arguments ops.Getattr v)
+row_of ops.Getfh = (opnums.Getfh, arm getfh.arguments (λ v. ops.Getfh) tt)
+row_of (ops.Lookup v) = (opnums.Lookup, arm lookup.arguments ops.Lookup v)
+row_of (ops.Putfh v) = (opnums.Putfh, arm putfh.arguments ops.Putfh v)
+row_of ops.Putrootfh = (opnums.Putrootfh, arm putrootfh.arguments (λ v. ops.Putrootfh) tt)
+row_of ops.Restorefh = (opnums.Restorefh, arm restorefh.arguments (λ v. ops.Restorefh) tt)
+row_of ops.Savefh = (opnums.Savefh, arm savefh.arguments (λ v. ops.Savefh) tt)
+row_of (ops.Setclientid v) = (opnums.Setclientid, arm setclientid.arguments ops.Setclientid v)
+row_of (ops.SetclientidConfirm v) =
+    (opnums.SetclientidConfirm, arm setclientid_confirm.arguments ops.SetclientidConfirm v)
 
 abbrev pub opnum_of : Op → Opnum
-opnum_of o = (said o).0
+opnum_of o = (row_of o).0
 
 abbrev pub op_arm : Op → Arm Op
-op_arm o = (said o).1
+op_arm o = (row_of o).1
 
 pub op_agrees : (o : Opnum) → Agrees opnum_of op_arm o (op_case o)
 op_agrees opnums.Illegal = tt

@@ -4,17 +4,17 @@ use Rattle.nfs_xdr.specs.declared.answer.Answer.TheVariants as answers
 use Rattle.nfs_xdr.specs.declared.client_answer.ClientAnswer.TheVariants as client_answers
 use Rattle.nfs_xdr.specs.declared.op_result.OpResult.{OpResult}
 use Rattle.nfs_xdr.specs.declared.op_result.OpResult.TheVariants as results
-use Rattle.nfs_xdr.specs.declared.opnum.Opnum.{Opnum}
-use Rattle.nfs_xdr.specs.declared.opnum.Opnum.TheVariants as opnums
-use Rattle.nfs_xdr.specs.declared.opnum.Unsupported.{Unsupported as UnsupportedOp}
-use Rattle.nfs_xdr.specs.declared.opnum.Unsupported.TheVariants as unsupported
+use Rattle.nfs_xdr.specs.declared.operations.Opnum.{Opnum}
+use Rattle.nfs_xdr.specs.declared.operations.Opnum.TheVariants as opnums
+use Rattle.nfs_xdr.specs.declared.operations.Unsupported.{Unsupported as UnsupportedOp}
+use Rattle.nfs_xdr.specs.declared.operations.Unsupported.TheVariants as unsupported
 use Rattle.nfs_xdr.specs.declared.status.Refusal.{Refusal}
 use Rattle.nfs_xdr.specs.declared.status.Refusal.TheVariants as refusals
 use Rattle.nfs_xdr.specs.declared.status.Status.{Status}
 use Rattle.nfs_xdr.specs.declared.status.Status.TheVariants as statuses
 use Rattle.nfs_xdr.specs.Answer as answer
 use Rattle.nfs_xdr.specs.ClientAnswer as client_answer
-use Rattle.nfs_xdr.specs.Opnum.{opnum}
+use Rattle.nfs_xdr.specs.operations.{opnum}
 use Rattle.nfs_xdr.specs.operations.Access as access
 use Rattle.nfs_xdr.specs.operations.Getattr as getattr
 use Rattle.nfs_xdr.specs.operations.Getfh as getfh
@@ -34,63 +34,72 @@ abbrev pub unsupported_answer : UnsupportedOp → Form (Unit {0} × Unit {0})
 unsupported_answer unsupported.Setattr = constant 10004 and constant 0
 unsupported_answer o = constant 10004 and nothing
 
--- A result: whose it is, its status, and how it is written.
-pub record Told : Type 1 where
+-- A result's row: whose it is, its status, and how it is written behind its number.
+pub record Row : Type 1 where
   pub opnum : Opnum
   pub status : Status
   pub arm : Arm OpResult
 
-abbrev told_by : Opnum → Status → Arm OpResult → Told
-told_by opnum status arm = record { opnum = opnum; status = status; arm = arm }
+abbrev row : Opnum → Status → Arm OpResult → Row
+row opnum status arm = record { opnum = opnum; status = status; arm = arm }
 
-abbrev pub told : OpResult → Told
-told (results.Access a) = told_by opnums.Access (answer.status_of a) (arm access.result results.Access a)
-told (results.Getattr a) = told_by opnums.Getattr (answer.status_of a) (arm getattr.result results.Getattr a)
-told (results.Getfh a) = told_by opnums.Getfh (answer.status_of a) (arm getfh.result results.Getfh a)
-told (results.Lookup a) = told_by opnums.Lookup (answer.status_of a) (arm lookup.result results.Lookup a)
-told (results.Putfh a) = told_by opnums.Putfh (answer.status_of a) (arm putfh.result results.Putfh a)
-told (results.Putrootfh a) = told_by opnums.Putrootfh (answer.status_of a) (arm putrootfh.result results.Putrootfh a)
-told (results.Restorefh a) = told_by opnums.Restorefh (answer.status_of a) (arm restorefh.result results.Restorefh a)
-told (results.Savefh a) = told_by opnums.Savefh (answer.status_of a) (arm savefh.result results.Savefh a)
-told (results.Setclientid a) = told_by opnums.Setclientid (client_answer.status_of a) (arm setclientid.result results.Setclientid a)
-told (results.SetclientidConfirm a) = told_by opnums.SetclientidConfirm (client_answer.status_of a) (arm setclientid_confirm.result results.SetclientidConfirm a)
-told (results.Unsupported o) = told_by (opnums.Unsupported o) (statuses.Refused refusals.NotSupp) (arm (unsupported_answer o) (λ v. results.Unsupported o) (tt, tt))
-told (results.Illegal a) = told_by opnums.Illegal (answer.status_of a) (arm (answer.answer nothing) results.Illegal a)
+abbrev pub row_of : OpResult → Row
+row_of (results.Access a) = row opnums.Access (answer.status_of a) (arm access.result results.Access a)
+row_of (results.Getattr a) = row opnums.Getattr (answer.status_of a) (arm getattr.result results.Getattr a)
+row_of (results.Getfh a) = row opnums.Getfh (answer.status_of a) (arm getfh.result results.Getfh a)
+row_of (results.Lookup a) = row opnums.Lookup (answer.status_of a) (arm lookup.result results.Lookup a)
+row_of (results.Putfh a) = row opnums.Putfh (answer.status_of a) (arm putfh.result results.Putfh a)
+row_of (results.Putrootfh a) = row opnums.Putrootfh (answer.status_of a) (arm putrootfh.result results.Putrootfh a)
+row_of (results.Restorefh a) = row opnums.Restorefh (answer.status_of a) (arm restorefh.result results.Restorefh a)
+row_of (results.Savefh a) = row opnums.Savefh (answer.status_of a) (arm savefh.result results.Savefh a)
+row_of (results.Setclientid a) =
+    row opnums.Setclientid (client_answer.status_of a) (arm setclientid.result results.Setclientid a)
+row_of (results.SetclientidConfirm a) =
+    row opnums.SetclientidConfirm (client_answer.status_of a)
+    (arm setclientid_confirm.result results.SetclientidConfirm a)
+row_of (results.Unsupported o) =
+    row (opnums.Unsupported o) (statuses.Refused refusals.NotSupp)
+    (arm (unsupported_answer o) (λ v. results.Unsupported o) (tt, tt))
+row_of (results.Illegal a) = row opnums.Illegal (answer.status_of a) (arm (answer.answer nothing) results.Illegal a)
 
 abbrev pub opnum_of : OpResult → Opnum
-opnum_of r = (told r).opnum
+opnum_of r = (row_of r).opnum
 
 abbrev pub status_of : OpResult → Status
-status_of r = (told r).status
+status_of r = (row_of r).status
 
 abbrev pub result_arm : OpResult → Arm OpResult
-result_arm r = (told r).arm
+result_arm r = (row_of r).arm
 
--- What an operation may answer: its result's form, and its result where it is refused.
-pub record Answers : Type 1 where
+-- What an operation answers: how its result is read, and which one refuses it.
+pub record Outcomes : Type 1 where
   pub read : Case OpResult
   pub refused : Refusal → OpResult
 
-abbrev answers_by : Case OpResult → (Refusal → OpResult) → Answers
-answers_by read refused = record { read = read; refused = refused }
+abbrev outcomes : {A : Type 0} → Form A → (A → OpResult) → (Refusal → A) → Outcomes
+outcomes form make refuse = record { read = case form make; refused = λ r. make (refuse r) }
 
--- union nfs_resop4 switch (nfs_opnum4 resop). One without a rule has but one result.
-abbrev pub answers_of : Opnum → Answers
-answers_of opnums.Access = answers_by (case access.result results.Access) (λ r. results.Access (answers.Refused r))
-answers_of opnums.Getattr = answers_by (case getattr.result results.Getattr) (λ r. results.Getattr (answers.Refused r))
-answers_of opnums.Getfh = answers_by (case getfh.result results.Getfh) (λ r. results.Getfh (answers.Refused r))
-answers_of opnums.Lookup = answers_by (case lookup.result results.Lookup) (λ r. results.Lookup (answers.Refused r))
-answers_of opnums.Putfh = answers_by (case putfh.result results.Putfh) (λ r. results.Putfh (answers.Refused r))
-answers_of opnums.Putrootfh = answers_by (case putrootfh.result results.Putrootfh) (λ r. results.Putrootfh (answers.Refused r))
-answers_of opnums.Restorefh = answers_by (case restorefh.result results.Restorefh) (λ r. results.Restorefh (answers.Refused r))
-answers_of opnums.Savefh = answers_by (case savefh.result results.Savefh) (λ r. results.Savefh (answers.Refused r))
-answers_of opnums.Setclientid = answers_by (case setclientid.result results.Setclientid) (λ r. results.Setclientid (client_answers.Refused r))
-answers_of opnums.SetclientidConfirm = answers_by (case setclientid_confirm.result results.SetclientidConfirm) (λ r. results.SetclientidConfirm (client_answers.Refused r))
-answers_of (opnums.Unsupported o) = answers_by (case (unsupported_answer o) (λ v. results.Unsupported o)) (λ r. results.Unsupported o)
-answers_of opnums.Illegal = answers_by (case (answer.answer nothing) results.Illegal) (λ r. results.Illegal (answers.Refused r))
+-- union nfs_resop4 switch (nfs_opnum4 resop). An operation without a rule has but one result.
+abbrev pub outcomes_of : Opnum → Outcomes
+outcomes_of opnums.Access = outcomes access.result results.Access answers.Refused
+outcomes_of opnums.Getattr = outcomes getattr.result results.Getattr answers.Refused
+outcomes_of opnums.Getfh = outcomes getfh.result results.Getfh answers.Refused
+outcomes_of opnums.Lookup = outcomes lookup.result results.Lookup answers.Refused
+outcomes_of opnums.Putfh = outcomes putfh.result results.Putfh answers.Refused
+outcomes_of opnums.Putrootfh = outcomes putrootfh.result results.Putrootfh answers.Refused
+outcomes_of opnums.Restorefh = outcomes restorefh.result results.Restorefh answers.Refused
+outcomes_of opnums.Savefh = outcomes savefh.result results.Savefh answers.Refused
+outcomes_of opnums.Setclientid = outcomes setclientid.result results.Setclientid client_answers.Refused
+outcomes_of opnums.SetclientidConfirm =
+    outcomes setclientid_confirm.result results.SetclientidConfirm client_answers.Refused
+outcomes_of (opnums.Unsupported o) = record {
+  read = case (unsupported_answer o) (λ v. results.Unsupported o);
+  refused = λ r. results.Unsupported o;
+}
+outcomes_of opnums.Illegal = outcomes (answer.answer nothing) results.Illegal answers.Refused
 
 abbrev pub result_case : Opnum → Case OpResult
-result_case o = (answers_of o).read
+result_case o = (outcomes_of o).read
 
 pub result_agrees : (o : Opnum) → Agrees opnum_of result_arm o (result_case o)
 result_agrees opnums.Illegal = λ a. (refl, refl)
@@ -105,4 +114,4 @@ op_result = switch opnum result_case opnum_of result_arm result_agrees result_is
 
 -- The result of an operation that is refused with this status.
 abbrev pub refusal_of : Opnum → Refusal → OpResult
-refusal_of o = (answers_of o).refused
+refusal_of o = (outcomes_of o).refused

@@ -1,7 +1,7 @@
 ghost use Rattle.std.specs.Prelude.{◌≡◌, ◌≤◌, length};
 ghost use Rattle.nfs_xdr.specs.OpResult as results;
-ghost use Rattle.nfs_xdr.specs.declared.opnum.Opnum.TheVariants as opnums;
-ghost use Rattle.nfs_xdr.specs.Opnum.{opnum};
+ghost use Rattle.nfs_xdr.specs.declared.operations.Opnum.TheVariants as opnums;
+ghost use Rattle.nfs_xdr.specs.operations.{opnum};
 ghost use Rattle.nfs_xdr.specs.OpResult.{opnum_of, refusal_of, result_case, status_of, unsupported_answer};
 ghost use Rattle.xdr.specs.Reading.{Gives};
 ghost use Rattle.xdr.specs.Form.{◌and◌};
@@ -119,7 +119,7 @@ impl OpResult {
 
 impl Opnum {
     /// The result of the operation where it is refused with this status. One without a rule has but one result.
-    #[tactic(auto, using(crate::proofs::Refusals::unsupported_fits, crate::proofs::Refusals::unsupported_len, crate::proofs::Refusals::refusal_fits), unfolding(crate::specs::OpResult::op_result, crate::specs::Opnum::opnum, crate::specs::Answer::answer, crate::specs::ClientAnswer::client_answer, crate::specs::Status::status, xdr::specs::Writing::written_number))]
+    #[tactic(auto, using(crate::proofs::Refusals::unsupported_fits, crate::proofs::Refusals::unsupported_len, crate::proofs::Refusals::refusal_fits), unfolding(crate::specs::OpResult::op_result, crate::specs::operations::opnum, crate::specs::Answer::answer, crate::specs::ClientAnswer::client_answer, crate::specs::Status::status, xdr::specs::Writing::written_number))]
     pub fn refusal(self, refusal: Refusal) -> OpResult
         ensures value { result ≡ refusal_of self refusal }
         ensures form { results.op_result.Fits result }
@@ -171,7 +171,7 @@ fn write_unsupported(out: &mut Vec<u8>, op: Unsupported) -> Result<(), WireError
 }
 
 impl Measure for OpResult {
-    #[tactic(auto, unfolding(crate::specs::OpResult::op_result, crate::specs::Opnum::opnum, xdr::specs::Writing::written_number))]
+    #[tactic(auto, unfolding(crate::specs::OpResult::op_result, crate::specs::operations::opnum, xdr::specs::Writing::written_number))]
     fn written_len(&self) -> usize {
         each_operation!(
             of_answer self, answer => 4 + answer.written_len();

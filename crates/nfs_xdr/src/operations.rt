@@ -1,4 +1,13 @@
-//! The arguments and results of each operation.
+//! The list of operations: their numbers, what they are asked of, and the room of their replies; and the arguments and results of
+//! each.
+
+ghost use Rattle.std.specs.Prelude.{◌≡◌};
+ghost use Rattle.nfs_xdr.specs.operations as opnums;
+ghost use Rattle.nfs_xdr.specs.operations.{class_of, number_of, number_of_unsupported, opnum_of, room_of};
+ghost use Rattle.xdr.specs.Reading.{Answers};
+
+use std::alloc::Global;
+use xdr::{Wire, WireError, read_u32, write_u32};
 
 pub mod access;
 pub mod getattr;
@@ -36,3 +45,183 @@ macro_rules! each_operation {
 }
 
 pub(crate) use each_operation;
+
+/// The operations of NFSv4.0 that this server has no rule for, by their numbers.
+#[derive(Clone, Copy, Debug, PartialEq, Eq)]
+pub enum Unsupported {
+    Close = 4,
+    Commit = 5,
+    Create = 6,
+    Delegpurge = 7,
+    Delegreturn = 8,
+    Link = 11,
+    Lock = 12,
+    Lockt = 13,
+    Locku = 14,
+    Lookupp = 16,
+    Nverify = 17,
+    Open = 18,
+    Openattr = 19,
+    OpenConfirm = 20,
+    OpenDowngrade = 21,
+    Putpubfh = 23,
+    Read = 25,
+    Readdir = 26,
+    Readlink = 27,
+    Remove = 28,
+    Rename = 29,
+    Renew = 30,
+    Secinfo = 33,
+    Setattr = 34,
+    Verify = 37,
+    Write = 38,
+    ReleaseLockowner = 39,
+}
+
+impl Unsupported {
+    fn number(self) -> u32
+        ensures { result ≡ number_of_unsupported self }
+    {
+        self as u32
+    }
+}
+
+/// The operations of NFSv4.0 (nfs_opnum4).
+#[derive(Clone, Copy, Debug, PartialEq, Eq)]
+pub enum Opnum {
+    Access,
+    Getattr,
+    Getfh,
+    Lookup,
+    Putfh,
+    Putrootfh,
+    Restorefh,
+    Savefh,
+    Setclientid,
+    SetclientidConfirm,
+    /// An operation without a rule.
+    Unsupported(Unsupported),
+    /// The number under which operations that don't exist are answered.
+    Illegal,
+}
+
+/// What an operation is asked of.
+#[derive(Clone, Copy, Debug, PartialEq, Eq)]
+pub enum Class {
+    /// The tree of files and the filehandles alone.
+    OnTree,
+    /// The state, by a rule: each answer but NFS4ERR_RESOURCE is an entry of the journal.
+    Entered,
+    /// Nothing: it has no rule, and isn't run.
+    Unruled,
+}
+
+macro_rules! number_of_opnum {
+    ([$($X:ident = $n:literal $c:ident $a:ident,)*] [$($Y:ident = $m:literal $d:ident $b:ident,)*] $opnum:expr) => {
+        match $opnum {
+            $(Opnum::$X => $n,)*
+            $(Opnum::$Y => $m,)*
+            Opnum::Unsupported(op) => op.number(),
+            Opnum::Illegal => 10044,
+        }
+    };
+}
+
+macro_rules! class_of_opnum {
+    ([$($X:ident = $n:literal $c:ident $a:ident,)*] [$($Y:ident = $m:literal $d:ident $b:ident,)*] $opnum:expr) => {
+        match $opnum {
+            $(Opnum::$X => Class::$c,)*
+            $(Opnum::$Y => Class::$d,)*
+            Opnum::Unsupported(_) | Opnum::Illegal => Class::Unruled,
+        }
+    };
+}
+
+macro_rules! all_opnums {
+    ([$($X:ident = $n:literal $c:ident $a:ident,)*] [$($Y:ident = $m:literal $d:ident $b:ident,)*] $($other:expr,)*) => {
+        [$(Opnum::$X,)* $(Opnum::$Y,)* $($other,)*]
+    };
+}
+
+/// Every operation.
+pub const OPNUMS: [Opnum; 38] = each_operation!(
+    all_opnums
+    Opnum::Unsupported(Unsupported::Close),
+    Opnum::Unsupported(Unsupported::Commit),
+    Opnum::Unsupported(Unsupported::Create),
+    Opnum::Unsupported(Unsupported::Delegpurge),
+    Opnum::Unsupported(Unsupported::Delegreturn),
+    Opnum::Unsupported(Unsupported::Link),
+    Opnum::Unsupported(Unsupported::Lock),
+    Opnum::Unsupported(Unsupported::Lockt),
+    Opnum::Unsupported(Unsupported::Locku),
+    Opnum::Unsupported(Unsupported::Lookupp),
+    Opnum::Unsupported(Unsupported::Nverify),
+    Opnum::Unsupported(Unsupported::Open),
+    Opnum::Unsupported(Unsupported::Openattr),
+    Opnum::Unsupported(Unsupported::OpenConfirm),
+    Opnum::Unsupported(Unsupported::OpenDowngrade),
+    Opnum::Unsupported(Unsupported::Putpubfh),
+    Opnum::Unsupported(Unsupported::Read),
+    Opnum::Unsupported(Unsupported::Readdir),
+    Opnum::Unsupported(Unsupported::Readlink),
+    Opnum::Unsupported(Unsupported::Remove),
+    Opnum::Unsupported(Unsupported::Rename),
+    Opnum::Unsupported(Unsupported::Renew),
+    Opnum::Unsupported(Unsupported::Secinfo),
+    Opnum::Unsupported(Unsupported::Setattr),
+    Opnum::Unsupported(Unsupported::Verify),
+    Opnum::Unsupported(Unsupported::Write),
+    Opnum::Unsupported(Unsupported::ReleaseLockowner),
+    Opnum::Illegal,
+);
+
+impl Opnum {
+    /// Its number on the wire.
+    pub fn number(self) -> u32
+        ensures { result ≡ number_of self }
+    {
+        each_operation!(number_of_opnum self)
+    }
+
+    /// The operation of a number, if there is one.
+    pub fn from_number(number: u32) -> Option<Opnum>
+        ensures { result ≡ opnum_of number }
+    {
+        OPNUMS.iter().copied().find(|o| o.number() == number)
+    }
+
+    /// What it is asked of.
+    pub fn class(self) -> Class
+        ensures { result ≡ class_of self }
+    {
+        each_operation!(class_of_opnum self)
+    }
+
+    /// The room in the reply that it is run only with.
+    pub fn room(self) -> usize
+        ensures { result ≡ room_of self }
+    {
+        2_048
+    }
+}
+
+impl Wire for Opnum {
+    ghost form = { opnums.opnum };
+
+    #[tactic(auto, unfolding(crate::specs::operations::opnum, xdr::specs::Reading::value_at))]
+    fn read(alloc: Global, bytes: &[u8]) -> Result<(Opnum, &[u8]), WireError>
+        ensures { Answers (λ x. (x.0, x.1.now)) result (opnums.opnum.at bytes.now) }
+    {
+        let (number, rest) = read_u32(bytes)?;
+        match Opnum::from_number(number) {
+            Some(opnum) => Ok((opnum, rest)),
+            None => Err(WireError::Short),
+        }
+    }
+
+    #[tactic(auto, unfolding(crate::specs::operations::opnum))]
+    fn write(&self, out: &mut Vec<u8>) -> Result<(), WireError> {
+        write_u32(out, self.number())
+    }
+}

@@ -14,7 +14,7 @@ use std::alloc::{AllocError, Global};
 
 /// Answers GETATTR and enters it: the answer and its entry's number, or none and no change where the
 /// journal or memory refuses it.
-#[tactic(auto, unfolding(nfs_xdr::specs::OpResult::op_result, nfs_xdr::specs::Opnum::opnum, xdr::specs::Writing::written_number))]
+#[tactic(auto, unfolding(nfs_xdr::specs::OpResult::op_result, nfs_xdr::specs::operations::opnum, xdr::specs::Writing::written_number))]
 pub(crate) fn getattr(
     alloc: Global,
     tables: &Tables,

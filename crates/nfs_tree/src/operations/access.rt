@@ -50,7 +50,7 @@ impl Tree {
 
 impl Filehandles {
     /// ACCESS (RFC 7530, section 16.1): tells which of the accesses asked for there are to the current object.
-    #[tactic(auto, unfolding(nfs_xdr::specs::OpResult::op_result, nfs_xdr::specs::Opnum::opnum, nfs_xdr::specs::Answer::answer, nfs_xdr::specs::operations::Access::access_bits, nfs_xdr::specs::Status::status, xdr::specs::Writing::written_number))]
+    #[tactic(auto, unfolding(nfs_xdr::specs::OpResult::op_result, nfs_xdr::specs::operations::opnum, nfs_xdr::specs::Answer::answer, nfs_xdr::specs::operations::Access::access_bits, nfs_xdr::specs::Status::status, xdr::specs::Writing::written_number))]
     pub(crate) fn access(&self, tree: &Tree, asked: u32) -> OpResult
         ensures effect { record { answer = result; after = self.now }
             ≡ access tree.now self.now asked }

@@ -9,7 +9,7 @@ use nfs_xdr::{Answer, OpResult, Refusal};
 
 impl Filehandles {
     /// LOOKUP (RFC 7530, section 16.13): looks a name up in the current directory, and what it finds becomes current.
-    #[tactic(auto, unfolding(nfs_xdr::specs::OpResult::op_result, nfs_xdr::specs::Opnum::opnum, nfs_xdr::specs::Answer::answer, nfs_xdr::specs::Status::status, xdr::specs::Writing::written_number))]
+    #[tactic(auto, unfolding(nfs_xdr::specs::OpResult::op_result, nfs_xdr::specs::operations::opnum, nfs_xdr::specs::Answer::answer, nfs_xdr::specs::Status::status, xdr::specs::Writing::written_number))]
     pub(crate) fn lookup(&mut self, tree: &Tree, name: &[u8]) -> OpResult
         requires nodes { AreNodes tree.now self.old }
         ensures effect { record { answer = result; after = self.new }
@@ -25,7 +25,7 @@ impl Filehandles {
     }
 
     // Looks a name up in a node, and refuses one that is no directory and names that can't be.
-    #[tactic(auto, unfolding(nfs_xdr::specs::OpResult::op_result, nfs_xdr::specs::Opnum::opnum, nfs_xdr::specs::Answer::answer, nfs_xdr::specs::Status::status, xdr::specs::Writing::written_number))]
+    #[tactic(auto, unfolding(nfs_xdr::specs::OpResult::op_result, nfs_xdr::specs::operations::opnum, nfs_xdr::specs::Answer::answer, nfs_xdr::specs::Status::status, xdr::specs::Writing::written_number))]
     fn lookup_in(&mut self, tree: &Tree, node: u32, name: &[u8]) -> OpResult
         requires nodes { AreNodes tree.now self.old }
         ensures effect { record { answer = result; after = self.new }
