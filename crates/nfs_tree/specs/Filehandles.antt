@@ -1,5 +1,5 @@
 -- The current and the saved filehandle.
-use Rattle.std.specs.Prelude.{ℕ, ◌<◌, Option, Some, None, IfSome}
+use Rattle.std.specs.Prelude.{ℕ, ◌<◌, Option, None, IfSome}
 use Rattle.nfs_tree.specs.declared.filehandles.Filehandles.{Filehandles}
 use Rattle.nfs_tree.specs.Tree.{Files, node_count}
 
