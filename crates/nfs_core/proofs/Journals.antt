@@ -1,11 +1,17 @@
 -- Lawful journals.
-use Rattle.std.proofs.Common.{◌+◌, ◌≤◌, List, [], ◌∷◌, ◌++◌, length, refl, sym, ap, subst, append_assoc, append-nil, arith}
+use Rattle.std.proofs.Common.{◌≡◌, ◌≢◌, ℕ, ◌<◌, ◌≤◌, ◌⊎◌, inl, inr, Option, Some, None, List, [], ◌∷◌, ◌++◌, length, refl, sym, ◌∙◌, subst, append_assoc, append-nil, arith}
+use Rattle.nfs_core.specs.declared.entry.Call.{Call}
+use Rattle.nfs_core.specs.declared.entry.TheConstants.{JOURNAL_LIMIT}
+use Rattle.nfs_core.specs.declared.request.Request.{Request}
+use Rattle.nfs_core.specs.operations.{rule}
+use Rattle.nfs_core.specs.Stored.{Stored, meaning}
+use Rattle.nfs_xdr.specs.declared.op_result.OpResult.{OpResult}
+use Rattle.nfs_core.specs.declared.decision.Decision.{Decision}
 use Rattle.nfs_core.specs.declared.entry.Entry.{Entry}
 use Rattle.nfs_core.specs.Lawful.{Leads, Lawful}
-use Rattle.nfs_core.specs.Server.{Server, Enters, IsLawful}
+use Rattle.nfs_core.specs.Server.{Server, Applies, IsLawful}
 use Rattle.nfs_core.specs.State.{State, History, empty_server}
-use Rattle.nfs_core.specs.Step.{Step}
-use Rattle.nfs_core.proofs.Steps.{Step-confirm}
+use Rattle.nfs_core.specs.Step.{Follows, IsFilehandle, Step, AtMostOneStep, call_of, changed, resource, with_entry}
 
 -- entries that lead to a state, and one more from there
 Leads-append : (journal : History) (old mid new : State) (entries : List Entry) (entry : Entry) → Leads journal old entries mid → Step (record journal { entries = journal.entries ++ entries }) mid entry new → Leads journal old (entries ++ entry ∷ []) new
@@ -15,20 +21,36 @@ Leads-append journal old mid new [] entry leads step =
     (new, subst from leads (subst from_mid (append-nil journal.entries) step), refl)
 Leads-append journal old mid new (first ∷ entries) entry leads step =
     let from_mid : List Entry → Type 0 = λ es. Step (record journal { entries = es }) mid entry new in
-    (leads.0, leads.1, Leads-append (record journal { entries = journal.entries ++ first ∷ [] }) leads.0 mid new entries entry leads.2 (subst from_mid (sym (append_assoc journal.entries (first ∷ []) entries)) step))
+    (leads.0, leads.1, Leads-append (with_entry first journal) leads.0 mid new entries entry leads.2 (subst from_mid (sym (append_assoc journal.entries (first ∷ []) entries)) step))
 
 -- a lawful journal and one more entry
-pub Lawful-enters : (old new : Server) (entry : Entry) → IsLawful old → Enters old new entry → IsLawful new
-Lawful-enters old new entry lawful enters =
-    let P : History → Type 0 = λ journal. Lawful journal new.state in
-    subst P (sym enters.journal) (Leads-append (record old.journal { entries = [] }) (empty_server old.journal.tree.nodes) old.state new.state old.journal.entries entry lawful enters.step)
+pub Lawful-step : (journal : History) (old new : State) (entry : Entry) → Lawful journal old → Step journal old entry new → Lawful (with_entry entry journal) new
+Lawful-step journal old new entry lawful step =
+    Leads-append (record journal { entries = [] }) (empty_server journal.nodes) old new journal.entries entry lawful step
 
--- each entry raises the confirm value by one at most
-Leads-confirm : (journal : History) (old new : State) (entries : List Entry) → Leads journal old entries new → new.clients.last_confirm ≤ old.clients.last_confirm + length entries
-Leads-confirm journal old new [] leads = omega (arith, ap (λ (s : State). s.clients.last_confirm) leads)
-Leads-confirm journal old new (entry ∷ entries) leads =
-    omega (arith, Step-confirm journal old entry leads.0 leads.1, Leads-confirm (record journal { entries = journal.entries ++ entry ∷ [] }) leads.0 new entries leads.2)
+-- a call that its rule decides so comes next
+pub Follows-decided : (ruled : Option Decision) (decision : Decision) (journal : History) (old : State) (call : Call) (new : State) → ruled ≡ Some decision → length journal.entries < JOURNAL_LIMIT → call.answer ≢ resource call.request.op → call.answer ≡ decision.answer → new ≡ changed decision.change old → Follows ruled journal old call new
+Follows-decided ruled decision journal old call new ruled_so below other answered moved = rw ruled_so (below, other, answered, moved)
 
--- no more confirm values were given than there are entries
-pub Lawful-confirm : (journal : History) (state : State) → Lawful journal state → state.clients.last_confirm ≤ length journal.entries
-Lawful-confirm journal state lawful = omega (arith, Leads-confirm (record journal { entries = [] }) (empty_server journal.tree.nodes) state journal.entries lawful)
+-- where the rule says nothing, or the journal is full, no call comes next
+pub none_follows : (ruled : Option Decision) (journal : History) (old : State) (call : Call) (new : State) → (ruled ≡ None) ⊎ (JOURNAL_LIMIT ≤ length journal.entries) → Follows ruled journal old call new → ⊥
+none_follows None journal old call new limit follows = follows
+none_follows (Some decision) journal old call new (inl none) follows = cc
+none_follows (Some decision) journal old call new (inr full) follows = omega (arith, follows.0)
+
+-- a lawful core that answers a call is lawful
+pub Lawful-applies : (old new : Server) (request : Request) (answer : OpResult) (number : ℕ) → IsLawful old → IsFilehandle old.journal request.filehandle → Applies old new request answer (Some number) → IsLawful new
+Lawful-applies old new request answer number lawful node applies =
+    let P : History → Type 0 = λ journal. Lawful journal (meaning new.stored) in
+    subst P (sym applies.1) (Lawful-step old.journal (meaning old.stored) (meaning new.stored) (call_of request answer) lawful (node, applies.2))
+
+Follows-unique : (ruled : Option Decision) (journal : History) (old : State) (call call' : Call) (new new' : State) → Follows ruled journal old call new → Follows ruled journal old call' new' → (call.answer ≡ call'.answer) × (new ≡ new')
+Follows-unique None journal old call call' new new' f f' = absurd f
+Follows-unique (Some decision) journal old call call' new new' f f' = (f.2 ∙ sym f'.2, f.3 ∙ sym f'.3)
+
+pub Step-unique : AtMostOneStep
+Step-unique journal old request answer answer' new new' s s' = Follows-unique (rule request.op journal old request) journal old (record { request = request; answer = answer }) (record { request = request; answer = answer' }) new new' s.1 s'.1
+
+-- a core that is as it was is as lawful as it was
+pub Lawful-same : (journal journal' : History) (stored stored' : Stored) → journal' ≡ journal → stored' ≡ stored → Lawful journal (meaning stored) → Lawful journal' (meaning stored')
+Lawful-same journal journal' stored stored' same_journal same_stored lawful = rw (same_journal, same_stored) lawful

@@ -1,5 +1,5 @@
 -- The clients' records (RFC 7530, section 16.33.5).
-use Rattle.std.specs.Prelude.{ℕ, ◌<◌, ◌≤◌, ◌⊎◌, Bool, ◌&&◌, ◌==◌, not, List, [], length, find, Option}
+use Rattle.std.specs.Prelude.{ℕ, nat_le, Bool, ◌&&◌, ◌==◌, not, if◌then◌else◌, List, [], length, find, Option}
 use Rattle.std.specs.Str.{bytes_eq}
 use Rattle.nfs_xdr.specs.declared.callback.Address.{Address}
 use Rattle.nfs_xdr.specs.declared.client_id.ClientId.{ClientId}
@@ -39,18 +39,13 @@ confirmed_of registry id = find (is_confirmed_of id) registry.records
 abbrev pub has_both : ClientId → ℕ → ClientRecord → Bool
 has_both client confirm r = is_same_client r.client client && (r.confirm == confirm)
 
--- the unconfirmed record with both, and the confirmed one, if there is one
-abbrev pub unconfirmed_with : Registry → ClientId → ℕ → Option ClientRecord
-unconfirmed_with registry client confirm = find (λ r. not r.confirmed && has_both client confirm r) registry.records
-
-abbrev pub confirmed_with : Registry → ClientId → ℕ → Option ClientRecord
-confirmed_with registry client confirm = find (λ r. r.confirmed && has_both client confirm r) registry.records
+-- the confirmed record with both, or the unconfirmed one, if there is one
+abbrev pub record_with : Bool → ClientId → ℕ → Registry → Option ClientRecord
+record_with confirmed client confirm registry =
+    find (λ r. (if confirmed then r.confirmed else not r.confirmed) && has_both client confirm r)
+    registry.records
 
 -- both parts of the address are within the limit
-pub record IsWithinLimit (address : Address) : Type 0 where
-  pub netid : length address.netid ≤ ADDRESS_LIMIT
-  pub addr : length address.addr ≤ ADDRESS_LIMIT
-
--- one of its parts is above the limit
-abbrev pub IsAboveLimit : Address → Type 0
-IsAboveLimit address = (ADDRESS_LIMIT < length address.netid) ⊎ (ADDRESS_LIMIT < length address.addr)
+abbrev pub is_within_limit : Address → Bool
+is_within_limit address =
+    nat_le (length address.netid) ADDRESS_LIMIT && nat_le (length address.addr) ADDRESS_LIMIT

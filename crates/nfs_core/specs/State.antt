@@ -1,5 +1,5 @@
--- What the server keeps, and the journal of its changes.
-use Rattle.std.specs.Prelude.{ℕ, zero, suc, Bool, false, ◌==◌, List, [], ◌∷◌, ◌++◌, find, Option, Some, None}
+-- The state that the rules speak of, and the journal of its changes.
+use Rattle.std.specs.Prelude.{ℕ, zero, suc, Bool, false, ◌==◌, List, [], ◌∷◌, ◌++◌, length, find, Option, Some, None}
 use Rattle.nfs_xdr.specs.declared.client_id.ClientId.{ClientId}
 use Rattle.nfs_core.specs.declared.client_record.ClientRecord.{ClientRecord}
 use Rattle.nfs_core.specs.declared.entry.Entry.{Entry}
@@ -7,7 +7,7 @@ use Rattle.nfs_core.specs.Registry.{Registry, no_clients}
 use Rattle.nfs_core.specs.declared.stored_file.StoredFile.{StoredFile}
 use Rattle.nfs_tree.specs.declared.node.Node.{Node}
 use Rattle.nfs_tree.specs.declared.policy.Policy.{Policy}
-use Rattle.nfs_tree.specs.Tree.{Files, node_count, text_of}
+use Rattle.nfs_tree.specs.Tree.{node_count, text_of}
 
 pub record State : Type 0 where
   pub clients : Registry
@@ -31,13 +31,23 @@ opening_files nodes = files_below nodes (node_count nodes)
 abbrev pub file_of : List StoredFile → ℕ → Option StoredFile
 file_of files node = find (λ f. f.node == node) files
 
+-- how often a file was changed, and how many bytes it has; a directory has neither
+abbrev pub change_of : Option StoredFile → ℕ
+change_of None = 0
+change_of (Some f) = f.change
+
+abbrev pub size_of : Option StoredFile → ℕ
+size_of None = 0
+size_of (Some f) = length f.bytes
+
 -- a server of these nodes that no client has come to
 abbrev pub empty_server : List Node → State
 empty_server nodes = record { clients = no_clients; files = opening_files nodes }
 
 -- What the server was opened with, and its entries in order, the first of them number 0.
 pub record History : Type 0 where
-  pub tree : Files
+  -- of the tree
+  pub nodes : List Node
   -- the run, the upper half of each clientid
   pub epoch : ℕ
   -- the lease in seconds

@@ -1,56 +1,72 @@
 -- How one entry leads from a state to the next.
-use Rattle.std.specs.Prelude.{◌≡◌, ℕ, ◌<◌, length, Option, IfSome}
-use Rattle.nfs_xdr.specs.declared.op.Op.{Op}
-use Rattle.nfs_xdr.specs.declared.op.Op.TheVariants as ops
-use Rattle.nfs_xdr.specs.declared.op_result.OpResult.{OpResult}
-use Rattle.nfs_xdr.specs.declared.op_result.OpResult.TheVariants as results
-use Rattle.nfs_xdr.specs.declared.status.Refusal.TheVariants.{Resource}
+use Rattle.std.specs.Prelude.{◌≡◌, ◌≢◌, ℕ, ◌<◌, [], ◌∷◌, ◌++◌, length, Option, Some, None, IfSome}
+use Rattle.nfs_core.specs.declared.change.Change.{Change}
+use Rattle.nfs_core.specs.declared.change.Change.TheVariants as changes
+use Rattle.nfs_core.specs.declared.decision.Decision.{Decision}
+use Rattle.nfs_core.specs.declared.entry.Call.{Call}
 use Rattle.nfs_core.specs.declared.entry.Entry.{Entry}
 use Rattle.nfs_core.specs.declared.entry.Entry.TheVariants as entries
-use Rattle.nfs_core.specs.declared.entry.Call.{Call}
 use Rattle.nfs_core.specs.declared.entry.TheConstants.{JOURNAL_LIMIT}
-use Rattle.nfs_xdr.specs.declared.principal.Principal.{Principal}
-use Rattle.nfs_core.specs.operations.Getattr.{StepGetattr}
-use Rattle.nfs_core.specs.operations.Setclientid.{StepSetclientid}
-use Rattle.nfs_core.specs.operations.SetclientidConfirm.{StepSetclientidConfirm}
+use Rattle.nfs_core.specs.declared.request.Request.{Request}
+use Rattle.nfs_core.specs.ClientChange.{with_change}
+use Rattle.nfs_core.specs.operations.{rule}
 use Rattle.nfs_core.specs.State.{State, History}
 use Rattle.nfs_tree.specs.Tree.{node_count}
+use Rattle.nfs_xdr.specs.declared.op.Op.{Op}
+use Rattle.nfs_xdr.specs.declared.op_result.OpResult.{OpResult}
+use Rattle.nfs_xdr.specs.declared.principal.Principal.{Principal}
+use Rattle.nfs_xdr.specs.declared.status.Refusal.TheVariants.{Resource}
 use Rattle.nfs_xdr.specs.Op.{opnum_of}
 use Rattle.nfs_xdr.specs.OpResult.{refusal_of}
 
--- The operation is answered so. An answer of another operation, or to one without an entry, never is.
-abbrev pub StepOp : History → State → Principal → Option ℕ → Op → OpResult → State → Type 0
-StepOp journal old principal filehandle (ops.Getattr mask) (results.Getattr answer) new =
-    StepGetattr journal old filehandle mask answer new
-StepOp journal old principal filehandle (ops.Setclientid args) (results.Setclientid answer) new =
-    StepSetclientid journal old principal args answer new
-StepOp journal old principal filehandle (ops.SetclientidConfirm args) (results.SetclientidConfirm answer) new =
-    StepSetclientidConfirm journal old principal args answer new
-StepOp journal old principal filehandle op answer new = ⊥
-
--- the current filehandle, if there is one, is that of a node
-abbrev pub IsFilehandle : History → Option ℕ → Type 0
-IsFilehandle journal filehandle = IfSome filehandle (λ node. node < node_count journal.tree.nodes)
-
--- From old, with this journal so far, the entry may come next and lead to new.
-abbrev pub Step : History → State → Entry → State → Type 0
-Step journal old (entries.Call call) new =
-    (length journal.entries < JOURNAL_LIMIT) × IsFilehandle journal call.filehandle × StepOp journal old call.principal call.filehandle call.op call.answer new
+-- the state after a change
+abbrev pub changed : Change → State → State
+changed changes.Nothing old = old
+changed (changes.Clients change) old = record old { clients = with_change change old.clients }
 
 -- NFS4ERR_RESOURCE as the operation's result
 abbrev pub resource : Op → OpResult
 resource op = refusal_of (opnum_of op) Resource
 
--- the entry of an operation that was answered
-abbrev pub call_of : ℕ → Principal → Op → Option ℕ → OpResult → Entry
-call_of moment principal op filehandle answer =
-    let call : Call = record { moment = moment; principal = principal; op = op; filehandle = filehandle; answer = answer } in
+-- the current filehandle, if there is one, is that of a node
+abbrev pub IsFilehandle : History → Option ℕ → Type 0
+IsFilehandle journal filehandle = IfSome filehandle (λ node. node < node_count journal.nodes)
+
+-- the request for an operation
+abbrev pub request_of : ℕ → Principal → Op → Option ℕ → Request
+request_of moment principal op filehandle =
+    record { moment = moment; principal = principal; op = op; filehandle = filehandle }
+
+-- the entry of a request with its answer
+abbrev pub call_of : Request → OpResult → Entry
+call_of request answer =
+    let call : Call = record { request = request; answer = answer } in
     entries.Call call
 
--- For one journal, state and call there is at most one answer, and at most one state after it.
+-- the journal with one entry more
+abbrev pub with_entry : Entry → History → History
+with_entry entry journal = record journal { entries = journal.entries ++ entry ∷ [] }
+
+-- From old, the call comes next in the journal by what its rule decides, and leads to new. No call
+-- that is answered NFS4ERR_RESOURCE comes in, nor one where a limit would be passed.
+abbrev pub Follows : Option Decision → History → State → Call → State → Type 0
+Follows None journal old call new = ⊥
+Follows (Some decision) journal old call new =
+    (length journal.entries < JOURNAL_LIMIT)
+    × (call.answer ≢ resource call.request.op)
+    × (call.answer ≡ decision.answer)
+    × (new ≡ changed decision.change old)
+
+-- From old, with this journal so far, the entry may come next and lead to new.
+abbrev pub Step : History → State → Entry → State → Type 0
+Step journal old (entries.Call call) new =
+    IsFilehandle journal call.request.filehandle
+    × Follows (rule call.request.op journal old call.request) journal old call new
+
+-- For one journal, state and request there is at most one answer, and at most one state after it.
 abbrev pub AtMostOneStep : Type 0
 AtMostOneStep =
-    (journal : History) (old : State) (moment : ℕ) (principal : Principal) (op : Op) (filehandle : Option ℕ) (answer answer' : OpResult) (new new' : State)
-    → Step journal old (call_of moment principal op filehandle answer) new
-    → Step journal old (call_of moment principal op filehandle answer') new'
+    (journal : History) (old : State) (request : Request) (answer answer' : OpResult) (new new' : State)
+    → Step journal old (call_of request answer) new
+    → Step journal old (call_of request answer') new'
     → (answer ≡ answer') × (new ≡ new')

@@ -1,9 +1,8 @@
-use nfs_tree::Callbacks;
 use nfs_xdr::{Callback, ClientId, ID_LIMIT, Principal, SetclientidConfirm, Verifier};
 use xdr::Opaque;
 
 /// What the server keeps of a SETCLIENTID: RFC 7530, section 16.33.5, writes it { v, x, c, l, s }.
-#[derive(Debug, Drop)]
+#[derive(Clone, Debug, Drop)]
 pub struct ClientRecord {
     /// The client's name for itself (x).
     pub id: Opaque<ID_LIMIT>,
@@ -32,21 +31,6 @@ pub enum PathMark {
     Up,
     /// A callback was not answered, or the address is no address.
     Down,
-}
-
-impl PathMark {
-    ghost use Rattle.std.specs.Prelude.{◌≡◌};
-    ghost use Rattle.nfs_core.specs.operations.SetclientidConfirm.{path_of};
-
-    /// The mark of a client that is confirmed now.
-    pub(crate) fn at_first(callbacks: Callbacks) -> PathMark
-        ensures { result ≡ path_of callbacks }
-    {
-        match callbacks {
-            Callbacks::Probe => PathMark::Unknown,
-            Callbacks::Assume => PathMark::Up,
-        }
-    }
 }
 
 /// The most bytes of r_netid, and of r_addr, of a client's record.

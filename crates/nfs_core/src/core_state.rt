@@ -1,18 +1,23 @@
-ghost use Rattle.std.specs.Prelude.{◌≡◌, ◌≤◌, [], IfOk, IfSome, IfNone, IsTrue, length};
-ghost use Rattle.nfs_core.specs.Server.{Applies, Enters, IsLawful};
-ghost use Rattle.nfs_core.specs.State.{empty_server};
-ghost use Rattle.nfs_core.specs.Step.{AtMostOneStep, IsFilehandle, call_of};
+ghost use Rattle.std.specs.Prelude.{◌≡◌, ◌≤◌, ◌<◌, [], IfOk, OnOk, OnErr, IsErrOf, IsTrue, Some, length};
+ghost use Rattle.std.specs.Vec.{vec_len, vec_capacity};
+ghost use Rattle.nfs_core.specs.Server.{Applies, IsLawful};
+ghost use Rattle.nfs_core.specs.Step.{AtMostOneStep, Follows, IsFilehandle, call_of, changed, request_of, with_entry};
+ghost use Rattle.nfs_core.specs.Stored.{opened};
+ghost use Rattle.nfs_core.specs.Deciding.{HasNoStep, IsSendable};
+ghost use Rattle.nfs_core.specs.Room.{state_of, stored_of};
+ghost use Rattle.nfs_core.specs.operations.{rule};
 ghost use Rattle.nfs_xdr.specs.Op.{has_entry};
 ghost use Rattle.nfs_xdr.specs.OpResult.{op_result};
 
-use crate::operations::getattr::getattr;
-use crate::operations::setclientid::setclientid;
-use crate::operations::setclientid_confirm::setclientid_confirm;
+use crate::change::Change;
+use crate::journal::push_entry;
+use crate::operations::decide;
+use crate::shortage::Shortage;
 use crate::tables::Tables;
-use crate::{CoreError, Journal, LEASE_MAX, LEASE_MIN, Moment};
+use crate::{Call, CoreError, Entry, JOURNAL_LIMIT, Journal, LEASE_MAX, LEASE_MIN, Moment, Request};
 use nfs_tree::{Policy, Tree};
 use nfs_xdr::{Op, OpResult, Principal, Refusal};
-use std::alloc::Global;
+use std::alloc::{AllocError, Global};
 use std::marker::Model;
 
 /// The most bytes of an answer in a reply.
@@ -28,14 +33,15 @@ pub struct Core {
 }
 
 impl Model for Core {
-    ghost use Rattle.nfs_core.specs.Server.{Server};
     ghost use Rattle.nfs_core.specs.Lawful.{Lawful};
+    ghost use Rattle.nfs_core.specs.Server.{Server};
+    ghost use Rattle.nfs_core.specs.Room.{state_of, stored_of};
 
     ghost Value = { Server };
 
-    ghost view = { λ c. record { journal = c.journal; state = c.tables } };
+    ghost view = { λ c. record { journal = c.journal; stored = stored_of c.tables } };
 
-    ghost invariant = { λ c. Lawful c.journal c.tables };
+    ghost invariant = { λ c. Lawful c.journal (state_of c.tables) };
 }
 
 impl Core {
@@ -49,10 +55,13 @@ impl Core {
         policy: Policy,
     ) -> Result<Core, CoreError>
         requires { (LEASE_MIN ≤ lease) × (lease ≤ LEASE_MAX) }
-        ensures { IfOk result (λ core. core ≡ record {
-          journal = record { tree = tree.now; epoch = epoch; lease = lease; policy = policy; entries = [] };
-          state = empty_server tree.now.nodes;
+        ensures value { IfOk result (λ core. core ≡ record {
+          journal = record {
+            nodes = tree.now.nodes; epoch = epoch; lease = lease; policy = policy; entries = [];
+          };
+          stored = opened tree.now.nodes;
         }) }
+        ensures lawful { IfOk result (λ core. IsLawful core) }
     {
         Ok(Core {
             alloc,
@@ -64,7 +73,6 @@ impl Core {
     /// Answers an operation that has a rule here (`Op::has_entry`), and gives its entry's number in the
     /// journal. With no number the answer is NFS4ERR_RESOURCE and nothing has changed: the journal is
     /// full, memory was refused, or a limit of the tables is met. `filehandle` is a node of the tree.
-    #[tactic(auto, unfolding(nfs_xdr::specs::OpResult::op_result, nfs_xdr::specs::operations::opnum, nfs_xdr::specs::Status::status, xdr::specs::Writing::written_number, nfs_xdr::specs::Answer::answer, nfs_xdr::specs::ClientAnswer::client_answer))]
     pub fn apply(
         &mut self,
         moment: Moment,
@@ -74,64 +82,92 @@ impl Core {
     ) -> (OpResult, Option<u32>)
         requires entry { IsTrue (has_entry op.now) }
         requires node { IsFilehandle self.old.journal filehandle }
-        ensures applies { Applies self.old self.new moment principal op.now filehandle result.0 result.1 }
+        ensures applies { Applies self.old self.new (request_of moment principal op.now filehandle)
+            result.0 result.1 }
         ensures short { length (op_result.spelling result.0) ≤ ANSWER_LIMIT }
         ensures form { op_result.Fits result.0 }
         ensures lawful { IsLawful self.new }
     {
         let tables = &mut self.tables;
         let journal = &mut self.journal;
-        match enter(
-            self.alloc, tables, journal, moment, principal, op, filehandle,
-        ) {
-            Some((answer, number)) => (answer, Some(number)),
-            None => (op.opnum().refusal(Refusal::Resource), None),
+        let Ok(request) = Request::of_copy(moment, principal, op, filehandle) else {
+            return (op.opnum().refusal(Refusal::Resource), None);
+        };
+        match enter(self.alloc, tables, journal, request) {
+            Ok((answer, number)) => (answer, Some(number)),
+            Err(_) => (op.opnum().refusal(Refusal::Resource), None),
         }
     }
 
     /// The journal.
     pub fn journal(&self) -> &Journal
-        ensures { result.now ≡ self.now.journal }
+        ensures journal { result.now ≡ self.now.journal }
+        ensures lawful { IsLawful self.now }
     {
         &self.journal
     }
 }
 
-// Answers an operation and enters it: the answer and its entry's number, or none and no change where it is refused.
+// Enters what is asked for, with its answer: the answer and the entry's number. A limit is told just
+// where no answer may come next.
 fn enter(
     alloc: Global,
     tables: &mut Tables,
     journal: &mut Journal,
-    moment: Moment,
-    principal: Principal,
-    op: &Op,
-    filehandle: Option<u32>,
-) -> Option<(OpResult, u32)>
-    requires entry { IsTrue (has_entry op.now) }
-    requires confirm { tables.old.clients.last_confirm ≤ length journal.old.entries }
-    requires node { IsFilehandle journal.old filehandle }
-    ensures entered { IfSome result (λ r. Enters
-        (record { journal = journal.old; state = tables.old })
-        (record { journal = journal.new; state = tables.new })
-        (call_of moment principal op.now filehandle r.0)) }
-    ensures number { IfSome result (λ r. r.1 ≡ length journal.old.entries) }
-    ensures short { IfSome result (λ r. length (op_result.spelling r.0) ≤ ANSWER_LIMIT) }
-    ensures form { IfSome result (λ r. op_result.Fits r.0) }
-    ensures refused { IfNone result ((journal.new ≡ journal.old) × (tables.new ≡ tables.old)) }
+    request: Request,
+) -> Result<(OpResult, u32), Shortage>
+    requires entry { IsTrue (has_entry request.op) }
+    requires node { IsFilehandle journal.old request.filehandle }
+    ensures entered { IfOk result (λ r. Applies
+        (record { journal = journal.old; stored = stored_of tables.old })
+        (record { journal = journal.new; stored = stored_of tables.new })
+        request r.0 (Some r.1)) }
+    ensures sendable { IfOk result (λ r. IsSendable request.op r.0) }
+    ensures limit { IsErrOf result Shortage.Limit
+        → HasNoStep journal.old (state_of tables.old) request }
+    ensures same { OnErr result
+        ((journal.new ≡ journal.old) × (stored_of tables.new ≡ stored_of tables.old)) }
 {
-    match op {
-        Op::Getattr(mask) => getattr(alloc, tables, journal, moment, principal, mask, filehandle),
-        Op::Setclientid(args) => {
-            setclientid(tables, journal, moment, principal, args, filehandle)
-        }
-        Op::SetclientidConfirm(args) => {
-            setclientid_confirm(tables, journal, moment, principal, args, filehandle)
-        }
-        _ => unreachable!(),
+    if journal.is_full() {
+        return Err(Shortage::Limit);
     }
+    let decision = decide(alloc, tables, journal, &request)?;
+    let answer = copied(&decision.answer)?;
+    let call = Call {
+        request,
+        answer: decision.answer,
+    };
+    let number = take_in(tables, journal, call, decision.change)?;
+    Ok((answer, number))
 }
 
-/// The law that an operation has at most one answer from a state, and leads to at most one state.
+fn copied(answer: &OpResult) -> Result<OpResult, AllocError>
+    ensures { IfOk result (λ r. r ≡ answer.now) }
+{
+    answer.clone()
+}
+
+// Makes room for the change and for the entry, then makes the change and enters the call.
+fn take_in(
+    tables: &mut Tables,
+    journal: &mut Journal,
+    call: Call,
+    change: Change,
+) -> Result<u32, AllocError>
+    requires { length journal.old.entries < JOURNAL_LIMIT }
+    ensures number { IfOk result (λ n. n ≡ length journal.old.entries) }
+    ensures entry { OnOk result (journal.new ≡ with_entry (Entry.Call call) journal.old) }
+    ensures change { OnOk result (state_of tables.new ≡ changed change (state_of tables.old)) }
+    ensures same { OnErr result
+        ((journal.new ≡ journal.old) × (stored_of tables.new ≡ stored_of tables.old)) }
+{
+    journal.entries.reserve(1)?;
+    tables.make_room(&change)?;
+    tables.commit(change);
+    Ok(push_entry(&mut journal.entries, Entry::Call(call)))
+}
+
+/// The law that a request has at most one answer from a state, and leads to at most one state.
 pub fn at_most_one_step()
     ensures { AtMostOneStep }
 {}

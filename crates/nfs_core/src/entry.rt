@@ -1,5 +1,5 @@
-use crate::Moment;
-use nfs_xdr::{Op, OpResult, Principal};
+use crate::Request;
+use nfs_xdr::OpResult;
 
 /// One change of the state, as the journal keeps it.
 #[derive(Debug, Drop)]
@@ -8,14 +8,10 @@ pub enum Entry {
     Call(Call),
 }
 
-/// An operation, with who sent it when under which filehandle, and its answer.
+/// A request and its answer.
 #[derive(Debug, Drop)]
 pub struct Call {
-    pub moment: Moment,
-    pub principal: Principal,
-    pub op: Op,
-    /// The current filehandle's node, if there is one.
-    pub filehandle: Option<u32>,
+    pub request: Request,
     pub answer: OpResult,
 }
 

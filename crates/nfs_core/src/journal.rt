@@ -1,7 +1,7 @@
-ghost use Rattle.std.specs.Prelude.{◌≡◌, ◌<◌, ◌≤◌, [], ◌∷◌, ◌++◌, length, OnSome};
+ghost use Rattle.std.specs.Prelude.{◌≡◌, ◌<◌, ◌≤◌, [], ◌∷◌, ◌++◌, nat_le, length};
 ghost use Rattle.std.specs.Vec.{vec_len, vec_capacity};
 
-use crate::{Call, Entry, JOURNAL_LIMIT};
+use crate::{Entry, JOURNAL_LIMIT};
 use nfs_tree::{Policy, Tree};
 use std::alloc::Global;
 use std::marker::Model;
@@ -19,7 +19,7 @@ pub struct Journal {
     epoch: u32,
     lease: u32,
     policy: Policy,
-    // The operations reach it, since they make room here before they change the state.
+    // What enters a call reaches it, since it makes room here before it changes the state.
     pub(crate) entries: Vec<Entry>,
 }
 
@@ -30,7 +30,7 @@ impl Model for Journal {
 
     ghost Value = { History };
 
-    ghost view = { λ j. record { tree = j.tree; epoch = j.epoch; lease = j.lease; policy = j.policy; entries = j.entries.items } };
+    ghost view = { λ j. record { nodes = j.tree.nodes; epoch = j.epoch; lease = j.lease; policy = j.policy; entries = j.entries.items } };
 
     ghost invariant = { λ j. (LEASE_MIN ≤ j.lease) × (j.lease ≤ LEASE_MAX) };
 }
@@ -39,7 +39,9 @@ impl Journal {
     /// An empty journal, taking no memory.
     pub(crate) fn new(alloc: Global, tree: Tree, lease: u32, epoch: u32, policy: Policy) -> Journal
         requires { (LEASE_MIN ≤ lease) × (lease ≤ LEASE_MAX) }
-        ensures { result ≡ record { tree = tree; epoch = epoch; lease = lease; policy = policy; entries = [] } }
+        ensures { result ≡ record {
+          nodes = tree.nodes; epoch = epoch; lease = lease; policy = policy; entries = [];
+        } }
     {
         Journal {
             tree,
@@ -52,7 +54,7 @@ impl Journal {
 
     /// The tree that the server was opened with.
     pub fn tree(&self) -> &Tree
-        ensures { result.now ≡ self.now.tree }
+        ensures { result.now.nodes ≡ self.now.nodes }
     {
         &self.tree
     }
@@ -85,30 +87,24 @@ impl Journal {
     {
         self.entries.as_slice()
     }
-}
 
-// These two work on the entries alone: that there is room is nothing that a journal's value tells.
-
-/// Makes room for one more entry, or gives none where the journal is full or memory is refused.
-pub(crate) fn make_room(entries: &mut Vec<Entry>) -> Option<()>
-    ensures same { entries.new.items ≡ entries.old.items }
-    ensures below { OnSome result (length entries.new.items < JOURNAL_LIMIT) }
-    ensures room { OnSome result (vec_len entries.new < vec_capacity entries.new) }
-{
-    if entries.len() >= JOURNAL_LIMIT {
-        return None;
+    /// Whether it has as many entries as it may have.
+    pub(crate) fn is_full(&self) -> bool
+        ensures { result ≡ nat_le JOURNAL_LIMIT (length self.now.entries) }
+    {
+        self.entries.len() >= JOURNAL_LIMIT
     }
-    entries.reserve(1).ok()
 }
 
-/// Puts the call at the end, where there is room, and gives its number.
-pub(crate) fn push_call(entries: &mut Vec<Entry>, call: Call) -> u32
+/// Puts the entry at the end, where there is room, and gives its number. It is about the entries alone,
+/// since a journal's value doesn't tell that there is room.
+pub(crate) fn push_entry(entries: &mut Vec<Entry>, entry: Entry) -> u32
     requires below { length entries.old.items < JOURNAL_LIMIT }
     requires room { vec_len entries.old < vec_capacity entries.old }
-    ensures items { entries.new.items ≡ entries.old.items ++ Entry.Call call ∷ [] }
+    ensures items { entries.new.items ≡ entries.old.items ++ entry ∷ [] }
     ensures number { result ≡ length entries.old.items }
 {
     let number = entries.len() as u32;
-    entries.push_reserved(Entry::Call(call));
+    entries.push_reserved(entry);
     number
 }

@@ -1,15 +1,19 @@
 //! The state of the server, the rules by which it changes, and the journal of its changes.
 #![tactic(auto)]
 
+mod change;
 mod client_record;
 mod clients;
 mod core_error;
 mod core_state;
+mod decision;
 mod entry;
 mod journal;
 mod limits;
 mod moment;
 mod operations;
+mod request;
+mod shortage;
 mod stored_file;
 mod stored_files;
 mod tables;
@@ -21,4 +25,5 @@ pub use entry::{Call, Entry, JOURNAL_LIMIT};
 pub use journal::{Journal, LEASE_MAX, LEASE_MIN};
 pub use limits::limits_of_the_state;
 pub use moment::Moment;
+pub use request::Request;
 pub use stored_file::StoredFile;

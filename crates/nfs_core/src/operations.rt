@@ -1,5 +1,38 @@
-// The operations with an entry, one file each.
+// The operations with an entry, one file each, which decides how it is answered and what it changes.
+ghost use Rattle.std.specs.Prelude.{IsTrue};
+ghost use Rattle.nfs_core.specs.operations.{rule};
+ghost use Rattle.nfs_core.specs.Deciding.{Decides};
+ghost use Rattle.nfs_core.specs.Step.{IsFilehandle};
+ghost use Rattle.nfs_core.specs.Room.{state_of};
+ghost use Rattle.nfs_xdr.specs.Op.{has_entry};
 
-pub(crate) mod getattr;
-pub(crate) mod setclientid;
-pub(crate) mod setclientid_confirm;
+mod getattr;
+mod setclientid;
+mod setclientid_confirm;
+
+use crate::decision::Decision;
+use crate::shortage::Shortage;
+use crate::tables::Tables;
+use crate::{Journal, Request};
+use nfs_xdr::Op;
+use std::alloc::Global;
+
+/// Decides by its rule how an operation with an entry is answered, and what it changes.
+pub(crate) fn decide(
+    alloc: Global,
+    tables: &Tables,
+    journal: &Journal,
+    request: &Request,
+) -> Result<Decision, Shortage>
+    requires entry { IsTrue (has_entry request.now.op) }
+    requires node { IsFilehandle journal.now request.now.filehandle }
+    ensures { Decides (rule request.now.op journal.now (state_of tables.now) request.now)
+        request.now.op result }
+{
+    match &request.op {
+        Op::Getattr(mask) => getattr::decide(alloc, tables, journal, request, mask),
+        Op::Setclientid(args) => setclientid::decide(tables, journal, request, args),
+        Op::SetclientidConfirm(args) => setclientid_confirm::decide(tables, journal, request, args),
+        _ => unreachable!(),
+    }
+}

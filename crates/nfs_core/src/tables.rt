@@ -1,36 +1,30 @@
-ghost use Rattle.std.specs.Prelude.{◌≡◌, IfOk};
+ghost use Rattle.std.specs.Prelude.{◌≡◌, IfOk, OnOk};
 
 use crate::ClientRecord;
+use crate::change::Change;
 use crate::clients::Clients;
 use crate::stored_files::StoredFiles;
 use nfs_tree::Tree;
 use nfs_xdr::ClientId;
 use std::alloc::{AllocError, Global};
-use std::marker::Model;
 
-/// What the server keeps.
+/// What the server stores.
 #[derive(Debug, Drop)]
 pub(crate) struct Tables {
     pub(crate) clients: Clients,
     files: StoredFiles,
 }
 
-impl Model for Tables {
-    ghost use Rattle.nfs_core.specs.State.{State};
-
-    ghost Value = { State };
-
-    ghost view = { λ t. record { clients = t.clients; files = t.files } };
-}
-
 impl Tables {
     ghost use Rattle.std.specs.Option.{option_copied};
-    ghost use Rattle.nfs_core.specs.operations.Getattr.{change_of, size_of};
-    ghost use Rattle.nfs_core.specs.State.{empty_server, file_of, has_state, record_has_state};
+    ghost use Rattle.nfs_core.specs.State.{change_of, file_of, has_state, record_has_state, size_of};
+    ghost use Rattle.nfs_core.specs.Step.{changed};
+    ghost use Rattle.nfs_core.specs.Room.{HasRoom, state_of, stored_of};
+    ghost use Rattle.nfs_core.specs.Stored.{opened};
 
     /// The tree's files, and no client.
     pub(crate) fn opened(alloc: Global, tree: &Tree) -> Result<Tables, AllocError>
-        ensures { IfOk result (λ t. t ≡ empty_server tree.now.nodes) }
+        ensures { IfOk result (λ t. stored_of t ≡ opened tree.now.nodes) }
     {
         Ok(Tables {
             clients: Clients::new(alloc),
@@ -50,7 +44,7 @@ impl Tables {
 
     /// Whether the client of the record, if there is one, has state.
     pub(crate) fn record_has_state(&self, found: Option<&ClientRecord>) -> bool
-        ensures { result ≡ record_has_state self.now (option_copied found.entry) }
+        ensures { result ≡ record_has_state (state_of self.now) (option_copied found.entry) }
     {
         match found {
             Some(found) => self.has_state(found.client),
@@ -60,8 +54,30 @@ impl Tables {
 
     // Whether the client has state. There is none yet that it could have.
     fn has_state(&self, _client: ClientId) -> bool
-        ensures { result ≡ has_state self.now _client }
+        ensures { result ≡ has_state (state_of self.now) _client }
     {
         false
+    }
+
+    /// Makes room for the change.
+    pub(crate) fn make_room(&mut self, change: &Change) -> Result<(), AllocError>
+        ensures same { stored_of self.new ≡ stored_of self.old }
+        ensures room { OnOk result (HasRoom change.now self.new) }
+    {
+        match change {
+            Change::Nothing => Ok(()),
+            Change::Clients(change) => self.clients.make_room(change),
+        }
+    }
+
+    /// Makes the change, for which there is room. It takes no memory.
+    pub(crate) fn commit(&mut self, change: Change)
+        requires { HasRoom change self.old }
+        ensures { state_of self.new ≡ changed change (state_of self.old) }
+    {
+        match change {
+            Change::Nothing => {}
+            Change::Clients(change) => self.clients.commit(change),
+        }
     }
 }

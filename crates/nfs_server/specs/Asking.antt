@@ -2,20 +2,18 @@
 use Rattle.std.specs.Prelude.{◌≡◌, ℕ, List, [], ◌∷◌, Option}
 use Rattle.nfs_xdr.specs.declared.principal.Principal.{Principal}
 use Rattle.nfs_server.specs.Answering.{Asked}
+use Rattle.nfs_core.specs.declared.request.Request.{Request}
 use Rattle.nfs_core.specs.Server.{Server, Applies}
-use Rattle.nfs_xdr.specs.declared.op.Op.{Op}
+use Rattle.nfs_core.specs.Step.{request_of}
 use Rattle.nfs_xdr.specs.declared.op_result.OpResult.{OpResult}
 
--- an operation, with who asks for it when under which current filehandle
-pub record Question : Type 0 where
-  pub moment : ℕ
-  pub principal : Principal
-  pub op : Op
-  pub filehandle : Option ℕ
+-- a service is asked for an operation
+abbrev pub Question : Type 0
+Question = Request
 
 -- what is asked of a COMPOUND, as a question
 abbrev pub question_of : ℕ → Principal → Asked → Question
-question_of moment principal asked = record { moment = moment; principal = principal; op = asked.op; filehandle = asked.filehandle }
+question_of moment principal asked = request_of moment principal asked.op asked.filehandle
 
 -- From old, the service may answer these questions so, one after the other, and go on to new. `gives` is one question.
 abbrev pub Asks : {S : Type 0} → (S → Question → OpResult → S → Type 0) → S → List Question → List OpResult → S → Type 0
@@ -27,4 +25,4 @@ Asks gives old (question ∷ questions) [] new = ⊥
 -- a core answers a question: it is the journal's next entry, or the answer is NFS4ERR_RESOURCE and nothing changes
 abbrev pub GivenByCore : Server → Question → OpResult → Server → Type 0
 GivenByCore old question answer new =
-    (number : Option ℕ) × Applies old new question.moment question.principal question.op question.filehandle answer number
+    (number : Option ℕ) × Applies old new question answer number

@@ -13,7 +13,7 @@ AreEntries (question ∷ questions) (answer ∷ answers) entries =
     ((answer ≡ resource question.op) × AreEntries questions answers entries)
     ⊎ ((answer ≢ resource question.op)
     × (rest : List Entry)
-    × (entries ≡ call_of question.moment question.principal question.op question.filehandle answer ∷ rest)
+    × (entries ≡ call_of question answer ∷ rest)
     × AreEntries questions answers rest)
 AreEntries [] (answer ∷ answers) entries = ⊥
 AreEntries (question ∷ questions) [] entries = ⊥

@@ -29,11 +29,11 @@ pub(crate) fn answer<S: Service, C: Clock>(
 ) -> Result<(), AllocError>
     requires limit { length message.now ≤ RECORD_LIMIT }
     requires empty { out.old.items ≡ [] }
-    requires serves { S.serves service.old ≡ tree.now }
+    requires serves { S.serves service.old ≡ tree.now.nodes }
     ensures ok { OnOk result ((e : Exchange) × (e.message ≡ message.now)
         × IsExchanged tree.now S.gives C.tells service.old clock.old e service.new clock.new × (out.new.items ≡ written_for tree.now e)) }
     ensures err { OnErr result ((service.new ≡ service.old) × (clock.new ≡ clock.old)) }
-    ensures serves { S.serves service.new ≡ tree.now }
+    ensures serves { S.serves service.new ≡ tree.now.nodes }
 {
     match read_call(alloc, message) {
         Call::Silent => Ok(()),
@@ -58,12 +58,12 @@ fn answer_compound<S: Service, C: Clock>(
 ) -> Result<(), AllocError>
     requires limits { IsWithinLimits RECORD_LIMIT compound }
     requires empty { out.old.items ≡ [] }
-    requires serves { S.serves service.old ≡ tree.now }
+    requires serves { S.serves service.old ≡ tree.now.nodes }
     ensures ok { OnOk result ((moment : ℕ) × (answers : List OpResult) × C.tells clock.old moment clock.new
         × Asks S.gives service.old (map (question_of moment principal) (compound_outcome tree.now compound answers).asked) answers service.new
         × (out.new.items ≡ written_record (written_reply xid (Reply.Compound (compound_reply tree.now compound answers))))) }
     ensures err { OnErr result ((service.new ≡ service.old) × (clock.new ≡ clock.old)) }
-    ensures serves { S.serves service.new ≡ tree.now }
+    ensures serves { S.serves service.new ≡ tree.now.nodes }
 {
     out.reserve(REPLY_ROOM)?;
     let results = Vec::with_capacity(alloc, OPERATION_LIMIT as usize)?;

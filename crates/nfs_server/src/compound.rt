@@ -31,14 +31,14 @@ pub fn run_compound<S: Service>(
     mut results: Vec<OpResult>,
 ) -> CompoundReply
     requires limits { IsWithinLimits RECORD_LIMIT compound }
-    requires serves { S.serves service.old ≡ tree.now }
+    requires serves { S.serves service.old ≡ tree.now.nodes }
     requires empty { results.items ≡ [] }
     requires room { OPERATION_LIMIT ≤ vec_capacity results }
     // The service was asked what the COMPOUND asks, given the answers, and the reply is that of the answers.
     ensures answers { (answers : List OpResult)
         × Asks S.gives service.old (map (question_of moment principal) (compound_outcome tree.now compound answers).asked) answers service.new
         × (result ≡ compound_reply tree.now compound answers) }
-    ensures serves { S.serves service.new ≡ tree.now }
+    ensures serves { S.serves service.new ≡ tree.now.nodes }
     // The reply is a record that may be sent.
     ensures fits { ACCEPTED_LEN + length (compound_result.spelling (result.status, (result.tag, result.results))) ≤ RECORD_LIMIT }
     // The reply has a form, and so do all of its results.
@@ -62,11 +62,11 @@ fn answer_request<S: Service>(
     results: &mut Vec<OpResult>,
 ) -> Status
     requires limits { IsWithinLimits RECORD_LIMIT compound.now }
-    requires serves { S.serves service.old ≡ tree.now }
+    requires serves { S.serves service.old ≡ tree.now.nodes }
     requires empty { results.old.items ≡ [] }
     requires room { OPERATION_LIMIT ≤ vec_capacity results.old }
     ensures answers { IsCompoundAnswered S.gives tree.now moment principal compound.now service.old results.new.items service.new }
-    ensures serves { S.serves service.new ≡ tree.now }
+    ensures serves { S.serves service.new ≡ tree.now.nodes }
     ensures status { result ≡ request_status results.new.items compound.now.request }
     ensures fits { head_size compound.now.tag + length (flat_map op_result.spelling results.new.items) ≤ max (head_size compound.now.tag + 12) RECORD_LIMIT }
     ensures form { All op_result.Fits results.new.items }
@@ -100,11 +100,11 @@ fn answer_list<S: Service>(
     results: &mut Vec<OpResult>,
 ) -> Status
     requires few { start < 2 ^ 40 }
-    requires serves { S.serves service.old ≡ tree.now }
+    requires serves { S.serves service.old ≡ tree.now.nodes }
     requires empty { results.old.items ≡ [] }
     requires room { length ops.now ≤ vec_capacity results.old }
     ensures answers { IsDetermined S.gives tree.now start moment principal no_filehandles ops.now service.old results.new.items service.new }
-    ensures serves { S.serves service.new ≡ tree.now }
+    ensures serves { S.serves service.new ≡ tree.now.nodes }
     ensures status { result ≡ last_status results.new.items }
     ensures fits { start + length (flat_map op_result.spelling results.new.items) ≤ max (start + 12) RECORD_LIMIT }
     ensures form { All op_result.Fits results.new.items }
@@ -142,11 +142,11 @@ fn answer_operations<S: Service>(
     results: &mut Vec<OpResult>,
 )
     requires few { start < 2 ^ 40 }
-    requires serves { S.serves service.old ≡ tree.now }
+    requires serves { S.serves service.old ≡ tree.now.nodes }
     requires empty { results.old.items ≡ [] }
     requires room { length ops.now ≤ vec_capacity results.old }
     ensures answers { AreAnswers S.gives tree.now start moment principal no_filehandles ops.now service.old results.new.items service.new }
-    ensures serves { S.serves service.new ≡ tree.now }
+    ensures serves { S.serves service.new ≡ tree.now.nodes }
     ensures fits { start + length (flat_map op_result.spelling results.new.items) ≤ max (start + 12) RECORD_LIMIT }
     ensures form { All op_result.Fits results.new.items }
 {
@@ -181,10 +181,10 @@ fn answer_one<S: Service>(
     size: usize,
 ) -> OpResult
     requires few { size < 2 ^ 41 }
-    requires serves { S.serves service.old ≡ tree.now }
+    requires serves { S.serves service.old ≡ tree.now.nodes }
     requires nodes { AreNodes tree.now handles.old }
     ensures answer { IsAnswer S.gives tree.now size moment principal handles.old op.now service.old result handles.new service.new }
-    ensures serves { S.serves service.new ≡ tree.now }
+    ensures serves { S.serves service.new ≡ tree.now.nodes }
     ensures nodes { AreNodes tree.now handles.new }
     ensures form { op_result.Fits result }
     ensures fits { length (op_result.spelling result) ≤ ANSWER_LIMIT }
@@ -210,10 +210,10 @@ fn run_one<S: Service>(
     size: usize,
 ) -> OpResult
     requires few { size < 2 ^ 41 }
-    requires serves { S.serves service.old ≡ tree.now }
+    requires serves { S.serves service.old ≡ tree.now.nodes }
     requires nodes { AreNodes tree.now handles.old }
     ensures answer { IsAnswer S.gives tree.now size moment principal handles.old (ArgOp.Run op.now) service.old result handles.new service.new }
-    ensures serves { S.serves service.new ≡ tree.now }
+    ensures serves { S.serves service.new ≡ tree.now.nodes }
     ensures nodes { AreNodes tree.now handles.new }
     ensures form { op_result.Fits result }
     ensures fits { length (op_result.spelling result) ≤ ANSWER_LIMIT }

@@ -33,9 +33,9 @@ pub fn serve_connection<R: Source, W: Sink, S: Service, C: Clock>(
 ) -> Result<usize, ServeError>
     requires reads { R.failures source.old < 2 ^ 64 - 1 }
     requires writes { W.failures sink.old < 2 ^ 64 - 1 }
-    requires serves { S.serves service.old ≡ tree.now }
+    requires serves { S.serves service.old ≡ tree.now.nodes }
     // What was read, what was asked of the service at which moment, what it answered and what was written is one course.
-    ensures serves { S.serves service.new ≡ tree.now }
+    ensures serves { S.serves service.new ≡ tree.now.nodes }
     ensures course { HasCourse tree.now S.gives C.tells service.old clock.old (R.remaining source.old) (W.contents sink.old) result service.new clock.new (R.remaining source.new) (W.contents sink.new) }
     ensures end { OnOk result (IsAtEnd (R.remaining source.new)) }
     ensures read_failed { IsErrOf result ServeError.Read ↔ R.failures source.old < R.failures source.new }
@@ -70,11 +70,11 @@ fn serve_stream<R: Source, W: Sink, S: Service, C: Clock>(
 ) -> Result<usize, ServeError>
     requires reads { R.failures source.old < 2 ^ 64 - 1 }
     requires writes { W.failures sink.old < 2 ^ 64 - 1 }
-    requires serves { S.serves service.old ≡ tree.now }
+    requires serves { S.serves service.old ≡ tree.now.nodes }
     requires empty { IsNew records }
     requires sound { IsStream records }
     requires piece { length buffer.old ≡ PIECE_LEN }
-    ensures serves { S.serves service.new ≡ tree.now }
+    ensures serves { S.serves service.new ≡ tree.now.nodes }
     ensures course { HasCourse tree.now S.gives C.tells service.old clock.old (R.remaining source.old) (W.contents sink.old) result service.new clock.new (R.remaining source.new) (W.contents sink.new) }
     ensures end { OnOk result (IsAtEnd (R.remaining source.new)) }
     ensures read_failed { IsErrOf result ServeError.Read ↔ R.failures source.old < R.failures source.new }
@@ -126,10 +126,10 @@ fn serve_ready<S: Service, W: Sink, C: Clock>(
     clock: &mut C,
     out: &mut Vec<u8>,
 ) -> Result<(), ServeError>
-    requires serves { S.serves service.old ≡ tree.now }
+    requires serves { S.serves service.old ≡ tree.now.nodes }
     requires limits { AllByRecursion (λ message. length message ≤ RECORD_LIMIT) records.old.ready }
     requires room { W.failures sink.old < 2 ^ 64 - 1 }
-    ensures serves { S.serves service.new ≡ tree.now }
+    ensures serves { S.serves service.new ≡ tree.now.nodes }
     ensures served { IsServed tree.now S.gives C.tells service.old clock.old (W.contents sink.old) records.old.ready result service.new clock.new (W.contents sink.new) }
     ensures taken { OnOk result (records.new ≡ record records.old { ready = [] }) }
     ensures ok { OnOk result (W.failures sink.new ≡ W.failures sink.old) }
@@ -151,10 +151,10 @@ fn serve_one<S: Service, W: Sink, C: Clock>(
     clock: &mut C,
     out: &mut Vec<u8>,
 ) -> Result<(), ServeError>
-    requires serves { S.serves service.old ≡ tree.now }
+    requires serves { S.serves service.old ≡ tree.now.nodes }
     requires limit { length message.now ≤ RECORD_LIMIT }
     requires room { W.failures sink.old < 2 ^ 64 - 1 }
-    ensures serves { S.serves service.new ≡ tree.now }
+    ensures serves { S.serves service.new ≡ tree.now.nodes }
     ensures served { IsServedOne tree.now S.gives C.tells service.old clock.old (W.contents sink.old) message.now result service.new clock.new (W.contents sink.new) }
     ensures ok { OnOk result (W.failures sink.new ≡ W.failures sink.old) }
     ensures write_failed { IsErrOf result ServeError.Write ↔ W.failures sink.old < W.failures sink.new }

@@ -24,7 +24,7 @@ pub fn run_once<R: Source, W: Sink, E: Write>(
 ) -> u8
     requires reads { R.failures source.old < 2 ^ 64 - 1 }
     requires writes { W.failures sink.old < 2 ^ 64 - 1 }
-    requires tree { core.journal.tree ≡ tree.now }
+    requires tree { core.journal.nodes ≡ tree.now.nodes }
     // The input was served as a connection from this core on, and the status says how that ended.
     ensures { (lent : Lent) × (clock : Stopped) × (lent' : Lent) × (clock' : Stopped) × (outcome : Result ℕ ServeError)
         × (lent.core ≡ core) × (clock.moment ≡ 0)

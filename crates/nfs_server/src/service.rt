@@ -1,9 +1,11 @@
-ghost use Rattle.std.specs.Prelude.{◌≡◌, ◌<◌, ◌≤◌, IsTrue, IfSome, length};
+ghost use Rattle.std.specs.Prelude.{◌≡◌, ◌<◌, ◌≤◌, IsTrue, IfSome, List, length};
 ghost use Rattle.nfs_xdr.specs.Op.{has_entry};
 ghost use Rattle.nfs_server.specs.Asking.{GivenByCore, Question};
 ghost use Rattle.nfs_server.specs.Entries.{QuestionsAreEntries};
+ghost use Rattle.nfs_core.specs.Step.{request_of};
 ghost use Rattle.nfs_core.specs.declared.core_state.TheConstants.{ANSWER_LIMIT};
-ghost use Rattle.nfs_tree.specs.Tree.{Files, node_count};
+ghost use Rattle.nfs_tree.specs.Tree.{node_count};
+ghost use Rattle.nfs_tree.specs.declared.node.Node.{Node};
 ghost use Rattle.nfs_xdr.specs.declared.op_result.OpResult.{OpResult};
 ghost use Rattle.nfs_xdr.specs.OpResult.{op_result};
 
@@ -14,8 +16,8 @@ use nfs_xdr::{Op, OpResult, Principal};
 pub trait Service {
     /// From a state, the service may answer a question so and go on to a state.
     ghost gives: { Self → Question → OpResult → Self → Type 0 };
-    /// The tree of its files.
-    ghost serves: { Self → Files };
+    /// The nodes of its tree.
+    ghost serves: { Self → List Node };
 
     /// Answers an operation that has an entry, under a filehandle of its tree.
     fn call(
@@ -26,8 +28,8 @@ pub trait Service {
         filehandle: Option<u32>,
     ) -> OpResult
         requires entry { IsTrue (has_entry op.now) }
-        requires node { IfSome filehandle (λ node. node < node_count (serves self.old).nodes) }
-        ensures gives { gives self.old (record { moment = moment; principal = principal; op = op.now; filehandle = filehandle }) result self.new }
+        requires node { IfSome filehandle (λ node. node < node_count (serves self.old)) }
+        ensures gives { gives self.old (request_of moment principal op.now filehandle) result self.new }
         ensures serves { serves self.new ≡ serves self.old }
         ensures fits { length (op_result.spelling result) ≤ ANSWER_LIMIT }
         ensures form { op_result.Fits result };
@@ -58,7 +60,7 @@ impl Lent {
 impl Service for Lent {
     ghost gives = { λ old question answer new. GivenByCore old.core question answer new.core };
 
-    ghost serves = { λ l. l.core.journal.tree };
+    ghost serves = { λ l. l.core.journal.nodes };
 
     fn call(
         &mut self,

@@ -1,117 +1,107 @@
-ghost use Rattle.std.specs.Prelude.{◌≡◌, ◌<◌, ◌≤◌, length, filter, Some, None, MatchOption, slice_get, position, option_and_then, not, ◌&&◌, if◌then◌else◌};
-ghost use Rattle.std.specs.Option.{ForSome, option_copied};
-ghost use Rattle.std.specs.Vec.{vec_len, vec_capacity};
-ghost use Rattle.nfs_core.specs.Registry.{is_of, has_both, confirmed_of, confirmed_with, unconfirmed_with};
+ghost use Rattle.std.specs.Prelude.{◌≡◌, IfOk, true, false};
+ghost use Rattle.std.specs.Option.{option_copied};
+ghost use Rattle.nfs_core.specs.Confirmation.{confirmation, confirmation_again, confirmation_beside, confirmation_by, confirmed, renewed, rival_of};
+ghost use Rattle.nfs_core.specs.Registry.{confirmed_of, record_with};
 ghost use Rattle.nfs_core.specs.declared.client_record.PathMark.{PathMark};
-ghost use Rattle.nfs_core.specs.operations.SetclientidConfirm.{Refused, Becomes, Confirms, ConfirmsBy, confirmation_again, confirmation_beside, with_confirmed};
 
-use super::Clients;
+use super::{ClientChange, Clients};
 use crate::{ClientRecord, PathMark};
 use nfs_xdr::operations::setclientid_confirm::Outcome;
 use nfs_xdr::{Principal, Refusal, SetclientidConfirm};
+use std::alloc::AllocError;
 
 impl Clients {
-    /// SETCLIENTID_CONFIRM (RFC 7530, section 16.34.5); `has_state` is whether the client of the
-    /// confirmed record of the same id has state, and `path` the mark of the path of a client that is
-    /// confirmed now. It takes no memory.
+    /// What SETCLIENTID_CONFIRM (RFC 7530, section 16.34.5) answers and changes; `has_state` is whether
+    /// the client of the confirmed record of the same id has state, and `path` the mark of the path of a
+    /// client that is confirmed now.
     pub(crate) fn confirm(
-        &mut self,
+        &self,
         principal: Principal,
         args: &SetclientidConfirm,
         has_state: bool,
         path: PathMark,
-    ) -> Outcome
-        ensures { Confirms path has_state self.old principal args.now result self.new }
+    ) -> Result<(Outcome, ClientChange), AllocError>
+        ensures { IfOk result (λ r.
+            r ≡ confirmation path has_state self.now.registry principal args.now) }
     {
-        let Some(place) = self.unconfirmed_with(args) else {
-            return self.confirm_again(principal, args);
-        };
-        let candidate = &self.records[place];
-        if !candidate.principal.is(principal) || self.is_held_from(candidate, has_state) {
-            return Outcome::ClidInUse(());
+        match self.record_with(false, args) {
+            None => Ok((self.confirm_again(principal, args), ClientChange::Nothing)),
+            Some(candidate) if candidate.principal.is(principal) => {
+                self.confirm_candidate(candidate, has_state, path)
+            }
+            Some(_) => Ok((Outcome::ClidInUse(()), ClientChange::Nothing)),
         }
-        confirm_at(&mut self.records, place, path);
-        Outcome::Done(())
     }
 
-    /// The confirmed record of the id that the call would confirm, if there is one.
-    pub(crate) fn rival_of(&self, args: &SetclientidConfirm) -> Option<&ClientRecord>
-        ensures { option_copied result ≡ option_and_then (λ r. confirmed_of self.now r.id) (unconfirmed_with self.now args.now.client args.now.confirm) }
+    // Confirms the unconfirmed record, beside the confirmed one of its id.
+    fn confirm_candidate(
+        &self,
+        candidate: &ClientRecord,
+        has_state: bool,
+        path: PathMark,
+    ) -> Result<(Outcome, ClientChange), AllocError>
+        ensures { IfOk result (λ r. r ≡ confirmation_by
+            (confirmation_beside (confirmed_of self.now.registry candidate.now.id) candidate.now has_state)
+            path) }
     {
-        let place = self.unconfirmed_with(args)?;
-        self.confirmed_of(self.records[place].id.as_slice())
+        let change = match self.confirmed_of(candidate.id.as_slice()) {
+            None => ClientChange::Confirms(confirmed(path, candidate)?),
+            Some(old) if old.client == candidate.client => {
+                ClientChange::Confirms(renewed(path, old, candidate)?)
+            }
+            Some(old) if !old.principal.is(candidate.principal) && has_state => {
+                return Ok((Outcome::ClidInUse(()), ClientChange::Nothing));
+            }
+            Some(old) => ClientChange::Replaces(confirmed(path, candidate)?, old.client),
+        };
+        Ok((Outcome::Done(()), change))
     }
 
     // Answers where no unconfirmed record has both.
     fn confirm_again(&self, principal: Principal, args: &SetclientidConfirm) -> Outcome
-        ensures { (path : PathMark) → ConfirmsBy path (confirmation_again (confirmed_with self.now args.now.client args.now.confirm) principal) self.now result self.now }
+        ensures { (path : PathMark) → (result, ClientChange.Nothing) ≡ confirmation_by
+            (confirmation_again (record_with true args.now.client args.now.confirm self.now.registry)
+            principal) path }
     {
-        match self.confirmed_with(args) {
+        match self.record_with(true, args) {
             None => Outcome::Refused(Refusal::StaleClientId),
-            Some(confirmed) if confirmed.principal.is(principal) => Outcome::Done(()),
+            Some(found) if found.principal.is(principal) => Outcome::Done(()),
             Some(_) => Outcome::ClidInUse(()),
         }
     }
 
-    // The confirmed record with both, if there is one.
-    fn confirmed_with(&self, args: &SetclientidConfirm) -> Option<&ClientRecord>
-        ensures { option_copied result ≡ confirmed_with self.now args.now.client args.now.confirm }
+    /// The confirmed record of the id that the call would confirm, if there is one.
+    pub(crate) fn rival_of(&self, args: &SetclientidConfirm) -> Option<&ClientRecord>
+        ensures { option_copied result ≡ rival_of
+            (record_with false args.now.client args.now.confirm self.now.registry) self.now.registry }
     {
-        self.records
-            .iter()
-            .find(|r| r.confirmed && r.has_both(args))
-    }
-
-    // The place of the unconfirmed record with both, if there is one.
-    fn unconfirmed_with(&self, args: &SetclientidConfirm) -> Option<usize>
-        ensures { MatchOption result
-            (unconfirmed_with self.now args.now.client args.now.confirm ≡ None)
-            (λ place. (place < length self.now.records)
-            × (unconfirmed_with self.now args.now.client args.now.confirm ≡ slice_get self.now.records place)) }
-    {
-        unconfirmed_place(&self.records, args)
-    }
-
-    // Whether another principal's client with state has the candidate's id.
-    fn is_held_from(&self, candidate: &ClientRecord, has_state: bool) -> bool
-        ensures { confirmation_beside (confirmed_of self.now candidate.now.id) candidate.now has_state
-            ≡ (if result then Refused else Becomes candidate.now) }
-    {
-        match self.confirmed_of(candidate.id.as_slice()) {
-            Some(confirmed) => {
-                confirmed.client != candidate.client
-                    && !confirmed.principal.is(candidate.principal)
-                    && has_state
-            }
-            None => false,
-        }
+        let candidate = self.record_with(false, args)?;
+        self.confirmed_of(candidate.id.as_slice())
     }
 }
 
-fn unconfirmed_place(records: &[ClientRecord], args: &SetclientidConfirm) -> Option<usize>
-    ensures { result ≡ position (λ r. not r.confirmed && has_both args.now.client args.now.confirm r) records.now }
+// The record, confirmed, and its path has this mark.
+fn confirmed(path: PathMark, candidate: &ClientRecord) -> Result<ClientRecord, AllocError>
+    ensures { IfOk result (λ r. r ≡ confirmed path candidate.now) }
 {
-    records
-        .iter()
-        .position(|r| !r.confirmed && r.has_both(args))
-}
-
-// Confirms the record at this place: it goes to the end, and the other records of its id are dropped.
-fn confirm_at(records: &mut Vec<ClientRecord>, place: usize, path: PathMark)
-    requires { place < vec_len records.old }
-    ensures { ForSome (slice_get records.old.items place) (λ r. records.new.items ≡ with_confirmed path records.old.items r) }
-{
-    let mut confirmed = records.remove(place);
-    drop_records_of(records, confirmed.id.as_slice());
+    let mut confirmed = candidate.clone()?;
     confirmed.confirmed = true;
     confirmed.path = path;
-    records.push_reserved(confirmed);
+    Ok(confirmed)
 }
 
-fn drop_records_of(records: &mut Vec<ClientRecord>, id: &[u8])
-    ensures items { records.new.items ≡ filter (λ r. not (is_of id.now r)) records.old.items }
-    ensures len { vec_len records.new ≤ vec_len records.old }
-    ensures capacity { vec_capacity records.new ≡ vec_capacity records.old }
+// The confirmed record with verifier, callback and value of the unconfirmed one.
+fn renewed(
+    path: PathMark,
+    old: &ClientRecord,
+    candidate: &ClientRecord,
+) -> Result<ClientRecord, AllocError>
+    ensures { IfOk result (λ r. r ≡ renewed path old.now candidate.now) }
 {
-    records.retain(|r| !r.is_of(id));
+    let mut renewed = old.clone()?;
+    renewed.verifier = candidate.verifier;
+    renewed.callback = candidate.callback.clone()?;
+    renewed.confirm = candidate.confirm;
+    renewed.path = path;
+    Ok(renewed)
 }

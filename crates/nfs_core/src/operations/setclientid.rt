@@ -1,52 +1,31 @@
-ghost use Rattle.std.specs.Prelude.{◌≡◌, ◌≤◌, IfSome, IfNone, length};
-ghost use Rattle.nfs_core.specs.declared.core_state.TheConstants.{ANSWER_LIMIT};
-ghost use Rattle.nfs_core.specs.Server.{Enters};
-ghost use Rattle.nfs_core.specs.Step.{IsFilehandle, call_of};
-ghost use Rattle.nfs_xdr.specs.OpResult.{op_result};
+ghost use Rattle.nfs_core.specs.operations.Setclientid.{rule};
+ghost use Rattle.nfs_core.specs.Deciding.{Decides};
+ghost use Rattle.nfs_core.specs.Room.{state_of};
 
-use crate::journal::{make_room, push_call};
+use crate::change::Change;
+use crate::decision::Decision;
+use crate::shortage::Shortage;
 use crate::tables::Tables;
-use crate::{Call, Journal, Moment};
-use nfs_xdr::{Op, OpResult, Principal, Setclientid};
+use crate::{Journal, Request};
+use nfs_xdr::Setclientid;
+use nfs_xdr::{Op, OpResult};
 
-/// Answers SETCLIENTID and enters it: the answer and its entry's number, or none and no change where
-/// the journal, memory, the client numbers or the limit of an address refuse it.
+/// Decides SETCLIENTID.
 #[tactic(auto, unfolding(nfs_xdr::specs::OpResult::op_result, nfs_xdr::specs::operations::opnum, nfs_xdr::specs::Status::status, xdr::specs::Writing::written_number, nfs_xdr::specs::ClientAnswer::client_answer, nfs_xdr::specs::operations::SetclientidConfirm::arguments, nfs_xdr::specs::ClientId::client_id, nfs_xdr::specs::Callback::address))]
-pub(crate) fn setclientid(
-    tables: &mut Tables,
-    journal: &mut Journal,
-    moment: Moment,
-    principal: Principal,
+pub(super) fn decide(
+    tables: &Tables,
+    journal: &Journal,
+    request: &Request,
     args: &Setclientid,
-    filehandle: Option<u32>,
-) -> Option<(OpResult, u32)>
-    requires confirm { tables.old.clients.last_confirm ≤ length journal.old.entries }
-    requires node { IsFilehandle journal.old filehandle }
-    ensures entered { IfSome result (λ r. Enters
-        (record { journal = journal.old; state = tables.old })
-        (record { journal = journal.new; state = tables.new })
-        (call_of moment principal (Op.Setclientid args.now) filehandle r.0)) }
-    ensures short { IfSome result (λ r. length (op_result.spelling r.0) ≤ ANSWER_LIMIT) }
-    ensures form { IfSome result (λ r. op_result.Fits r.0) }
-    ensures number { IfSome result (λ r. r.1 ≡ length journal.old.entries) }
-    ensures refused { IfNone result ((journal.new ≡ journal.old) × (tables.new ≡ tables.old)) }
+) -> Result<Decision, Shortage>
+    ensures { Decides (rule journal.now (state_of tables.now) request.now args.now)
+        (Op.Setclientid args.now) result }
 {
-    make_room(&mut journal.entries)?;
-    let op = Op::Setclientid(args.clone().ok()?);
     let has_state = tables.record_has_state(tables.clients.confirmed_of(args.id.as_slice()));
-    let answer = tables
-        .clients
-        .set(journal.epoch(), principal, args, has_state)
-        .ok()?;
-    // A copy takes memory only where the answer is CLID_INUSE, which changes nothing.
-    let kept = OpResult::Setclientid(answer.clone().ok()?);
-    let call = Call {
-        moment,
-        principal,
-        op,
-        filehandle,
-        answer: kept,
-    };
-    let number = push_call(&mut journal.entries, call);
-    Some((OpResult::Setclientid(answer), number))
+    let (answer, change) =
+        tables.clients.set(journal.epoch(), request.principal, args, has_state)?;
+    Ok(Decision {
+        answer: OpResult::Setclientid(answer),
+        change: Change::Clients(change),
+    })
 }

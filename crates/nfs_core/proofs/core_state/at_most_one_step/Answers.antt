@@ -1,4 +1,4 @@
-use Rattle.nfs_core.proofs.Steps.{Step-unique}
+use Rattle.nfs_core.proofs.Journals.{Step-unique}
 use Rattle.nfs_core.proofs.core_state.at_most_one_step.Goals as goal
 
 pub returns : goal.returns

@@ -15,6 +15,6 @@ invariant-loop-op g l = record {
   size : l.size ≡ l.start + length (flat_map op_result.spelling l.results.items);
   within : l.size ≤ max l.start (RECORD_LIMIT - 12);
   form : All op_result.Fits l.results.items;
-  serves : g.S.Service.serves l.service ≡ l.tree;
+  serves : g.S.Service.serves l.service ≡ l.tree.nodes;
   nodes : AreNodes l.tree l.handles;
 }

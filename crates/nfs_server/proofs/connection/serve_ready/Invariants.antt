@@ -10,7 +10,7 @@ invariant-loop-message g l = record {
   served : HasServed l.fn.tree g.S.Service.gives g.C.Clock.tells l.fn.service l.fn.clock (g.W.Sink.contents l.fn.sink) l.fn.records.ready l.records.ready l.service l.clock (g.W.Sink.contents l.sink);
   limits : AllByRecursion (λ message. length message ≤ RECORD_LIMIT) l.records.ready;
   same : l.records ≡ record l.fn.records { ready = l.records.ready };
-  serves : g.S.Service.serves l.service ≡ l.fn.tree;
+  serves : g.S.Service.serves l.service ≡ l.fn.tree.nodes;
   failures : g.W.Sink.failures l.sink ≡ g.W.Sink.failures l.fn.sink;
 }
 

@@ -1,18 +1,22 @@
-use Rattle.nfs_core.proofs.Journals.{Lawful-confirm, Lawful-enters}
+use Rattle.std.proofs.Common.{subst, sym}
+use Rattle.nfs_core.specs.declared.request.Request.{Request}
+use Rattle.nfs_core.specs.Server.{Server}
+use Rattle.nfs_core.specs.Step.{IsFilehandle}
+use Rattle.nfs_core.specs.Room.{stored_of}
+use Rattle.nfs_core.proofs.Journals.{Lawful-applies, Lawful-same}
 use Rattle.nfs_core.proofs.core_state.Core.apply.Goals as goal
-use Rattle.nfs_core.proofs.core_state.Core.apply.Goals.{in-Some, in-None}
+use Rattle.nfs_core.proofs.core_state.Core.apply.Goals.{in-Ok-enter, in-Err}
 
-pub enter-requires-clause-confirm : goal.enter-requires-clause-confirm
-enter-requires-clause-confirm c = Lawful-confirm c.self.inside.journal c.self.inside.tables c.self.invariant
-
-pub invariant_of-self : goal.invariant_of-self
-invariant_of-self c =
+pub invariant_of-self-2 : goal.invariant_of-self-2
+invariant_of-self-2 c =
     let before = c.self.inside in
     let after = c.enter.new in
+    let under_node : Request → Type 0 = λ r. IsFilehandle before.journal r.filehandle in
+    let in_tree : Server → Type 0 = λ s. IsFilehandle s.journal c.args.filehandle in
     elim c.match-enter.branch [
-      | in-Some w ↦ Lawful-enters (record { journal = before.journal; state = before.tables }) (record { journal = after.journal; state = after.tables }) _ c.self.invariant w.in-Some.ensures.entered
-      | in-None w ↦ rw (w.in-None.ensures.refused.0, w.in-None.ensures.refused.1) c.self.invariant
+      | in-Ok-enter w ↦ Lawful-applies (record { journal = before.journal; stored = stored_of before.tables }) (record { journal = after.journal; stored = stored_of after.tables }) c.in-Ok.request _ _ c.self.invariant (subst under_node (sym c.in-Ok.ensures) (subst in_tree (sym c.self.view_is) c.requires.node)) w.in-Ok-enter.ensures.entered
+      | in-Err w ↦ Lawful-same before.journal after.journal (stored_of before.tables) (stored_of after.tables) w.in-Err.ensures.same.0 w.in-Err.ensures.same.1 c.self.invariant
     ]
 
 pub returns-clause-lawful : goal.returns-clause-lawful
-returns-clause-lawful c = invariant_of-self c
+returns-clause-lawful c = invariant_of-self-2 c

@@ -1,0 +1,88 @@
+-- What SETCLIENTID does to the clients' records (RFC 7530, section 16.33.5).
+use Rattle.std.specs.Prelude.{ℕ, ◌+◌, ◌-◌, ◌^◌, nat_lt, Bool, false, ◌&&◌, Option, Some, None, if◌then◌else◌}
+use Rattle.std.specs.Str.{bytes_eq}
+use Rattle.nfs_core.specs.declared.client_record.ClientRecord.{ClientRecord}
+use Rattle.nfs_core.specs.declared.client_record.PathMark.TheVariants.{Unknown}
+use Rattle.nfs_core.specs.declared.client_record.TheConstants.{CLIENT_LIMIT}
+use Rattle.nfs_core.specs.declared.clients.client_change.ClientChange.{ClientChange}
+use Rattle.nfs_core.specs.declared.clients.client_change.ClientChange.TheVariants.{Nothing, Arrives, Returns}
+use Rattle.nfs_core.specs.Registry.{Registry, confirmed_of, is_within_limit}
+use Rattle.nfs_xdr.specs.declared.callback.Address.{Address}
+use Rattle.nfs_xdr.specs.declared.client_answer.ClientAnswer.{ClientAnswer}
+use Rattle.nfs_xdr.specs.declared.client_answer.ClientAnswer.TheVariants.{Done, ClidInUse}
+use Rattle.nfs_xdr.specs.declared.client_id.ClientId.{ClientId}
+use Rattle.nfs_xdr.specs.declared.operations.setclientid.Setclientid.{Setclientid}
+use Rattle.nfs_xdr.specs.declared.operations.setclientid_confirm.SetclientidConfirm.{SetclientidConfirm}
+use Rattle.nfs_xdr.specs.declared.principal.Principal.{Principal}
+use Rattle.nfs_xdr.specs.Principal.{is_same_principal}
+
+-- what SETCLIENTID answers
+abbrev pub Outcome : Type 0
+Outcome = ClientAnswer SetclientidConfirm Address
+
+-- What the call finds among the records of its id.
+pub data Finding : Type 0 where
+  -- another principal's client has the id, and has state
+  InUse : Address → Finding
+  -- the client of the id's confirmed record asks again, and hasn't started anew
+  Again : ClientId → Finding
+  -- a client that gets a number: the id is new, was never confirmed, is another principal's without
+  -- state, or is of a client that has started anew
+  Arrival : Finding
+
+-- `has_state`: whether the client of the id's confirmed record has state.
+abbrev pub finding_at : Option ClientRecord → Bool → Principal → Setclientid → Finding
+finding_at None has_state principal args = Arrival
+finding_at (Some r) has_state principal args =
+    if is_same_principal r.principal principal
+    then (if bytes_eq r.verifier.0 args.verifier.0 then Again r.client else Arrival)
+    else (if has_state then InUse r.callback.address else Arrival)
+
+-- the record that the call leaves, to be confirmed
+abbrev pub unconfirmed : Principal → Setclientid → SetclientidConfirm → ClientRecord
+unconfirmed principal args given = record {
+  id = args.id;
+  principal = principal;
+  verifier = args.verifier;
+  callback = args.callback;
+  confirm = given.confirm;
+  client = given.client;
+  confirmed = false;
+  path = Unknown;
+}
+
+-- a number is left for another client, and a value for another confirmation
+abbrev pub has_number_left : Registry → Bool
+has_number_left registry = nat_lt registry.last_number CLIENT_LIMIT
+
+abbrev pub has_value_left : Registry → Bool
+has_value_left registry = nat_lt registry.last_confirm (2 ^ 64 - 1)
+
+-- the clientid under the next confirm value, which SETCLIENTID answers
+abbrev pub given : ClientId → Registry → SetclientidConfirm
+given client registry = record { client = client; confirm = registry.last_confirm + 1 }
+
+-- the clientid of the next client number
+abbrev pub next_client : ℕ → Registry → ClientId
+next_client epoch registry = record { epoch = epoch; number = registry.last_number + 1 }
+
+abbrev pub registration_by :
+    Finding → ℕ → Registry → Principal → Setclientid → Option (Outcome × ClientChange)
+registration_by (InUse address) epoch registry principal args = Some (ClidInUse address, Nothing)
+registration_by (Again client) epoch registry principal args =
+    let answer = given client registry in
+    if is_within_limit args.callback.address && has_value_left registry
+    then Some (Done answer, Returns (unconfirmed principal args answer))
+    else None
+registration_by Arrival epoch registry principal args =
+    let answer = given (next_client epoch registry) registry in
+    if is_within_limit args.callback.address && (has_value_left registry && has_number_left registry)
+    then Some (Done answer, Arrives (unconfirmed principal args answer))
+    else None
+
+-- The answer and the change, or none where a limit would be passed. `epoch` is the server's run.
+abbrev pub registration :
+    ℕ → Bool → Registry → Principal → Setclientid → Option (Outcome × ClientChange)
+registration epoch has_state registry principal args =
+    let found = finding_at (confirmed_of registry args.id) has_state principal args in
+    registration_by found epoch registry principal args

@@ -1,0 +1,18 @@
+-- What the server stores, and the state that it means.
+use Rattle.std.specs.Prelude.{List}
+use Rattle.nfs_core.specs.declared.stored_file.StoredFile.{StoredFile}
+use Rattle.nfs_core.specs.Registry.{Registry, no_clients}
+use Rattle.nfs_core.specs.State.{State, opening_files}
+use Rattle.nfs_tree.specs.declared.node.Node.{Node}
+
+pub record Stored : Type 0 where
+  pub clients : Registry
+  -- in order of the numbers of their nodes
+  pub files : List StoredFile
+
+abbrev pub meaning : Stored → State
+meaning stored = record { clients = stored.clients; files = stored.files }
+
+-- what is stored of these nodes before a client has come
+abbrev pub opened : List Node → Stored
+opened nodes = record { clients = no_clients; files = opening_files nodes }

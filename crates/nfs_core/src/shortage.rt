@@ -1,0 +1,36 @@
+ghost use Rattle.std.specs.Prelude.{◌≡◌};
+
+use crate::clients::ClientsError;
+use std::alloc::AllocError;
+
+/// Why a request is answered NFS4ERR_RESOURCE and changes nothing.
+#[derive(Clone, Copy, Debug, PartialEq, Eq)]
+pub(crate) enum Shortage {
+    /// A limit would be passed.
+    Limit,
+    /// Memory was refused.
+    Memory,
+}
+
+impl From<AllocError> for Shortage {
+    ghost use Rattle.nfs_core.specs.declared.shortage.Shortage.TheVariants.{Memory};
+
+    ghost from_gives = { λ _ e. e ≡ Memory };
+
+    fn from(_: AllocError) -> Shortage {
+        Shortage::Memory
+    }
+}
+
+impl From<ClientsError> for Shortage {
+    ghost use Rattle.nfs_core.specs.Deciding.{shortage_of};
+
+    ghost from_gives = { λ error shortage. shortage ≡ shortage_of error };
+
+    fn from(error: ClientsError) -> Shortage {
+        match error {
+            ClientsError::Full => Shortage::Limit,
+            ClientsError::Memory => Shortage::Memory,
+        }
+    }
+}
