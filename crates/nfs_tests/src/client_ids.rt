@@ -1,4 +1,5 @@
 ghost use Rattle.std.specs.Prelude.{IsTrue, IfOk, ◌≤◌};
+ghost use Rattle.nfs_core.specs.Server.{IsLawful};
 ghost use Rattle.nfs_xdr.specs.Op.{has_entry};
 
 use nfs_core::{CLIENT_LIMIT, Core, LEASE_MAX, LEASE_MIN, Moment, at_most_one_step};
@@ -277,9 +278,17 @@ fn limits_numbers(rt: HostRuntime) -> Result<(), Fail> {
     Ok(())
 }
 
+/// How many entries a core has that anybody lends: its journal leads to what it stores.
+fn lawful_entries(core: &Core) -> usize
+    ensures { IsLawful core.now }
+{
+    core.journal().entries().len()
+}
+
 #[test]
 fn opens_empty(rt: HostRuntime) -> Result<(), Fail> {
     let core = opened(rt.alloc(), LEASE_MAX, Callbacks::Probe)?;
+    assert_eq!(rt; lawful_entries(&core), 0);
     let journal = core.journal();
     assert_eq!(rt; journal.epoch(), EPOCH);
     assert_eq!(rt; journal.lease(), 86_400);
