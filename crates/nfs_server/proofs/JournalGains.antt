@@ -16,7 +16,7 @@ use Rattle.nfs_core.specs.Step.{StepOp, call_of, resource}
 use Rattle.nfs_server.specs.Asking.{Question}
 use Rattle.nfs_server.specs.Entries.{AreEntries, QuestionsAreEntries}
 use Rattle.nfs_server.specs.declared.service.Lent.{Lent}
-use Rattle.nfs_xdr.specs.declared.answer.Answer.{Answer}
+use Rattle.nfs_xdr.specs.Answer.{PlainAnswer}
 use Rattle.nfs_xdr.specs.declared.op.Op.{Op}
 use Rattle.nfs_xdr.specs.declared.op.Op.TheVariants as ops
 use Rattle.nfs_xdr.specs.declared.op_result.OpResult.{OpResult}
@@ -35,7 +35,7 @@ ConfirmsBy-not_resource path Refused old args answer new s same = let e = s.0 in
 ConfirmsBy-not_resource path Before old args answer new s same = let e = s.0 in cc
 ConfirmsBy-not_resource path (Becomes r) old args answer new s same = let e = s.0 in cc
 
-GotAttributes-not_resource : (journal : History) (old : State) (filehandle : Option ℕ) (mask : List ℕ) (answer : Answer Fattr) → answer ≡ got_attributes journal old filehandle mask → results.Getattr answer ≢ resource (ops.Getattr mask)
+GotAttributes-not_resource : (journal : History) (old : State) (filehandle : Option ℕ) (mask : List ℕ) (answer : PlainAnswer Fattr) → answer ≡ got_attributes journal old filehandle mask → results.Getattr answer ≢ resource (ops.Getattr mask)
 GotAttributes-not_resource journal old None mask answer told same = cc
 GotAttributes-not_resource journal old (Some node) mask answer told same = cc
 

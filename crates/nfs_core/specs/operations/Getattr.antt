@@ -5,10 +5,10 @@ use Rattle.nfs_core.specs.State.{State, History, file_of}
 use Rattle.nfs_tree.specs.declared.attribute.Subject.{Subject}
 use Rattle.nfs_tree.specs.Attributes.{attributes_of}
 use Rattle.nfs_tree.specs.Tree.{is_directory}
-use Rattle.nfs_xdr.specs.declared.answer.Answer.{Answer}
 use Rattle.nfs_xdr.specs.declared.answer.Answer.TheVariants.{Done, Refused}
 use Rattle.nfs_xdr.specs.declared.fattr.Fattr.{Fattr}
 use Rattle.nfs_xdr.specs.declared.status.Refusal.TheVariants.{NoFileHandle}
+use Rattle.nfs_xdr.specs.Answer.{PlainAnswer}
 
 -- how often a file was changed, and how many bytes it has; a directory has neither
 abbrev pub change_of : Option StoredFile → ℕ
@@ -25,11 +25,11 @@ subject_of journal state node =
     let file = file_of state.files node in
     record { node = node; is_directory = is_directory journal.tree.nodes node; change = change_of file; size = size_of file; lease = journal.lease }
 
-abbrev pub got_attributes : History → State → Option ℕ → List ℕ → Answer Fattr
+abbrev pub got_attributes : History → State → Option ℕ → List ℕ → PlainAnswer Fattr
 got_attributes journal state None mask = Refused NoFileHandle
 got_attributes journal state (Some node) mask = Done (attributes_of (subject_of journal state node) mask)
 
 -- the current filehandle's attributes are told, and nothing changes
-abbrev pub StepGetattr : History → State → Option ℕ → List ℕ → Answer Fattr → State → Type 0
+abbrev pub StepGetattr : History → State → Option ℕ → List ℕ → PlainAnswer Fattr → State → Type 0
 StepGetattr journal old filehandle mask answer new =
     (answer ≡ got_attributes journal old filehandle mask) × (new ≡ old)

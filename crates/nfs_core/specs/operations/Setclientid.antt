@@ -4,8 +4,8 @@ use Rattle.std.specs.Str.{bytes_eq}
 use Rattle.nfs_xdr.specs.declared.callback.Address.{Address}
 use Rattle.nfs_xdr.specs.declared.client_id.ClientId.{ClientId}
 use Rattle.nfs_xdr.specs.declared.operations.setclientid.Setclientid.{Setclientid}
-use Rattle.nfs_xdr.specs.declared.client_answer.ClientAnswer.{ClientAnswer}
-use Rattle.nfs_xdr.specs.declared.client_answer.ClientAnswer.TheVariants as results
+use Rattle.nfs_xdr.specs.declared.answer.Answer.{Answer}
+use Rattle.nfs_xdr.specs.declared.answer.Answer.TheVariants as results
 use Rattle.nfs_xdr.specs.declared.operations.setclientid_confirm.SetclientidConfirm.{SetclientidConfirm}
 use Rattle.nfs_core.specs.declared.client_record.ClientRecord.{ClientRecord}
 use Rattle.nfs_core.specs.declared.client_record.PathMark.TheVariants.{Unknown}
@@ -17,7 +17,7 @@ use Rattle.nfs_core.specs.State.{State, History, record_has_state}
 
 -- what SETCLIENTID answers
 abbrev pub Outcome : Type 0
-Outcome = ClientAnswer SetclientidConfirm Address
+Outcome = Answer SetclientidConfirm (Unit {0}) Address
 
 -- What the call finds among the records of its id.
 pub data Finding : Type 0 where

@@ -1,13 +1,13 @@
 -- SETCLIENTID_CONFIRM (RFC 7530, section 16.34.5).
 use Rattle.std.specs.Prelude.{◌≡◌, Bool, true, not, ◌&&◌, ◌++◌, List, [], ◌∷◌, Option, Some, None, filter, if◌then◌else◌}
 use Rattle.nfs_xdr.specs.declared.operations.setclientid_confirm.SetclientidConfirm.{SetclientidConfirm}
-use Rattle.nfs_xdr.specs.declared.client_answer.ClientAnswer.{ClientAnswer}
-use Rattle.nfs_xdr.specs.declared.client_answer.ClientAnswer.TheVariants as answers
+use Rattle.nfs_xdr.specs.declared.answer.Answer.TheVariants as answers
 use Rattle.nfs_xdr.specs.declared.status.Refusal.TheVariants as refusals
 use Rattle.nfs_core.specs.declared.client_record.ClientRecord.{ClientRecord}
 use Rattle.nfs_core.specs.declared.client_record.PathMark.{PathMark}
 use Rattle.nfs_core.specs.declared.client_record.PathMark.TheVariants.{Unknown, Up}
 use Rattle.nfs_xdr.specs.declared.principal.Principal.{Principal}
+use Rattle.nfs_xdr.specs.Answer.{PlainAnswer}
 use Rattle.nfs_xdr.specs.Principal.{is_same_principal}
 use Rattle.nfs_core.specs.Registry.{Registry, confirmed_of, unconfirmed_with, confirmed_with, is_of, is_same_client}
 use Rattle.nfs_core.specs.State.{State, History, record_has_state}
@@ -16,7 +16,7 @@ use Rattle.nfs_tree.specs.declared.policy.Callbacks.TheVariants.{Probe, Assume}
 
 -- what SETCLIENTID_CONFIRM answers: a status alone
 abbrev pub Outcome : Type 0
-Outcome = ClientAnswer (Unit {0}) (Unit {0})
+Outcome = PlainAnswer (Unit {0})
 
 -- What the call finds.
 pub data Confirmation : Type 0 where

@@ -7,8 +7,8 @@ ghost use Rattle.nfs_core.specs.operations.SetclientidConfirm.{Refused, Becomes,
 
 use super::Clients;
 use crate::{ClientRecord, PathMark};
-use nfs_xdr::operations::setclientid_confirm::Outcome;
-use nfs_xdr::{Principal, Refusal, SetclientidConfirm};
+use nfs_xdr::operations::setclientid_confirm::{Outcome, SetclientidConfirm};
+use nfs_xdr::{Principal, Refusal};
 
 impl Clients {
     /// SETCLIENTID_CONFIRM (RFC 7530, section 16.34.5); `has_state` is whether the client of the

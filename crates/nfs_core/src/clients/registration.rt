@@ -6,14 +6,15 @@ ghost use Rattle.nfs_core.specs.operations.Setclientid.{Again, Arrival, Sets, Se
 
 use super::{Clients, ClientsError};
 use crate::{ADDRESS_LIMIT, CLIENT_LIMIT, ClientRecord, PathMark};
-use nfs_xdr::operations::setclientid::Outcome;
-use nfs_xdr::{Address, ClientId, Principal, Setclientid, SetclientidConfirm};
+use nfs_xdr::operations::setclientid::{Outcome, Setclientid};
+use nfs_xdr::operations::setclientid_confirm::SetclientidConfirm;
+use nfs_xdr::{Address, ClientId, Principal};
 use std::alloc::AllocError;
 
 impl Clients {
     /// SETCLIENTID (RFC 7530, section 16.33.5) in the server's run `epoch`; `has_state` is whether the
     /// client of the id's confirmed record has state. At an error nothing changes.
-    #[tactic(auto, unfolding(nfs_xdr::specs::ClientAnswer::client_answer, nfs_xdr::specs::Status::status, nfs_xdr::specs::operations::SetclientidConfirm::arguments, nfs_xdr::specs::ClientId::client_id))]
+    #[tactic(auto, unfolding(nfs_xdr::specs::Answer::answer, nfs_xdr::specs::Status::status, nfs_xdr::specs::operations::SetclientidConfirm::arguments, nfs_xdr::specs::ClientId::client_id))]
     pub(crate) fn set(
         &mut self,
         epoch: u32,
@@ -44,7 +45,7 @@ impl Clients {
     }
 
     // A confirmed client asks again: it keeps its clientid.
-    #[tactic(auto, unfolding(nfs_xdr::specs::ClientAnswer::client_answer, nfs_xdr::specs::Status::status, nfs_xdr::specs::operations::SetclientidConfirm::arguments, nfs_xdr::specs::ClientId::client_id))]
+    #[tactic(auto, unfolding(nfs_xdr::specs::Answer::answer, nfs_xdr::specs::Status::status, nfs_xdr::specs::operations::SetclientidConfirm::arguments, nfs_xdr::specs::ClientId::client_id))]
     fn set_again(
         &mut self,
         principal: Principal,
@@ -65,7 +66,7 @@ impl Clients {
     }
 
     // A client that gets a number.
-    #[tactic(auto, unfolding(nfs_xdr::specs::ClientAnswer::client_answer, nfs_xdr::specs::Status::status, nfs_xdr::specs::operations::SetclientidConfirm::arguments, nfs_xdr::specs::ClientId::client_id))]
+    #[tactic(auto, unfolding(nfs_xdr::specs::Answer::answer, nfs_xdr::specs::Status::status, nfs_xdr::specs::operations::SetclientidConfirm::arguments, nfs_xdr::specs::ClientId::client_id))]
     fn set_arrival(
         &mut self,
         epoch: u32,

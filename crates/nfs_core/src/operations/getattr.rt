@@ -79,6 +79,8 @@ fn copied(answer: &Answer<Fattr>) -> Result<Answer<Fattr>, AllocError>
             mask: found.mask.clone()?,
             values: found.values.clone()?,
         })),
+        Answer::Denied(()) => Ok(Answer::Denied(())),
+        Answer::ClidInUse(()) => Ok(Answer::ClidInUse(())),
         Answer::Refused(refusal) => Ok(Answer::Refused(*refusal)),
     }
 }

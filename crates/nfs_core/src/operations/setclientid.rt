@@ -7,11 +7,12 @@ ghost use Rattle.nfs_xdr.specs.OpResult.{op_result};
 use crate::journal::{make_room, push_call};
 use crate::tables::Tables;
 use crate::{Call, Journal, Moment};
-use nfs_xdr::{Op, OpResult, Principal, Setclientid};
+use nfs_xdr::operations::setclientid::Setclientid;
+use nfs_xdr::{Op, OpResult, Principal};
 
 /// Answers SETCLIENTID and enters it: the answer and its entry's number, or none and no change where
 /// the journal, memory, the client numbers or the limit of an address refuse it.
-#[tactic(auto, unfolding(nfs_xdr::specs::OpResult::op_result, nfs_xdr::specs::operations::opnum, nfs_xdr::specs::Status::status, xdr::specs::Writing::written_number, nfs_xdr::specs::ClientAnswer::client_answer, nfs_xdr::specs::operations::SetclientidConfirm::arguments, nfs_xdr::specs::ClientId::client_id, nfs_xdr::specs::Callback::address))]
+#[tactic(auto, unfolding(nfs_xdr::specs::OpResult::op_result, nfs_xdr::specs::operations::opnum, nfs_xdr::specs::Status::status, xdr::specs::Writing::written_number, nfs_xdr::specs::Answer::answer, nfs_xdr::specs::operations::SetclientidConfirm::arguments, nfs_xdr::specs::ClientId::client_id, nfs_xdr::specs::Callback::address))]
 pub(crate) fn setclientid(
     tables: &mut Tables,
     journal: &mut Journal,

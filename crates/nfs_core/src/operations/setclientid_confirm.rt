@@ -7,11 +7,12 @@ ghost use Rattle.nfs_xdr.specs.OpResult.{op_result};
 use crate::journal::{make_room, push_call};
 use crate::tables::Tables;
 use crate::{Call, Journal, Moment, PathMark};
-use nfs_xdr::{Op, OpResult, Principal, SetclientidConfirm};
+use nfs_xdr::operations::setclientid_confirm::SetclientidConfirm;
+use nfs_xdr::{Op, OpResult, Principal};
 
 /// Answers SETCLIENTID_CONFIRM and enters it: the answer and its entry's number, or none and no change
 /// where the journal or memory refuses it.
-#[tactic(auto, unfolding(nfs_xdr::specs::OpResult::op_result, nfs_xdr::specs::operations::opnum, nfs_xdr::specs::Status::status, xdr::specs::Writing::written_number, nfs_xdr::specs::ClientAnswer::client_answer, nfs_xdr::specs::operations::SetclientidConfirm::arguments, nfs_xdr::specs::ClientId::client_id))]
+#[tactic(auto, unfolding(nfs_xdr::specs::OpResult::op_result, nfs_xdr::specs::operations::opnum, nfs_xdr::specs::Status::status, xdr::specs::Writing::written_number, nfs_xdr::specs::Answer::answer, nfs_xdr::specs::operations::SetclientidConfirm::arguments, nfs_xdr::specs::ClientId::client_id))]
 pub(crate) fn setclientid_confirm(
     tables: &mut Tables,
     journal: &mut Journal,
