@@ -5,16 +5,16 @@ use Rattle.nfs_core.specs.declared.client_record.PathMark.{PathMark}
 use Rattle.nfs_core.specs.declared.clients.client_change.ClientChange.{ClientChange}
 use Rattle.nfs_core.specs.declared.clients.client_change.ClientChange.TheVariants.{Nothing, Confirms, Replaces}
 use Rattle.nfs_core.specs.Registry.{Registry, confirmed_of, record_with, is_same_client}
-use Rattle.nfs_xdr.specs.declared.client_answer.ClientAnswer.{ClientAnswer}
-use Rattle.nfs_xdr.specs.declared.client_answer.ClientAnswer.TheVariants.{Done, ClidInUse, Refused}
+use Rattle.nfs_xdr.specs.declared.answer.Answer.TheVariants.{Done, ClidInUse, Refused}
 use Rattle.nfs_xdr.specs.declared.operations.setclientid_confirm.SetclientidConfirm.{SetclientidConfirm}
 use Rattle.nfs_xdr.specs.declared.principal.Principal.{Principal}
 use Rattle.nfs_xdr.specs.declared.status.Refusal.TheVariants.{StaleClientId}
+use Rattle.nfs_xdr.specs.Answer.{PlainAnswer}
 use Rattle.nfs_xdr.specs.Principal.{is_same_principal}
 
 -- what SETCLIENTID_CONFIRM answers: a status alone
 abbrev pub Outcome : Type 0
-Outcome = ClientAnswer (Unit {0}) (Unit {0})
+Outcome = PlainAnswer (Unit {0})
 
 -- What the call finds.
 pub data Confirmation : Type 0 where

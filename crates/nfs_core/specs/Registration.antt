@@ -8,8 +8,8 @@ use Rattle.nfs_core.specs.declared.clients.client_change.ClientChange.{ClientCha
 use Rattle.nfs_core.specs.declared.clients.client_change.ClientChange.TheVariants.{Nothing, Arrives, Returns}
 use Rattle.nfs_core.specs.Registry.{Registry, confirmed_of, is_within_limit}
 use Rattle.nfs_xdr.specs.declared.callback.Address.{Address}
-use Rattle.nfs_xdr.specs.declared.client_answer.ClientAnswer.{ClientAnswer}
-use Rattle.nfs_xdr.specs.declared.client_answer.ClientAnswer.TheVariants.{Done, ClidInUse}
+use Rattle.nfs_xdr.specs.declared.answer.Answer.{Answer}
+use Rattle.nfs_xdr.specs.declared.answer.Answer.TheVariants.{Done, ClidInUse}
 use Rattle.nfs_xdr.specs.declared.client_id.ClientId.{ClientId}
 use Rattle.nfs_xdr.specs.declared.operations.setclientid.Setclientid.{Setclientid}
 use Rattle.nfs_xdr.specs.declared.operations.setclientid_confirm.SetclientidConfirm.{SetclientidConfirm}
@@ -18,7 +18,7 @@ use Rattle.nfs_xdr.specs.Principal.{is_same_principal}
 
 -- what SETCLIENTID answers
 abbrev pub Outcome : Type 0
-Outcome = ClientAnswer SetclientidConfirm Address
+Outcome = Answer SetclientidConfirm (Unit {0}) Address
 
 -- What the call finds among the records of its id.
 pub data Finding : Type 0 where

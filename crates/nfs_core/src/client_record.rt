@@ -1,4 +1,6 @@
-use nfs_xdr::{Callback, ClientId, ID_LIMIT, Principal, SetclientidConfirm, Verifier};
+use nfs_xdr::operations::setclientid::ID_LIMIT;
+use nfs_xdr::operations::setclientid_confirm::SetclientidConfirm;
+use nfs_xdr::{Callback, ClientId, Principal, Verifier};
 use xdr::Opaque;
 
 /// What the server keeps of a SETCLIENTID: RFC 7530, section 16.33.5, writes it { v, x, c, l, s }.

@@ -10,7 +10,7 @@ mod registration;
 use crate::ClientRecord;
 pub(crate) use client_change::ClientChange;
 pub(crate) use clients_error::ClientsError;
-use nfs_xdr::SetclientidConfirm;
+use nfs_xdr::operations::setclientid_confirm::SetclientidConfirm;
 use std::alloc::{AllocError, Global};
 use std::marker::Model;
 

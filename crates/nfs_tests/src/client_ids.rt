@@ -4,9 +4,10 @@ ghost use Rattle.nfs_xdr.specs.Op.{has_entry};
 
 use nfs_core::{CLIENT_LIMIT, Core, LEASE_MAX, LEASE_MIN, Moment, at_most_one_step};
 use nfs_tree::{Callbacks, Delegations, Policy, Tree};
+use nfs_xdr::operations::setclientid::Setclientid;
+use nfs_xdr::operations::setclientid_confirm::SetclientidConfirm;
 use nfs_xdr::{
-    Address, Answer, Bitmap, Callback, ClientAnswer, ClientId, Op, OpResult, Principal, Refusal,
-    Setclientid, SetclientidConfirm, Status, Verifier,
+    Address, Answer, Bitmap, Callback, ClientId, Op, OpResult, Principal, Refusal, Status, Verifier,
 };
 use std::alloc::{AllocError, Global};
 use std::test::Fail;
@@ -60,13 +61,13 @@ impl Want {
                     number,
                 };
                 *answer
-                    == ClientAnswer::Done(SetclientidConfirm {
+                    == Answer::Done(SetclientidConfirm {
                         client,
                         confirm: value,
                     })
             }
             (Want::Refused, OpResult::Setclientid(answer)) => {
-                *answer == ClientAnswer::Refused(Refusal::Resource)
+                *answer == Answer::Refused(Refusal::Resource)
             }
             (Want::Is(status), OpResult::SetclientidConfirm(answer)) => answer.status() == status,
             _ => false,

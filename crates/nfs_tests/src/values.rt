@@ -1,10 +1,8 @@
 //! Values written and read again, with the bytes between them worked out by hand.
 
 use crate::messages::bytes_of;
-use nfs_xdr::{
-    Address, Answer, ArgOp, ClientAnswer, ClientId, Op, OpResult, Refusal, SetclientidConfirm,
-    Unsupported, read_op,
-};
+use nfs_xdr::operations::setclientid_confirm::SetclientidConfirm;
+use nfs_xdr::{Address, Answer, ArgOp, ClientId, Op, OpResult, Refusal, Unsupported, read_op};
 use std::alloc::Global;
 use std::test::Fail;
 use xdr::{Bytes, Wire, WireError, read_flag, write_flag};
@@ -25,6 +23,28 @@ fn operations(rt: HostRuntime) -> Result<(), Fail> {
     assert!(rt; again == ArgOp::Run(op));
     assert!(rt; rest.is_empty());
     Ok(())
+}
+
+/// Results with statuses that bring something of other operations, by their words.
+fn results_with_nothing_behind(alloc: Global) -> Result<[(OpResult, Vec<u8>); 4], Fail> {
+    Ok([
+        (
+            OpResult::Getattr(Answer::ClidInUse(())),
+            bytes_of(alloc, &[9, 10017])?,
+        ),
+        (
+            OpResult::Lookup(Answer::Denied(())),
+            bytes_of(alloc, &[15, 10010])?,
+        ),
+        (
+            OpResult::Setclientid(Answer::Denied(())),
+            bytes_of(alloc, &[35, 10010])?,
+        ),
+        (
+            OpResult::SetclientidConfirm(Answer::ClidInUse(())),
+            bytes_of(alloc, &[36, 10017])?,
+        ),
+    ])
 }
 
 /// Results by their words.
@@ -49,15 +69,15 @@ fn results(alloc: Global) -> Result<[(OpResult, Vec<u8>); 5], Fail> {
     ];
     Ok([
         (
-            OpResult::Setclientid(ClientAnswer::Done(SetclientidConfirm { client, confirm: 3 })),
+            OpResult::Setclientid(Answer::Done(SetclientidConfirm { client, confirm: 3 })),
             bytes_of(alloc, &[35, 0, 1, 2, 0, 3])?,
         ),
         (
-            OpResult::Setclientid(ClientAnswer::ClidInUse(address)),
+            OpResult::Setclientid(Answer::ClidInUse(address)),
             bytes_of(alloc, &in_use)?,
         ),
         (
-            OpResult::SetclientidConfirm(ClientAnswer::Refused(Refusal::StaleClientId)),
+            OpResult::SetclientidConfirm(Answer::Refused(Refusal::StaleClientId)),
             bytes_of(alloc, &[36, 10022])?,
         ),
         (
@@ -71,16 +91,28 @@ fn results(alloc: Global) -> Result<[(OpResult, Vec<u8>); 5], Fail> {
     ])
 }
 
+/// Whether these are the bytes of the result, and the result is what they are read as.
+fn stands_for(alloc: Global, answer: &OpResult, bytes: &[u8]) -> Result<bool, Fail> {
+    let mut written = Vec::new(alloc);
+    answer.write(&mut written)?;
+    let (again, rest) = OpResult::read(alloc, bytes)?;
+    Ok(written.as_slice() == bytes && again == *answer && rest.is_empty())
+}
+
 #[test]
 fn results_of_operations(rt: HostRuntime) -> Result<(), Fail> {
     let alloc = rt.alloc();
     for (answer, bytes) in &results(alloc)? {
-        let mut written = Vec::new(alloc);
-        answer.write(&mut written)?;
-        assert_eq!(rt; written.as_slice(), bytes.as_slice());
-        let (again, rest) = OpResult::read(alloc, bytes.as_slice())?;
-        assert!(rt; again == *answer);
-        assert!(rt; rest.is_empty());
+        assert!(rt; stands_for(alloc, answer, bytes.as_slice())?);
+    }
+    Ok(())
+}
+
+#[test]
+fn results_with_statuses_of_other_operations(rt: HostRuntime) -> Result<(), Fail> {
+    let alloc = rt.alloc();
+    for (answer, bytes) in &results_with_nothing_behind(alloc)? {
+        assert!(rt; stands_for(alloc, answer, bytes.as_slice())?);
     }
     Ok(())
 }

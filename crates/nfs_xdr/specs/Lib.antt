@@ -8,7 +8,6 @@ pub mod FileHandle
 pub mod Status
 pub mod operations
 pub mod Answer
-pub mod ClientAnswer
 pub mod Op
 pub mod OpResult
 pub mod ArgOp

@@ -5,7 +5,6 @@ mod answer;
 mod arg_op;
 mod bitmap;
 mod callback;
-mod client_answer;
 mod client_id;
 mod compound;
 mod fattr;
@@ -22,7 +21,6 @@ pub use answer::Answer;
 pub use arg_op::{ArgOp, read_op};
 pub use bitmap::Bitmap;
 pub use callback::{Address, Callback};
-pub use client_answer::ClientAnswer;
 pub use client_id::ClientId;
 pub use compound::{
     Compound, OPERATION_LIMIT, Request, one_request_stands, read_compound, write_results,
@@ -32,9 +30,6 @@ pub use file_handle::{FILE_HANDLE_LIMIT, FileHandle};
 pub use limits::limits_of_forms;
 pub use op::Op;
 pub use op_result::OpResult;
-pub use operations::access::AccessBits;
-pub use operations::setclientid::{ID_LIMIT, Setclientid};
-pub use operations::setclientid_confirm::SetclientidConfirm;
 pub use operations::{Class, OPNUMS, Opnum, Unsupported};
 pub use principal::Principal;
 pub use status::{Refusal, STATUSES, Status};

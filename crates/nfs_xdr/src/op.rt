@@ -5,12 +5,16 @@ ghost use Rattle.xdr.specs.Reading.{Gives};
 ghost use Rattle.xdr.specs.Switch.{case_at};
 
 use crate::operations::each_operation;
-use crate::{Bitmap, Class, FileHandle, Opnum, Setclientid, SetclientidConfirm};
+use crate::{Class, Opnum, operations as of};
 use std::alloc::Global;
-use xdr::{Bytes, Wire, WireError, write_two};
+use xdr::{Wire, WireError, write_two};
 
 macro_rules! opnum_of_op {
-    ([$($With:ident = $n:literal $c:ident $a:ident,)*] [$($Without:ident = $m:literal $d:ident $b:ident,)*] $op:expr) => {
+    (
+        [$($With:ident = $n:literal $c:ident,)*]
+        [$($Without:ident = $m:literal $d:ident,)*]
+        $op:expr
+    ) => {
         match $op {
             $(Op::$With(_) => Opnum::$With,)*
             $(Op::$Without => Opnum::$Without,)*
@@ -19,7 +23,11 @@ macro_rules! opnum_of_op {
 }
 
 macro_rules! read_arguments_of {
-    ([$($With:ident = $n:literal $c:ident $a:ident,)*] [$($Without:ident = $m:literal $d:ident $b:ident,)*] $opnum:expr, $alloc:expr, $bytes:expr) => {
+    (
+        [$($With:ident = $n:literal $c:ident,)*]
+        [$($Without:ident = $m:literal $d:ident,)*]
+        $opnum:expr, $alloc:expr, $bytes:expr
+    ) => {
         match $opnum {
             $(Opnum::$With => Wire::read($alloc, $bytes).map(|(v, rest)| (Op::$With(v), rest)),)*
             $(Opnum::$Without => Ok((Op::$Without, $bytes)),)*
@@ -29,7 +37,11 @@ macro_rules! read_arguments_of {
 }
 
 macro_rules! write_op_of {
-    ([$($With:ident = $n:literal $c:ident $a:ident,)*] [$($Without:ident = $m:literal $d:ident $b:ident,)*] $op:expr, $out:expr) => {
+    (
+        [$($With:ident = $n:literal $c:ident,)*]
+        [$($Without:ident = $m:literal $d:ident,)*]
+        $op:expr, $out:expr
+    ) => {
         match $op {
             $(Op::$With(v) => write_two($out, &Opnum::$With, v),)*
             $(Op::$Without => write_two($out, &Opnum::$Without, &()),)*
@@ -40,16 +52,16 @@ macro_rules! write_op_of {
 /// An operation of a COMPOUND that this server has a rule for, with its arguments (nfs_argop4).
 #[derive(Clone, Debug, PartialEq, Drop)]
 pub enum Op {
-    Access(u32),
-    Getattr(Bitmap),
+    Access(of::access::Arguments),
+    Getattr(of::getattr::Arguments),
     Getfh,
-    Lookup(Bytes),
-    Putfh(FileHandle),
+    Lookup(of::lookup::Arguments),
+    Putfh(of::putfh::Arguments),
     Putrootfh,
     Restorefh,
     Savefh,
-    Setclientid(Setclientid),
-    SetclientidConfirm(SetclientidConfirm),
+    Setclientid(of::setclientid::Arguments),
+    SetclientidConfirm(of::setclientid_confirm::Arguments),
 }
 
 impl Op {

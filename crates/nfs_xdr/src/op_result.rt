@@ -9,13 +9,17 @@ ghost use Rattle.xdr.specs.Switch.{case_at};
 ghost use Rattle.xdr.specs.Writing.{Writes};
 
 use crate::operations::each_operation;
-use crate::{Answer, ClientAnswer, Opnum, Refusal, Status, Unsupported, operations as of};
+use crate::{Answer, Opnum, Refusal, Status, Unsupported, operations as of};
 use std::alloc::Global;
 use xdr::{Measure, Wire, WireError, read_constant, write_three, write_two};
 
 // What is so of the answer within the result.
 macro_rules! of_answer {
-    ([$($X:ident = $n:literal $c:ident $a:ident,)*] [$($Y:ident = $m:literal $d:ident $b:ident,)*] $result:expr, $answer:ident => $told:expr; $($rest:tt)*) => {
+    (
+        [$($X:ident = $n:literal $c:ident,)*]
+        [$($Y:ident = $m:literal $d:ident,)*]
+        $result:expr, $answer:ident => $told:expr; $($rest:tt)*
+    ) => {
         match $result {
             $(OpResult::$X($answer) => $told,)*
             $(OpResult::$Y($answer) => $told,)*
@@ -25,7 +29,7 @@ macro_rules! of_answer {
 }
 
 macro_rules! opnum_of_result {
-    ([$($X:ident = $n:literal $c:ident $a:ident,)*] [$($Y:ident = $m:literal $d:ident $b:ident,)*] $result:expr) => {
+    ([$($X:ident = $n:literal $c:ident,)*] [$($Y:ident = $m:literal $d:ident,)*] $result:expr) => {
         match $result {
             $(OpResult::$X(_) => Opnum::$X,)*
             $(OpResult::$Y(_) => Opnum::$Y,)*
@@ -36,7 +40,11 @@ macro_rules! opnum_of_result {
 }
 
 macro_rules! read_answer_of {
-    ([$($X:ident = $n:literal $c:ident $a:ident,)*] [$($Y:ident = $m:literal $d:ident $b:ident,)*] $opnum:expr, $alloc:expr, $bytes:expr) => {
+    (
+        [$($X:ident = $n:literal $c:ident,)*]
+        [$($Y:ident = $m:literal $d:ident,)*]
+        $opnum:expr, $alloc:expr, $bytes:expr
+    ) => {
         match $opnum {
             $(Opnum::$X => Wire::read($alloc, $bytes).map(|(v, r)| (OpResult::$X(v), r)),)*
             $(Opnum::$Y => Wire::read($alloc, $bytes).map(|(v, r)| (OpResult::$Y(v), r)),)*
@@ -47,7 +55,11 @@ macro_rules! read_answer_of {
 }
 
 macro_rules! write_result_of {
-    ([$($X:ident = $n:literal $c:ident $a:ident,)*] [$($Y:ident = $m:literal $d:ident $b:ident,)*] $result:expr, $out:expr) => {
+    (
+        [$($X:ident = $n:literal $c:ident,)*]
+        [$($Y:ident = $m:literal $d:ident,)*]
+        $result:expr, $out:expr
+    ) => {
         match $result {
             $(OpResult::$X(answer) => write_two($out, &Opnum::$X, answer),)*
             $(OpResult::$Y(answer) => write_two($out, &Opnum::$Y, answer),)*
@@ -58,10 +70,14 @@ macro_rules! write_result_of {
 }
 
 macro_rules! refusal_of_opnum {
-    ([$($X:ident = $n:literal $c:ident $a:ident,)*] [$($Y:ident = $m:literal $d:ident $b:ident,)*] $opnum:expr, $refusal:expr) => {
+    (
+        [$($X:ident = $n:literal $c:ident,)*]
+        [$($Y:ident = $m:literal $d:ident,)*]
+        $opnum:expr, $refusal:expr
+    ) => {
         match $opnum {
-            $(Opnum::$X => OpResult::$X($a::Refused($refusal)),)*
-            $(Opnum::$Y => OpResult::$Y($b::Refused($refusal)),)*
+            $(Opnum::$X => OpResult::$X(Answer::Refused($refusal)),)*
+            $(Opnum::$Y => OpResult::$Y(Answer::Refused($refusal)),)*
             Opnum::Unsupported(op) => OpResult::Unsupported(op),
             Opnum::Illegal => OpResult::Illegal(Answer::Refused($refusal)),
         }
@@ -119,7 +135,7 @@ impl OpResult {
 
 impl Opnum {
     /// The result of the operation where it is refused with this status. One without a rule has but one result.
-    #[tactic(auto, using(crate::proofs::Refusals::unsupported_fits, crate::proofs::Refusals::unsupported_len, crate::proofs::Refusals::refusal_fits), unfolding(crate::specs::OpResult::op_result, crate::specs::operations::opnum, crate::specs::Answer::answer, crate::specs::ClientAnswer::client_answer, crate::specs::Status::status, xdr::specs::Writing::written_number))]
+    #[tactic(auto, using(crate::proofs::Refusals::unsupported_fits, crate::proofs::Refusals::unsupported_len, crate::proofs::Refusals::refusal_fits), unfolding(crate::specs::OpResult::op_result, crate::specs::operations::opnum, crate::specs::Answer::answer, crate::specs::Status::status, xdr::specs::Writing::written_number))]
     pub fn refusal(self, refusal: Refusal) -> OpResult
         ensures value { result ≡ refusal_of self refusal }
         ensures form { results.op_result.Fits result }
@@ -133,7 +149,8 @@ impl Opnum {
 const NOT_SUPPORTED: u32 = 10004;
 
 fn read_unsupported(op: Unsupported, bytes: &[u8]) -> Result<(OpResult, &[u8]), WireError>
-    ensures { Gives (λ x. (x.0, x.1.now)) result (case_at (result_case (opnums.Unsupported op)) bytes.now) }
+    ensures { Gives (λ x. (x.0, x.1.now)) result
+        (case_at (result_case (opnums.Unsupported op)) bytes.now) }
 {
     let (_, rest) = read_constant(bytes, NOT_SUPPORTED)?;
     match op {

@@ -20,24 +20,23 @@ pub mod savefh;
 pub mod setclientid;
 pub mod setclientid_confirm;
 
-// The operations with a rule, a row each: the name, the number, what it is asked of, and the kind of its answer. Those with
-// arguments come first.
+// The operations with a rule, a row each: the name, the number, and what it is asked of. Those with arguments come first.
 macro_rules! each_operation {
     ($then:ident $($given:tt)*) => {
         $then!(
             [
-                Access = 3 OnTree Answer,
-                Getattr = 9 Entered Answer,
-                Lookup = 15 OnTree Answer,
-                Putfh = 22 OnTree Answer,
-                Setclientid = 35 Entered ClientAnswer,
-                SetclientidConfirm = 36 Entered ClientAnswer,
+                Access = 3 OnTree,
+                Getattr = 9 Entered,
+                Lookup = 15 OnTree,
+                Putfh = 22 OnTree,
+                Setclientid = 35 Entered,
+                SetclientidConfirm = 36 Entered,
             ]
             [
-                Getfh = 10 OnTree Answer,
-                Putrootfh = 24 OnTree Answer,
-                Restorefh = 31 OnTree Answer,
-                Savefh = 32 OnTree Answer,
+                Getfh = 10 OnTree,
+                Putrootfh = 24 OnTree,
+                Restorefh = 31 OnTree,
+                Savefh = 32 OnTree,
             ]
             $($given)*
         )
@@ -117,7 +116,7 @@ pub enum Class {
 }
 
 macro_rules! number_of_opnum {
-    ([$($X:ident = $n:literal $c:ident $a:ident,)*] [$($Y:ident = $m:literal $d:ident $b:ident,)*] $opnum:expr) => {
+    ([$($X:ident = $n:literal $c:ident,)*] [$($Y:ident = $m:literal $d:ident,)*] $opnum:expr) => {
         match $opnum {
             $(Opnum::$X => $n,)*
             $(Opnum::$Y => $m,)*
@@ -128,7 +127,7 @@ macro_rules! number_of_opnum {
 }
 
 macro_rules! class_of_opnum {
-    ([$($X:ident = $n:literal $c:ident $a:ident,)*] [$($Y:ident = $m:literal $d:ident $b:ident,)*] $opnum:expr) => {
+    ([$($X:ident = $n:literal $c:ident,)*] [$($Y:ident = $m:literal $d:ident,)*] $opnum:expr) => {
         match $opnum {
             $(Opnum::$X => Class::$c,)*
             $(Opnum::$Y => Class::$d,)*
@@ -138,7 +137,11 @@ macro_rules! class_of_opnum {
 }
 
 macro_rules! all_opnums {
-    ([$($X:ident = $n:literal $c:ident $a:ident,)*] [$($Y:ident = $m:literal $d:ident $b:ident,)*] $($other:expr,)*) => {
+    (
+        [$($X:ident = $n:literal $c:ident,)*]
+        [$($Y:ident = $m:literal $d:ident,)*]
+        $($other:expr,)*
+    ) => {
         [$(Opnum::$X,)* $(Opnum::$Y,)* $($other,)*]
     };
 }

@@ -6,7 +6,7 @@ ghost use Rattle.xdr.specs.Reading.{Answers};
 use std::alloc::Global;
 use xdr::{Wire, WireError, read_u32, write_u32};
 
-/// A status other than NFS4_OK that brings nothing with it (nfsstat4), with its number on the wire.
+/// A status that brings nothing with it, whatever the operation (nfsstat4), with its number on the wire.
 #[derive(Clone, Copy, Debug, PartialEq, Eq)]
 pub enum Refusal {
     NoEnt = 2,
@@ -47,13 +47,13 @@ impl Refusal {
     }
 }
 
-/// The status of an operation or of a COMPOUND (nfsstat4). Those that have something behind them are apart from refusals, so that
-/// no refusal can say them.
+/// The status of an operation or of a COMPOUND (nfsstat4). Those that bring something with them, of some operation, are apart
+/// from refusals, so that no refusal can say them.
 #[derive(Clone, Copy, Debug, PartialEq, Eq)]
 pub enum Status {
     /// NFS4_OK.
     Ok,
-    /// NFS4ERR_DENIED: behind it stands the lock in the way.
+    /// NFS4ERR_DENIED: LOCK's and LOCKT's results tell which lock is in the way.
     Denied,
     /// NFS4ERR_CLID_INUSE: SETCLIENTID's result tells where the client with the id is called back.
     ClidInUse,

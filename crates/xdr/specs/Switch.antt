@@ -36,10 +36,19 @@ arm form make content = record {
   stands = form.stands content;
 }
 
+-- What a case makes a value of, and the arm of that value.
+abbrev pub Content : {V : Type 0} → Case V → Type 0
+Content (case {Content = A} form make) = A
+Content no_case = ⊥
+
+abbrev pub arm_in : {V : Type 0} (found : Case V) → Content found → Arm V
+arm_in (case form make) content = arm form make content
+arm_in no_case content = absurd content
+
 -- Each case makes values that have its tag, and are written as it says.
 abbrev pub Agrees : {K V : Type 0} → (V → K) → (V → Arm V) → K → Case V → Type 1
-Agrees tag_of arm_of tag (case {Content = Content} form make) =
-    (content : Content) → (tag_of (make content) ≡ tag) × (arm_of (make content) ≡ arm form make content)
+Agrees tag_of arm_of tag (case {Content = A} form make) =
+    (content : A) → (tag_of (make content) ≡ tag) × (arm_of (make content) ≡ arm form make content)
 Agrees tag_of arm_of tag no_case = Unit {1}
 
 -- The value is read by the case of its tag.

@@ -6,11 +6,11 @@ use Rattle.nfs_core.specs.State.{State, History, change_of, file_of, size_of}
 use Rattle.nfs_tree.specs.declared.attribute.Subject.{Subject}
 use Rattle.nfs_tree.specs.Attributes.{attributes_of}
 use Rattle.nfs_tree.specs.Tree.{is_directory}
-use Rattle.nfs_xdr.specs.declared.answer.Answer.{Answer}
 use Rattle.nfs_xdr.specs.declared.answer.Answer.TheVariants.{Done, Refused}
 use Rattle.nfs_xdr.specs.declared.fattr.Fattr.{Fattr}
 use Rattle.nfs_xdr.specs.declared.op_result.OpResult.TheVariants as results
 use Rattle.nfs_xdr.specs.declared.status.Refusal.TheVariants.{NoFileHandle}
+use Rattle.nfs_xdr.specs.Answer.{PlainAnswer}
 
 -- the node as it is now
 abbrev pub subject_of : History → State → ℕ → Subject
@@ -24,7 +24,7 @@ subject_of journal state node =
       lease = journal.lease;
     }
 
-abbrev pub attributes : History → State → Option ℕ → List ℕ → Answer Fattr
+abbrev pub attributes : History → State → Option ℕ → List ℕ → PlainAnswer Fattr
 attributes journal state None mask = Refused NoFileHandle
 attributes journal state (Some node) mask = Done (attributes_of (subject_of journal state node) mask)
 

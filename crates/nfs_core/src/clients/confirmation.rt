@@ -6,8 +6,8 @@ ghost use Rattle.nfs_core.specs.declared.client_record.PathMark.{PathMark};
 
 use super::{ClientChange, Clients};
 use crate::{ClientRecord, PathMark};
-use nfs_xdr::operations::setclientid_confirm::Outcome;
-use nfs_xdr::{Principal, Refusal, SetclientidConfirm};
+use nfs_xdr::operations::setclientid_confirm::{Outcome, SetclientidConfirm};
+use nfs_xdr::{Principal, Refusal};
 use std::alloc::AllocError;
 
 impl Clients {

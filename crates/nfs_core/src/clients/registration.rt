@@ -5,15 +5,16 @@ ghost use Rattle.nfs_core.specs.Registry.{is_within_limit};
 
 use super::{ClientChange, Clients, ClientsError};
 use crate::{ADDRESS_LIMIT, CLIENT_LIMIT, ClientRecord, PathMark};
-use nfs_xdr::operations::setclientid::Outcome;
-use nfs_xdr::{Address, ClientId, Principal, Setclientid, SetclientidConfirm};
+use nfs_xdr::operations::setclientid::{Outcome, Setclientid};
+use nfs_xdr::operations::setclientid_confirm::SetclientidConfirm;
+use nfs_xdr::{Address, ClientId, Principal};
 use std::alloc::AllocError;
 
 impl Clients {
     /// What SETCLIENTID (RFC 7530, section 16.33.5) answers and changes in the server's run `epoch`;
     /// `has_state` is whether the client of the id's confirmed record has state. Full where a limit
     /// would be passed.
-    #[tactic(auto, unfolding(nfs_xdr::specs::ClientAnswer::client_answer, nfs_xdr::specs::Status::status, nfs_xdr::specs::operations::SetclientidConfirm::arguments, nfs_xdr::specs::ClientId::client_id))]
+    #[tactic(auto, unfolding(nfs_xdr::specs::Answer::answer, nfs_xdr::specs::Status::status, nfs_xdr::specs::operations::SetclientidConfirm::arguments, nfs_xdr::specs::ClientId::client_id))]
     pub(crate) fn set(
         &self,
         epoch: u32,
@@ -44,7 +45,7 @@ impl Clients {
     }
 
     // A confirmed client asks again: it keeps its clientid.
-    #[tactic(auto, unfolding(nfs_xdr::specs::ClientAnswer::client_answer, nfs_xdr::specs::Status::status, nfs_xdr::specs::operations::SetclientidConfirm::arguments, nfs_xdr::specs::ClientId::client_id))]
+    #[tactic(auto, unfolding(nfs_xdr::specs::Answer::answer, nfs_xdr::specs::Status::status, nfs_xdr::specs::operations::SetclientidConfirm::arguments, nfs_xdr::specs::ClientId::client_id))]
     fn set_again(
         &self,
         principal: Principal,
@@ -67,7 +68,7 @@ impl Clients {
     }
 
     // A client that gets a number.
-    #[tactic(auto, unfolding(nfs_xdr::specs::ClientAnswer::client_answer, nfs_xdr::specs::Status::status, nfs_xdr::specs::operations::SetclientidConfirm::arguments, nfs_xdr::specs::ClientId::client_id))]
+    #[tactic(auto, unfolding(nfs_xdr::specs::Answer::answer, nfs_xdr::specs::Status::status, nfs_xdr::specs::operations::SetclientidConfirm::arguments, nfs_xdr::specs::ClientId::client_id))]
     fn set_arrival(
         &self,
         epoch: u32,

@@ -7,11 +7,11 @@ use crate::decision::Decision;
 use crate::shortage::Shortage;
 use crate::tables::Tables;
 use crate::{Journal, Request};
-use nfs_xdr::Setclientid;
+use nfs_xdr::operations::setclientid::Setclientid;
 use nfs_xdr::{Op, OpResult};
 
 /// Decides SETCLIENTID.
-#[tactic(auto, unfolding(nfs_xdr::specs::OpResult::op_result, nfs_xdr::specs::operations::opnum, nfs_xdr::specs::Status::status, xdr::specs::Writing::written_number, nfs_xdr::specs::ClientAnswer::client_answer, nfs_xdr::specs::operations::SetclientidConfirm::arguments, nfs_xdr::specs::ClientId::client_id, nfs_xdr::specs::Callback::address))]
+#[tactic(auto, unfolding(nfs_xdr::specs::OpResult::op_result, nfs_xdr::specs::operations::opnum, nfs_xdr::specs::Status::status, xdr::specs::Writing::written_number, nfs_xdr::specs::Answer::answer, nfs_xdr::specs::operations::SetclientidConfirm::arguments, nfs_xdr::specs::ClientId::client_id, nfs_xdr::specs::Callback::address))]
 pub(super) fn decide(
     tables: &Tables,
     journal: &Journal,

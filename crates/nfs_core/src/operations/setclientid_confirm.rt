@@ -9,11 +9,11 @@ use crate::shortage::Shortage;
 use crate::tables::Tables;
 use crate::{Journal, PathMark, Request};
 use nfs_tree::Callbacks;
-use nfs_xdr::SetclientidConfirm;
+use nfs_xdr::operations::setclientid_confirm::SetclientidConfirm;
 use nfs_xdr::{Op, OpResult};
 
 /// Decides SETCLIENTID_CONFIRM.
-#[tactic(auto, unfolding(nfs_xdr::specs::OpResult::op_result, nfs_xdr::specs::operations::opnum, nfs_xdr::specs::Status::status, xdr::specs::Writing::written_number, nfs_xdr::specs::ClientAnswer::client_answer, nfs_xdr::specs::operations::SetclientidConfirm::arguments, nfs_xdr::specs::ClientId::client_id))]
+#[tactic(auto, unfolding(nfs_xdr::specs::OpResult::op_result, nfs_xdr::specs::operations::opnum, nfs_xdr::specs::Status::status, xdr::specs::Writing::written_number, nfs_xdr::specs::Answer::answer, nfs_xdr::specs::operations::SetclientidConfirm::arguments, nfs_xdr::specs::ClientId::client_id))]
 pub(super) fn decide(
     tables: &Tables,
     journal: &Journal,

@@ -5,10 +5,10 @@ use Rattle.nfs_tree.specs.declared.operations.access.TheConstants.{ACCESS_READ, 
 use Rattle.nfs_tree.specs.Effect.{Effect, stays}
 use Rattle.nfs_tree.specs.Tree.{Files, is_directory}
 use Rattle.nfs_xdr.specs.declared.operations.access.AccessBits.{AccessBits}
-use Rattle.nfs_xdr.specs.declared.answer.Answer.{Answer}
 use Rattle.nfs_xdr.specs.declared.answer.Answer.TheVariants.{Done, Refused}
 use Rattle.nfs_xdr.specs.declared.op_result.OpResult.TheVariants as results
 use Rattle.nfs_xdr.specs.declared.status.Refusal.TheVariants as refusals
+use Rattle.nfs_xdr.specs.Answer.{PlainAnswer}
 
 -- the accesses that there are
 abbrev pub all_access : ℕ
@@ -29,7 +29,7 @@ access_of is_directory asked = record {
 }
 
 -- NFS4ERR_NOFILEHANDLE where there is no current filehandle
-abbrev pub access_to : Files → Option ℕ → ℕ → Answer AccessBits
+abbrev pub access_to : Files → Option ℕ → ℕ → PlainAnswer AccessBits
 access_to tree None asked = Refused refusals.NoFileHandle
 access_to tree (Some node) asked = Done (access_of (is_directory tree.nodes node) asked)
 

@@ -5,7 +5,8 @@ ghost use Rattle.nfs_tree.specs.Tree.{is_directory};
 ghost use Rattle.nfs_xdr.specs.OpResult.{op_result};
 
 use crate::{Filehandles, Tree};
-use nfs_xdr::{AccessBits, Answer, OpResult, Refusal};
+use nfs_xdr::operations::access::AccessBits;
+use nfs_xdr::{Answer, OpResult, Refusal};
 
 /// The bits of ACCESS (RFC 7530, section 16.1.2).
 pub const ACCESS_READ: u32 = 1;

@@ -1,8 +1,7 @@
 -- GETATTR (RFC 7530, section 16.7): its argument is a bitmap, and its result attributes.
 use Rattle.std.specs.Prelude.{ℕ, List}
-use Rattle.nfs_xdr.specs.declared.answer.Answer.{Answer}
 use Rattle.nfs_xdr.specs.declared.fattr.Fattr.{Fattr}
-use Rattle.nfs_xdr.specs.Answer.{answer}
+use Rattle.nfs_xdr.specs.Answer.{PlainAnswer, plain_answer}
 use Rattle.nfs_xdr.specs.Bitmap.{bitmap}
 use Rattle.nfs_xdr.specs.Fattr.{fattr}
 use Rattle.xdr.specs.Form.{Form}
@@ -13,5 +12,5 @@ arguments = bitmap
 
 -- union GETATTR4res switch (nfsstat4 status) { case NFS4_OK: GETATTR4resok resok4; default: void; };
 -- struct GETATTR4resok { fattr4 obj_attributes; };
-abbrev pub result : Form (Answer Fattr)
-result = answer fattr
+abbrev pub result : Form (PlainAnswer Fattr)
+result = plain_answer fattr

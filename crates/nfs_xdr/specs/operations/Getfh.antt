@@ -1,7 +1,6 @@
 -- GETFH (RFC 7530, section 16.8): it has no arguments, and its result is a filehandle.
 use Rattle.std.specs.Prelude.{ℕ, List}
-use Rattle.nfs_xdr.specs.declared.answer.Answer.{Answer}
-use Rattle.nfs_xdr.specs.Answer.{answer}
+use Rattle.nfs_xdr.specs.Answer.{PlainAnswer, plain_answer}
 use Rattle.nfs_xdr.specs.FileHandle.{file_handle}
 use Rattle.xdr.specs.Form.{Form, nothing}
 
@@ -11,5 +10,5 @@ arguments = nothing
 
 -- union GETFH4res switch (nfsstat4 status) { case NFS4_OK: GETFH4resok resok4; default: void; };
 -- struct GETFH4resok { nfs_fh4 object; };
-abbrev pub result : Form (Answer (List ℕ))
-result = answer file_handle
+abbrev pub result : Form (PlainAnswer (List ℕ))
+result = plain_answer file_handle

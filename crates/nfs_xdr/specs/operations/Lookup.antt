@@ -1,7 +1,6 @@
 -- LOOKUP (RFC 7530, section 16.13): its argument is a name, and its result a status.
 use Rattle.std.specs.Prelude.{ℕ, List}
-use Rattle.nfs_xdr.specs.declared.answer.Answer.{Answer}
-use Rattle.nfs_xdr.specs.Answer.{answer}
+use Rattle.nfs_xdr.specs.Answer.{PlainAnswer, plain_answer}
 use Rattle.xdr.specs.Form.{Form, nothing, bytes}
 
 -- struct LOOKUP4args { component4 objname; };
@@ -9,5 +8,5 @@ abbrev pub arguments : Form (List ℕ)
 arguments = bytes
 
 -- struct LOOKUP4res { nfsstat4 status; };
-abbrev pub result : Form (Answer (Unit {0}))
-result = answer nothing
+abbrev pub result : Form (PlainAnswer (Unit {0}))
+result = plain_answer nothing

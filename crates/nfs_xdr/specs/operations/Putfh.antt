@@ -1,7 +1,6 @@
 -- PUTFH (RFC 7530, section 16.20): its argument is a filehandle, and its result a status.
 use Rattle.std.specs.Prelude.{ℕ, List}
-use Rattle.nfs_xdr.specs.declared.answer.Answer.{Answer}
-use Rattle.nfs_xdr.specs.Answer.{answer}
+use Rattle.nfs_xdr.specs.Answer.{PlainAnswer, plain_answer}
 use Rattle.nfs_xdr.specs.FileHandle.{file_handle}
 use Rattle.xdr.specs.Form.{Form, nothing}
 
@@ -10,5 +9,5 @@ abbrev pub arguments : Form (List ℕ)
 arguments = file_handle
 
 -- struct PUTFH4res { nfsstat4 status; };
-abbrev pub result : Form (Answer (Unit {0}))
-result = answer nothing
+abbrev pub result : Form (PlainAnswer (Unit {0}))
+result = plain_answer nothing

@@ -1,6 +1,5 @@
 -- PUTROOTFH (RFC 7530, section 16.22): it has no arguments, and its result is a status.
-use Rattle.nfs_xdr.specs.declared.answer.Answer.{Answer}
-use Rattle.nfs_xdr.specs.Answer.{answer}
+use Rattle.nfs_xdr.specs.Answer.{PlainAnswer, plain_answer}
 use Rattle.xdr.specs.Form.{Form, nothing}
 
 -- void
@@ -8,5 +7,5 @@ abbrev pub arguments : Form (Unit {0})
 arguments = nothing
 
 -- struct PUTROOTFH4res { nfsstat4 status; };
-abbrev pub result : Form (Answer (Unit {0}))
-result = answer nothing
+abbrev pub result : Form (PlainAnswer (Unit {0}))
+result = plain_answer nothing

@@ -1,14 +1,17 @@
 ghost use Rattle.nfs_xdr.specs.operations.Setclientid as forms;
 
 use crate::operations::setclientid_confirm::SetclientidConfirm;
-use crate::{Address, Callback, ClientAnswer, Verifier};
+use crate::{Address, Answer, Callback, Verifier};
 use std::alloc::Global;
 use xdr::{Opaque, Wire, WireError, write_three};
 
 /// The most bytes of a client's id (NFS4_OPAQUE_LIMIT).
 pub const ID_LIMIT: u32 = 1024;
 
-/// The arguments of SETCLIENTID (RFC 7530, section 16.33).
+/// The client that comes, and where it is called back (RFC 7530, section 16.33).
+pub type Arguments = Setclientid;
+
+/// The arguments of SETCLIENTID.
 #[derive(Clone, Debug, PartialEq, Drop)]
 pub struct Setclientid {
     /// The client's start.
@@ -19,7 +22,7 @@ pub struct Setclientid {
 }
 
 /// With NFS4_OK what is to be confirmed, and with NFS4ERR_CLID_INUSE where the client that has the id is called back.
-pub type Outcome = ClientAnswer<SetclientidConfirm, Address>;
+pub type Outcome = Answer<SetclientidConfirm, (), Address>;
 
 impl Wire for Setclientid {
     ghost form = { forms.arguments };

@@ -1,11 +1,14 @@
 ghost use Rattle.nfs_xdr.specs.operations.SetclientidConfirm as forms;
 ghost use Rattle.xdr.specs.Reading.{Answers};
 
-use crate::{ClientAnswer, ClientId};
+use crate::{Answer, ClientId};
 use std::alloc::Global;
 use xdr::{Measure, Wire, WireError, write_two};
 
-/// The arguments of SETCLIENTID_CONFIRM (RFC 7530, section 16.34), as SETCLIENTID tells them.
+/// What SETCLIENTID told (RFC 7530, section 16.34).
+pub type Arguments = SetclientidConfirm;
+
+/// The arguments of SETCLIENTID_CONFIRM, as SETCLIENTID tells them.
 #[derive(Clone, Copy, Debug, PartialEq, Eq)]
 pub struct SetclientidConfirm {
     pub client: ClientId,
@@ -14,7 +17,7 @@ pub struct SetclientidConfirm {
 }
 
 /// A status alone.
-pub type Outcome = ClientAnswer<(), ()>;
+pub type Outcome = Answer<()>;
 
 impl Wire for SetclientidConfirm {
     ghost form = { forms.arguments };
