@@ -1,17 +1,21 @@
 -- Lawful journals.
-use Rattle.std.proofs.Common.{◌≡◌, ◌≢◌, ℕ, ◌<◌, ◌≤◌, ◌⊎◌, inl, inr, Option, Some, None, List, [], ◌∷◌, ◌++◌, length, refl, sym, ◌∙◌, subst, append_assoc, append-nil, arith}
+use Rattle.std.proofs.Common.{◌≡◌, ◌≢◌, ℕ, ◌<◌, ◌≤◌, ◌⊎◌, inl, inr, Option, Some, None, List, [], ◌∷◌, ◌++◌, length, refl, sym, ap, ◌∙◌, ◌+◌, subst, append_assoc, append-nil, arith}
 use Rattle.nfs_core.specs.declared.entry.Call.{Call}
 use Rattle.nfs_core.specs.declared.entry.TheConstants.{JOURNAL_LIMIT}
 use Rattle.nfs_core.specs.declared.request.Request.{Request}
 use Rattle.nfs_core.specs.operations.{rule}
 use Rattle.nfs_core.specs.Stored.{Stored, meaning}
 use Rattle.nfs_xdr.specs.declared.op_result.OpResult.{OpResult}
+use Rattle.nfs_core.specs.declared.change.Change.{Change}
+use Rattle.nfs_core.specs.declared.change.Change.TheVariants as changes
+use Rattle.nfs_core.specs.declared.clients.client_change.ClientChange.TheVariants as client_changes
 use Rattle.nfs_core.specs.declared.decision.Decision.{Decision}
 use Rattle.nfs_core.specs.declared.entry.Entry.{Entry}
+use Rattle.nfs_core.specs.declared.entry.Entry.TheVariants as entries
 use Rattle.nfs_core.specs.Lawful.{Leads, Lawful}
 use Rattle.nfs_core.specs.Server.{Server, Applies, IsLawful}
 use Rattle.nfs_core.specs.State.{State, History, empty_server}
-use Rattle.nfs_core.specs.Step.{Follows, IsFilehandle, Step, AtMostOneStep, call_of, changed, resource, with_entry}
+use Rattle.nfs_core.specs.Step.{Follows, IsFilehandle, Step, AtMostOneStep, entry_of, changed, resource, with_entry}
 
 -- entries that lead to a state, and one more from there
 Leads-append : (journal : History) (old mid new : State) (entries : List Entry) (entry : Entry) → Leads journal old entries mid → Step (record journal { entries = journal.entries ++ entries }) mid entry new → Leads journal old (entries ++ entry ∷ []) new
@@ -42,7 +46,7 @@ none_follows (Some decision) journal old call new (inr full) follows = omega (ar
 pub Lawful-applies : (old new : Server) (request : Request) (answer : OpResult) (number : ℕ) → IsLawful old → IsFilehandle old.journal request.filehandle → Applies old new request answer (Some number) → IsLawful new
 Lawful-applies old new request answer number lawful node applies =
     let P : History → Type 0 = λ journal. Lawful journal (meaning new.stored) in
-    subst P (sym applies.1) (Lawful-step old.journal (meaning old.stored) (meaning new.stored) (call_of request answer) lawful (node, applies.2))
+    subst P (sym applies.1) (Lawful-step old.journal (meaning old.stored) (meaning new.stored) (entry_of request answer) lawful (node, applies.2))
 
 Follows-unique : (ruled : Option Decision) (journal : History) (old : State) (call call' : Call) (new new' : State) → Follows ruled journal old call new → Follows ruled journal old call' new' → (call.answer ≡ call'.answer) × (new ≡ new')
 Follows-unique None journal old call call' new new' f f' = absurd f
@@ -54,3 +58,29 @@ Step-unique journal old request answer answer' new new' s s' = Follows-unique (r
 -- a core that is as it was is as lawful as it was
 pub Lawful-same : (journal journal' : History) (stored stored' : Stored) → journal' ≡ journal → stored' ≡ stored → Lawful journal (meaning stored) → Lawful journal' (meaning stored')
 Lawful-same journal journal' stored stored' same_journal same_stored lawful = rw (same_journal, same_stored) lawful
+
+-- a change gives one confirm value at most
+changed_confirm : (change : Change) (old : State) → (changed change old).clients.last_confirm ≤ old.clients.last_confirm + 1
+changed_confirm changes.Nothing old = omega arith
+changed_confirm (changes.Clients client_changes.Nothing) old = omega arith
+changed_confirm (changes.Clients (client_changes.Arrives r)) old = omega arith
+changed_confirm (changes.Clients (client_changes.Updates r)) old = omega arith
+changed_confirm (changes.Clients (client_changes.Confirms r)) old = omega arith
+changed_confirm (changes.Clients (client_changes.Replaces r client)) old = omega arith
+
+Follows-confirm : (ruled : Option Decision) (journal : History) (old : State) (call : Call) (new : State) → Follows ruled journal old call new → new.clients.last_confirm ≤ old.clients.last_confirm + 1
+Follows-confirm None journal old call new follows = absurd follows
+Follows-confirm (Some decision) journal old call new follows =
+    omega (arith, changed_confirm decision.change old, ap (λ (s : State). s.clients.last_confirm) follows.3)
+
+Step-confirm : (journal : History) (old : State) (entry : Entry) (new : State) → Step journal old entry new → new.clients.last_confirm ≤ old.clients.last_confirm + 1
+Step-confirm journal old (entries.Call call) new step = Follows-confirm (rule call.request.op journal old call.request) journal old call new step.1
+
+Leads-confirm : (journal : History) (old new : State) (entries : List Entry) → Leads journal old entries new → new.clients.last_confirm ≤ old.clients.last_confirm + length entries
+Leads-confirm journal old new [] leads = omega (arith, ap (λ (s : State). s.clients.last_confirm) leads)
+Leads-confirm journal old new (entry ∷ entries) leads =
+    omega (arith, Step-confirm journal old entry leads.0 leads.1, Leads-confirm (with_entry entry journal) leads.0 new entries leads.2)
+
+-- no more confirm values were given than there are entries
+pub Lawful-confirm : (journal : History) (state : State) → Lawful journal state → state.clients.last_confirm ≤ length journal.entries
+Lawful-confirm journal state lawful = omega (arith, Leads-confirm (record journal { entries = [] }) (empty_server journal.nodes) state journal.entries lawful)

@@ -1,15 +1,15 @@
 -- What a call changes in the clients' records.
-use Rattle.std.specs.Prelude.{not, List, [], ◌∷◌, ◌++◌, filter}
+use Rattle.std.specs.Prelude.{◌+◌, not, List, [], ◌∷◌, ◌++◌, filter}
 use Rattle.nfs_core.specs.declared.client_record.ClientRecord.{ClientRecord}
 use Rattle.nfs_core.specs.declared.clients.client_change.ClientChange.{ClientChange}
 use Rattle.nfs_core.specs.declared.clients.client_change.ClientChange.TheVariants as changes
 use Rattle.nfs_core.specs.Registry.{Registry, is_of, is_unconfirmed_of}
 
--- the unconfirmed record comes, and an earlier unconfirmed one of its id leaves
+-- the unconfirmed record comes, and an earlier unconfirmed one of its id goes
 abbrev pub with_unconfirmed : ClientRecord → List ClientRecord → List ClientRecord
 with_unconfirmed r records = filter (λ s. not (is_unconfirmed_of r.id s)) records ++ r ∷ []
 
--- the confirmed record comes, and all others of its id leave
+-- the confirmed record comes, and all others of its id go
 abbrev pub with_confirmed : ClientRecord → List ClientRecord → List ClientRecord
 with_confirmed r records = filter (λ s. not (is_of r.id s)) records ++ r ∷ []
 
@@ -18,10 +18,12 @@ abbrev pub with_change : ClientChange → Registry → Registry
 with_change changes.Nothing old = old
 with_change (changes.Arrives r) old = record {
   records = with_unconfirmed r old.records;
-  last_number = r.client.number;
-  last_confirm = r.confirm;
+  last_number = old.last_number + 1;
+  last_confirm = old.last_confirm + 1;
 }
-with_change (changes.Returns r) old =
-    record old { records = with_unconfirmed r old.records; last_confirm = r.confirm }
+with_change (changes.Updates r) old = record old {
+  records = with_unconfirmed r old.records;
+  last_confirm = old.last_confirm + 1;
+}
 with_change (changes.Confirms r) old = record old { records = with_confirmed r old.records }
 with_change (changes.Replaces r client) old = record old { records = with_confirmed r old.records }

@@ -1,5 +1,5 @@
 -- What the functions that decide promise: for the crate's own functions alone.
-use Rattle.std.specs.Prelude.{◌≡◌, ◌≢◌, ◌≤◌, length, Option, Some, None, Result, Ok, Err, ⊤}
+use Rattle.std.specs.Prelude.{◌≡◌, ◌≢◌, ◌≤◌, length, Option, Some, None, Result, Ok, Err}
 use Rattle.nfs_core.specs.declared.clients.clients_error.ClientsError.{ClientsError}
 use Rattle.nfs_core.specs.declared.clients.clients_error.ClientsError.TheVariants as errors
 use Rattle.nfs_core.specs.declared.core_state.TheConstants.{ANSWER_LIMIT}
@@ -7,29 +7,31 @@ use Rattle.nfs_core.specs.declared.decision.Decision.{Decision}
 use Rattle.nfs_core.specs.declared.request.Request.{Request}
 use Rattle.nfs_core.specs.declared.shortage.Shortage.{Shortage}
 use Rattle.nfs_core.specs.declared.shortage.Shortage.TheVariants.{Limit, Memory}
+use Rattle.nfs_core.specs.Room.{HasNumbers}
 use Rattle.nfs_core.specs.State.{State, History}
-use Rattle.nfs_core.specs.Step.{Step, call_of, resource}
+use Rattle.nfs_core.specs.Step.{Step, entry_of, resource}
 use Rattle.nfs_xdr.specs.declared.op.Op.{Op}
 use Rattle.nfs_xdr.specs.declared.op_result.OpResult.{OpResult}
 use Rattle.nfs_xdr.specs.OpResult.{op_result}
 
 -- The answer goes into a reply: it isn't NFS4ERR_RESOURCE, it has a form, and isn't too long.
 pub record IsSendable (op : Op) (answer : OpResult) : Type 0 where
-  pub other : answer ≢ resource op
+  pub not_resource : answer ≢ resource op
   pub form : op_result.Fits answer
   pub short : length (op_result.spelling answer) ≤ ANSWER_LIMIT
 
--- What is decided is what the rule says. A limit is told where it says nothing, and want of memory is
--- no rule's.
-abbrev pub Decides : Option Decision → Op → Result Decision Shortage → Type 0
-Decides ruled op (Ok decision) = (ruled ≡ Some decision) × IsSendable op decision.answer
-Decides ruled op (Err Limit) = ruled ≡ None
-Decides ruled op (Err Memory) = ⊤
+-- From this state, what is decided of the operation is what its rule says. A limit is told just where
+-- the rule says nothing.
+abbrev pub Decides : Option Decision → State → Op → Result Decision Shortage → Type 0
+Decides ruled state op (Ok decision) =
+    (ruled ≡ Some decision) × IsSendable op decision.answer × HasNumbers decision.change state
+Decides ruled state op (Err Limit) = ruled ≡ None
+Decides ruled state op (Err Memory) = ruled ≢ None
 
 -- No answer to the request may come next.
 abbrev pub HasNoStep : History → State → Request → Type 0
 HasNoStep journal old request =
-    (answer : OpResult) (new : State) → Step journal old (call_of request answer) new → ⊥
+    (answer : OpResult) (new : State) → Step journal old (entry_of request answer) new → ⊥
 
 -- what refuses a change of the clients' records
 abbrev pub shortage_of : ClientsError → Shortage

@@ -8,6 +8,6 @@ pub mod operations
 pub mod Step
 pub mod Lawful
 pub mod Server
-pub mod Roomy
+pub mod ClientRoom
 pub mod Room
 pub mod Deciding

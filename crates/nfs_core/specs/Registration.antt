@@ -1,11 +1,11 @@
 -- What SETCLIENTID does to the clients' records (RFC 7530, section 16.33.5).
-use Rattle.std.specs.Prelude.{ℕ, ◌+◌, ◌-◌, ◌^◌, nat_lt, Bool, false, ◌&&◌, Option, Some, None, if◌then◌else◌}
+use Rattle.std.specs.Prelude.{ℕ, ◌+◌, nat_lt, Bool, false, ◌&&◌, Option, Some, None, if◌then◌else◌}
 use Rattle.std.specs.Str.{bytes_eq}
 use Rattle.nfs_core.specs.declared.client_record.ClientRecord.{ClientRecord}
 use Rattle.nfs_core.specs.declared.client_record.PathMark.TheVariants.{Unknown}
 use Rattle.nfs_core.specs.declared.client_record.TheConstants.{CLIENT_LIMIT}
 use Rattle.nfs_core.specs.declared.clients.client_change.ClientChange.{ClientChange}
-use Rattle.nfs_core.specs.declared.clients.client_change.ClientChange.TheVariants.{Nothing, Arrives, Returns}
+use Rattle.nfs_core.specs.declared.clients.client_change.ClientChange.TheVariants.{Nothing, Arrives, Updates}
 use Rattle.nfs_core.specs.Registry.{Registry, confirmed_of, is_within_limit}
 use Rattle.nfs_xdr.specs.declared.callback.Address.{Address}
 use Rattle.nfs_xdr.specs.declared.answer.Answer.{Answer}
@@ -24,65 +24,64 @@ Outcome = Answer SetclientidConfirm (Unit {0}) Address
 pub data Finding : Type 0 where
   -- another principal's client has the id, and has state
   InUse : Address → Finding
-  -- the client of the id's confirmed record asks again, and hasn't started anew
-  Again : ClientId → Finding
+  -- the client of the id's confirmed record sends the verifier that it had: its callback is updated
+  Update : ClientId → Finding
   -- a client that gets a number: the id is new, was never confirmed, is another principal's without
-  -- state, or is of a client that has started anew
+  -- state, or is of a client that has restarted, since its verifier is another
   Arrival : Finding
 
--- `has_state`: whether the client of the id's confirmed record has state.
-abbrev pub finding_at : Option ClientRecord → Bool → Principal → Setclientid → Finding
-finding_at None has_state principal args = Arrival
-finding_at (Some r) has_state principal args =
+-- The case, by the id's confirmed record. `has_state`: whether the client of that record has state.
+abbrev pub finding : Option ClientRecord → Bool → Principal → Setclientid → Finding
+finding None has_state principal args = Arrival
+finding (Some r) has_state principal args =
     if is_same_principal r.principal principal
-    then (if bytes_eq r.verifier.0 args.verifier.0 then Again r.client else Arrival)
+    then (if bytes_eq r.verifier.0 args.verifier.0 then Update r.client else Arrival)
     else (if has_state then InUse r.callback.address else Arrival)
 
--- the record that the call leaves, to be confirmed
-abbrev pub unconfirmed : Principal → Setclientid → SetclientidConfirm → ClientRecord
-unconfirmed principal args given = record {
+-- the record that SETCLIENTID makes of a clientid and a confirm value, to be confirmed
+abbrev pub unconfirmed_record : Principal → Setclientid → SetclientidConfirm → ClientRecord
+unconfirmed_record principal args answer = record {
   id = args.id;
   principal = principal;
   verifier = args.verifier;
   callback = args.callback;
-  confirm = given.confirm;
-  client = given.client;
+  confirm = answer.confirm;
+  client = answer.client;
   confirmed = false;
   path = Unknown;
 }
 
--- a number is left for another client, and a value for another confirmation
+-- a number is left for another client
 abbrev pub has_number_left : Registry → Bool
 has_number_left registry = nat_lt registry.last_number CLIENT_LIMIT
-
-abbrev pub has_value_left : Registry → Bool
-has_value_left registry = nat_lt registry.last_confirm (2 ^ 64 - 1)
-
--- the clientid under the next confirm value, which SETCLIENTID answers
-abbrev pub given : ClientId → Registry → SetclientidConfirm
-given client registry = record { client = client; confirm = registry.last_confirm + 1 }
 
 -- the clientid of the next client number
 abbrev pub next_client : ℕ → Registry → ClientId
 next_client epoch registry = record { epoch = epoch; number = registry.last_number + 1 }
 
+-- the clientid with the next confirm value
+abbrev pub next_confirm : ClientId → Registry → SetclientidConfirm
+next_confirm client registry = record { client = client; confirm = registry.last_confirm + 1 }
+
+-- The answer and the change in each case, or none where a limit would be passed. `epoch` is the
+-- server's run.
 abbrev pub registration_by :
     Finding → ℕ → Registry → Principal → Setclientid → Option (Outcome × ClientChange)
 registration_by (InUse address) epoch registry principal args = Some (ClidInUse address, Nothing)
-registration_by (Again client) epoch registry principal args =
-    let answer = given client registry in
-    if is_within_limit args.callback.address && has_value_left registry
-    then Some (Done answer, Returns (unconfirmed principal args answer))
+registration_by (Update client) epoch registry principal args =
+    let answer = next_confirm client registry in
+    if is_within_limit args.callback.address
+    then Some (Done answer, Updates (unconfirmed_record principal args answer))
     else None
 registration_by Arrival epoch registry principal args =
-    let answer = given (next_client epoch registry) registry in
-    if is_within_limit args.callback.address && (has_value_left registry && has_number_left registry)
-    then Some (Done answer, Arrives (unconfirmed principal args answer))
+    let answer = next_confirm (next_client epoch registry) registry in
+    if is_within_limit args.callback.address && has_number_left registry
+    then Some (Done answer, Arrives (unconfirmed_record principal args answer))
     else None
 
--- The answer and the change, or none where a limit would be passed. `epoch` is the server's run.
+-- the answer and the change, or none where a limit would be passed
 abbrev pub registration :
     ℕ → Bool → Registry → Principal → Setclientid → Option (Outcome × ClientChange)
 registration epoch has_state registry principal args =
-    let found = finding_at (confirmed_of registry args.id) has_state principal args in
+    let found = finding (confirmed_of registry args.id) has_state principal args in
     registration_by found epoch registry principal args

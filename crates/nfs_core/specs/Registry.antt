@@ -1,12 +1,14 @@
 -- The clients' records (RFC 7530, section 16.33.5).
-use Rattle.std.specs.Prelude.{ℕ, nat_le, Bool, ◌&&◌, ◌==◌, not, if◌then◌else◌, List, [], length, find, Option}
+use Rattle.std.specs.Prelude.{ℕ, nat_le, Bool, ◌&&◌, ◌==◌, not, List, [], length, find, Option}
 use Rattle.std.specs.Str.{bytes_eq}
 use Rattle.nfs_xdr.specs.declared.callback.Address.{Address}
 use Rattle.nfs_xdr.specs.declared.client_id.ClientId.{ClientId}
+use Rattle.nfs_xdr.specs.declared.operations.setclientid_confirm.SetclientidConfirm.{SetclientidConfirm}
 use Rattle.nfs_core.specs.declared.client_record.ClientRecord.{ClientRecord}
 use Rattle.nfs_core.specs.declared.client_record.TheConstants.{ADDRESS_LIMIT}
 
--- The records in order of their arrival, and what was given last; 0 before the first.
+-- The records in the order in which they came, and the client number and the confirm value that were
+-- given last; 0 before the first.
 pub record Registry : Type 0 where
   pub records : List ClientRecord
   pub last_number : ℕ
@@ -24,10 +26,11 @@ is_same_client a b = (a.epoch == b.epoch) && (a.number == b.number)
 abbrev pub is_of : List ℕ → ClientRecord → Bool
 is_of id r = bytes_eq r.id id
 
--- the record is this id's confirmed one, or its unconfirmed one
+-- the record is this id's confirmed one
 abbrev pub is_confirmed_of : List ℕ → ClientRecord → Bool
 is_confirmed_of id r = r.confirmed && is_of id r
 
+-- the record is this id's unconfirmed one
 abbrev pub is_unconfirmed_of : List ℕ → ClientRecord → Bool
 is_unconfirmed_of id r = not r.confirmed && is_of id r
 
@@ -35,15 +38,18 @@ is_unconfirmed_of id r = not r.confirmed && is_of id r
 abbrev pub confirmed_of : Registry → List ℕ → Option ClientRecord
 confirmed_of registry id = find (is_confirmed_of id) registry.records
 
--- the record has this clientid and this confirm value
-abbrev pub has_both : ClientId → ℕ → ClientRecord → Bool
-has_both client confirm r = is_same_client r.client client && (r.confirm == confirm)
+-- SETCLIENTID_CONFIRM names the record, by its clientid and its confirm value
+abbrev pub is_named_by : SetclientidConfirm → ClientRecord → Bool
+is_named_by args r = is_same_client r.client args.client && (r.confirm == args.confirm)
 
--- the confirmed record with both, or the unconfirmed one, if there is one
-abbrev pub record_with : Bool → ClientId → ℕ → Registry → Option ClientRecord
-record_with confirmed client confirm registry =
-    find (λ r. (if confirmed then r.confirmed else not r.confirmed) && has_both client confirm r)
-    registry.records
+-- the unconfirmed record that it names, if there is one
+abbrev pub unconfirmed_named_by : SetclientidConfirm → Registry → Option ClientRecord
+unconfirmed_named_by args registry =
+    find (λ r. not r.confirmed && is_named_by args r) registry.records
+
+-- the confirmed record that it names, if there is one
+abbrev pub confirmed_named_by : SetclientidConfirm → Registry → Option ClientRecord
+confirmed_named_by args registry = find (λ r. r.confirmed && is_named_by args r) registry.records
 
 -- both parts of the address are within the limit
 abbrev pub is_within_limit : Address → Bool

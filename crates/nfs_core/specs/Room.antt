@@ -1,9 +1,9 @@
--- Room that was made beforehand, which no state tells: for the crate's own functions alone.
+-- What a change needs: for the crate's own functions alone.
 use Rattle.std.specs.Prelude.{⊤}
 use Rattle.nfs_core.specs.declared.change.Change.{Change}
 use Rattle.nfs_core.specs.declared.change.Change.TheVariants as changes
 use Rattle.nfs_core.specs.declared.tables.Tables.{Tables}
-use Rattle.nfs_core.specs.Roomy.{HasRoomFor}
+use Rattle.nfs_core.specs.ClientRoom.{HasNumbersFor, HasRoomFor}
 use Rattle.nfs_core.specs.State.{State}
 use Rattle.nfs_core.specs.Stored.{Stored, meaning}
 
@@ -19,3 +19,8 @@ state_of tables = meaning (stored_of tables)
 abbrev pub HasRoom : Change → Tables → Type 0
 HasRoom changes.Nothing tables = ⊤
 HasRoom (changes.Clients change) tables = HasRoomFor change tables.clients
+
+-- the numbers that the change gives are there
+abbrev pub HasNumbers : Change → State → Type 0
+HasNumbers changes.Nothing state = ⊤
+HasNumbers (changes.Clients change) state = HasNumbersFor change state.clients

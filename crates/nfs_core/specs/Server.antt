@@ -4,7 +4,7 @@ use Rattle.nfs_core.specs.declared.request.Request.{Request}
 use Rattle.nfs_core.specs.Lawful.{Lawful}
 use Rattle.nfs_core.specs.operations.{rule}
 use Rattle.nfs_core.specs.State.{History}
-use Rattle.nfs_core.specs.Step.{Follows, call_of, resource, with_entry}
+use Rattle.nfs_core.specs.Step.{Follows, entry_of, resource, with_entry}
 use Rattle.nfs_core.specs.Stored.{Stored, meaning}
 use Rattle.nfs_xdr.specs.declared.op_result.OpResult.{OpResult}
 
@@ -23,6 +23,6 @@ Applies old new request answer None = (answer ≡ resource request.op) × (new �
 Applies old new request answer (Some number) =
     let old_state = meaning old.stored in
     (number ≡ length old.journal.entries)
-    × (new.journal ≡ with_entry (call_of request answer) old.journal)
+    × (new.journal ≡ with_entry (entry_of request answer) old.journal)
     × Follows (rule request.op old.journal old_state request) old.journal old_state
       (record { request = request; answer = answer }) (meaning new.stored)

@@ -15,17 +15,17 @@ pub record State : Type 0 where
   pub files : List StoredFile
 
 -- the node of this number, as a file that no client has changed, if it has a text
-abbrev pub opening_file : ℕ → Option (List ℕ) → List StoredFile
-opening_file node None = []
-opening_file node (Some text) = record { node = node; bytes = text; change = 0 } ∷ []
+abbrev pub initial_file : ℕ → Option (List ℕ) → List StoredFile
+initial_file node None = []
+initial_file node (Some text) = record { node = node; bytes = text; change = 0 } ∷ []
 
 -- the files among the nodes of lower numbers
 abbrev pub files_below : List Node → ℕ → List StoredFile
 files_below nodes zero = []
-files_below nodes (suc node) = files_below nodes node ++ opening_file node (text_of nodes node)
+files_below nodes (suc node) = files_below nodes node ++ initial_file node (text_of nodes node)
 
-abbrev pub opening_files : List Node → List StoredFile
-opening_files nodes = files_below nodes (node_count nodes)
+abbrev pub initial_files : List Node → List StoredFile
+initial_files nodes = files_below nodes (node_count nodes)
 
 -- the file of a node
 abbrev pub file_of : List StoredFile → ℕ → Option StoredFile
@@ -42,7 +42,7 @@ size_of (Some f) = length f.bytes
 
 -- a server of these nodes that no client has come to
 abbrev pub empty_server : List Node → State
-empty_server nodes = record { clients = no_clients; files = opening_files nodes }
+empty_server nodes = record { clients = no_clients; files = initial_files nodes }
 
 -- What the server was opened with, and its entries in order, the first of them number 0.
 pub record History : Type 0 where

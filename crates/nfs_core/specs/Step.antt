@@ -38,8 +38,8 @@ request_of moment principal op filehandle =
     record { moment = moment; principal = principal; op = op; filehandle = filehandle }
 
 -- the entry of a request with its answer
-abbrev pub call_of : Request → OpResult → Entry
-call_of request answer =
+abbrev pub entry_of : Request → OpResult → Entry
+entry_of request answer =
     let call : Call = record { request = request; answer = answer } in
     entries.Call call
 
@@ -67,6 +67,6 @@ Step journal old (entries.Call call) new =
 abbrev pub AtMostOneStep : Type 0
 AtMostOneStep =
     (journal : History) (old : State) (request : Request) (answer answer' : OpResult) (new new' : State)
-    → Step journal old (call_of request answer) new
-    → Step journal old (call_of request answer') new'
+    → Step journal old (entry_of request answer) new
+    → Step journal old (entry_of request answer') new'
     → (answer ≡ answer') × (new ≡ new')

@@ -2,7 +2,7 @@
 use Rattle.std.specs.Prelude.{List}
 use Rattle.nfs_core.specs.declared.stored_file.StoredFile.{StoredFile}
 use Rattle.nfs_core.specs.Registry.{Registry, no_clients}
-use Rattle.nfs_core.specs.State.{State, opening_files}
+use Rattle.nfs_core.specs.State.{State, initial_files}
 use Rattle.nfs_tree.specs.declared.node.Node.{Node}
 
 pub record Stored : Type 0 where
@@ -14,5 +14,5 @@ abbrev pub meaning : Stored → State
 meaning stored = record { clients = stored.clients; files = stored.files }
 
 -- what is stored of these nodes before a client has come
-abbrev pub opened : List Node → Stored
-opened nodes = record { clients = no_clients; files = opening_files nodes }
+abbrev pub empty_store : List Node → Stored
+empty_store nodes = record { clients = no_clients; files = initial_files nodes }

@@ -43,7 +43,7 @@ pub const CLIENT_LIMIT: u32 = 4096;
 
 impl ClientRecord {
     ghost use Rattle.std.specs.Prelude.{◌≡◌};
-    ghost use Rattle.nfs_core.specs.Registry.{is_of, is_confirmed_of, is_unconfirmed_of, has_both};
+    ghost use Rattle.nfs_core.specs.Registry.{is_confirmed_of, is_named_by, is_of, is_unconfirmed_of};
 
     /// Whether the record is of this id.
     pub(crate) fn is_of(&self, id: &[u8]) -> bool
@@ -66,9 +66,9 @@ impl ClientRecord {
         !self.confirmed && self.is_of(id)
     }
 
-    /// Whether it has the clientid and the confirm value that the call names.
-    pub(crate) fn has_both(&self, args: &SetclientidConfirm) -> bool
-        ensures { result ≡ has_both args.now.client args.now.confirm self.now }
+    /// Whether SETCLIENTID_CONFIRM names it, by its clientid and its confirm value.
+    pub(crate) fn is_named_by(&self, args: &SetclientidConfirm) -> bool
+        ensures { result ≡ is_named_by args.now self.now }
     {
         self.client == args.client && self.confirm == args.confirm
     }

@@ -14,7 +14,7 @@ use nfs_xdr::operations::setclientid_confirm::SetclientidConfirm;
 use std::alloc::{AllocError, Global};
 use std::marker::Model;
 
-/// The clients' records in the order of their arrival, and what was given last. SETCLIENTID and its
+/// The clients' records in the order in which they came, and what was given last. SETCLIENTID and its
 /// confirmation are decided first (`set`, `confirm`); after `make_room` the change takes no memory.
 #[derive(Debug, Drop)]
 pub(crate) struct Clients {
@@ -28,9 +28,9 @@ pub(crate) struct Clients {
 impl Model for Clients {
     ghost use Rattle.std.specs.Prelude.{◌-◌};
     ghost use Rattle.std.specs.Vec.{vec_len, vec_capacity};
-    ghost use Rattle.nfs_core.specs.Roomy.{Roomy};
+    ghost use Rattle.nfs_core.specs.ClientRoom.{RoomyClients};
 
-    ghost Value = { Roomy };
+    ghost Value = { RoomyClients };
 
     ghost view = { λ c. record {
       registry = record {
@@ -45,8 +45,8 @@ impl Model for Clients {
 impl Clients {
     ghost use Rattle.std.specs.Option.{option_copied};
     ghost use Rattle.nfs_core.specs.ClientChange.{with_change};
-    ghost use Rattle.nfs_core.specs.Roomy.{HasRoomFor};
-    ghost use Rattle.nfs_core.specs.Registry.{no_clients, confirmed_of, record_with};
+    ghost use Rattle.nfs_core.specs.ClientRoom.{HasNumbersFor, HasRoomFor};
+    ghost use Rattle.nfs_core.specs.Registry.{confirmed_named_by, confirmed_of, no_clients, unconfirmed_named_by};
 
     /// No clients yet, taking no memory.
     pub(crate) fn new(alloc: Global) -> Clients
@@ -66,17 +66,22 @@ impl Clients {
         self.records.iter().find(|r| r.is_confirmed_of(id))
     }
 
-    /// The confirmed record with the clientid and the confirm value that the call names, or the
-    /// unconfirmed one, if there is one.
-    pub(crate) fn record_with(
-        &self,
-        confirmed: bool,
-        args: &SetclientidConfirm,
-    ) -> Option<&ClientRecord>
-        ensures { option_copied result
-            ≡ record_with confirmed args.now.client args.now.confirm self.now.registry }
+    /// The unconfirmed record that SETCLIENTID_CONFIRM names, if there is one.
+    pub(crate) fn unconfirmed_named_by(&self, args: &SetclientidConfirm) -> Option<&ClientRecord>
+        ensures { option_copied result ≡ unconfirmed_named_by args.now self.now.registry }
     {
-        self.records.iter().find(|r| r.confirmed == confirmed && r.has_both(args))
+        self.records
+            .iter()
+            .find(|r| !r.confirmed && r.is_named_by(args))
+    }
+
+    /// The confirmed record that it names, if there is one.
+    pub(crate) fn confirmed_named_by(&self, args: &SetclientidConfirm) -> Option<&ClientRecord>
+        ensures { option_copied result ≡ confirmed_named_by args.now self.now.registry }
+    {
+        self.records
+            .iter()
+            .find(|r| r.confirmed && r.is_named_by(args))
     }
 
     /// Makes room for the change.
@@ -92,18 +97,19 @@ impl Clients {
 
     /// Makes the change, for which there is room. It takes no memory.
     pub(crate) fn commit(&mut self, change: ClientChange)
-        requires { HasRoomFor change self.old }
+        requires room { HasRoomFor change self.old }
+        requires numbers { HasNumbersFor change self.old.registry }
         ensures { self.new.registry ≡ with_change change self.old.registry }
     {
         match change {
             ClientChange::Nothing => {}
             ClientChange::Arrives(record) => {
-                self.last_number = record.client.number;
-                self.last_confirm = record.confirm;
+                self.last_number += 1;
+                self.last_confirm += 1;
                 put_unconfirmed(&mut self.records, record);
             }
-            ClientChange::Returns(record) => {
-                self.last_confirm = record.confirm;
+            ClientChange::Updates(record) => {
+                self.last_confirm += 1;
                 put_unconfirmed(&mut self.records, record);
             }
             ClientChange::Confirms(record) => put_confirmed(&mut self.records, record),
@@ -112,20 +118,20 @@ impl Clients {
     }
 }
 
-// Puts the record, for which there is room, at the end, and drops an earlier unconfirmed one of its id.
-fn put_unconfirmed(records: &mut Vec<ClientRecord>, arrival: ClientRecord)
+// Puts the record, for which there is room, at the end, and drops an unconfirmed one of its id.
+fn put_unconfirmed(records: &mut Vec<ClientRecord>, newcomer: ClientRecord)
     requires { vec_len records.old < vec_capacity records.old }
-    ensures { records.new.items ≡ with_unconfirmed arrival records.old.items }
+    ensures { records.new.items ≡ with_unconfirmed newcomer records.old.items }
 {
-    records.retain(|r| !r.is_unconfirmed_of(arrival.id.as_slice()));
-    records.push_reserved(arrival);
+    records.retain(|r| !r.is_unconfirmed_of(newcomer.id.as_slice()));
+    records.push_reserved(newcomer);
 }
 
 // Puts the record, for which there is room, at the end, and drops all others of its id.
-fn put_confirmed(records: &mut Vec<ClientRecord>, arrival: ClientRecord)
+fn put_confirmed(records: &mut Vec<ClientRecord>, newcomer: ClientRecord)
     requires { vec_len records.old < vec_capacity records.old }
-    ensures { records.new.items ≡ with_confirmed arrival records.old.items }
+    ensures { records.new.items ≡ with_confirmed newcomer records.old.items }
 {
-    records.retain(|r| !r.is_of(arrival.id.as_slice()));
-    records.push_reserved(arrival);
+    records.retain(|r| !r.is_of(newcomer.id.as_slice()));
+    records.push_reserved(newcomer);
 }

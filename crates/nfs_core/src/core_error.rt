@@ -1,7 +1,7 @@
 use std::alloc::AllocError;
 use thiserror::Error;
 
-/// Why the core refused a call that makes no answer of an operation.
+/// Why the core refused a call that answers no operation.
 #[derive(Clone, Copy, Debug, PartialEq, Eq, Error)]
 pub enum CoreError {
     /// Memory was refused.
@@ -10,6 +10,11 @@ pub enum CoreError {
 }
 
 impl From<AllocError> for CoreError {
+    ghost use Rattle.std.specs.Prelude.{◌≡◌};
+    ghost use Rattle.nfs_core.specs.declared.core_error.CoreError.TheVariants.{Memory};
+
+    ghost from_gives = { λ _ e. e ≡ Memory };
+
     fn from(_: AllocError) -> CoreError {
         CoreError::Memory
     }

@@ -1,10 +1,9 @@
 ghost use Rattle.std.specs.Prelude.{◌≡◌, ◌≤◌, ◌<◌, [], IfOk, OnOk, OnErr, IsErrOf, IsTrue, Some, length};
-ghost use Rattle.std.specs.Vec.{vec_len, vec_capacity};
 ghost use Rattle.nfs_core.specs.Server.{Applies, IsLawful};
-ghost use Rattle.nfs_core.specs.Step.{AtMostOneStep, Follows, IsFilehandle, call_of, changed, request_of, with_entry};
-ghost use Rattle.nfs_core.specs.Stored.{opened};
+ghost use Rattle.nfs_core.specs.Step.{AtMostOneStep, IsFilehandle, changed, request_of, with_entry};
+ghost use Rattle.nfs_core.specs.Stored.{empty_store};
 ghost use Rattle.nfs_core.specs.Deciding.{HasNoStep, IsSendable};
-ghost use Rattle.nfs_core.specs.Room.{state_of, stored_of};
+ghost use Rattle.nfs_core.specs.Room.{HasNumbers, state_of, stored_of};
 ghost use Rattle.nfs_core.specs.operations.{rule};
 ghost use Rattle.nfs_xdr.specs.Op.{has_entry};
 ghost use Rattle.nfs_xdr.specs.OpResult.{op_result};
@@ -45,8 +44,8 @@ impl Model for Core {
 }
 
 impl Core {
-    /// A server of this tree's files that no client has come to, opened for the run `epoch` with this lease
-    /// in seconds. Memory where a growth was refused for its copy of the tree.
+    /// A server of this tree's files that no client has come to, for the run `epoch` with this lease in
+    /// seconds. Memory where a growth was refused for its copy of the tree.
     pub fn new(
         alloc: Global,
         tree: &Tree,
@@ -59,20 +58,20 @@ impl Core {
           journal = record {
             nodes = tree.now.nodes; epoch = epoch; lease = lease; policy = policy; entries = [];
           };
-          stored = opened tree.now.nodes;
+          stored = empty_store tree.now.nodes;
         }) }
         ensures lawful { IfOk result (λ core. IsLawful core) }
     {
         Ok(Core {
             alloc,
-            tables: Tables::opened(alloc, tree)?,
+            tables: Tables::of_tree(alloc, tree)?,
             journal: Journal::new(alloc, tree.clone()?, lease, epoch, policy),
         })
     }
 
     /// Answers an operation that has a rule here (`Op::has_entry`), and gives its entry's number in the
     /// journal. With no number the answer is NFS4ERR_RESOURCE and nothing has changed: the journal is
-    /// full, memory was refused, or a limit of the tables is met. `filehandle` is a node of the tree.
+    /// full, memory was refused, or a limit would be passed. `filehandle` is a node of the tree.
     pub fn apply(
         &mut self,
         moment: Moment,
@@ -108,7 +107,7 @@ impl Core {
     }
 }
 
-// Enters what is asked for, with its answer: the answer and the entry's number. A limit is told just
+// Enters what is asked for, with its answer: the answer and the entry's number. A limit is told only
 // where no answer may come next.
 fn enter(
     alloc: Global,
@@ -118,6 +117,7 @@ fn enter(
 ) -> Result<(OpResult, u32), Shortage>
     requires entry { IsTrue (has_entry request.op) }
     requires node { IsFilehandle journal.old request.filehandle }
+    requires numbers { tables.old.clients.registry.last_confirm ≤ length journal.old.entries }
     ensures entered { IfOk result (λ r. Applies
         (record { journal = journal.old; stored = stored_of tables.old })
         (record { journal = journal.new; stored = stored_of tables.new })
@@ -154,7 +154,8 @@ fn take_in(
     call: Call,
     change: Change,
 ) -> Result<u32, AllocError>
-    requires { length journal.old.entries < JOURNAL_LIMIT }
+    requires below { length journal.old.entries < JOURNAL_LIMIT }
+    requires numbers { HasNumbers change (state_of tables.old) }
     ensures number { IfOk result (λ n. n ≡ length journal.old.entries) }
     ensures entry { OnOk result (journal.new ≡ with_entry (Entry.Call call) journal.old) }
     ensures change { OnOk result (state_of tables.new ≡ changed change (state_of tables.old)) }

@@ -1,5 +1,5 @@
 // The operations with an entry, one file each, which decides how it is answered and what it changes.
-ghost use Rattle.std.specs.Prelude.{IsTrue};
+ghost use Rattle.std.specs.Prelude.{◌-◌, ◌^◌, ◌<◌, IsTrue};
 ghost use Rattle.nfs_core.specs.operations.{rule};
 ghost use Rattle.nfs_core.specs.Deciding.{Decides};
 ghost use Rattle.nfs_core.specs.Step.{IsFilehandle};
@@ -26,8 +26,9 @@ pub(crate) fn decide(
 ) -> Result<Decision, Shortage>
     requires entry { IsTrue (has_entry request.now.op) }
     requires node { IsFilehandle journal.now request.now.filehandle }
+    requires numbers { tables.now.clients.registry.last_confirm < 2 ^ 64 - 1 }
     ensures { Decides (rule request.now.op journal.now (state_of tables.now) request.now)
-        request.now.op result }
+        (state_of tables.now) request.now.op result }
 {
     match &request.op {
         Op::Getattr(mask) => getattr::decide(alloc, tables, journal, request, mask),

@@ -1,6 +1,6 @@
 ghost use Rattle.std.specs.Prelude.{◌≡◌, IfOk};
 ghost use Rattle.std.specs.Option.{option_copied};
-ghost use Rattle.nfs_core.specs.State.{file_of, opening_files};
+ghost use Rattle.nfs_core.specs.State.{file_of, initial_files};
 
 use crate::StoredFile;
 use nfs_tree::Tree;
@@ -25,8 +25,8 @@ impl Model for StoredFiles {
 
 impl StoredFiles {
     /// The tree's files with the texts that it gives them.
-    pub(crate) fn opened(alloc: Global, tree: &Tree) -> Result<StoredFiles, AllocError>
-        ensures { IfOk result (λ f. f ≡ opening_files tree.now.nodes) }
+    pub(crate) fn of_tree(alloc: Global, tree: &Tree) -> Result<StoredFiles, AllocError>
+        ensures { IfOk result (λ f. f ≡ initial_files tree.now.nodes) }
     {
         let mut files = Vec::new(alloc);
         for node in 0..tree.len() {

@@ -19,22 +19,23 @@ impl Tables {
     ghost use Rattle.std.specs.Option.{option_copied};
     ghost use Rattle.nfs_core.specs.State.{change_of, file_of, has_state, record_has_state, size_of};
     ghost use Rattle.nfs_core.specs.Step.{changed};
-    ghost use Rattle.nfs_core.specs.Room.{HasRoom, state_of, stored_of};
-    ghost use Rattle.nfs_core.specs.Stored.{opened};
+    ghost use Rattle.nfs_core.specs.Room.{HasNumbers, HasRoom, state_of, stored_of};
+    ghost use Rattle.nfs_core.specs.Stored.{empty_store};
 
     /// The tree's files, and no client.
-    pub(crate) fn opened(alloc: Global, tree: &Tree) -> Result<Tables, AllocError>
-        ensures { IfOk result (λ t. stored_of t ≡ opened tree.now.nodes) }
+    pub(crate) fn of_tree(alloc: Global, tree: &Tree) -> Result<Tables, AllocError>
+        ensures { IfOk result (λ t. stored_of t ≡ empty_store tree.now.nodes) }
     {
         Ok(Tables {
             clients: Clients::new(alloc),
-            files: StoredFiles::opened(alloc, tree)?,
+            files: StoredFiles::of_tree(alloc, tree)?,
         })
     }
 
     /// How often the file of the node was changed, and how many bytes it has; 0 of a directory.
     pub(crate) fn change_and_size(&self, node: u32) -> (u64, u64)
-        ensures { result ≡ (change_of (file_of self.now.files node), size_of (file_of self.now.files node)) }
+        ensures { result ≡
+            (change_of (file_of self.now.files node), size_of (file_of self.now.files node)) }
     {
         match self.files.find(node) {
             Some(file) => (file.change, file.bytes.as_slice().len() as u64),
@@ -72,7 +73,8 @@ impl Tables {
 
     /// Makes the change, for which there is room. It takes no memory.
     pub(crate) fn commit(&mut self, change: Change)
-        requires { HasRoom change self.old }
+        requires room { HasRoom change self.old }
+        requires numbers { HasNumbers change (state_of self.old) }
         ensures { state_of self.new ≡ changed change (state_of self.old) }
     {
         match change {

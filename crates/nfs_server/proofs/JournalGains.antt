@@ -6,7 +6,7 @@ use Rattle.nfs_core.specs.declared.entry.Entry.{Entry}
 use Rattle.nfs_core.specs.operations.{rule}
 use Rattle.nfs_core.specs.Server.{Server, Applies}
 use Rattle.nfs_core.specs.State.{State, History}
-use Rattle.nfs_core.specs.Step.{Follows, call_of, resource}
+use Rattle.nfs_core.specs.Step.{Follows, entry_of, resource}
 use Rattle.nfs_core.specs.Stored.{meaning}
 use Rattle.nfs_server.specs.Asking.{Question}
 use Rattle.nfs_server.specs.Entries.{AreEntries, QuestionsAreEntries}
@@ -29,7 +29,7 @@ gains_first old mid new question questions answer answers None applies others = 
   others.2 ∙ ap (λ (s : Server). record s.journal { entries = s.journal.entries ++ others.0 }) applies.1,
 )
 gains_first old mid new question questions answer answers (Some number) applies others =
-    let entry = call_of question answer in
+    let entry = entry_of question answer in
     let state = meaning old.stored in (
       entry ∷ others.0,
       inr (follows_not_resource (rule question.op old.journal state question) old.journal state (record { request = question; answer = answer }) (meaning mid.stored) applies.2, others.0, refl, others.1),

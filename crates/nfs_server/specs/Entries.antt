@@ -1,7 +1,7 @@
 -- What a lent core's journal gains by the questions that it is asked.
 use Rattle.std.specs.Prelude.{◌≡◌, ◌≢◌, ◌⊎◌, List, [], ◌∷◌, ◌++◌}
 use Rattle.nfs_core.specs.declared.entry.Entry.{Entry}
-use Rattle.nfs_core.specs.Step.{call_of, resource}
+use Rattle.nfs_core.specs.Step.{entry_of, resource}
 use Rattle.nfs_server.specs.Asking.{Asks, GivenByCore, Question}
 use Rattle.nfs_server.specs.declared.service.Lent.{Lent}
 use Rattle.nfs_xdr.specs.declared.op_result.OpResult.{OpResult}
@@ -13,7 +13,7 @@ AreEntries (question ∷ questions) (answer ∷ answers) entries =
     ((answer ≡ resource question.op) × AreEntries questions answers entries)
     ⊎ ((answer ≢ resource question.op)
     × (rest : List Entry)
-    × (entries ≡ call_of question answer ∷ rest)
+    × (entries ≡ entry_of question answer ∷ rest)
     × AreEntries questions answers rest)
 AreEntries [] (answer ∷ answers) entries = ⊥
 AreEntries (question ∷ questions) [] entries = ⊥

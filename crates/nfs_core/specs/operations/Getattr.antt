@@ -24,10 +24,13 @@ subject_of journal state node =
       lease = journal.lease;
     }
 
+-- the attributes of the current filehandle's node
 abbrev pub attributes : History → State → Option ℕ → List ℕ → PlainAnswer Fattr
 attributes journal state None mask = Refused NoFileHandle
-attributes journal state (Some node) mask = Done (attributes_of (subject_of journal state node) mask)
+attributes journal state (Some node) mask =
+    Done (attributes_of (subject_of journal state node) mask)
 
+-- the rule
 abbrev pub rule : History → State → Option ℕ → List ℕ → Option Decision
 rule journal state filehandle mask =
     let answer = results.Getattr (attributes journal state filehandle mask) in

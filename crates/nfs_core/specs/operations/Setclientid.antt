@@ -10,10 +10,11 @@ use Rattle.nfs_core.specs.State.{State, History, record_has_state}
 use Rattle.nfs_xdr.specs.declared.op_result.OpResult.TheVariants as results
 use Rattle.nfs_xdr.specs.declared.operations.setclientid.Setclientid.{Setclientid}
 
+-- the answer and the change of the clients' records, as a decision
 abbrev pub decision_of : Outcome × ClientChange → Decision
-decision_of by = record { answer = results.Setclientid by.0; change = Clients by.1 }
+decision_of told = record { answer = results.Setclientid told.0; change = Clients told.1 }
 
--- whether the client of the id's confirmed record has state is read off the state
+-- The rule. Whether the client of the id's confirmed record has state is read off the state.
 abbrev pub rule : History → State → Request → Setclientid → Option Decision
 rule journal state request args =
     let has_state = record_has_state state (confirmed_of state.clients args.id) in

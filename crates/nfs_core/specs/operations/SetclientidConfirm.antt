@@ -1,13 +1,13 @@
 -- SETCLIENTID_CONFIRM (RFC 7530, section 16.34.5).
-use Rattle.std.specs.Prelude.{false, Option, Some}
+use Rattle.std.specs.Prelude.{Option, Some}
 use Rattle.nfs_core.specs.declared.change.Change.TheVariants.{Clients}
 use Rattle.nfs_core.specs.declared.client_record.PathMark.{PathMark}
 use Rattle.nfs_core.specs.declared.client_record.PathMark.TheVariants.{Unknown, Up}
 use Rattle.nfs_core.specs.declared.clients.client_change.ClientChange.{ClientChange}
 use Rattle.nfs_core.specs.declared.decision.Decision.{Decision}
 use Rattle.nfs_core.specs.declared.request.Request.{Request}
-use Rattle.nfs_core.specs.Confirmation.{Outcome, confirmation, rival_of}
-use Rattle.nfs_core.specs.Registry.{record_with}
+use Rattle.nfs_core.specs.Confirmation.{Outcome, confirmation, holder_of}
+use Rattle.nfs_core.specs.Registry.{unconfirmed_named_by}
 use Rattle.nfs_core.specs.State.{State, History, record_has_state}
 use Rattle.nfs_tree.specs.declared.policy.Callbacks.{Callbacks}
 use Rattle.nfs_tree.specs.declared.policy.Callbacks.TheVariants.{Probe, Assume}
@@ -19,13 +19,14 @@ abbrev pub path_of : Callbacks → PathMark
 path_of Probe = Unknown
 path_of Assume = Up
 
+-- the answer and the change of the clients' records, as a decision
 abbrev pub decision_of : Outcome × ClientChange → Decision
-decision_of by = record { answer = results.SetclientidConfirm by.0; change = Clients by.1 }
+decision_of told = record { answer = results.SetclientidConfirm told.0; change = Clients told.1 }
 
--- whether the client whose place would be taken has state is read off the state
+-- The rule. Whether the client whose place would be taken has state is read off the state.
 abbrev pub rule : History → State → Request → SetclientidConfirm → Option Decision
 rule journal state request args =
     let path = path_of journal.policy.callbacks in
-    let rival = rival_of (record_with false args.client args.confirm state.clients) state.clients in
-    let has_state = record_has_state state rival in
+    let holder = holder_of (unconfirmed_named_by args state.clients) state.clients in
+    let has_state = record_has_state state holder in
     Some (decision_of (confirmation path has_state state.clients request.principal args))

@@ -5,12 +5,12 @@ use nfs_xdr::ClientId;
 #[derive(Debug, Drop)]
 pub(crate) enum ClientChange {
     Nothing,
-    /// This unconfirmed record comes, under a new client number and confirm value.
+    /// This unconfirmed record comes, with the next client number and the next confirm value.
     Arrives(ClientRecord),
-    /// This unconfirmed record comes, under the client's number and a new confirm value.
-    Returns(ClientRecord),
+    /// This unconfirmed record comes, with its client's number and the next confirm value.
+    Updates(ClientRecord),
     /// This confirmed record comes, the only one of its id.
     Confirms(ClientRecord),
-    /// The same, and the client that had the id leaves.
+    /// This confirmed record comes, the only one of its id, and the client of this clientid leaves.
     Replaces(ClientRecord, ClientId),
 }

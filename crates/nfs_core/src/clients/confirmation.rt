@@ -1,7 +1,8 @@
-ghost use Rattle.std.specs.Prelude.{◌≡◌, IfOk, true, false};
+ghost use Rattle.std.specs.Prelude.{◌≡◌, IfOk};
 ghost use Rattle.std.specs.Option.{option_copied};
-ghost use Rattle.nfs_core.specs.Confirmation.{confirmation, confirmation_again, confirmation_beside, confirmation_by, confirmed, renewed, rival_of};
-ghost use Rattle.nfs_core.specs.Registry.{confirmed_of, record_with};
+ghost use Rattle.nfs_core.specs.ClientRoom.{HasNumbersFor};
+ghost use Rattle.nfs_core.specs.Confirmation.{confirmation, confirmation_before, confirmation_beside, confirmation_by, confirmed_record, holder_of, updated_record};
+ghost use Rattle.nfs_core.specs.Registry.{confirmed_named_by, confirmed_of, unconfirmed_named_by};
 ghost use Rattle.nfs_core.specs.declared.client_record.PathMark.{PathMark};
 
 use super::{ClientChange, Clients};
@@ -12,8 +13,8 @@ use std::alloc::AllocError;
 
 impl Clients {
     /// What SETCLIENTID_CONFIRM (RFC 7530, section 16.34.5) answers and changes; `has_state` is whether
-    /// the client of the confirmed record of the same id has state, and `path` the mark of the path of a
-    /// client that is confirmed now.
+    /// the client of the confirmed record of the same id has state, and `path` the mark of the path of
+    /// a client that is confirmed now.
     pub(crate) fn confirm(
         &self,
         principal: Principal,
@@ -21,49 +22,49 @@ impl Clients {
         has_state: bool,
         path: PathMark,
     ) -> Result<(Outcome, ClientChange), AllocError>
-        ensures { IfOk result (λ r.
+        ensures ok { IfOk result (λ r.
             r ≡ confirmation path has_state self.now.registry principal args.now) }
+        ensures numbers { IfOk result (λ r. HasNumbersFor r.1 self.now.registry) }
     {
-        match self.record_with(false, args) {
-            None => Ok((self.confirm_again(principal, args), ClientChange::Nothing)),
+        match self.unconfirmed_named_by(args) {
+            None => Ok((self.answer_confirmed(principal, args), ClientChange::Nothing)),
             Some(candidate) if candidate.principal.is(principal) => {
-                self.confirm_candidate(candidate, has_state, path)
+                self.confirm_unconfirmed(candidate, has_state, path)
             }
             Some(_) => Ok((Outcome::ClidInUse(()), ClientChange::Nothing)),
         }
     }
 
-    // Confirms the unconfirmed record, beside the confirmed one of its id.
-    fn confirm_candidate(
+    // Decides where an unconfirmed record is named, by the confirmed one of its id.
+    fn confirm_unconfirmed(
         &self,
         candidate: &ClientRecord,
         has_state: bool,
         path: PathMark,
     ) -> Result<(Outcome, ClientChange), AllocError>
-        ensures { IfOk result (λ r. r ≡ confirmation_by
-            (confirmation_beside (confirmed_of self.now.registry candidate.now.id) candidate.now has_state)
-            path) }
+        ensures ok { IfOk result (λ r. r ≡ confirmation_by (confirmation_beside
+            (confirmed_of self.now.registry candidate.now.id) candidate.now has_state) path) }
+        ensures numbers { IfOk result (λ r. HasNumbersFor r.1 self.now.registry) }
     {
         let change = match self.confirmed_of(candidate.id.as_slice()) {
-            None => ClientChange::Confirms(confirmed(path, candidate)?),
+            None => ClientChange::Confirms(confirmed_record(path, candidate)?),
             Some(old) if old.client == candidate.client => {
-                ClientChange::Confirms(renewed(path, old, candidate)?)
+                ClientChange::Confirms(updated_record(path, old, candidate)?)
             }
             Some(old) if !old.principal.is(candidate.principal) && has_state => {
                 return Ok((Outcome::ClidInUse(()), ClientChange::Nothing));
             }
-            Some(old) => ClientChange::Replaces(confirmed(path, candidate)?, old.client),
+            Some(old) => ClientChange::Replaces(confirmed_record(path, candidate)?, old.client),
         };
         Ok((Outcome::Done(()), change))
     }
 
-    // Answers where no unconfirmed record has both.
-    fn confirm_again(&self, principal: Principal, args: &SetclientidConfirm) -> Outcome
+    // Answers where no unconfirmed record is named.
+    fn answer_confirmed(&self, principal: Principal, args: &SetclientidConfirm) -> Outcome
         ensures { (path : PathMark) → (result, ClientChange.Nothing) ≡ confirmation_by
-            (confirmation_again (record_with true args.now.client args.now.confirm self.now.registry)
-            principal) path }
+            (confirmation_before (confirmed_named_by args.now self.now.registry) principal) path }
     {
-        match self.record_with(true, args) {
+        match self.confirmed_named_by(args) {
             None => Outcome::Refused(Refusal::StaleClientId),
             Some(found) if found.principal.is(principal) => Outcome::Done(()),
             Some(_) => Outcome::ClidInUse(()),
@@ -71,37 +72,37 @@ impl Clients {
     }
 
     /// The confirmed record of the id that the call would confirm, if there is one.
-    pub(crate) fn rival_of(&self, args: &SetclientidConfirm) -> Option<&ClientRecord>
-        ensures { option_copied result ≡ rival_of
-            (record_with false args.now.client args.now.confirm self.now.registry) self.now.registry }
+    pub(crate) fn holder_of(&self, args: &SetclientidConfirm) -> Option<&ClientRecord>
+        ensures { option_copied result ≡ holder_of
+            (unconfirmed_named_by args.now self.now.registry) self.now.registry }
     {
-        let candidate = self.record_with(false, args)?;
+        let candidate = self.unconfirmed_named_by(args)?;
         self.confirmed_of(candidate.id.as_slice())
     }
 }
 
 // The record, confirmed, and its path has this mark.
-fn confirmed(path: PathMark, candidate: &ClientRecord) -> Result<ClientRecord, AllocError>
-    ensures { IfOk result (λ r. r ≡ confirmed path candidate.now) }
+fn confirmed_record(path: PathMark, candidate: &ClientRecord) -> Result<ClientRecord, AllocError>
+    ensures { IfOk result (λ r. r ≡ confirmed_record path candidate.now) }
 {
-    let mut confirmed = candidate.clone()?;
-    confirmed.confirmed = true;
-    confirmed.path = path;
-    Ok(confirmed)
+    let mut new = candidate.clone()?;
+    new.confirmed = true;
+    new.path = path;
+    Ok(new)
 }
 
 // The confirmed record with verifier, callback and value of the unconfirmed one.
-fn renewed(
+fn updated_record(
     path: PathMark,
     old: &ClientRecord,
     candidate: &ClientRecord,
 ) -> Result<ClientRecord, AllocError>
-    ensures { IfOk result (λ r. r ≡ renewed path old.now candidate.now) }
+    ensures { IfOk result (λ r. r ≡ updated_record path old.now candidate.now) }
 {
-    let mut renewed = old.clone()?;
-    renewed.verifier = candidate.verifier;
-    renewed.callback = candidate.callback.clone()?;
-    renewed.confirm = candidate.confirm;
-    renewed.path = path;
-    Ok(renewed)
+    let mut new = old.clone()?;
+    new.verifier = candidate.verifier;
+    new.callback = candidate.callback.clone()?;
+    new.confirm = candidate.confirm;
+    new.path = path;
+    Ok(new)
 }

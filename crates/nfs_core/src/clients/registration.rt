@@ -1,6 +1,7 @@
-ghost use Rattle.std.specs.Prelude.{◌≡◌, false, None, Some, IfOk, IsErrOf};
+ghost use Rattle.std.specs.Prelude.{◌≡◌, ℕ, ◌-◌, ◌^◌, ◌<◌, ◌↔◌, false, None, Some, IfOk, IsErrOf};
 ghost use Rattle.nfs_xdr.specs.operations.Setclientid as setclientid;
-ghost use Rattle.nfs_core.specs.Registration.{registration, registration_by, Again, Arrival, unconfirmed};
+ghost use Rattle.nfs_core.specs.Registration.{Arrival, Update, registration, registration_by, unconfirmed_record};
+ghost use Rattle.nfs_core.specs.ClientRoom.{HasNumbersFor};
 ghost use Rattle.nfs_core.specs.Registry.{is_within_limit};
 
 use super::{ClientChange, Clients, ClientsError};
@@ -22,16 +23,18 @@ impl Clients {
         args: &Setclientid,
         has_state: bool,
     ) -> Result<(Outcome, ClientChange), ClientsError>
+        requires { self.now.registry.last_confirm < 2 ^ 64 - 1 }
         ensures ok { IfOk result (λ r.
             registration epoch has_state self.now.registry principal args.now ≡ Some r) }
         ensures full { IsErrOf result ClientsError.Full
-            → registration epoch has_state self.now.registry principal args.now ≡ None }
+            ↔ registration epoch has_state self.now.registry principal args.now ≡ None }
+        ensures numbers { IfOk result (λ r. HasNumbersFor r.1 self.now.registry) }
         ensures form { IfOk result (λ r. has_state ≡ false → setclientid.result.Fits r.0) }
     {
         match self.confirmed_of(args.id.as_slice()) {
             Some(record) if record.principal.is(principal) => {
                 if record.verifier == args.verifier {
-                    self.set_again(principal, args, record.client)
+                    self.set_update(principal, args, record.client)
                 } else {
                     self.set_arrival(epoch, principal, args)
                 }
@@ -44,27 +47,29 @@ impl Clients {
         }
     }
 
-    // A confirmed client asks again: it keeps its clientid.
+    // A client updates its callback: it keeps its clientid.
     #[tactic(auto, unfolding(nfs_xdr::specs::Answer::answer, nfs_xdr::specs::Status::status, nfs_xdr::specs::operations::SetclientidConfirm::arguments, nfs_xdr::specs::ClientId::client_id))]
-    fn set_again(
+    fn set_update(
         &self,
         principal: Principal,
         args: &Setclientid,
         client: ClientId,
     ) -> Result<(Outcome, ClientChange), ClientsError>
-        ensures ok { IfOk result (λ r.
-            registration_by (Again client) client.epoch self.now.registry principal args.now ≡ Some r) }
-        ensures full { IsErrOf result ClientsError.Full
-            → registration_by (Again client) client.epoch self.now.registry principal args.now ≡ None }
+        requires { self.now.registry.last_confirm < 2 ^ 64 - 1 }
+        ensures ok { IfOk result (λ r. registration_by (Update client)
+            client.epoch self.now.registry principal args.now ≡ Some r) }
+        ensures full { IsErrOf result ClientsError.Full ↔ registration_by (Update client)
+            client.epoch self.now.registry principal args.now ≡ None }
+        ensures numbers { IfOk result (λ r. HasNumbersFor r.1 self.now.registry) }
         ensures form { IfOk result (λ r. setclientid.result.Fits r.0) }
     {
-        if !is_within_limit(&args.callback.address) || self.last_confirm == u64::MAX {
+        if !is_within_limit(&args.callback.address) {
             return Err(ClientsError::Full);
         }
         let confirm = self.last_confirm + 1;
-        let given = SetclientidConfirm { client, confirm };
-        let record = unconfirmed(principal, args, given)?;
-        Ok((Outcome::Done(given), ClientChange::Returns(record)))
+        let answer = SetclientidConfirm { client, confirm };
+        let record = unconfirmed_record(principal, args, answer)?;
+        Ok((Outcome::Done(answer), ClientChange::Updates(record)))
     }
 
     // A client that gets a number.
@@ -75,16 +80,15 @@ impl Clients {
         principal: Principal,
         args: &Setclientid,
     ) -> Result<(Outcome, ClientChange), ClientsError>
+        requires { self.now.registry.last_confirm < 2 ^ 64 - 1 }
         ensures ok { IfOk result (λ r.
             registration_by Arrival epoch self.now.registry principal args.now ≡ Some r) }
         ensures full { IsErrOf result ClientsError.Full
-            → registration_by Arrival epoch self.now.registry principal args.now ≡ None }
+            ↔ registration_by Arrival epoch self.now.registry principal args.now ≡ None }
+        ensures numbers { IfOk result (λ r. HasNumbersFor r.1 self.now.registry) }
         ensures form { IfOk result (λ r. setclientid.result.Fits r.0) }
     {
-        if !is_within_limit(&args.callback.address)
-            || self.last_confirm == u64::MAX
-            || self.last_number >= CLIENT_LIMIT
-        {
+        if !is_within_limit(&args.callback.address) || self.last_number >= CLIENT_LIMIT {
             return Err(ClientsError::Full);
         }
         let client = ClientId {
@@ -92,27 +96,27 @@ impl Clients {
             number: self.last_number + 1,
         };
         let confirm = self.last_confirm + 1;
-        let given = SetclientidConfirm { client, confirm };
-        let record = unconfirmed(principal, args, given)?;
-        Ok((Outcome::Done(given), ClientChange::Arrives(record)))
+        let answer = SetclientidConfirm { client, confirm };
+        let record = unconfirmed_record(principal, args, answer)?;
+        Ok((Outcome::Done(answer), ClientChange::Arrives(record)))
     }
 }
 
-// The record that the call leaves, to be confirmed.
-fn unconfirmed(
+// The record that SETCLIENTID makes of a clientid and a confirm value, to be confirmed.
+fn unconfirmed_record(
     principal: Principal,
     args: &Setclientid,
-    given: SetclientidConfirm,
+    answer: SetclientidConfirm,
 ) -> Result<ClientRecord, AllocError>
-    ensures { IfOk result (λ r. r ≡ unconfirmed principal args.now given) }
+    ensures { IfOk result (λ r. r ≡ unconfirmed_record principal args.now answer) }
 {
     Ok(ClientRecord {
         id: args.id.clone()?,
         principal,
         verifier: args.verifier,
         callback: args.callback.clone()?,
-        confirm: given.confirm,
-        client: given.client,
+        confirm: answer.confirm,
+        client: answer.client,
         confirmed: false,
         path: PathMark::Unknown,
     })

@@ -25,7 +25,7 @@ pub(super) fn decide(
 ) -> Result<Decision, Shortage>
     requires node { IsFilehandle journal.now request.now.filehandle }
     ensures { Decides (rule journal.now (state_of tables.now) request.now.filehandle mask.now)
-        (Op.Getattr mask.now) result }
+        (state_of tables.now) (Op.Getattr mask.now) result }
 {
     let answer = attributes(alloc, tables, journal, mask, request.filehandle)?;
     Ok(Decision {

@@ -1,3 +1,4 @@
+ghost use Rattle.std.specs.Prelude.{◌-◌, ◌^◌, ◌<◌};
 ghost use Rattle.nfs_core.specs.operations.Setclientid.{rule};
 ghost use Rattle.nfs_core.specs.Deciding.{Decides};
 ghost use Rattle.nfs_core.specs.Room.{state_of};
@@ -18,8 +19,9 @@ pub(super) fn decide(
     request: &Request,
     args: &Setclientid,
 ) -> Result<Decision, Shortage>
+    requires { tables.now.clients.registry.last_confirm < 2 ^ 64 - 1 }
     ensures { Decides (rule journal.now (state_of tables.now) request.now args.now)
-        (Op.Setclientid args.now) result }
+        (state_of tables.now) (Op.Setclientid args.now) result }
 {
     let has_state = tables.record_has_state(tables.clients.confirmed_of(args.id.as_slice()));
     let (answer, change) =

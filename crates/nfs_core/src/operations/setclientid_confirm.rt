@@ -21,9 +21,9 @@ pub(super) fn decide(
     args: &SetclientidConfirm,
 ) -> Result<Decision, Shortage>
     ensures { Decides (rule journal.now (state_of tables.now) request.now args.now)
-        (Op.SetclientidConfirm args.now) result }
+        (state_of tables.now) (Op.SetclientidConfirm args.now) result }
 {
-    let has_state = tables.record_has_state(tables.clients.rival_of(args));
+    let has_state = tables.record_has_state(tables.clients.holder_of(args));
     let path = path_of(journal.policy().callbacks);
     let (answer, change) = tables.clients.confirm(request.principal, args, has_state, path)?;
     Ok(Decision {

@@ -5,4 +5,4 @@ use Rattle.nfs_core.proofs.clients.put_unconfirmed.Goals as goal
 pub returns : goal.returns
 returns c =
     c.push_reserved.ensures.items
-    ∙ ap (λ xs. xs ++ c.args.arrival ∷ []) (filter_same _ _ _ (λ x b f' k. search rules) _ _ c.retain.ensures.filtered)
+    ∙ ap (λ xs. xs ++ c.args.newcomer ∷ []) (filter_same _ _ _ (λ x b f' k. search rules) _ _ c.retain.ensures.filtered)

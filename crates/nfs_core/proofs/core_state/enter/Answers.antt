@@ -1,6 +1,6 @@
 use Rattle.std.proofs.Common.{rules, ◌∙◌, ap, sym, subst}
 use Rattle.nfs_core.specs.Deciding.{IsSendable}
-use Rattle.nfs_core.specs.Step.{call_of, with_entry}
+use Rattle.nfs_core.specs.Step.{entry_of, with_entry}
 use Rattle.nfs_core.specs.Room.{state_of}
 use Rattle.nfs_core.proofs.Journals.{Follows-decided}
 use Rattle.nfs_core.proofs.core_state.enter.Goals as goal
@@ -18,7 +18,7 @@ returns-clause-entered c =
     let answer = c.in_ok-answer in
     let entered = c.in_ok-number.ensures in (
       entered.number,
-      entered.entry ∙ ap (λ a. with_entry (call_of request a) journal) (sym answer.ensures),
+      entered.entry ∙ ap (λ a. with_entry (entry_of request a) journal) (sym answer.ensures),
       Follows-decided _ c.in_ok-decision.decision journal (state_of c.args.tables.now) (record { request = request; answer = answer.answer }) (state_of c.take_in.new.tables)
-      c.in_ok-decision.ensures.0 (search rules) (returns-clause-sendable c).other answer.ensures entered.change,
+      c.in_ok-decision.ensures.0 (search rules) (returns-clause-sendable c).not_resource answer.ensures entered.change,
     )

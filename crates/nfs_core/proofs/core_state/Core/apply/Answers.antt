@@ -2,10 +2,13 @@ use Rattle.std.proofs.Common.{subst, sym}
 use Rattle.nfs_core.specs.declared.request.Request.{Request}
 use Rattle.nfs_core.specs.Server.{Server}
 use Rattle.nfs_core.specs.Step.{IsFilehandle}
-use Rattle.nfs_core.specs.Room.{stored_of}
-use Rattle.nfs_core.proofs.Journals.{Lawful-applies, Lawful-same}
+use Rattle.nfs_core.specs.Room.{state_of, stored_of}
+use Rattle.nfs_core.proofs.Journals.{Lawful-applies, Lawful-confirm, Lawful-same}
 use Rattle.nfs_core.proofs.core_state.Core.apply.Goals as goal
 use Rattle.nfs_core.proofs.core_state.Core.apply.Goals.{in-Ok-enter, in-Err}
+
+pub enter-requires-clause-numbers : goal.enter-requires-clause-numbers
+enter-requires-clause-numbers c = Lawful-confirm c.self.inside.journal (state_of c.self.inside.tables) c.self.invariant
 
 pub invariant_of-self-2 : goal.invariant_of-self-2
 invariant_of-self-2 c =

@@ -1,6 +1,6 @@
 use Rattle.std.proofs.Common.{◌≡◌}
 use Rattle.nfs_core.specs.State.{files_below}
-use Rattle.nfs_core.proofs.stored_files.StoredFiles.opened.Given as goal
+use Rattle.nfs_core.proofs.stored_files.StoredFiles.of_tree.Given as goal
 
 -- the files among the nodes so far
 abbrev pub invariant-loop-node : goal.invariant-loop-node
