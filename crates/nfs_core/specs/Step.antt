@@ -66,7 +66,8 @@ Step journal old (entries.Call call) new =
 -- For one journal, state and request there is at most one answer, and at most one state after it.
 abbrev pub AtMostOneStep : Type 0
 AtMostOneStep =
-    (journal : History) (old : State) (request : Request) (answer answer' : OpResult) (new new' : State)
+    (journal : History) (old : State) (request : Request) (answer answer' : OpResult)
+    (new new' : State)
     → Step journal old (entry_of request answer) new
     → Step journal old (entry_of request answer') new'
     → (answer ≡ answer') × (new ≡ new')

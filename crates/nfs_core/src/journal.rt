@@ -30,7 +30,13 @@ impl Model for Journal {
 
     ghost Value = { History };
 
-    ghost view = { λ j. record { nodes = j.tree.nodes; epoch = j.epoch; lease = j.lease; policy = j.policy; entries = j.entries.items } };
+    ghost view = { λ j. record {
+      nodes = j.tree.nodes;
+      epoch = j.epoch;
+      lease = j.lease;
+      policy = j.policy;
+      entries = j.entries.items;
+    } };
 
     ghost invariant = { λ j. (LEASE_MIN ≤ j.lease) × (j.lease ≤ LEASE_MAX) };
 }

@@ -1,4 +1,4 @@
-// The operations with an entry, one file each, which decides how it is answered and what it changes.
+// The operations with an entry, one file each, which decides the answer and the change.
 ghost use Rattle.std.specs.Prelude.{◌-◌, ◌^◌, ◌<◌, IsTrue};
 ghost use Rattle.nfs_core.specs.operations.{rule};
 ghost use Rattle.nfs_core.specs.Deciding.{Decides};
