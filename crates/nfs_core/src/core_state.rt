@@ -132,7 +132,7 @@ fn enter(
         return Err(Shortage::Limit);
     }
     let decision = decide(alloc, tables, journal, &request)?;
-    let answer = copied(&decision.answer)?;
+    let answer = copy_of(&decision.answer)?;
     let call = Call {
         request,
         answer: decision.answer,
@@ -141,7 +141,7 @@ fn enter(
     Ok((answer, number))
 }
 
-fn copied(answer: &OpResult) -> Result<OpResult, AllocError>
+fn copy_of(answer: &OpResult) -> Result<OpResult, AllocError>
     ensures { IfOk result (λ r. r ≡ answer.now) }
 {
     answer.clone()

@@ -33,7 +33,7 @@ impl StoredFiles {
             if let Some(text) = tree.text(node) {
                 files.push(StoredFile {
                     node,
-                    bytes: Bytes::copied(alloc, text)?,
+                    bytes: Bytes::copy_of(alloc, text)?,
                     change: 0,
                 })?;
             }

@@ -85,7 +85,7 @@ fn set_args(
 ) -> Result<Setclientid, AllocError> {
     Ok(Setclientid {
         verifier: Verifier([verifier; 8]),
-        id: Opaque::copied(alloc, &[id])?,
+        id: Opaque::copy_of(alloc, &[id])?,
         callback: Callback {
             program: 0x4000_0000,
             address: Address {

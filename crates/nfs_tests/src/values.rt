@@ -54,8 +54,8 @@ fn results(alloc: Global) -> Result<[(OpResult, Vec<u8>); 5], Fail> {
         number: 2,
     };
     let address = Address {
-        netid: Bytes::copied(alloc, b"tcp")?,
-        addr: Bytes::copied(alloc, b"1.2.3.4.8.1")?,
+        netid: Bytes::copy_of(alloc, b"tcp")?,
+        addr: Bytes::copy_of(alloc, b"1.2.3.4.8.1")?,
     };
     let in_use = [
         35,

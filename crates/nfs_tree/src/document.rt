@@ -174,7 +174,7 @@ fn read_bytes(alloc: Global, value: Option<&Value>) -> Result<Bytes, TreeError>
     ensures { Reads result (or_missing as_str (option_map (λ v. view v.now) value.entry)) }
 {
     match value.and_then(Value::as_str) {
-        Some(text) => Ok(Bytes::copied(alloc, text.as_bytes())?),
+        Some(text) => Ok(Bytes::copy_of(alloc, text.as_bytes())?),
         None => Err(TreeError::Syntax),
     }
 }

@@ -6,7 +6,7 @@ use Rattle.byteorder.specs.Endian.{big_number}
 use Rattle.nfs_xdr.specs.declared.arg_op.ArgOp.{ArgOp}
 use Rattle.nfs_xdr.specs.declared.arg_op.ArgOp.TheVariants.{Run, BadArgs, Unsupported, Illegal}
 use Rattle.nfs_xdr.specs.declared.op.Op.{Op}
-use Rattle.nfs_xdr.specs.declared.operations.Class.TheVariants.{Unruled}
+use Rattle.nfs_xdr.specs.declared.operations.Class.TheVariants.{OnNothing}
 use Rattle.nfs_xdr.specs.declared.operations.Opnum.{Opnum}
 use Rattle.nfs_xdr.specs.declared.operations.Opnum.TheVariants as opnums
 use Rattle.nfs_xdr.specs.declared.operations.TheConstants.{OPNUMS}
@@ -24,7 +24,7 @@ use Rattle.xdr.specs.laws.Reads.{decided, lacks, reads_number}
 
 -- an operation that has arguments to read
 abbrev IsRuled : Opnum → Type 0
-IsRuled o = class_of o ≢ Unruled
+IsRuled o = class_of o ≢ OnNothing
 
 numbered : (number : ℕ) (o : Opnum) → opnum_of number ≡ Some o → number_of o ≡ number
 numbered number o e = eqb-true (number_of o) number (passes (λ o. eqb (number_of o) number) OPNUMS o e)

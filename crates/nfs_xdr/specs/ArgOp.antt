@@ -4,7 +4,7 @@ use Rattle.std.specs.Prelude.{◌≡◌, ◌≢◌, ℕ, ◌<◌, ◌⊎◌, Boo
 use Rattle.nfs_xdr.specs.declared.arg_op.ArgOp.{ArgOp}
 use Rattle.nfs_xdr.specs.declared.arg_op.ArgOp.TheVariants.{Run, BadArgs, Unsupported, Illegal}
 use Rattle.nfs_xdr.specs.declared.op.Op.{Op}
-use Rattle.nfs_xdr.specs.declared.operations.Class.TheVariants.{Unruled}
+use Rattle.nfs_xdr.specs.declared.operations.Class.TheVariants.{OnNothing}
 use Rattle.nfs_xdr.specs.declared.operations.Opnum.{Opnum}
 use Rattle.nfs_xdr.specs.declared.operations.Opnum.TheVariants as opnums
 use Rattle.nfs_xdr.specs.Op.{op, op_case}
@@ -30,7 +30,7 @@ abbrev pub StandsAt : List ℕ → ArgOp → List ℕ → Type 0
 StandsAt bytes (Run o) rest = Begins (op.layout o) bytes rest
 StandsAt bytes (BadArgs o) rest =
     ((length bytes < 4) × (o ≡ opnums.Illegal) × (rest ≡ bytes))
-    ⊎ ((class_of o ≢ Unruled) × Begins (U32 (number_of o)) bytes rest × LacksOp bytes)
+    ⊎ ((class_of o ≢ OnNothing) × Begins (U32 (number_of o)) bytes rest × LacksOp bytes)
 StandsAt bytes (Unsupported o) rest = Begins (U32 (number_of (opnums.Unsupported o))) bytes rest
 StandsAt bytes (Illegal number) rest =
     Begins (U32 number) bytes rest × ((o : Opnum) → number_of o ≡ number → o ≡ opnums.Illegal)

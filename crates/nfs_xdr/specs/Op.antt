@@ -6,7 +6,7 @@ use Rattle.nfs_xdr.specs.declared.op.Op.TheVariants as ops
 use Rattle.nfs_xdr.specs.declared.operations.Opnum.{Opnum}
 use Rattle.nfs_xdr.specs.declared.operations.Opnum.TheVariants as opnums
 use Rattle.nfs_xdr.specs.operations as of
-use Rattle.nfs_xdr.specs.operations.{class_of, is_entered, is_of_tree, opnum}
+use Rattle.nfs_xdr.specs.operations.{class_of, is_on_state, is_of_tree, opnum}
 use Rattle.xdr.specs.Form.{Form}
 use Rattle.xdr.specs.Switch.{Case, Content, case, no_case, Arm, arm_in, Agrees, IsRead}
 use Rattle.xdr.specs.Union.{switch}
@@ -62,7 +62,7 @@ op = switch opnum op_case opnum_of op_arm op_agrees op_is_read
 
 -- each answer but NFS4ERR_RESOURCE is an entry of the journal
 abbrev pub has_entry : Op → Bool
-has_entry o = is_entered (class_of (opnum_of o))
+has_entry o = is_on_state (class_of (opnum_of o))
 
 -- it asks the tree of files and the filehandles alone
 abbrev pub is_on_tree : Op → Bool

@@ -4,7 +4,7 @@ use Rattle.std.specs.Prelude.{◌≡◌, ℕ, Bool, true, false, Option, Some, �
 use Rattle.std.proofs.Common.{refl}
 use Rattle.std.specs.List.{find}
 use Rattle.nfs_xdr.specs.declared.operations.Class.{Class}
-use Rattle.nfs_xdr.specs.declared.operations.Class.TheVariants.{OnTree, Entered, Unruled}
+use Rattle.nfs_xdr.specs.declared.operations.Class.TheVariants.{OnTree, OnState, OnNothing}
 use Rattle.nfs_xdr.specs.declared.operations.Opnum.{Opnum}
 use Rattle.nfs_xdr.specs.declared.operations.Opnum.TheVariants as op
 use Rattle.nfs_xdr.specs.declared.operations.TheConstants.{OPNUMS}
@@ -54,17 +54,17 @@ number_of_unsupported without.ReleaseLockowner = 39
 -- its row in the list: its number, and what it is asked of
 abbrev pub row_of : Opnum → ℕ × Class
 row_of op.Access = (3, OnTree)
-row_of op.Getattr = (9, Entered)
+row_of op.Getattr = (9, OnState)
 row_of op.Getfh = (10, OnTree)
 row_of op.Lookup = (15, OnTree)
 row_of op.Putfh = (22, OnTree)
 row_of op.Putrootfh = (24, OnTree)
 row_of op.Restorefh = (31, OnTree)
 row_of op.Savefh = (32, OnTree)
-row_of op.Setclientid = (35, Entered)
-row_of op.SetclientidConfirm = (36, Entered)
-row_of (op.Unsupported o) = (number_of_unsupported o, Unruled)
-row_of op.Illegal = (10044, Unruled)
+row_of op.Setclientid = (35, OnState)
+row_of op.SetclientidConfirm = (36, OnState)
+row_of (op.Unsupported o) = (number_of_unsupported o, OnNothing)
+row_of op.Illegal = (10044, OnNothing)
 
 abbrev pub number_of : Opnum → ℕ
 number_of o = (row_of o).0
@@ -72,15 +72,15 @@ number_of o = (row_of o).0
 abbrev pub class_of : Opnum → Class
 class_of o = (row_of o).1
 
-abbrev pub is_entered : Class → Bool
-is_entered OnTree = false
-is_entered Entered = true
-is_entered Unruled = false
+abbrev pub is_on_state : Class → Bool
+is_on_state OnTree = false
+is_on_state OnState = true
+is_on_state OnNothing = false
 
 abbrev pub is_of_tree : Class → Bool
 is_of_tree OnTree = true
-is_of_tree Entered = false
-is_of_tree Unruled = false
+is_of_tree OnState = false
+is_of_tree OnNothing = false
 
 -- the room that its reply may take
 abbrev pub room_of : Opnum → ℕ

@@ -51,7 +51,7 @@ fn compound_from(alloc: Global, bytes: &[u8]) -> Result<Compound, WireError>
     ensures memory { IsErrOf result WireError.Memory → IsOk (head.at bytes.now) }
 {
     let ((tag, (minor, count)), rest) = read_head(bytes)?;
-    let tag = Bytes::copied(alloc, tag)?;
+    let tag = Bytes::copy_of(alloc, tag)?;
     let request = read_request(alloc, minor, count, rest)?;
     Ok(Compound { tag, request })
 }

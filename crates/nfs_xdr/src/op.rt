@@ -75,7 +75,7 @@ impl Op {
     pub fn has_entry(&self) -> bool
         ensures { result ≡ ops.has_entry self.now }
     {
-        self.opnum().class() == Class::Entered
+        self.opnum().class() == Class::OnState
     }
 
     /// Whether it is asked of the tree of files and the filehandles alone.

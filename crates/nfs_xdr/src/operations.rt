@@ -26,11 +26,11 @@ macro_rules! each_operation {
         $then!(
             [
                 Access = 3 OnTree,
-                Getattr = 9 Entered,
+                Getattr = 9 OnState,
                 Lookup = 15 OnTree,
                 Putfh = 22 OnTree,
-                Setclientid = 35 Entered,
-                SetclientidConfirm = 36 Entered,
+                Setclientid = 35 OnState,
+                SetclientidConfirm = 36 OnState,
             ]
             [
                 Getfh = 10 OnTree,
@@ -110,9 +110,9 @@ pub enum Class {
     /// The tree of files and the filehandles alone.
     OnTree,
     /// The state, by a rule: each answer but NFS4ERR_RESOURCE is an entry of the journal.
-    Entered,
+    OnState,
     /// Nothing: it has no rule, and isn't run.
-    Unruled,
+    OnNothing,
 }
 
 macro_rules! number_of_opnum {
@@ -131,7 +131,7 @@ macro_rules! class_of_opnum {
         match $opnum {
             $(Opnum::$X => Class::$c,)*
             $(Opnum::$Y => Class::$d,)*
-            Opnum::Unsupported(_) | Opnum::Illegal => Class::Unruled,
+            Opnum::Unsupported(_) | Opnum::Illegal => Class::OnNothing,
         }
     };
 }

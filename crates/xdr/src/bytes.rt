@@ -32,7 +32,7 @@ impl<const LIMIT: u32> Opaque<LIMIT> {
     }
 
     /// A copy of these bytes.
-    pub fn copied(alloc: Global, items: &[u8]) -> Result<Opaque<LIMIT>, AllocError>
+    pub fn copy_of(alloc: Global, items: &[u8]) -> Result<Opaque<LIMIT>, AllocError>
         ensures { IfOk result (λ b. b ≡ items.now) }
     {
         Ok(Opaque {

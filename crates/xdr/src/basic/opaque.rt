@@ -45,7 +45,7 @@ pub fn read_opaque_bytes<const LIMIT: u32>(
     ensures memory { IsErrOf result WireError.Memory → IsOk (opaque_at LIMIT bytes.now) }
 {
     let (value, rest) = read_opaque(bytes, LIMIT)?;
-    Ok((Opaque::copied(alloc, value)?, rest))
+    Ok((Opaque::copy_of(alloc, value)?, rest))
 }
 
 /// Writes the length, the bytes and zeros to a multiple of 4 at the end. TooLong above `limit` bytes.
