@@ -25,4 +25,4 @@ Applies old new request answer (Some number) =
     (number ≡ length old.journal.entries)
     × (new.journal ≡ with_entry (entry_of request answer) old.journal)
     × Follows (rule request.op old.journal old_state request) old.journal old_state
-      (record { request = request; answer = answer }) (meaning new.stored)
+    (record { request = request; answer = answer }) (meaning new.stored)

@@ -13,7 +13,9 @@ use crate::journal::push_entry;
 use crate::operations::decide;
 use crate::shortage::Shortage;
 use crate::tables::Tables;
-use crate::{Call, CoreError, Entry, JOURNAL_LIMIT, Journal, LEASE_MAX, LEASE_MIN, Moment, Request};
+use crate::{
+    Call, CoreError, Entry, JOURNAL_LIMIT, Journal, LEASE_MAX, LEASE_MIN, Moment, Request,
+};
 use nfs_tree::{Policy, Tree};
 use nfs_xdr::{Op, OpResult, Principal, Refusal};
 use std::alloc::{AllocError, Global};
@@ -56,7 +58,11 @@ impl Core {
         requires { (LEASE_MIN ≤ lease) × (lease ≤ LEASE_MAX) }
         ensures value { IfOk result (λ core. core ≡ record {
           journal = record {
-            nodes = tree.now.nodes; epoch = epoch; lease = lease; policy = policy; entries = [];
+            nodes = tree.now.nodes;
+            epoch = epoch;
+            lease = lease;
+            policy = policy;
+            entries = [];
           };
           stored = empty_store tree.now.nodes;
         }) }

@@ -46,7 +46,11 @@ impl Journal {
     pub(crate) fn new(alloc: Global, tree: Tree, lease: u32, epoch: u32, policy: Policy) -> Journal
         requires { (LEASE_MIN ≤ lease) × (lease ≤ LEASE_MAX) }
         ensures { result ≡ record {
-          nodes = tree.nodes; epoch = epoch; lease = lease; policy = policy; entries = [];
+          nodes = tree.nodes;
+          epoch = epoch;
+          lease = lease;
+          policy = policy;
+          entries = [];
         } }
     {
         Journal {

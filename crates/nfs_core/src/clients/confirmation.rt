@@ -27,7 +27,10 @@ impl Clients {
         ensures numbers { IfOk result (λ r. HasNumbersFor r.1 self.now.registry) }
     {
         match self.unconfirmed_named_by(args) {
-            None => Ok((self.answer_confirmed(principal, args), ClientChange::Nothing)),
+            None => Ok((
+                self.answer_confirmed(principal, args),
+                ClientChange::Nothing,
+            )),
             Some(candidate) if candidate.principal.is(principal) => {
                 self.confirm_unconfirmed(candidate, has_state, path)
             }

@@ -24,8 +24,9 @@ pub(super) fn decide(
         (state_of tables.now) (Op.Setclientid args.now) result }
 {
     let has_state = tables.record_has_state(tables.clients.confirmed_of(args.id.as_slice()));
-    let (answer, change) =
-        tables.clients.set(journal.epoch(), request.principal, args, has_state)?;
+    let (answer, change) = tables
+        .clients
+        .set(journal.epoch(), request.principal, args, has_state)?;
     Ok(Decision {
         answer: OpResult::Setclientid(answer),
         change: Change::Clients(change),

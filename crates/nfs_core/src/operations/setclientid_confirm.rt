@@ -25,7 +25,9 @@ pub(super) fn decide(
 {
     let has_state = tables.record_has_state(tables.clients.holder_of(args));
     let path = path_of(journal.policy().callbacks);
-    let (answer, change) = tables.clients.confirm(request.principal, args, has_state, path)?;
+    let (answer, change) = tables
+        .clients
+        .confirm(request.principal, args, has_state, path)?;
     Ok(Decision {
         answer: OpResult::SetclientidConfirm(answer),
         change: Change::Clients(change),
