@@ -49,6 +49,7 @@ impl Line {
 
 /// The refusal of SETCLIENTID and of its confirmation for want of memory.
 const UNSET: [u32; 5] = [10018, 0, 1, 35, 10018];
+
 const UNCONFIRMED: [u32; 5] = [10018, 0, 1, 36, 10018];
 
 /// The confirmation's answer.
