@@ -63,10 +63,7 @@ Lawful-same journal journal' stored stored' same_journal same_stored lawful = rw
 changed_confirm : (change : Change) (old : State) → (changed change old).clients.last_confirm ≤ old.clients.last_confirm + 1
 changed_confirm changes.Nothing old = omega arith
 changed_confirm (changes.Clients client_changes.Nothing) old = omega arith
-changed_confirm (changes.Clients (client_changes.Arrives r)) old = omega arith
-changed_confirm (changes.Clients (client_changes.Updates r)) old = omega arith
-changed_confirm (changes.Clients (client_changes.Confirms r)) old = omega arith
-changed_confirm (changes.Clients (client_changes.Replaces r client)) old = omega arith
+changed_confirm change old = omega arith
 
 Follows-confirm : (ruled : Option Decision) (journal : History) (old : State) (call : Call) (new : State) → Follows ruled journal old call new → new.clients.last_confirm ≤ old.clients.last_confirm + 1
 Follows-confirm None journal old call new follows = absurd follows

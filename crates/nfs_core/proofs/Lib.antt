@@ -1,3 +1,2 @@
 pub mod Journals
-pub mod AttributeLengths
 pub mod OpenedFiles

@@ -91,7 +91,10 @@ impl Clients {
     {
         match change {
             ClientChange::Nothing => Ok(()),
-            _ => self.records.reserve(1),
+            ClientChange::Arrives(_)
+            | ClientChange::Updates(_)
+            | ClientChange::Confirms(_)
+            | ClientChange::Replaces(_, _) => self.records.reserve(1),
         }
     }
 
