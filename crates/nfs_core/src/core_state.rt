@@ -1,4 +1,4 @@
-ghost use Rattle.std.specs.Prelude.{◌≡◌, ◌≤◌, ◌<◌, [], IfOk, OnOk, OnErr, IsErrOf, IsTrue, Some, length};
+ghost use Rattle.std.specs.Prelude.{◌≡◌, None, ◌≢◌, ◌≤◌, ◌<◌, [], IfOk, OnOk, OnErr, IsErrOf, IsTrue, Some, length};
 ghost use Rattle.nfs_core.specs.Server.{Applies, IsLawful};
 ghost use Rattle.nfs_core.specs.Step.{AtMostOneStep, IsFilehandle, changed, request_of, with_entry};
 ghost use Rattle.nfs_core.specs.Stored.{empty_store};
@@ -114,7 +114,7 @@ impl Core {
 }
 
 // Enters what is asked for, with its answer: the answer and the entry's number. A limit is told only
-// where no answer may come next.
+// where no answer may come next, and want of memory only where no limit would be passed.
 fn enter(
     alloc: Global,
     tables: &mut Tables,
@@ -131,6 +131,9 @@ fn enter(
     ensures sendable { IfOk result (λ r. IsSendable request.op r.0) }
     ensures limit { IsErrOf result Shortage.Limit
         → HasNoStep journal.old (state_of tables.old) request }
+    ensures memory { IsErrOf result Shortage.Memory
+        → (length journal.old.entries < JOURNAL_LIMIT)
+        × (rule request.op journal.old (state_of tables.old) request ≢ None) }
     ensures same { OnErr result
         ((journal.new ≡ journal.old) × (stored_of tables.new ≡ stored_of tables.old)) }
 {
