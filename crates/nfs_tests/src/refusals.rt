@@ -47,39 +47,25 @@ impl Line {
     }
 }
 
-/// The refusal of SETCLIENTID and of its confirmation for want of memory.
-const UNSET: [u32; 5] = [10018, 0, 1, 35, 10018];
-
-const UNCONFIRMED: [u32; 5] = [10018, 0, 1, 36, 10018];
-
-/// The confirmation's answer.
-const CONFIRMED: [u32; 5] = [0, 0, 1, 36, 0];
-
-/// Every operation with an entry, by each way in which it changes the state: a client's SETCLIENTID, its
-/// confirmation, that again, attributes; the client asks anew, is confirmed anew; it has started anew, and
-/// takes the place of what it was.
-fn script(alloc: Global) -> Result<[Line; 8], AllocError> {
-    let set = &SET_CLIENT_ID;
-    let mut set_anew = SET_CLIENT_ID;
-    set_anew[4] = 0x0102_0305;
-    let given = [0, 0, 1, 35, 0, 1, 1, 0, 1];
-    let given_again = [0, 0, 1, 35, 0, 1, 1, 0, 2];
-    let given_anew = [0, 0, 1, 35, 0, 1, 2, 0, 3];
+/// SETCLIENTID, its confirmation, the confirmation again, and attributes.
+fn script(alloc: Global) -> Result<[Line; 4], AllocError> {
     let confirm = [0, 0, 1, 36, 1, 1, 0, 1];
-    let confirm_again = [0, 0, 1, 36, 1, 1, 0, 2];
-    let confirm_anew = [0, 0, 1, 36, 1, 2, 0, 3];
+    let confirmed = [0, 0, 1, 36, 0];
+    let unconfirmed = [10018, 0, 1, 36, 10018];
+    let given = [0, 0, 1, 35, 0, 1, 1, 0, 1];
     let attributes = [0, 0, 2, 24, 9, 1, 2];
     let told = [0, 0, 2, 24, 0, 9, 0, 1, 2, 4, 2];
-    let untold = [10018, 0, 2, 24, 0, 9, 10018];
     Ok([
-        Line::new(alloc, 1, set, &given, &UNSET)?,
-        Line::new(alloc, 2, &confirm, &CONFIRMED, &UNCONFIRMED)?,
-        Line::new(alloc, 3, &confirm, &CONFIRMED, &UNCONFIRMED)?,
-        Line::new(alloc, 4, &attributes, &told, &untold)?,
-        Line::new(alloc, 5, set, &given_again, &UNSET)?,
-        Line::new(alloc, 6, &confirm_again, &CONFIRMED, &UNCONFIRMED)?,
-        Line::new(alloc, 7, &set_anew, &given_anew, &UNSET)?,
-        Line::new(alloc, 8, &confirm_anew, &CONFIRMED, &UNCONFIRMED)?,
+        Line::new(alloc, 1, &SET_CLIENT_ID, &given, &[10018, 0, 1, 35, 10018])?,
+        Line::new(alloc, 2, &confirm, &confirmed, &unconfirmed)?,
+        Line::new(alloc, 3, &confirm, &confirmed, &unconfirmed)?,
+        Line::new(
+            alloc,
+            4,
+            &attributes,
+            &told,
+            &[10018, 0, 2, 24, 0, 9, 10018],
+        )?,
     ])
 }
 
@@ -159,11 +145,7 @@ fn refused_once(rt: HostRuntime) -> Result<(), Fail> {
     let output = told(alloc, &mut lent, &tree, &lines[0], output).ok_or("SETCLIENTID")?;
     let output = told(alloc, &mut lent, &tree, &lines[1], output).ok_or("its confirmation")?;
     let output = told(alloc, &mut lent, &tree, &lines[2], output).ok_or("its confirmation again")?;
-    let output = told(alloc, &mut lent, &tree, &lines[3], output).ok_or("attributes")?;
-    let output = told(alloc, &mut lent, &tree, &lines[4], output).ok_or("SETCLIENTID again")?;
-    let output = told(alloc, &mut lent, &tree, &lines[5], output).ok_or("confirmed anew")?;
-    let output = told(alloc, &mut lent, &tree, &lines[6], output).ok_or("another verifier")?;
-    told(alloc, &mut lent, &tree, &lines[7], output).ok_or("confirmed in its place")?;
+    told(alloc, &mut lent, &tree, &lines[3], output).ok_or("attributes")?;
     Ok(())
 }
 
