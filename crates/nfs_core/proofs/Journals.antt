@@ -33,8 +33,8 @@ Lawful-step journal old new entry lawful step =
     Leads-append (record journal { entries = [] }) (empty_server journal.nodes) old new journal.entries entry lawful step
 
 -- a call that its rule decides so comes next
-pub Follows-decided : (ruled : Option Decision) (decision : Decision) (journal : History) (old : State) (call : Call) (new : State) → ruled ≡ Some decision → length journal.entries < JOURNAL_LIMIT → call.answer ≢ resource call.request.op → call.answer ≡ decision.answer → new ≡ changed decision.change old → Follows ruled journal old call new
-Follows-decided ruled decision journal old call new ruled_so below other answered moved = rw ruled_so (below, other, answered, moved)
+pub Follows-decided : (ruled : Option Decision) (decision : Decision) (journal : History) (old : State) (call : Call) (new : State) → ruled ≡ Some decision → length journal.entries < JOURNAL_LIMIT → call.answer ≢ resource call.request.op → call.answer ≡ decision.answer → new ≡ changed decision.change old → IsFilehandle journal call.request.filehandle → Follows ruled journal old call new
+Follows-decided ruled decision journal old call new ruled_so below other answered moved node = rw ruled_so (below, other, answered, moved, node)
 
 -- where the rule says nothing, or the journal is full, no call comes next
 pub none_follows : (ruled : Option Decision) (journal : History) (old : State) (call : Call) (new : State) → (ruled ≡ None) ⊎ (JOURNAL_LIMIT ≤ length journal.entries) → Follows ruled journal old call new → ⊥
@@ -43,17 +43,17 @@ none_follows (Some decision) journal old call new (inl none) follows = cc
 none_follows (Some decision) journal old call new (inr full) follows = omega (arith, follows.0)
 
 -- a lawful core that answers a call is lawful
-pub Lawful-applies : (old new : Server) (request : Request) (answer : OpResult) (number : ℕ) → IsLawful old → IsFilehandle old.journal request.filehandle → Applies old new request answer (Some number) → IsLawful new
-Lawful-applies old new request answer number lawful node applies =
+pub Lawful-applies : (old new : Server) (request : Request) (answer : OpResult) (number : ℕ) → IsLawful old → Applies old new request answer (Some number) → IsLawful new
+Lawful-applies old new request answer number lawful applies =
     let P : History → Type 0 = λ journal. Lawful journal (meaning new.stored) in
-    subst P (sym applies.1) (Lawful-step old.journal (meaning old.stored) (meaning new.stored) (entry_of request answer) lawful (node, applies.2))
+    subst P (sym applies.1) (Lawful-step old.journal (meaning old.stored) (meaning new.stored) (entry_of request answer) lawful applies.2)
 
 Follows-unique : (ruled : Option Decision) (journal : History) (old : State) (call call' : Call) (new new' : State) → Follows ruled journal old call new → Follows ruled journal old call' new' → (call.answer ≡ call'.answer) × (new ≡ new')
 Follows-unique None journal old call call' new new' f f' = absurd f
 Follows-unique (Some decision) journal old call call' new new' f f' = (f.2 ∙ sym f'.2, f.3 ∙ sym f'.3)
 
 pub Step-unique : AtMostOneStep
-Step-unique journal old request answer answer' new new' s s' = Follows-unique (rule request.op journal old request) journal old (record { request = request; answer = answer }) (record { request = request; answer = answer' }) new new' s.1 s'.1
+Step-unique journal old request answer answer' new new' s s' = Follows-unique (rule request.op journal old request) journal old (record { request = request; answer = answer }) (record { request = request; answer = answer' }) new new' s s'
 
 -- a core that is as it was is as lawful as it was
 pub Lawful-same : (journal journal' : History) (stored stored' : Stored) → journal' ≡ journal → stored' ≡ stored → Lawful journal (meaning stored) → Lawful journal' (meaning stored')
@@ -71,7 +71,7 @@ Follows-confirm (Some decision) journal old call new follows =
     omega (arith, changed_confirm decision.change old, ap (λ (s : State). s.clients.last_confirm) follows.3)
 
 Step-confirm : (journal : History) (old : State) (entry : Entry) (new : State) → Step journal old entry new → new.clients.last_confirm ≤ old.clients.last_confirm + 1
-Step-confirm journal old (entries.Call call) new step = Follows-confirm (rule call.request.op journal old call.request) journal old call new step.1
+Step-confirm journal old (entries.Call call) new step = Follows-confirm (rule call.request.op journal old call.request) journal old call new step
 
 Leads-confirm : (journal : History) (old new : State) (entries : List Entry) → Leads journal old entries new → new.clients.last_confirm ≤ old.clients.last_confirm + length entries
 Leads-confirm journal old new [] leads = omega (arith, ap (λ (s : State). s.clients.last_confirm) leads)

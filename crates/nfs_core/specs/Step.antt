@@ -48,7 +48,8 @@ abbrev pub with_entry : Entry → History → History
 with_entry entry journal = record journal { entries = journal.entries ++ entry ∷ [] }
 
 -- From old, the call comes next in the journal by what its rule decides, and leads to new. No call
--- that is answered NFS4ERR_RESOURCE comes in, nor one where a limit would be passed.
+-- that is answered NFS4ERR_RESOURCE comes in, nor one where a limit would be passed, nor one whose
+-- filehandle is that of no node.
 abbrev pub Follows : Option Decision → History → State → Call → State → Type 0
 Follows None journal old call new = ⊥
 Follows (Some decision) journal old call new =
@@ -56,12 +57,12 @@ Follows (Some decision) journal old call new =
     × (call.answer ≢ resource call.request.op)
     × (call.answer ≡ decision.answer)
     × (new ≡ changed decision.change old)
+    × IsFilehandle journal call.request.filehandle
 
 -- From old, with this journal so far, the entry may come next and lead to new.
 abbrev pub Step : History → State → Entry → State → Type 0
 Step journal old (entries.Call call) new =
-    IsFilehandle journal call.request.filehandle
-    × Follows (rule call.request.op journal old call.request) journal old call new
+    Follows (rule call.request.op journal old call.request) journal old call new
 
 -- For one journal, state and request there is at most one answer, and at most one state after it.
 abbrev pub AtMostOneStep : Type 0

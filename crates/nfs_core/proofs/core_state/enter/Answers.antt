@@ -20,5 +20,5 @@ returns-clause-entered c =
       entered.number,
       entered.entry ∙ ap (λ a. with_entry (entry_of request a) journal) (sym answer.ensures),
       Follows-decided _ c.in_ok-decision.decision journal (state_of c.args.tables.now) (record { request = request; answer = answer.answer }) (state_of c.take_in.new.tables)
-          c.in_ok-decision.ensures.0 (search rules) (returns-clause-sendable c).not_resource answer.ensures entered.change,
+          c.in_ok-decision.ensures.0 (search rules) (returns-clause-sendable c).not_resource answer.ensures entered.change c.requires.node,
     )

@@ -1,7 +1,3 @@
-use Rattle.std.proofs.Common.{subst, sym}
-use Rattle.nfs_core.specs.declared.request.Request.{Request}
-use Rattle.nfs_core.specs.Server.{Server}
-use Rattle.nfs_core.specs.Step.{IsFilehandle}
 use Rattle.nfs_core.specs.Room.{state_of, stored_of}
 use Rattle.nfs_core.proofs.Journals.{Lawful-applies, Lawful-confirm, Lawful-same}
 use Rattle.nfs_core.proofs.core_state.Core.apply.Goals as goal
@@ -14,10 +10,8 @@ pub invariant_of-self-2 : goal.invariant_of-self-2
 invariant_of-self-2 c =
     let before = c.self.inside in
     let after = c.enter.new in
-    let under_node : Request → Type 0 = λ r. IsFilehandle before.journal r.filehandle in
-    let in_tree : Server → Type 0 = λ s. IsFilehandle s.journal c.args.filehandle in
     elim c.match-enter.branch [
-      | in-Ok-enter w ↦ Lawful-applies (record { journal = before.journal; stored = stored_of before.tables }) (record { journal = after.journal; stored = stored_of after.tables }) c.in-Ok.request _ _ c.self.invariant (subst under_node (sym c.in-Ok.ensures) (subst in_tree (sym c.self.view_is) c.requires.node)) w.in-Ok-enter.ensures.entered
+      | in-Ok-enter w ↦ Lawful-applies (record { journal = before.journal; stored = stored_of before.tables }) (record { journal = after.journal; stored = stored_of after.tables }) c.in-Ok.request _ _ c.self.invariant w.in-Ok-enter.ensures.entered
       | in-Err w ↦ Lawful-same before.journal after.journal (stored_of before.tables) (stored_of after.tables) w.in-Err.ensures.same.0 w.in-Err.ensures.same.1 c.self.invariant
     ]
 
