@@ -1,198 +1,190 @@
 -- The course of a connection, as far as it has come.
-use Rattle.std.proofs.Common.{◌≡◌, ℕ, ◌+◌, ◌≤◌, true, false, List, [], ◌∷◌, ◌++◌, length, Option, Result, Ok, Err, refl, sym, ap, subst, ◌∙◌, append_assoc, arith}
+use Rattle.std.proofs.Common.{◌≡◌, ◌≢◌, ℕ, ◌+◌, ◌^◌, ◌<◌, ◌≤◌, ◌⊎◌, inl, inr, true, false, List, [], ◌∷◌, ◌++◌, length, take, Result, Ok, Err, refl, sym, ap, subst, ◌∙◌, arith}
 use Rattle.std.specs.List.{AllByRecursion}
-use Rattle.std.specs.Io.KnownBytes.{Appends, Consumes}
-use Rattle.std.proofs.KnownBytes.{Appends-nil, Appends-trans, Consumes-nil, Consumes-trans}
-use Rattle.std.proofs.lemmas.List.{append-nil, length-append}
+use Rattle.std.specs.Prelude.{◌↔◌, IsErrOf}
+use Rattle.std.proofs.lemmas.List.{append-nil, length-append, length-take}
+use Rattle.std.proofs.lemmas.List.Concat.{flat_map-cons}
 use Rattle.std.proofs.lemmas.Grind.{flat_map-append}
 use Rattle.nfs_rpc.specs.declared.records.TheConstants.{RECORD_LIMIT}
-use Rattle.nfs_tree.specs.Tree.{Files}
-use Rattle.nfs_server.specs.declared.connection.TheConstants.{PIECE_LEN, STREAM_LIMIT}
+use Rattle.nfs_rpc.specs.Records.{AreRecords, IsNew, IsStream, IsTooLong, Keeps, Splits, Stream, TakesPiece}
 use Rattle.nfs_server.specs.declared.serve_error.ServeError.{ServeError}
 use Rattle.nfs_server.specs.declared.serve_error.ServeError.TheVariants as errors
-use Rattle.nfs_server.specs.Asking.{Question}
-use Rattle.nfs_server.specs.Connection.{EndsWith, HasCourse, HasNoneTooLong, Exchange, AreExchanged, IsCourse, IsServed, messages_of, written_for, written_for_all}
-use Rattle.nfs_rpc.specs.Records.{AreRecords, IsNew, IsStream, IsTooLong, Keeps, OneSplit, SplitGoesOn, Splits, Stream, TakesPiece}
-use Rattle.nfs_server.proofs.Serving.{exchanged_then, messages-append}
-use Rattle.nfs_xdr.specs.declared.op_result.OpResult.{OpResult}
+use Rattle.nfs_server.specs.Connection.{Scene, Turn, Course, AreTurns, EndsWith, HasCourse, IsIdle, IsTurn, rest_after, scene, text_of}
+use Rattle.nfs_server.specs.Device.{Device, IsCut, IsWritten}
+use Rattle.nfs_server.specs.Exchange.{Rules, messages_of}
+use Rattle.nfs_server.specs.Serving.{GoesOut, IsServed}
+use Rattle.nfs_server.proofs.Serving.{errs, error_is}
 
--- Every record of what was read so far was answered.
-pub record IsUnderWay {S C : Type 0} (tree : Files) (gives : S → Question → OpResult → S → Type 0) (tells : C → ℕ → C → Type 0) (service : S) (clock : C) (unread unwritten : Option (List ℕ)) (stream : Stream) (service' : S) (clock' : C) (unread' written' : Option (List ℕ)) : Type 0 where
-  pub text : List ℕ
-  pub exchanges : List Exchange
-  pub consumes : Consumes unread unread' text
-  pub rest : List ℕ
-  pub split : Splits text (messages_of exchanges) rest
-  pub keeps : Keeps rest stream
-  pub exchanged : AreExchanged tree gives tells service clock exchanges service' clock'
-  pub appends : Appends unwritten written' (written_for_all tree exchanges)
+-- one turn more
+turns_more : {D S C : Type 0} (device : Device D) (rules : Rules S C) (a b c : Scene D S C) (behind : List ℕ) (turns : List Turn) (turn : Turn)
+    → AreTurns device rules a behind turns b → IsTurn device rules IsWritten b (rest_after behind turns) turn c → turn.unanswered ≡ [] → (IsTooLong turn.rest → ⊥)
+    → AreTurns device rules a behind (turns ++ turn ∷ []) c
+turns_more {D = D} {S = S} {C = C} device rules a b c behind [] turn are more none goes =
+    (c, subst (λ (x : Scene D S C). IsTurn device rules IsWritten x behind turn c) are more, none, goes, refl)
+turns_more device rules a b c behind (first ∷ turns) turn are more none goes =
+    (are.0, are.1, are.2, are.3, turns_more device rules are.0 b c first.rest turns turn are.4 more none goes)
+
+rest_more : (behind : List ℕ) (turns : List Turn) (turn : Turn) → rest_after behind (turns ++ turn ∷ []) ≡ turn.rest
+rest_more behind [] turn = refl
+rest_more behind (first ∷ turns) turn = rest_more first.rest turns turn
+
+text_more : (turns : List Turn) (turn : Turn) → text_of (turns ++ turn ∷ []) ≡ text_of turns ++ turn.piece
+text_more turns turn =
+    flat_map-append (λ (t : Turn). t.piece) turns (turn ∷ []) ∙ ap (λ (x : List ℕ). text_of turns ++ x) (flat_map-cons (λ (t : Turn). t.piece) turn [] ∙ append-nil turn.piece)
+
+-- All turns so far are over, and the stream keeps what they left.
+pub record IsUnderWay {D S C : Type 0} (device : Device D) (rules : Rules S C) (before : Scene D S C) (stream : Stream) (now : Scene D S C) : Type 0 where
+  pub turns : List Turn
+  pub are : AreTurns device rules before [] turns now
+  pub keeps : Keeps (rest_after [] turns) stream
   pub idle : stream.ready ≡ []
-  pub fed : stream.fed ≡ length text
+  pub fed : stream.fed ≡ length (text_of turns)
 
-pub starts : {S C : Type 0} (tree : Files) (gives : S → Question → OpResult → S → Type 0) (tells : C → ℕ → C → Type 0) (service : S) (clock : C) (unread unwritten : Option (List ℕ)) (stream : Stream) → IsNew stream
-    → IsUnderWay tree gives tells service clock unread unwritten stream service clock unread unwritten
-starts tree gives tells service clock unread unwritten stream new = record {
-  text = [];
-  exchanges = [];
-  consumes = Consumes-nil unread;
-  rest = [];
-  split = record { front = []; whole = refl; records = refl; none_left = new.keeps.none_left };
-  keeps = new.keeps;
-  exchanged = (refl, refl);
-  appends = Appends-nil unwritten;
-  idle = new.idle;
-  fed = new.fed;
-}
+pub starts : {D S C : Type 0} (device : Device D) (rules : Rules S C) (before : Scene D S C) (stream : Stream) → IsNew stream → IsUnderWay device rules before stream before
+starts device rules before stream new = record { turns = []; are = refl; keeps = new.keeps; idle = new.idle; fed = new.fed }
 
-unanswered-nil : (messages : List (List ℕ)) (text rest : List ℕ) → Splits text messages rest → Splits text (messages ++ []) rest
-unanswered-nil messages text rest split = subst (λ (m : List (List ℕ)). Splits text m rest) (sym (append-nil messages)) split
+-- a read of which nothing comes
+abbrev pub idle : List ℕ → Turn
+idle piece = record { piece = piece; exchanges = []; unanswered = []; rest = [] }
 
--- the connection ends where all that was read is answered
-pub ends_answered : {S C : Type 0} (tree : Files) (gives : S → Question → OpResult → S → Type 0) (tells : C → ℕ → C → Type 0) (service service' : S) (clock clock' : C) (unread unwritten unread' unread'' written' : Option (List ℕ)) (stream : Stream) (lost : List ℕ) (result : Result ℕ ServeError)
-    → (under_way : IsUnderWay tree gives tells service clock unread unwritten stream service' clock' unread' written') → Consumes unread' unread'' lost
-    → EndsWith tree (record { text = under_way.text ++ lost; fed = under_way.text; lost = lost; exchanges = under_way.exchanges; unanswered = []; rest = under_way.rest; written = written_for_all tree under_way.exchanges }) result
-    → HasCourse tree gives tells service clock unread unwritten result service' clock' unread'' written'
-ends_answered tree gives tells service service' clock clock' unread unwritten unread' unread'' written' stream lost result u more ends = (
-  record { text = u.text ++ lost; fed = u.text; lost = lost; exchanges = u.exchanges; unanswered = []; rest = u.rest; written = written_for_all tree u.exchanges },
-  record { whole = refl; split = unanswered-nil (messages_of u.exchanges) u.text u.rest u.split; exchanged = u.exchanged },
-  ends,
-  Consumes-trans unread unread' unread'' u.text lost u.consumes more,
-  u.appends,
-)
+-- The connection ends with a read of which nothing comes.
+pub ends_idle : {D S C : Type 0} (device : Device D) (rules : Rules S C) (before now : Scene D S C) (stream : Stream) (piece : List ℕ) (result : Result ℕ ServeError) (d : D)
+    → (u : IsUnderWay device rules before stream now) → IsStream stream
+    → EndsWith device rules now (record { turns = u.turns; last = idle piece }) result (scene d now.service now.clock)
+    → HasCourse device rules before result (scene d now.service now.clock)
+ends_idle device rules before now stream piece result d u sound ends =
+    (record { turns = u.turns; last = idle piece }, (now, u.are, omega (arith, u.fed, sound.bounded), ends))
+
+-- memory is refused before anything is read
+pub ends_unread : {D S C : Type 0} (device : Device D) (rules : Rules S C) (before : Scene D S C) → HasCourse device rules before (Err errors.Memory) before
+ends_unread device rules before = (record { turns = []; last = idle [] }, (before, refl, omega arith, inl (refl, refl, refl, refl)))
 
 -- each record of a split is within the limit
-pub within_limit : (found : List (List ℕ)) (front : List ℕ) → AreRecords found front → AllByRecursion (λ message. length message ≤ RECORD_LIMIT) found
+within_limit : (found : List (List ℕ)) (front : List ℕ) → AreRecords found front → AllByRecursion (λ message. length message ≤ RECORD_LIMIT) found
 within_limit [] front are = tt
 within_limit (message ∷ found) front are = (are.4, within_limit found are.1 are.5)
 
--- the records that a piece made whole are those that are ready
-pub found_ready : (old new : Stream) (piece : List ℕ) → old.ready ≡ [] → (takes : TakesPiece old new piece) → new.ready ≡ takes.found
-found_ready old new piece idle takes = takes.ready ∙ ap (λ (r : List (List ℕ)). r ++ takes.found) idle
+-- the records that a piece makes whole are those that are ready
+found_ready : (old new : Stream) (piece : List ℕ) → old.ready ≡ [] → (takes : TakesPiece old new piece) → new.ready ≡ takes.found
+found_ready old new piece none takes = takes.ready ∙ ap (λ (r : List (List ℕ)). r ++ takes.found) none
 
 pub ready_within : (old new : Stream) (piece rest : List ℕ) → old.ready ≡ [] → Keeps rest old → TakesPiece old new piece → AllByRecursion (λ message. length message ≤ RECORD_LIMIT) new.ready
-ready_within old new piece rest idle keeps takes =
+ready_within old new piece rest none keeps takes =
     let w = takes.split rest keeps in
-    rw (found_ready old new piece idle takes) (within_limit takes.found w.1.front w.1.records)
+    rw (found_ready old new piece none takes) (within_limit takes.found w.1.front w.1.records)
 
-written-append : (tree : Files) (es fs : List Exchange) → written_for_all tree (es ++ fs) ≡ written_for_all tree es ++ written_for_all tree fs
-written-append tree es fs = flat_map-append (written_for tree) es fs
+same_error : {T : Type 0} (result : Result T ServeError) (e f : ServeError) → result ≡ Err e → result ≡ Err f → e ≡ f
+same_error result e f first second = let both : Err e ≡ Err f = sym first ∙ second in cc
 
--- a piece was taken and its records were served, but for some
-after_piece : {S C T : Type 0} (goes_on : SplitGoesOn) (tree : Files) (gives : S → Question → OpResult → S → Type 0) (tells : C → ℕ → C → Type 0) (service mid service' : S) (clock between clock' : C) (unread unwritten unread' unread'' here after : Option (List ℕ)) (old new : Stream) (piece : List ℕ) (served : Result T ServeError)
-    → (u : IsUnderWay tree gives tells service clock unread unwritten old mid between unread' here) → (takes : TakesPiece old new piece)
-    → (s : IsServed {T = T} tree gives tells mid between here new.ready served service' clock' after)
-    → IsCourse tree gives tells service clock (record { text = u.text ++ piece; fed = u.text ++ piece; lost = []; exchanges = u.exchanges ++ s.exchanges; unanswered = s.left; rest = (takes.split u.rest u.keeps).0; written = written_for_all tree u.exchanges ++ s.written }) service' clock'
-after_piece goes_on tree gives tells service mid service' clock between clock' unread unwritten unread' unread'' here after old new piece served u takes s =
-    let w = takes.split u.rest u.keeps in
-    let split = goes_on u.text piece (messages_of u.exchanges) takes.found u.rest w.0 u.split w.1 in
-    let all : messages_of u.exchanges ++ takes.found ≡ messages_of (u.exchanges ++ s.exchanges) ++ s.left =
-    ap (λ (m : List (List ℕ)). messages_of u.exchanges ++ m) (sym (found_ready old new piece u.idle takes) ∙ s.served)
-    ∙ sym (append_assoc (messages_of u.exchanges) (messages_of s.exchanges) s.left)
-    ∙ ap (λ (m : List (List ℕ)). m ++ s.left) (sym (messages-append u.exchanges s.exchanges)) in
+write_or_memory : (error : ServeError) → (errs error ≡ errs errors.Write) ⊎ (errs error ≡ errs errors.Memory) → (error ≡ errors.Write) ⊎ (error ≡ errors.Memory)
+write_or_memory error (inl write) = inl (error_is error errors.Write write)
+write_or_memory error (inr memory) = inr (error_is error errors.Memory memory)
+
+-- A piece was read and taken, and records that it made whole were answered.
+pub record IsPart {D S C T : Type 0} (device : Device D) (rules : Rules S C) (before now : Scene D S C) (old new : Stream) (piece : List ℕ) (result : Result T ServeError) (after : Scene D S C) : Type 0 where
+  pub mid : D
+  pub under_way : IsUnderWay device rules before old now
+  pub some : piece ≢ []
+  pub reads : device.gives now.device piece mid
+  pub takes : TakesPiece old new piece
+  pub served : IsServed {T = T} device rules (scene mid now.service now.clock) new.ready result after
+
+abbrev rest_of : {D S C T : Type 0} (device : Device D) (rules : Rules S C) (before now : Scene D S C) (old new : Stream) (piece : List ℕ) (result : Result T ServeError) (after : Scene D S C) → IsPart device rules before now old new piece result after → List ℕ
+rest_of device rules before now old new piece result after p = (p.takes.split (rest_after [] p.under_way.turns) p.under_way.keeps).0
+
+-- the turn that came of it
+abbrev turn_of : {D S C T : Type 0} (device : Device D) (rules : Rules S C) (before now : Scene D S C) (old new : Stream) (piece : List ℕ) (result : Result T ServeError) (after : Scene D S C) → IsPart device rules before now old new piece result after → Turn
+turn_of device rules before now old new piece result after p = record {
+  piece = piece;
+  exchanges = p.served.exchanges;
+  unanswered = p.served.left;
+  rest = rest_of device rules before now old new piece result after p;
+}
+
+is_turn : {D S C T : Type 0} (device : Device D) (rules : Rules S C) (before now : Scene D S C) (old new : Stream) (piece : List ℕ) (result : Result T ServeError) (after : Scene D S C)
+    → (p : IsPart device rules before now old new piece result after)
+    → IsTurn device rules (λ device. GoesOut device result) now (rest_after [] p.under_way.turns) (turn_of device rules before now old new piece result after p) after
+is_turn device rules before now old new piece result after p =
+    let rest = rest_after [] p.under_way.turns in
+    let w = p.takes.split rest p.under_way.keeps in
+    let all : p.takes.found ≡ messages_of p.served.exchanges ++ p.served.left = sym (found_ready old new piece p.under_way.idle p.takes) ∙ p.served.served in
     record {
-      whole = sym (append-nil (u.text ++ piece));
-      split = subst (λ (m : List (List ℕ)). Splits (u.text ++ piece) m w.0) all split;
-      exchanged = exchanged_then tree gives tells u.exchanges s.exchanges service mid service' clock between clock' u.exchanged s.exchanged;
+      mid = p.mid;
+      some = p.some;
+      reads = p.reads;
+      split = subst (λ (m : List (List ℕ)). Splits (rest ++ piece) m w.0) all w.1;
+      exchanged = p.served.exchanged;
+      written = p.served.written;
     }
 
-ends_cut : {S C : Type 0} (tree : Files) (gives : S → Question → OpResult → S → Type 0) (tells : C → ℕ → C → Type 0) (service mid service' : S) (clock between clock' : C) (unread unwritten unread' unread'' here after : Option (List ℕ)) (old new : Stream) (piece : List ℕ) (error : ServeError)
-    → (u : IsUnderWay tree gives tells service clock unread unwritten old mid between unread' here) → (takes : TakesPiece old new piece)
-    → (s : IsServed {T = Unit {0}} tree gives tells mid between here new.ready (Err error) service' clock' after)
-    → EndsWith tree (record { text = u.text ++ piece; fed = u.text ++ piece; lost = []; exchanges = u.exchanges ++ s.exchanges; unanswered = s.left; rest = (takes.split u.rest u.keeps).0; written = written_for_all tree u.exchanges ++ s.written }) (Err error)
-ends_cut tree gives tells service mid service' clock between clock' unread unwritten unread' unread'' here after old new piece errors.Read u takes s = absurd s.outcome
-ends_cut tree gives tells service mid service' clock between clock' unread unwritten unread' unread'' here after old new piece errors.TooLong u takes s = absurd s.outcome
-ends_cut tree gives tells service mid service' clock between clock' unread unwritten unread' unread'' here after old new piece errors.TooMuch u takes s = absurd s.outcome
-ends_cut tree gives tells service mid service' clock between clock' unread unwritten unread' unread'' here after old new piece errors.Memory u takes s =
-    (ap (λ (w : List ℕ). written_for_all tree u.exchanges ++ w) s.outcome ∙ sym (written-append tree u.exchanges s.exchanges), omega arith)
-ends_cut tree gives tells service mid service' clock between clock' unread unwritten unread' unread'' here after old new piece errors.Write u takes s =
-    let cut = s.outcome in (
-      refl,
-      (
-        u.exchanges ++ cut.0,
-        cut.1,
-        cut.2,
-        cut.3,
-        ap (λ (es : List Exchange). u.exchanges ++ es) cut.4 ∙ sym (append_assoc u.exchanges cut.0 (cut.1 ∷ [])),
-        ap (λ (w : List ℕ). written_for_all tree u.exchanges ++ w) cut.5 ∙ sym (append_assoc (written_for_all tree u.exchanges) (written_for_all tree cut.0) cut.2)
-            ∙ ap (λ (w : List ℕ). w ++ cut.2) (sym (written-append tree u.exchanges cut.0)),
-        cut.6,
-        cut.7,
-      ),
-    )
+-- the connection ends while the records of a piece are answered
+pub ends_part : {D S C T : Type 0} (device : Device D) (rules : Rules S C) (before now : Scene D S C) (old new : Stream) (piece : List ℕ) (error : ServeError) (after : Scene D S C)
+    → (error ≡ errors.Write) ⊎ (error ≡ errors.Memory) → IsStream old
+    → IsPart {T = T} device rules before now old new piece (Err error) after
+    → HasCourse device rules before (Err error) after
+ends_part {T = T} device rules before now old new piece errors.Write after which sound p =
+    (record { turns = p.under_way.turns; last = turn_of {T = T} device rules before now old new piece (Err errors.Write) after p }, (now, p.under_way.are, omega (arith, p.under_way.fed, sound.bounded), is_turn {T = T} device rules before now old new piece (Err errors.Write) after p))
+ends_part {T = T} device rules before now old new piece errors.Memory after which sound p =
+    (record { turns = p.under_way.turns; last = turn_of {T = T} device rules before now old new piece (Err errors.Memory) after p }, (now, p.under_way.are, omega (arith, p.under_way.fed, sound.bounded), inr (inr (is_turn {T = T} device rules before now old new piece (Err errors.Memory) after p))))
+ends_part device rules before now old new piece error after (inl which) sound p = cc
+ends_part device rules before now old new piece error after (inr which) sound p = cc
 
--- the connection ends while the records of a piece are served
-pub ends_serving : {S C : Type 0} (goes_on : SplitGoesOn) (tree : Files) (gives : S → Question → OpResult → S → Type 0) (tells : C → ℕ → C → Type 0) (service mid service' : S) (clock between clock' : C) (unread unwritten unread' unread'' here after : Option (List ℕ)) (old new : Stream) (piece : List ℕ) (error : ServeError) (result : Result ℕ ServeError)
-    → result ≡ Err error → IsUnderWay tree gives tells service clock unread unwritten old mid between unread' here → Consumes unread' unread'' piece → TakesPiece old new piece
-    → IsServed {T = Unit {0}} tree gives tells mid between here new.ready (Err error) service' clock' after
-    → HasCourse tree gives tells service clock unread unwritten result service' clock' unread'' after
-ends_serving goes_on tree gives tells service mid service' clock between clock' unread unwritten unread' unread'' here after old new piece error result failed u more takes s = (
-  record { text = u.text ++ piece; fed = u.text ++ piece; lost = []; exchanges = u.exchanges ++ s.exchanges; unanswered = s.left; rest = (takes.split u.rest u.keeps).0; written = written_for_all tree u.exchanges ++ s.written },
-  after_piece goes_on tree gives tells service mid service' clock between clock' unread unwritten unread' unread'' here after old new piece (Err error) u takes s,
-  rw failed (ends_cut tree gives tells service mid service' clock between clock' unread unwritten unread' unread'' here after old new piece error u takes s),
-  Consumes-trans unread unread' unread'' u.text piece u.consumes more,
-  Appends-trans unwritten here after (written_for_all tree u.exchanges) s.written u.appends s.appends,
-)
+pub ends_failed : {D S C T : Type 0} (device : Device D) (rules : Rules S C) (before now : Scene D S C) (old new : Stream) (piece : List ℕ) (error : ServeError) (result : Result ℕ ServeError) (after : Scene D S C)
+    → result ≡ Err error → (errs error ≡ errs errors.Write) ⊎ (errs error ≡ errs errors.Memory) → IsStream old
+    → IsPart {T = T} device rules before now old new piece (Err error) after
+    → HasCourse device rules before result after
+ends_failed {T = T} device rules before now old new piece error result after failed which sound p =
+    rw failed (ends_part {T = T} device rules before now old new piece error after (write_or_memory error which) sound p)
 
--- a piece was taken, and all its records were served
-pub more_served : {S C : Type 0} (goes_on : SplitGoesOn) (tree : Files) (gives : S → Question → OpResult → S → Type 0) (tells : C → ℕ → C → Type 0) (service mid service' : S) (clock between clock' : C) (unread unwritten unread' unread'' here after : Option (List ℕ)) (old new last : Stream) (piece : List ℕ)
-    → IsUnderWay tree gives tells service clock unread unwritten old mid between unread' here → Consumes unread' unread'' piece → TakesPiece old new piece
-    → IsServed {T = Unit {0}} tree gives tells mid between here new.ready (Ok tt) service' clock' after → last ≡ record new { ready = [] }
-    → IsUnderWay tree gives tells service clock unread unwritten last service' clock' unread'' after
-more_served goes_on tree gives tells service mid service' clock between clock' unread unwritten unread' unread'' here after old new last piece u more takes s same =
-    let course = after_piece goes_on tree gives tells service mid service' clock between clock' unread unwritten unread' unread'' here after old new piece (Ok tt) u takes s in
-    let messages : messages_of (u.exchanges ++ s.exchanges) ++ s.left ≡ messages_of (u.exchanges ++ s.exchanges) =
-    ap (λ (l : List (List ℕ)). messages_of (u.exchanges ++ s.exchanges) ++ l) s.outcome.1 ∙ append-nil (messages_of (u.exchanges ++ s.exchanges)) in
-    let w = takes.split u.rest u.keeps in
+-- it ends with a record that is too long
+pub ends_too_long : {D S C T : Type 0} (device : Device D) (rules : Rules S C) (before now : Scene D S C) (old new last : Stream) (piece : List ℕ) (x : T) (after : Scene D S C)
+    → IsStream old → IsPart {T = T} device rules before now old new piece (Ok x) after
+    → last ≡ record new { ready = [] } → last.is_too_long ≡ true
+    → HasCourse device rules before (Err errors.TooLong) after
+ends_too_long {T = T} device rules before now old new last piece x after sound p same told =
+    let w = p.takes.split (rest_after [] p.under_way.turns) p.under_way.keeps in
+    let long : new.is_too_long ≡ true = sym (ap (λ (s : Stream). s.is_too_long) same) ∙ told in
+    (record { turns = p.under_way.turns; last = turn_of {T = T} device rules before now old new piece (Ok x) after p }, (now, p.under_way.are, omega (arith, p.under_way.fed, sound.bounded), (is_turn {T = T} device rules before now old new piece (Ok x) after p, p.served.none_left, w.2.too_long.0 long)))
+
+-- a turn is over
+pub more_served : {D S C T : Type 0} (device : Device D) (rules : Rules S C) (before now : Scene D S C) (old new last : Stream) (piece : List ℕ) (x : T) (after : Scene D S C)
+    → IsPart {T = T} device rules before now old new piece (Ok x) after
+    → last ≡ record new { ready = [] } → last.is_too_long ≡ false
+    → IsUnderWay device rules before last after
+more_served {T = T} device rules before now old new last piece x after p same goes =
+    let u = p.under_way in
+    let w = p.takes.split (rest_after [] u.turns) u.keeps in
+    let turn = turn_of {T = T} device rules before now old new piece (Ok x) after p in
+    let short : IsTooLong w.0 → ⊥ = λ long.
+    let told : new.is_too_long ≡ true = w.2.too_long.1 long in
+    let clash : true ≡ false = sym told ∙ sym (ap (λ (s : Stream). s.is_too_long) same) ∙ goes in
+    cc in
     record {
-      text = u.text ++ piece;
-      exchanges = u.exchanges ++ s.exchanges;
-      consumes = Consumes-trans unread unread' unread'' u.text piece u.consumes more;
-      rest = w.0;
-      split = subst (λ (m : List (List ℕ)). Splits (u.text ++ piece) m w.0) messages course.split;
-      keeps = subst (λ (x : Stream). Keeps w.0 x) (sym same) w.2;
-      exchanged = course.exchanged;
-      appends = subst (λ (w : List ℕ). Appends unwritten after w) (ap (λ (w : List ℕ). written_for_all tree u.exchanges ++ w) s.outcome.0 ∙ sym (written-append tree u.exchanges s.exchanges)) (Appends-trans unwritten here after (written_for_all tree u.exchanges) s.written u.appends s.appends);
-      idle = ap (λ (x : Stream). x.ready) same;
-      fed = ap (λ (x : Stream). x.fed) same ∙ takes.fed ∙ ap (λ (n : ℕ). n + length piece) u.fed ∙ sym (length-append u.text piece);
+      turns = u.turns ++ turn ∷ [];
+      are = turns_more device rules before now after [] u.turns turn u.are (is_turn {T = T} device rules before now old new piece (Ok x) after p) p.served.none_left short;
+      keeps = rw (rest_more [] u.turns turn) (subst (λ (s : Stream). Keeps w.0 s) (sym same) w.2);
+      idle = ap (λ (s : Stream). s.ready) same;
+      fed = ap (λ (s : Stream). s.fed) same ∙ p.takes.fed ∙ ap (λ (n : ℕ). n + length piece) u.fed ∙ sym (ap length (text_more u.turns turn) ∙ length-append (text_of u.turns) piece);
     }
 
--- nothing is too long in a text whose rest isn't
-none_too_long : (one : OneSplit) (stream : Stream) (text : List ℕ) (records : List (List ℕ)) (kept : List ℕ) → Splits text records kept → Keeps kept stream → stream.is_too_long ≡ false → HasNoneTooLong text
-none_too_long one stream text records kept split keeps goes messages rest other long =
-    let same : kept ≡ rest = (one text records messages kept rest split other).1 in
-    let told : stream.is_too_long ≡ true = keeps.too_long.1 (rw same long) in
-    let clash : true ≡ false = sym told ∙ goes in
-    cc
+not_read : (error : ServeError) → (error ≡ errors.Write) ⊎ (error ≡ errors.Memory) → error ≡ errors.Read → ⊥
+not_read error (inl write) read = let clash : errors.Write ≡ errors.Read = sym write ∙ read in cc
+not_read error (inr memory) read = let clash : errors.Memory ≡ errors.Read = sym memory ∙ read in cc
 
-pub ends_too_long : {S C : Type 0} (goes_on : SplitGoesOn) (one : OneSplit) (tree : Files) (gives : S → Question → OpResult → S → Type 0) (tells : C → ℕ → C → Type 0) (service mid service' : S) (clock between clock' : C) (unread unwritten unread' unread'' here after : Option (List ℕ)) (old new last : Stream) (piece : List ℕ)
-    → IsUnderWay tree gives tells service clock unread unwritten old mid between unread' here → Consumes unread' unread'' piece → TakesPiece old new piece
-    → IsServed {T = Unit {0}} tree gives tells mid between here new.ready (Ok tt) service' clock' after → last ≡ record new { ready = [] } → old.is_too_long ≡ false → length piece ≤ PIECE_LEN → last.is_too_long ≡ true
-    → HasCourse tree gives tells service clock unread unwritten (Err errors.TooLong) service' clock' unread'' after
-unfolding more_served
-ends_too_long goes_on one tree gives tells service mid service' clock between clock' unread unwritten unread' unread'' here after old new last piece u more takes s same goes short told =
-    let none = none_too_long one old u.text (messages_of u.exchanges) u.rest u.split u.keeps goes in
-    let now = more_served goes_on tree gives tells service mid service' clock between clock' unread unwritten unread' unread'' here after old new last piece u more takes s same in
-    ends_answered tree gives tells service service' clock clock' unread unwritten unread'' unread'' after last [] (Err errors.TooLong) now
-    (Consumes-nil unread'') ((refl, refl), refl, now.keeps.too_long.0 told, (u.text, piece, append-nil (u.text ++ piece), short, none))
+-- no read failed where records were answered
+pub no_read_failed : {T : Type 0} (result : Result T ServeError) (error : ServeError) (old mid new : ℕ) → result ≡ Err error → (errs error ≡ errs errors.Write) ⊎ (errs error ≡ errs errors.Memory) → new ≡ mid → mid ≡ old → IsErrOf result errors.Read ↔ old < new
+no_read_failed result error old mid new failed which same same' =
+    (λ read. absurd (not_read error (write_or_memory error which) (same_error result error errors.Read failed read)), λ less. absurd (omega (arith, less, same, same')))
 
--- memory is refused before anything is read
-pub ends_at_once : {S C : Type 0} (tree : Files) (gives : S → Question → OpResult → S → Type 0) (tells : C → ℕ → C → Type 0) (service : S) (clock : C) (unread unwritten : Option (List ℕ)) (stream : Stream) → IsNew stream
-    → HasCourse tree gives tells service clock unread unwritten (Err errors.Memory) service clock unread unwritten
-ends_at_once tree gives tells service clock unread unwritten stream new =
-    ends_answered tree gives tells service service clock clock unread unwritten unread unread unwritten stream [] (Err errors.Memory)
-    (starts tree gives tells service clock unread unwritten stream new) (Consumes-nil unread) (refl, omega arith)
+-- a write failed just where that is told
+pub write_failed : {T : Type 0} (result : Result T ServeError) (error : ServeError) (old mid new : ℕ) → result ≡ Err error → (errs error ≡ errs errors.Write ↔ mid < new) → mid ≡ old → IsErrOf result errors.Write ↔ old < new
+write_failed result error old mid new failed told same =
+    (λ write. omega (arith, told.0 (ap errs (same_error result error errors.Write failed write)), same), λ less. failed ∙ ap (λ (e : ServeError). Err e) (error_is error errors.Write (told.1 (omega (arith, less, same)))))
 
-abbrev pub errs : ServeError → Result (Unit {0}) ServeError
-errs e = Err e
-
-pub error_is : (e f : ServeError) → errs e ≡ errs f → e ≡ f
-error_is e f same = cc
+-- a read that gives some bytes gives a piece that isn't empty
+pub some_piece : (buffer : List ℕ) (count : ℕ) → count ≤ length buffer → (count ≡ 0 → ⊥) → take count buffer ≢ []
+some_piece buffer count within some none = some (omega (arith, length-take count buffer, ap length none, within))
 
 -- nothing but the records that are ready changes, so what is so of every stream stays
 pub still_stream : (old new : Stream) → new ≡ record old { ready = [] } → IsStream old → IsStream new
 still_stream old new same sound = rw same (record { keeps = sound.keeps; few = sound.few; bounded = sound.bounded })
-
--- more can come
-pub goes_on_from : (stream : Stream) (text rest : List ℕ) → Keeps rest stream → IsStream stream → stream.is_too_long ≡ false → stream.fed ≡ length text → (IsTooLong rest → ⊥) × (length text ≤ STREAM_LIMIT)
-goes_on_from stream text rest keeps sound goes fed =
-    ((λ long. let told : stream.is_too_long ≡ true = keeps.too_long.1 long in let clash : true ≡ false = sym told ∙ goes in cc), omega (arith, sound.bounded))

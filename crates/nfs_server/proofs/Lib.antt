@@ -1,6 +1,9 @@
 pub mod Limits
 pub mod Folding
 pub mod Replying
+pub mod Writing
+pub mod Exchanges
 pub mod Serving
 pub mod Courses
+pub mod Ends
 pub mod JournalGains

@@ -1,120 +1,159 @@
--- Records served one after the other.
-use Rattle.std.proofs.Common.{◌≡◌, ℕ, List, [], ◌∷◌, ◌++◌, take, drop, Option, Result, Ok, Err, refl, sym, ap, subst, ◌∙◌, append_assoc}
-use Rattle.std.specs.Io.KnownBytes.{Appends}
-use Rattle.std.proofs.KnownBytes.{Appends-trans}
-use Rattle.std.proofs.lemmas.List.{append-nil, take-append-drop}
+-- Records answered one after the other, with replies that wait.
+use Rattle.std.proofs.Common.{◌≡◌, ℕ, List, [], ◌∷◌, ◌++◌, Result, Ok, Err, refl, sym, ap, subst, ◌∙◌, append_assoc}
+use Rattle.std.specs.Prelude.{OnOk, OnErr}
+use Rattle.std.proofs.lemmas.List.{append-nil}
 use Rattle.std.proofs.lemmas.List.Concat.{flat_map-cons}
 use Rattle.std.proofs.lemmas.Grind.{flat_map-append}
+use Rattle.nfs_rpc.specs.Records.{Stream}
 use Rattle.nfs_tree.specs.Tree.{Files}
 use Rattle.nfs_server.specs.declared.serve_error.ServeError.{ServeError}
 use Rattle.nfs_server.specs.declared.serve_error.ServeError.TheVariants as errors
-use Rattle.nfs_server.specs.Asking.{Question}
-use Rattle.nfs_server.specs.Connection.{Exchange, IsExchanged, AreExchanged, IsServed, IsServedOne, messages_of, written_for, written_for_all}
-use Rattle.nfs_rpc.specs.Records.{Stream}
-use Rattle.nfs_xdr.specs.declared.op_result.OpResult.{OpResult}
+use Rattle.nfs_server.specs.Connection.{Scene, scene}
+use Rattle.nfs_server.specs.Device.{Device, IsCut, IsWritten}
+use Rattle.nfs_server.specs.Exchange.{Exchange, Rules, AreExchanged, IsExchanged, messages_of, written_for, written_for_all}
+use Rattle.nfs_server.specs.Serving.{IsServed}
+use Rattle.nfs_server.proofs.Exchanges.{IsAnswered}
+use Rattle.nfs_server.proofs.Writing.{cut_after, written_nothing, written_then}
 
--- the records so far, with all that was written for them
-abbrev pub HasServed : {S C : Type 0} → Files → (S → Question → OpResult → S → Type 0) → (C → ℕ → C → Type 0) → S → C → Option (List ℕ) → List (List ℕ) → List (List ℕ) → S → C → Option (List ℕ) → Type 0
-HasServed tree gives tells service clock before messages left service' clock' after =
-    (es : List Exchange) × (messages ≡ messages_of es ++ left) × AreExchanged tree gives tells service clock es service' clock' × Appends before after (written_for_all tree es)
+pub exchanged_then : {S C : Type 0} (rules : Rules S C) (es fs : List Exchange) (s mid new : S) (c between after : C)
+    → AreExchanged rules s c es mid between → AreExchanged rules mid between fs new after → AreExchanged rules s c (es ++ fs) new after
+exchanged_then {S = S} {C = C} rules [] fs s mid new c between after first second =
+    subst (λ (x : S). AreExchanged rules x c fs new after) first.0 (subst (λ (y : C). AreExchanged rules mid y fs new after) first.1 second)
+exchanged_then rules (e ∷ es) fs s mid new c between after first second =
+    (first.0, first.1, first.2, exchanged_then rules es fs first.0 mid new first.1 between after first.3 second)
 
-pub exchanged_more : {S C : Type 0} (tree : Files) (gives : S → Question → OpResult → S → Type 0) (tells : C → ℕ → C → Type 0) (es : List Exchange) (e : Exchange) (s mid new : S) (c between after : C)
-    → AreExchanged tree gives tells s c es mid between → IsExchanged tree gives tells mid between e new after → AreExchanged tree gives tells s c (es ++ e ∷ []) new after
-exchanged_more {S = S} {C = C} tree gives tells [] e s mid new c between after so_far one =
-    let here : IsExchanged tree gives tells s c e new after =
-    subst (λ (x : S). IsExchanged tree gives tells x c e new after) so_far.0 (subst (λ (y : C). IsExchanged tree gives tells mid y e new after) so_far.1 one) in
-    (new, after, here, (refl, refl))
-exchanged_more tree gives tells (f ∷ es) e s mid new c between after so_far one =
-    (so_far.0, so_far.1, so_far.2, exchanged_more tree gives tells es e so_far.0 mid new so_far.1 between after so_far.3 one)
-
-pub exchanged_then : {S C : Type 0} (tree : Files) (gives : S → Question → OpResult → S → Type 0) (tells : C → ℕ → C → Type 0) (es fs : List Exchange) (s mid new : S) (c between after : C)
-    → AreExchanged tree gives tells s c es mid between → AreExchanged tree gives tells mid between fs new after → AreExchanged tree gives tells s c (es ++ fs) new after
-exchanged_then {S = S} {C = C} tree gives tells [] fs s mid new c between after first second =
-    subst (λ (x : S). AreExchanged tree gives tells x c fs new after) first.0 (subst (λ (y : C). AreExchanged tree gives tells mid y fs new after) first.1 second)
-exchanged_then tree gives tells (f ∷ es) fs s mid new c between after first second =
-    (first.0, first.1, first.2, exchanged_then tree gives tells es fs first.0 mid new first.1 between after first.3 second)
-
-pub messages-more : (es : List Exchange) (e : Exchange) (left : List (List ℕ)) → messages_of es ++ (e.message ∷ left) ≡ messages_of (es ++ e ∷ []) ++ left
-messages-more [] e left = refl
-messages-more (f ∷ es) e left = ap (λ (x : List (List ℕ)). f.message ∷ x) (messages-more es e left)
+pub exchanged_more : {S C : Type 0} (rules : Rules S C) (es : List Exchange) (e : Exchange) (s mid new : S) (c between after : C)
+    → AreExchanged rules s c es mid between → IsExchanged rules mid between e new after → AreExchanged rules s c (es ++ e ∷ []) new after
+exchanged_more rules es e s mid new c between after so_far one =
+    exchanged_then rules es (e ∷ []) s mid new c between after so_far (new, after, one, (refl, refl))
 
 pub messages-append : (es fs : List Exchange) → messages_of (es ++ fs) ≡ messages_of es ++ messages_of fs
 messages-append [] fs = refl
 messages-append (e ∷ es) fs = ap (λ (x : List (List ℕ)). e.message ∷ x) (messages-append es fs)
 
-pub written-more : (tree : Files) (es : List Exchange) (e : Exchange) → written_for_all tree (es ++ e ∷ []) ≡ written_for_all tree es ++ written_for tree e
-written-more tree es e = flat_map-append (written_for tree) es (e ∷ []) ∙ ap (λ (x : List ℕ). written_for_all tree es ++ x) (flat_map-cons (written_for tree) e [] ∙ append-nil (written_for tree e))
+messages-more : (es : List Exchange) (e : Exchange) (left : List (List ℕ)) → messages_of es ++ (e.message ∷ left) ≡ messages_of (es ++ e ∷ []) ++ left
+messages-more [] e left = refl
+messages-more (f ∷ es) e left = ap (λ (x : List (List ℕ)). f.message ∷ x) (messages-more es e left)
 
--- one more record was served
-pub served_more : {S C : Type 0} (tree : Files) (gives : S → Question → OpResult → S → Type 0) (tells : C → ℕ → C → Type 0) (service mid service' : S) (clock between clock' : C) (before here after : Option (List ℕ)) (messages left : List (List ℕ)) (message : List ℕ)
-    → HasServed tree gives tells service clock before messages (message ∷ left) mid between here
-    → (e : Exchange) × (e.message ≡ message) × IsExchanged tree gives tells mid between e service' clock' × Appends here after (written_for tree e)
-    → HasServed tree gives tells service clock before messages left service' clock' after
-served_more tree gives tells service mid service' clock between clock' before here after messages left message so_far one =
-    let es = so_far.0 in
-    let e = one.0 in (
-      es ++ e ∷ [],
-      so_far.1 ∙ ap (λ (m : List ℕ). messages_of es ++ (m ∷ left)) (sym one.1) ∙ messages-more es e left,
-      exchanged_more tree gives tells es e service mid service' clock between clock' so_far.2 one.2,
-      subst (λ (w : List ℕ). Appends before after w) (sym (written-more tree es e)) (Appends-trans before here after (written_for_all tree es) (written_for tree e) so_far.3 one.3),
-    )
+pub written-append : (tree : Files) (es fs : List Exchange) → written_for_all tree (es ++ fs) ≡ written_for_all tree es ++ written_for_all tree fs
+written-append tree es fs = flat_map-append (written_for tree) es fs
 
--- all records were served
-pub served_all : {S C T : Type 0} (tree : Files) (gives : S → Question → OpResult → S → Type 0) (tells : C → ℕ → C → Type 0) (service service' : S) (clock clock' : C) (before after : Option (List ℕ)) (messages left : List (List ℕ)) (x : T)
-    → left ≡ [] → HasServed tree gives tells service clock before messages left service' clock' after → IsServed {T = T} tree gives tells service clock before messages (Ok x) service' clock' after
-served_all tree gives tells service service' clock clock' before after messages left x none so_far = record {
-  exchanges = so_far.0;
-  left = [];
-  written = written_for_all tree so_far.0;
-  served = so_far.1 ∙ ap (λ (l : List (List ℕ)). messages_of so_far.0 ++ l) none;
-  exchanged = so_far.2;
-  appends = so_far.3;
-  outcome = (refl, refl);
+written-more : (tree : Files) (es : List Exchange) (e : Exchange) → written_for_all tree (es ++ e ∷ []) ≡ written_for_all tree es ++ written_for tree e
+written-more tree es e = written-append tree es (e ∷ []) ∙ ap (λ (x : List ℕ). written_for_all tree es ++ x) (flat_map-cons (written_for tree) e [] ∙ append-nil (written_for tree e))
+
+-- Of the messages all but those that are left were answered; of their replies some bytes went out, and the others wait.
+pub record HasServed {D S C : Type 0} (device : Device D) (rules : Rules S C) (before : Scene D S C) (messages left : List (List ℕ)) (waiting : List ℕ) (after : Scene D S C) : Type 0 where
+  pub exchanges : List Exchange
+  pub out : List ℕ
+  pub served : messages ≡ messages_of exchanges ++ left
+  pub exchanged : AreExchanged rules before.service before.clock exchanges after.service after.clock
+  pub all : written_for_all rules.tree exchanges ≡ out ++ waiting
+  pub written : IsWritten device before.device out after.device
+
+pub serves_none : {D S C : Type 0} (device : Device D) (rules : Rules S C) (before : Scene D S C) (messages : List (List ℕ)) (waiting : List ℕ) → waiting ≡ [] → HasServed device rules before messages messages waiting before
+serves_none device rules before messages waiting none = record {
+  exchanges = [];
+  out = [];
+  served = refl;
+  exchanged = (refl, refl);
+  all = sym none;
+  written = written_nothing device before.device;
 }
 
--- serving stopped at a record
-pub served_until : {S C T : Type 0} (tree : Files) (gives : S → Question → OpResult → S → Type 0) (tells : C → ℕ → C → Type 0) (service mid service' : S) (clock between clock' : C) (before here after : Option (List ℕ)) (messages left : List (List ℕ)) (message : List ℕ) (r : Result T ServeError) (error : ServeError)
-    → r ≡ Err error → HasServed tree gives tells service clock before messages (message ∷ left) mid between here
-    → IsServedOne {T = T} tree gives tells mid between here message (Err error) service' clock' after
-    → IsServed tree gives tells service clock before messages r service' clock' after
-served_until {T = T} tree gives tells service mid service' clock between clock' before here after messages left message r errors.Read failed so_far one = absurd one
-served_until {T = T} tree gives tells service mid service' clock between clock' before here after messages left message r errors.TooLong failed so_far one = absurd one
-served_until {T = T} tree gives tells service mid service' clock between clock' before here after messages left message r errors.TooMuch failed so_far one = absurd one
-served_until {S = S} {C = C} {T = T} tree gives tells service mid service' clock between clock' before here after messages left message r errors.Memory failed so_far one =
-    let es = so_far.0 in
-    rw failed (record {
-      exchanges = es;
-      left = message ∷ left;
-      written = written_for_all tree es;
-      served = so_far.1;
-      exchanged = subst (λ (x : S). AreExchanged tree gives tells service clock es x clock') (sym one.0) (subst (λ (y : C). AreExchanged tree gives tells service clock es mid y) (sym one.1) so_far.2);
-      appends = subst (λ (o : Option (List ℕ)). Appends before o (written_for_all tree es)) (sym one.2) so_far.3;
-      outcome = refl;
-    })
-served_until {T = T} tree gives tells service mid service' clock between clock' before here after messages left message r errors.Write failed so_far one =
-    let es = so_far.0 in
+-- one record more was answered
+pub serves_one : {D S C : Type 0} (device : Device D) (rules : Rules S C) (before mid after : Scene D S C) (messages left : List (List ℕ)) (message waiting more : List ℕ)
+    → HasServed device rules before messages (message ∷ left) waiting mid → IsAnswered rules mid.service mid.clock message waiting more after.service after.clock → after.device ≡ mid.device
+    → HasServed device rules before messages left more after
+serves_one {D = D} device rules before mid after messages left message waiting more s one same =
     let e = one.0 in
-    let cut = one.3 in
-    let written = written_for_all tree es ++ cut.0 in
-    rw failed (record {
-      exchanges = es ++ e ∷ [];
-      left = left;
-      written = written;
-      served = so_far.1 ∙ ap (λ (m : List ℕ). messages_of es ++ (m ∷ left)) (sym one.1) ∙ messages-more es e left;
-      exchanged = exchanged_more tree gives tells es e service mid service' clock between clock' so_far.2 one.2;
-      appends = Appends-trans before here after (written_for_all tree es) cut.0 so_far.3 cut.4;
-      outcome = (es, e, cut.0, cut.1, refl, refl, cut.2, cut.3);
-    })
+    record {
+      exchanges = s.exchanges ++ e ∷ [];
+      out = s.out;
+      served = s.served ∙ ap (λ (m : List ℕ). messages_of s.exchanges ++ (m ∷ left)) (sym one.1) ∙ messages-more s.exchanges e left;
+      exchanged = exchanged_more rules s.exchanges e before.service mid.service after.service before.clock mid.clock after.clock s.exchanged one.2;
+      all = written-more rules.tree s.exchanges e ∙ ap (λ (w : List ℕ). w ++ written_for rules.tree e) s.all ∙ append_assoc s.out waiting (written_for rules.tree e) ∙ ap (λ (w : List ℕ). s.out ++ w) (sym one.3);
+      written = subst (λ (d : D). IsWritten device before.device s.out d) (sym same) s.written;
+    }
+
+-- the replies that waited went out
+pub serves_sent : {D S C : Type 0} (device : Device D) (rules : Rules S C) (before mid : Scene D S C) (messages left : List (List ℕ)) (waiting none : List ℕ) (d : D)
+    → HasServed device rules before messages left waiting mid → IsWritten device mid.device waiting d → none ≡ []
+    → HasServed device rules before messages left none (scene d mid.service mid.clock)
+serves_sent device rules before mid messages left waiting none d s sent is_none = record {
+  exchanges = s.exchanges;
+  out = s.out ++ waiting;
+  served = s.served;
+  exchanged = s.exchanged;
+  all = s.all ∙ sym (append-nil (s.out ++ waiting)) ∙ ap (λ (w : List ℕ). (s.out ++ waiting) ++ w) (sym is_none);
+  written = written_then device before.device mid.device d s.out waiting s.written sent;
+}
+
+-- serving is over: a write failed in the replies that waited
+pub ends_cut : {D S C T : Type 0} (device : Device D) (rules : Rules S C) (before mid : Scene D S C) (messages left : List (List ℕ)) (waiting : List ℕ) (d : D)
+    → HasServed device rules before messages left waiting mid → IsCut device mid.device waiting d
+    → IsServed {T = T} device rules before messages (Err errors.Write) (scene d mid.service mid.clock)
+ends_cut {D = D} device rules before mid messages left waiting d s cut = record {
+  exchanges = s.exchanges;
+  left = left;
+  served = s.served;
+  exchanged = s.exchanged;
+  none_left = tt;
+  written = subst (λ (w : List ℕ). IsCut device before.device w d) (sym s.all) (cut_after device before.device mid.device d s.out waiting s.written cut);
+}
+
+-- serving is over: memory was refused for a reply, and those that waited went out
+pub ends_refused : {D S C T : Type 0} (device : Device D) (rules : Rules S C) (before mid : Scene D S C) (messages left : List (List ℕ)) (waiting : List ℕ) (d : D)
+    → HasServed device rules before messages left waiting mid → IsWritten device mid.device waiting d
+    → IsServed {T = T} device rules before messages (Err errors.Memory) (scene d mid.service mid.clock)
+ends_refused device rules before mid messages left waiting d s sent = record {
+  exchanges = s.exchanges;
+  left = left;
+  served = s.served;
+  exchanged = s.exchanged;
+  none_left = tt;
+  written = subst (λ (w : List ℕ). IsWritten device before.device w d) (sym s.all) (written_then device before.device mid.device d s.out waiting s.written sent);
+}
+
+-- serving is over: no record is left, and the replies that waited went out, or a write failed in them
+pub ends_all : {D S C T : Type 0} (device : Device D) (rules : Rules S C) (before mid : Scene D S C) (messages left : List (List ℕ)) (waiting : List ℕ) (d : D) (result : Result T ServeError)
+    → HasServed device rules before messages left waiting mid → left ≡ []
+    → OnOk result (IsWritten device mid.device waiting d) → OnErr result (IsCut device mid.device waiting d) → OnErr result (result ≡ Err errors.Write)
+    → IsServed {T = T} device rules before messages result (scene d mid.service mid.clock)
+ends_all {T = T} device rules before mid messages left waiting d (Ok x) s none sent cut write = record {
+  exchanges = s.exchanges;
+  left = left;
+  served = s.served;
+  exchanged = s.exchanged;
+  none_left = none;
+  written = subst (λ (w : List ℕ). IsWritten device before.device w d) (sym s.all) (written_then device before.device mid.device d s.out waiting s.written sent);
+}
+ends_all {T = T} device rules before mid messages left waiting d (Err e) s none sent cut write =
+    rw write (ends_cut {T = T} device rules before mid messages left waiting d s cut)
+
+abbrev pub errs : ServeError → Result (Unit {0}) ServeError
+errs e = Err e
+
+pub error_is : (e f : ServeError) → errs e ≡ errs f → e ≡ f
+error_is e f same = cc
+
+-- serving is over, and its error is passed on
+pub ends_so : {D S C T U : Type 0} (device : Device D) (rules : Rules S C) (before after : Scene D S C) (messages : List (List ℕ)) (result : Result T ServeError) (error : ServeError)
+    → result ≡ Err error → error ≡ errors.Write → IsServed {T = U} device rules before messages (Err errors.Write) after → IsServed {T = T} device rules before messages result after
+ends_so {T = T} device rules before after messages result error failed is_write s = rw (failed, is_write) (record {
+  exchanges = s.exchanges;
+  left = s.left;
+  served = s.served;
+  exchanged = s.exchanged;
+  none_left = tt;
+  written = s.written;
+})
+
+-- nothing more was answered, and what waits stayed the same
+pub serves_same : {D S C : Type 0} (device : Device D) (rules : Rules S C) (before mid : Scene D S C) (messages left : List (List ℕ)) (waiting same : List ℕ) (service : S) (clock : C)
+    → HasServed device rules before messages left waiting mid → same ≡ waiting → service ≡ mid.service → clock ≡ mid.clock
+    → HasServed device rules before messages left same (scene mid.device service clock)
+serves_same device rules before mid messages left waiting same service clock s is_same same_service same_clock = rw (is_same, same_service, same_clock) s
 
 -- a record is taken from a stream
 pub same_more : (old now next : Stream) (message : List ℕ) → now ≡ record old { ready = now.ready } → now ≡ record next { ready = message ∷ next.ready } → next ≡ record old { ready = next.ready }
 same_more old now next message same taken = ap (λ (s : Stream). record s { ready = next.ready }) (sym taken ∙ same)
-
--- more of the bytes went out
-pub goes_out : (before here after : Option (List ℕ)) (bytes rest : List ℕ) (n : ℕ) → (front : List ℕ) × (bytes ≡ front ++ rest) × Appends before here front → Appends here after (take n rest)
-    → (front : List ℕ) × (bytes ≡ front ++ drop n rest) × Appends before after front
-goes_out before here after bytes rest n so_far more = (
-  so_far.0 ++ take n rest,
-  so_far.1 ∙ ap (λ (x : List ℕ). so_far.0 ++ x) (sym (take-append-drop n rest)) ∙ sym (append_assoc so_far.0 (take n rest) (drop n rest)),
-  Appends-trans before here after so_far.0 (take n rest) so_far.2 more,
-)

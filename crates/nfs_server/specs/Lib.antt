@@ -2,5 +2,10 @@ pub mod Answering
 pub mod Asking
 pub mod Entries
 pub mod Folding
+pub mod Device
+pub mod Ends
+pub mod Pair
+pub mod Exchange
 pub mod Connection
+pub mod Serving
 pub mod Once

@@ -1,28 +1,30 @@
-ghost use Rattle.std.specs.Prelude.{◌≡◌, ◌+◌, ◌-◌, ◌^◌, ◌<◌, ◌≤◌, ◌↔◌, false, [], length, OnOk, OnErr, IsErrOf};
+ghost use Rattle.std.specs.Prelude.{◌≡◌, ◌+◌, ◌-◌, ◌^◌, ◌<◌, ◌≤◌, ◌↔◌, ◌⊎◌, false, [], length, OnOk, OnErr, IsErrOf};
 ghost use Rattle.std.specs.List.{AllByRecursion};
-ghost use Rattle.std.specs.Io.KnownBytes.{Appends, Consumes, IsAtEnd};
-ghost use Rattle.nfs_server.specs.Connection.{AppendsPart, HasCourse, IsServed, IsServedOne};
-ghost use Rattle.nfs_rpc.specs.Records.{IsNew, IsStream, TakesPiece};
+ghost use Rattle.nfs_server.specs.Connection.{HasCourse, scene};
+ghost use Rattle.nfs_server.specs.Device.{IsCut, IsWritten};
+ghost use Rattle.nfs_server.specs.Ends.{Ends, device_of, ends};
+ghost use Rattle.nfs_server.specs.Exchange.{rules};
+ghost use Rattle.nfs_server.specs.Serving.{IsServed};
+ghost use Rattle.nfs_rpc.specs.Records.{IsStream, TakesPiece};
 
-use crate::answer::answer;
-use crate::{Clock, DeviceFailed, ServeError, Service, Sink, Source};
-use nfs_rpc::{RECORD_LIMIT, RecordError, Records, one_split, split_goes_on};
+use crate::replies::Replies;
+use crate::duplex::Pair;
+use crate::{Clock, DeviceFailed, Duplex, ServeError, Service, Sink, Source};
+use nfs_rpc::{RECORD_LIMIT, RecordError, Records};
 use nfs_tree::Tree;
-use std::alloc::Global;
+use std::alloc::{AllocError, Global};
 
-/// The most bytes of a stream.
+/// The most bytes that a connection may carry.
 pub const STREAM_LIMIT: u64 = 1 << 40;
 
-/// How many bytes are asked of a source at once.
-pub const PIECE_LEN: usize = 65_536;
+// How many bytes are asked of a device at once.
+const PIECE_LEN: usize = 65_536;
 
-/// Serves a connection until its input ends, and gives the number of bytes that came behind the last whole record.
-///
-/// Each record is answered before the next is looked at: the service is asked what the record's call asks, at the moment
-/// that the clock tells for it, and the reply goes out as one record of one fragment. `Read` and `Write` come just where a
-/// read or a write failed, `TooLong` where a record is above `RECORD_LIMIT`, `TooMuch` where more than `STREAM_LIMIT` bytes
-/// came, and `Memory` where memory was refused for a piece of the input, a record or its reply, of which nothing was run then.
-/// What was done before an error stands.
+// The most bytes of replies that wait while more records are answered.
+const GATHER_LIMIT: usize = 262_144;
+
+/// Serves a connection until its input ends, and gives the number of bytes behind the last whole record.
+/// What is read and written is that of `serve_duplex`, where the source is read and the sink written.
 pub fn serve_connection<R: Source, W: Sink, S: Service, C: Clock>(
     alloc: Global,
     source: &mut R,
@@ -34,58 +36,76 @@ pub fn serve_connection<R: Source, W: Sink, S: Service, C: Clock>(
     requires reads { R.failures source.old < 2 ^ 64 - 1 }
     requires writes { W.failures sink.old < 2 ^ 64 - 1 }
     requires serves { S.serves service.old ≡ tree.now.nodes }
-    // What was read, what was asked of the service at which moment, what it answered and what was written is one course.
     ensures serves { S.serves service.new ≡ tree.now.nodes }
-    ensures course { HasCourse tree.now S.gives C.tells service.old clock.old (R.remaining source.old) (W.contents sink.old) result service.new clock.new (R.remaining source.new) (W.contents sink.new) }
-    ensures end { OnOk result (IsAtEnd (R.remaining source.new)) }
+    ensures course { HasCourse (device_of R.gives R.fails W.takes W.fails) (rules tree.now S.gives C.tells)
+        (scene (ends source.old sink.old) service.old clock.old) result
+        (scene (ends source.new sink.new) service.new clock.new) }
     ensures read_failed { IsErrOf result ServeError.Read ↔ R.failures source.old < R.failures source.new }
     ensures write_failed { IsErrOf result ServeError.Write ↔ W.failures sink.old < W.failures sink.new }
 {
-    let records = Records::new(alloc);
+    let mut pair = Pair { source, sink };
+    serve_duplex(alloc, &mut pair, service, tree, clock)
+}
+
+/// Serves a connection over one device until its input ends, and gives the number of bytes behind the
+/// last whole record.
+///
+/// The records that a read makes whole are answered in their order, and their replies go out before
+/// the next read. The service is asked what a record's call asks, at the moment that the clock tells
+/// for it. `Read` and `Write` come just where a read or a write failed, `TooLong` where a header shows
+/// a record above `RECORD_LIMIT`, `TooMuch` where more than `STREAM_LIMIT` bytes came, and `Memory`
+/// where memory was refused for what was read, or for a reply, of which nothing was run then. What
+/// was done before an error stands, and its replies went out.
+pub fn serve_duplex<D: Duplex, S: Service, C: Clock>(
+    alloc: Global,
+    device: &mut D,
+    service: &mut S,
+    tree: &Tree,
+    clock: &mut C,
+) -> Result<usize, ServeError>
+    requires reads { D.read_failures device.old < 2 ^ 64 - 1 }
+    requires writes { D.write_failures device.old < 2 ^ 64 - 1 }
+    requires serves { S.serves service.old ≡ tree.now.nodes }
+    ensures serves { S.serves service.new ≡ tree.now.nodes }
+    ensures course { HasCourse D.device (rules tree.now S.gives C.tells)
+        (scene device.old service.old clock.old) result (scene device.new service.new clock.new) }
+    ensures read_failed { IsErrOf result ServeError.Read
+        ↔ D.read_failures device.old < D.read_failures device.new }
+    ensures write_failed { IsErrOf result ServeError.Write
+        ↔ D.write_failures device.old < D.write_failures device.new }
+{
     let Ok(mut buffer) = vec![in alloc; 0; PIECE_LEN] else {
         return Err(ServeError::Memory);
     };
-    serve_stream(
-        alloc,
-        records,
-        source,
-        sink,
-        service,
-        tree,
-        clock,
-        &mut buffer,
-    )
+    serve_turns(alloc, device, service, tree, clock, &mut buffer)
 }
 
-// The same, with records of which none has come, and a buffer for what is read.
-fn serve_stream<R: Source, W: Sink, S: Service, C: Clock>(
+// Reads, answers and writes in turn.
+fn serve_turns<D: Duplex, S: Service, C: Clock>(
     alloc: Global,
-    mut records: Records,
-    source: &mut R,
-    sink: &mut W,
+    device: &mut D,
     service: &mut S,
     tree: &Tree,
     clock: &mut C,
     buffer: &mut [u8],
 ) -> Result<usize, ServeError>
-    requires reads { R.failures source.old < 2 ^ 64 - 1 }
-    requires writes { W.failures sink.old < 2 ^ 64 - 1 }
+    requires reads { D.read_failures device.old < 2 ^ 64 - 1 }
+    requires writes { D.write_failures device.old < 2 ^ 64 - 1 }
     requires serves { S.serves service.old ≡ tree.now.nodes }
-    requires empty { IsNew records }
-    requires sound { IsStream records }
-    requires piece { length buffer.old ≡ PIECE_LEN }
+    requires some { 0 < length buffer.old }
+    requires few { length buffer.old < 2 ^ 40 }
     ensures serves { S.serves service.new ≡ tree.now.nodes }
-    ensures course { HasCourse tree.now S.gives C.tells service.old clock.old (R.remaining source.old) (W.contents sink.old) result service.new clock.new (R.remaining source.new) (W.contents sink.new) }
-    ensures end { OnOk result (IsAtEnd (R.remaining source.new)) }
-    ensures read_failed { IsErrOf result ServeError.Read ↔ R.failures source.old < R.failures source.new }
-    ensures write_failed { IsErrOf result ServeError.Write ↔ W.failures sink.old < W.failures sink.new }
+    ensures course { HasCourse D.device (rules tree.now S.gives C.tells)
+        (scene device.old service.old clock.old) result (scene device.new service.new clock.new) }
+    ensures read_failed { IsErrOf result ServeError.Read
+        ↔ D.read_failures device.old < D.read_failures device.new }
+    ensures write_failed { IsErrOf result ServeError.Write
+        ↔ D.write_failures device.old < D.write_failures device.new }
 {
-    // The laws by which the records of one piece after the other are those of the whole, and no others.
-    split_goes_on();
-    one_split();
-    let mut out = Vec::new(alloc);
+    let mut records = Records::new(alloc);
+    let mut replies = Replies::new(alloc);
     loop {
-        let count = match source.read(buffer) {
+        let count = match device.read(buffer) {
             Ok(0) => return Ok(records.rest()),
             Ok(count) => count,
             Err(DeviceFailed) => return Err(ServeError::Read),
@@ -94,7 +114,7 @@ fn serve_stream<R: Source, W: Sink, S: Service, C: Clock>(
             return Err(ServeError::TooMuch);
         }
         take_in(&mut records, &buffer[..count])?;
-        serve_ready(alloc, &mut records, sink, service, tree, clock, &mut out)?;
+        serve_ready(&mut records, &mut replies, device, service, tree, clock)?;
         if records.is_too_long() {
             return Err(ServeError::TooLong);
         }
@@ -116,81 +136,77 @@ fn take_in(records: &mut Records, piece: &[u8]) -> Result<(), ServeError>
     }
 }
 
-// Answers the records that are whole, in their order.
-fn serve_ready<S: Service, W: Sink, C: Clock>(
-    alloc: Global,
+// Answers the records that are whole, in their order, and writes their replies.
+fn serve_ready<D: Duplex, S: Service, C: Clock>(
     records: &mut Records,
-    sink: &mut W,
+    replies: &mut Replies,
+    device: &mut D,
     service: &mut S,
     tree: &Tree,
     clock: &mut C,
-    out: &mut Vec<u8>,
 ) -> Result<(), ServeError>
-    requires serves { S.serves service.old ≡ tree.now.nodes }
     requires limits { AllByRecursion (λ message. length message ≤ RECORD_LIMIT) records.old.ready }
-    requires room { W.failures sink.old < 2 ^ 64 - 1 }
+    requires idle { replies.old.gathered.items ≡ [] }
+    requires empty { replies.old.results.items ≡ [] }
+    requires writes { D.write_failures device.old < 2 ^ 64 - 1 }
+    requires serves { S.serves service.old ≡ tree.now.nodes }
     ensures serves { S.serves service.new ≡ tree.now.nodes }
-    ensures served { IsServed tree.now S.gives C.tells service.old clock.old (W.contents sink.old) records.old.ready result service.new clock.new (W.contents sink.new) }
+    ensures served { IsServed D.device (rules tree.now S.gives C.tells)
+        (scene device.old service.old clock.old) records.old.ready result
+        (scene device.new service.new clock.new) }
     ensures taken { OnOk result (records.new ≡ record records.old { ready = [] }) }
-    ensures ok { OnOk result (W.failures sink.new ≡ W.failures sink.old) }
-    ensures write_failed { IsErrOf result ServeError.Write ↔ W.failures sink.old < W.failures sink.new }
+    ensures idle { OnOk result (replies.new.gathered.items ≡ []) }
+    ensures empty { replies.new.results.items ≡ [] }
+    ensures reads { D.read_failures device.new ≡ D.read_failures device.old }
+    ensures ok { OnOk result (D.write_failures device.new ≡ D.write_failures device.old) }
+    ensures write_failed { IsErrOf result ServeError.Write
+        ↔ D.write_failures device.old < D.write_failures device.new }
+    ensures errors { OnErr result (IsErrOf result ServeError.Write ⊎ IsErrOf result ServeError.Memory) }
 {
     while let Some(message) = records.next() {
-        serve_one(alloc, message.as_slice(), sink, service, tree, clock, out)?;
+        match replies.answer(message.as_slice(), service, tree, clock) {
+            Ok(()) => {}
+            Err(AllocError) => {
+                send(device, replies)?;
+                return Err(ServeError::Memory);
+            }
+        }
+        if replies.as_slice().len() > GATHER_LIMIT {
+            send(device, replies)?;
+        }
     }
+    send(device, replies)
+}
+
+// Writes the replies, and forgets them.
+fn send<D: Duplex>(device: &mut D, replies: &mut Replies) -> Result<(), ServeError>
+    requires room { D.write_failures device.old < 2 ^ 64 - 1 }
+    ensures ok { OnOk result (IsWritten D.device device.old replies.old.gathered.items device.new) }
+    ensures err { OnErr result (IsCut D.device device.old replies.old.gathered.items device.new) }
+    ensures write { OnErr result (result ≡ Err ServeError.Write) }
+    ensures idle { OnOk result (replies.new.gathered.items ≡ []) }
+    ensures results { replies.new.results.items ≡ replies.old.results.items }
+    ensures reads { D.read_failures device.new ≡ D.read_failures device.old }
+    ensures kept { OnOk result (D.write_failures device.new ≡ D.write_failures device.old) }
+    ensures failed { OnErr result (D.write_failures device.old < D.write_failures device.new) }
+{
+    write_all(device, replies.as_slice()).map_err(|_| ServeError::Write)?;
+    replies.clear();
     Ok(())
 }
 
-// Answers one record.
-fn serve_one<S: Service, W: Sink, C: Clock>(
-    alloc: Global,
-    message: &[u8],
-    sink: &mut W,
-    service: &mut S,
-    tree: &Tree,
-    clock: &mut C,
-    out: &mut Vec<u8>,
-) -> Result<(), ServeError>
-    requires serves { S.serves service.old ≡ tree.now.nodes }
-    requires limit { length message.now ≤ RECORD_LIMIT }
-    requires room { W.failures sink.old < 2 ^ 64 - 1 }
-    ensures serves { S.serves service.new ≡ tree.now.nodes }
-    ensures served { IsServedOne tree.now S.gives C.tells service.old clock.old (W.contents sink.old) message.now result service.new clock.new (W.contents sink.new) }
-    ensures ok { OnOk result (W.failures sink.new ≡ W.failures sink.old) }
-    ensures write_failed { IsErrOf result ServeError.Write ↔ W.failures sink.old < W.failures sink.new }
-{
-    out.clear();
-    match answer(alloc, message, tree, service, clock, out) {
-        Ok(()) => send(sink, out.as_slice()),
-        Err(_) => Err(ServeError::Memory),
-    }
-}
-
-fn send<W: Sink>(sink: &mut W, bytes: &[u8]) -> Result<(), ServeError>
-    requires { W.failures sink.old < 2 ^ 64 - 1 }
-    ensures ok { OnOk result (Appends (W.contents sink.old) (W.contents sink.new) bytes.now) }
-    ensures kept { OnOk result (W.failures sink.new ≡ W.failures sink.old) }
-    ensures err { OnErr result (AppendsPart (W.contents sink.old) (W.contents sink.new) bytes.now) }
-    ensures failed { OnErr result (W.failures sink.old < W.failures sink.new) }
-    ensures write { OnErr result (result ≡ Err ServeError.Write) }
-{
-    match write_all(sink, bytes) {
-        Ok(()) => Ok(()),
-        Err(DeviceFailed) => Err(ServeError::Write),
-    }
-}
-
 // Writes all of the bytes.
-fn write_all<W: Sink>(sink: &mut W, bytes: &[u8]) -> Result<(), DeviceFailed>
-    requires { W.failures sink.old < 2 ^ 64 - 1 }
-    ensures ok { OnOk result (Appends (W.contents sink.old) (W.contents sink.new) bytes.now) }
-    ensures kept { OnOk result (W.failures sink.new ≡ W.failures sink.old) }
-    ensures err { OnErr result (AppendsPart (W.contents sink.old) (W.contents sink.new) bytes.now) }
-    ensures failed { OnErr result (W.failures sink.old < W.failures sink.new) }
+fn write_all<D: Duplex>(device: &mut D, bytes: &[u8]) -> Result<(), DeviceFailed>
+    requires room { D.write_failures device.old < 2 ^ 64 - 1 }
+    ensures ok { OnOk result (IsWritten D.device device.old bytes.now device.new) }
+    ensures err { OnErr result (IsCut D.device device.old bytes.now device.new) }
+    ensures reads { D.read_failures device.new ≡ D.read_failures device.old }
+    ensures kept { OnOk result (D.write_failures device.new ≡ D.write_failures device.old) }
+    ensures failed { OnErr result (D.write_failures device.old < D.write_failures device.new) }
 {
     let mut rest = bytes;
     while !rest.is_empty() {
-        let taken = sink.write(rest)?;
+        let taken = device.write(rest)?;
         let (_, behind) = rest.split_at(taken);
         rest = behind;
     }

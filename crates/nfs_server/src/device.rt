@@ -1,5 +1,5 @@
-ghost use Rattle.std.specs.Prelude.{◌≡◌, ℕ, ◌+◌, ◌-◌, ◌^◌, ◌<◌, ◌≤◌, List, Option, length, take, IfOk, OnOk, OnErr};
-ghost use Rattle.std.specs.Io.KnownBytes.{Appends, Keeps, ReadConsumes};
+ghost use Rattle.std.specs.Prelude.{◌≡◌, ℕ, ◌+◌, ◌-◌, ◌^◌, ◌<◌, ◌≤◌, List, [], length, take, IfOk, OnOk, OnErr};
+ghost use Rattle.std.specs.Io.KnownBytes.{Appends, Consumes, IsAtEnd, Keeps};
 
 use std::io::{Read, Write};
 use thiserror::Error;
@@ -11,24 +11,30 @@ pub struct DeviceFailed;
 
 /// Where bytes come from, with the number of its failed reads.
 pub trait Source {
-    /// The bytes that reads will give from here on, where they are known.
-    ghost remaining: { Self → Option (List ℕ) };
+    /// From a state, a read may give these bytes and go on to a state; none only at the end.
+    ghost gives: { Self → List ℕ → Self → Type 0 };
+    /// From a state, a read may fail and go on to a state.
+    ghost fails: { Self → Self → Type 0 };
     /// How often a read has failed.
     ghost failures: { Self → ℕ };
 
-    /// Reads some bytes into the buffer, and gives their number: 0 only at the end, or where the buffer is empty.
+    /// Reads some bytes into the buffer, and gives their number: 0 only at the end.
     fn read(&mut self, buffer: &mut [u8]) -> Result<usize, DeviceFailed>
-        requires { failures self.old < 2 ^ 64 - 1 }
+        requires room { failures self.old < 2 ^ 64 - 1 }
+        requires some { 0 < length buffer.old }
         ensures within { IfOk result (λ n. n ≤ length buffer.new) }
-        ensures bytes { ReadConsumes (remaining self.old) (remaining self.new) result buffer.new }
+        ensures gives { IfOk result (λ n. gives self.old (take n buffer.new) self.new) }
+        ensures fails { OnErr result (fails self.old self.new) }
         ensures ok { OnOk result (failures self.new ≡ failures self.old) }
         ensures failed { OnErr result (failures self.new ≡ failures self.old + 1) };
 }
 
 /// Where bytes go, with the number of its failed writes.
 pub trait Sink {
-    /// The bytes that were written, where they are known.
-    ghost contents: { Self → Option (List ℕ) };
+    /// From a state, a write may take these bytes and go on to a state.
+    ghost takes: { Self → List ℕ → Self → Type 0 };
+    /// From a state, a write may fail and go on to a state.
+    ghost fails: { Self → Self → Type 0 };
     /// How often a write has failed.
     ghost failures: { Self → ℕ };
 
@@ -37,8 +43,8 @@ pub trait Sink {
         requires room { failures self.old < 2 ^ 64 - 1 }
         requires some { 0 < length bytes.now }
         ensures within { IfOk result (λ n. (0 < n) × (n ≤ length bytes.now)) }
-        ensures bytes { IfOk result (λ n. Appends (contents self.old) (contents self.new) (take n bytes.now)) }
-        ensures kept { OnErr result (Keeps (contents self.old) (contents self.new)) }
+        ensures takes { IfOk result (λ n. takes self.old (take n bytes.now) self.new) }
+        ensures fails { OnErr result (fails self.old self.new) }
         ensures ok { OnOk result (failures self.new ≡ failures self.old) }
         ensures failed { OnErr result (failures self.new ≡ failures self.old + 1) };
 }
@@ -75,7 +81,11 @@ impl<D> Counted<D> {
 }
 
 impl<R: Read> Source for Counted<R> {
-    ghost remaining = { λ c. R.remaining c.device };
+    // Where the device tells its bytes, a read takes those that it gives from their front.
+    ghost gives = { λ old piece new. Consumes (R.remaining old.device) (R.remaining new.device) piece
+        × (piece ≡ [] → IsAtEnd (R.remaining new.device)) };
+
+    ghost fails = { λ old new. Keeps (R.remaining old.device) (R.remaining new.device) };
 
     ghost failures = { λ c. c.failures };
 
@@ -91,7 +101,10 @@ impl<R: Read> Source for Counted<R> {
 }
 
 impl<W: Write> Sink for Counted<W> {
-    ghost contents = { λ c. W.contents c.device };
+    // Where the device tells its bytes, a write puts those that it takes behind them.
+    ghost takes = { λ old part new. Appends (W.contents old.device) (W.contents new.device) part };
+
+    ghost fails = { λ old new. Keeps (W.contents old.device) (W.contents new.device) };
 
     ghost failures = { λ c. c.failures };
 

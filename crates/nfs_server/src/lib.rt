@@ -1,22 +1,24 @@
 //! From records of bytes to replies of bytes.
 #![tactic(auto)]
 
-mod answer;
 mod clock;
 mod compound;
 mod connection;
 mod device;
+mod duplex;
 mod fault;
 mod numbers;
 mod once;
+mod replies;
 mod serve_error;
 mod service;
 mod tree_file;
 
 pub use clock::{Clock, Stopped};
 pub use compound::run_compound;
-pub use connection::{PIECE_LEN, STREAM_LIMIT, serve_connection};
+pub use connection::{STREAM_LIMIT, serve_connection, serve_duplex};
 pub use device::{Counted, DeviceFailed, Sink, Source};
+pub use duplex::Duplex;
 pub use fault::Fault;
 pub use numbers::limits_of_connections;
 pub use once::run_once;

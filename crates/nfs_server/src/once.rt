@@ -1,6 +1,7 @@
-ghost use Rattle.std.specs.Prelude.{◌≡◌, ◌-◌, ◌^◌, ◌<◌, ◌↔◌, ℕ, Result, OnOk, IsErrOf};
-ghost use Rattle.std.specs.Io.KnownBytes.{IsAtEnd};
-ghost use Rattle.nfs_server.specs.Connection.{HasCourse};
+ghost use Rattle.std.specs.Prelude.{◌≡◌, ◌-◌, ◌^◌, ◌<◌, ◌↔◌, ℕ, Result, IsErrOf};
+ghost use Rattle.nfs_server.specs.Connection.{HasCourse, scene};
+ghost use Rattle.nfs_server.specs.Ends.{device_of, ends};
+ghost use Rattle.nfs_server.specs.Exchange.{rules};
 ghost use Rattle.nfs_server.specs.Once.{fault_of, status_of};
 ghost use Rattle.nfs_server.specs.declared.clock.Stopped.{Stopped};
 ghost use Rattle.nfs_server.specs.declared.serve_error.ServeError.{ServeError};
@@ -26,10 +27,13 @@ pub fn run_once<R: Source, W: Sink, E: Write>(
     requires writes { W.failures sink.old < 2 ^ 64 - 1 }
     requires tree { core.journal.nodes ≡ tree.now.nodes }
     // The input was served as a connection from this core on, and the status says how that ended.
-    ensures { (lent : Lent) × (clock : Stopped) × (lent' : Lent) × (clock' : Stopped) × (outcome : Result ℕ ServeError)
+    ensures served { (lent : Lent) × (clock : Stopped) × (lent' : Lent) × (clock' : Stopped)
+        × (outcome : Result ℕ ServeError)
         × (lent.core ≡ core) × (clock.moment ≡ 0)
-        × HasCourse tree.now ⟦<Lent as Service>⟧.gives ⟦<Stopped as Clock>⟧.tells lent clock (R.remaining source.old) (W.contents sink.old) outcome lent' clock' (R.remaining source.new) (W.contents sink.new)
-        × OnOk outcome (IsAtEnd (R.remaining source.new))
+        × HasCourse (device_of R.gives R.fails W.takes W.fails)
+          (rules tree.now ⟦<Lent as Service>⟧.gives ⟦<Stopped as Clock>⟧.tells)
+          (scene (ends source.old sink.old) lent clock) outcome
+          (scene (ends source.new sink.new) lent' clock')
         × (IsErrOf outcome ServeError.Read ↔ R.failures source.old < R.failures source.new)
         × (IsErrOf outcome ServeError.Write ↔ W.failures sink.old < W.failures sink.new)
         × (result ≡ status_of (fault_of outcome)) }

@@ -1,17 +1,21 @@
-use Rattle.std.proofs.Common.{◌≡◌, ◌≤◌, length}
+use Rattle.std.proofs.Common.{◌≡◌, ◌≤◌, [], length}
 use Rattle.std.specs.List.{AllByRecursion}
 use Rattle.nfs_rpc.specs.declared.records.TheConstants.{RECORD_LIMIT}
+use Rattle.nfs_server.specs.Connection.{scene}
+use Rattle.nfs_server.specs.Exchange.{rules}
 use Rattle.nfs_server.proofs.Serving.{HasServed}
 use Rattle.nfs_server.proofs.connection.serve_ready.Given as goal
 
--- the records so far were served, and those that are left are the others
+-- the records so far were answered, and those that are left are the others
 abbrev pub invariant-loop-message : goal.invariant-loop-message
 invariant-loop-message g l = record {
-  served : HasServed l.fn.tree g.S.Service.gives g.C.Clock.tells l.fn.service l.fn.clock (g.W.Sink.contents l.fn.sink) l.fn.records.ready l.records.ready l.service l.clock (g.W.Sink.contents l.sink);
+  served : HasServed g.D.Duplex.device (rules l.fn.tree g.S.Service.gives g.C.Clock.tells) (scene l.fn.device l.fn.service l.fn.clock) l.fn.records.ready l.records.ready l.replies.gathered.items (scene l.device l.service l.clock);
   limits : AllByRecursion (λ message. length message ≤ RECORD_LIMIT) l.records.ready;
   same : l.records ≡ record l.fn.records { ready = l.records.ready };
+  empty : l.replies.results.items ≡ [];
   serves : g.S.Service.serves l.service ≡ l.fn.tree.nodes;
-  failures : g.W.Sink.failures l.sink ≡ g.W.Sink.failures l.fn.sink;
+  reads : g.D.Duplex.read_failures l.device ≡ g.D.Duplex.read_failures l.fn.device;
+  writes : g.D.Duplex.write_failures l.device ≡ g.D.Duplex.write_failures l.fn.device;
 }
 
 abbrev pub decreases-loop-message : goal.decreases-loop-message

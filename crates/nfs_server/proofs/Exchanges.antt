@@ -1,0 +1,45 @@
+-- A record that is answered, as an exchange.
+use Rattle.std.proofs.Common.{◌≡◌, ℕ, List, [], ◌++◌, length, map, refl, sym, ap, ◌∙◌}
+use Rattle.std.proofs.lemmas.List.{append-nil}
+use Rattle.nfs_rpc.specs.declared.call.Call.{Call}
+use Rattle.nfs_rpc.specs.declared.call.Call.TheVariants as calls
+use Rattle.nfs_rpc.specs.declared.reply.CompoundReply.{CompoundReply}
+use Rattle.nfs_rpc.specs.declared.reply.Reply.{Reply}
+use Rattle.nfs_rpc.specs.declared.reply.Reply.TheVariants as replies
+use Rattle.nfs_rpc.specs.Call.{IsCall}
+use Rattle.nfs_rpc.specs.Reply.{written_record, written_reply}
+use Rattle.nfs_server.specs.Answering.{compound_outcome, compound_reply}
+use Rattle.nfs_server.specs.Asking.{Asks, question_of}
+use Rattle.nfs_server.specs.Exchange.{Exchange, Rules, IsExchanged, written_for}
+use Rattle.nfs_xdr.specs.declared.compound.Compound.{Compound}
+use Rattle.nfs_xdr.specs.declared.op_result.OpResult.{OpResult}
+use Rattle.nfs_xdr.specs.declared.principal.Principal.{Principal}
+
+-- the message is answered, and its reply stands behind what was written before
+abbrev pub IsAnswered : {S C : Type 0} → Rules S C → S → C → List ℕ → List ℕ → List ℕ → S → C → Type 0
+IsAnswered rules service clock message before after service' clock' =
+    (e : Exchange) × (e.message ≡ message) × IsExchanged rules service clock e service' clock'
+    × (after ≡ before ++ written_for rules.tree e)
+
+pub answers_silence : {S C : Type 0} (rules : Rules S C) (service : S) (clock : C) (message before after : List ℕ) → IsCall message calls.Silent → after ≡ before → IsAnswered rules service clock message before after service clock
+answers_silence rules service clock message before after call same =
+    (record { message = message; call = calls.Silent; moment = 0; answers = [] }, refl, (call, refl, refl), same ∙ sym (append-nil before))
+
+pub answers_null : {S C : Type 0} (rules : Rules S C) (service : S) (clock : C) (message before after : List ℕ) (xid : ℕ) → IsCall message (calls.Null xid) → after ≡ before ++ written_record (written_reply xid replies.Null) → IsAnswered rules service clock message before after service clock
+answers_null rules service clock message before after xid call written =
+    (record { message = message; call = calls.Null xid; moment = 0; answers = [] }, refl, (call, refl, refl), written)
+
+pub answers_alone : {S C : Type 0} (rules : Rules S C) (service : S) (clock : C) (message before after : List ℕ) (xid : ℕ) (reply : Reply) → IsCall message (calls.Answer xid reply) → after ≡ before ++ written_record (written_reply xid reply) → IsAnswered rules service clock message before after service clock
+answers_alone rules service clock message before after xid reply call written =
+    (record { message = message; call = calls.Answer xid reply; moment = 0; answers = [] }, refl, (call, refl, refl), written)
+
+pub answers_compound : {S C : Type 0} (rules : Rules S C) (service service' : S) (clock clock' : C) (message before after : List ℕ) (xid moment : ℕ) (principal : Principal) (compound : Compound) (reply : CompoundReply)
+    → IsCall message (calls.Compound xid principal compound) → rules.tells clock moment clock'
+    → (answers : List OpResult) × Asks rules.gives service (map (question_of moment principal) (compound_outcome rules.tree compound answers).asked) answers service' × (reply ≡ compound_reply rules.tree compound answers)
+    → after ≡ before ++ written_record (written_reply xid (replies.Compound reply)) → IsAnswered rules service clock message before after service' clock'
+answers_compound rules service service' clock clock' message before after xid moment principal compound reply call told asked written = (
+  record { message = message; call = calls.Compound xid principal compound; moment = moment; answers = asked.0 },
+  refl,
+  (call, asked.1, told),
+  written ∙ ap (λ (r : CompoundReply). before ++ written_record (written_reply xid (replies.Compound r))) asked.2,
+)

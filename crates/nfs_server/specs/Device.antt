@@ -1,0 +1,29 @@
+-- Devices with two ends: reads and writes that stand in one order.
+use Rattle.std.specs.Prelude.{◌≡◌, ◌≢◌, ℕ, List, [], ◌∷◌, ◌++◌}
+use Rattle.std.specs.List.{flat_map}
+
+-- What a call does. A read gives bytes, and none only at the end of the input, or it fails; a write
+-- takes bytes, or it fails.
+pub record Device (D : Type 0) : Type 1 where
+  pub gives : D → List ℕ → D → Type 0
+  pub fails_to_read : D → D → Type 0
+  pub takes : D → List ℕ → D → Type 0
+  pub fails_to_write : D → D → Type 0
+
+-- writes took these parts, one after the other
+abbrev pub AreTaken : {D : Type 0} → Device D → D → List (List ℕ) → D → Type 0
+AreTaken device old [] new = new ≡ old
+AreTaken {D = D} device old (part ∷ parts) new =
+    (mid : D) × device.takes old part mid × AreTaken device mid parts new
+
+-- the bytes went out, and no other
+abbrev pub IsWritten : {D : Type 0} → Device D → D → List ℕ → D → Type 0
+IsWritten device old bytes new =
+    (parts : List (List ℕ)) × (bytes ≡ flat_map (λ part. part) parts) × AreTaken device old parts new
+
+-- a beginning of the bytes went out, not all of them: then a write failed
+abbrev pub IsCut : {D : Type 0} → Device D → D → List ℕ → D → Type 0
+IsCut {D = D} device old bytes new =
+    (front : List ℕ) × (back : List ℕ) × (mid : D)
+    × (bytes ≡ front ++ back) × (back ≢ [])
+    × IsWritten device old front mid × device.fails_to_write mid new

@@ -1,0 +1,70 @@
+-- A record and what comes of it: what is asked at which moment, and what is written.
+use Rattle.std.specs.Prelude.{◌≡◌, ℕ, List, [], ◌∷◌, map, Option, Some, None}
+use Rattle.std.specs.List.{flat_map}
+use Rattle.nfs_xdr.specs.declared.principal.Principal.{Principal}
+use Rattle.nfs_xdr.specs.declared.principal.Principal.TheVariants.{AuthNone}
+use Rattle.nfs_rpc.specs.declared.call.Call.{Call}
+use Rattle.nfs_rpc.specs.declared.call.Call.TheVariants as calls
+use Rattle.nfs_rpc.specs.Call.{IsCall}
+use Rattle.nfs_rpc.specs.Reply.{written_record}
+use Rattle.nfs_tree.specs.Tree.{Files}
+use Rattle.nfs_server.specs.Answering.{asked, reply}
+use Rattle.nfs_server.specs.Asking.{Asks, Question, question_of}
+use Rattle.nfs_xdr.specs.declared.op_result.OpResult.{OpResult}
+
+-- A record, the call that it is, the moment read for it, and the answers of the service.
+pub record Exchange : Type 0 where
+  pub message : List ℕ
+  pub call : Call
+  pub moment : ℕ
+  pub answers : List OpResult
+
+-- What records are answered by: the tree, what the service may answer, and what the clock may tell.
+pub record Rules (S C : Type 0) : Type 1 where
+  pub tree : Files
+  pub gives : S → Question → OpResult → S → Type 0
+  pub tells : C → ℕ → C → Type 0
+
+abbrev pub rules : {S C : Type 0} → Files → (S → Question → OpResult → S → Type 0) → (C → ℕ → C → Type 0) → Rules S C
+rules tree gives tells = record { tree = tree; gives = gives; tells = tells }
+
+abbrev pub principal_of : Call → Principal
+principal_of (calls.Compound xid principal compound) = principal
+principal_of call = AuthNone
+
+-- what the service is asked for it
+abbrev pub questions_of : Files → Exchange → List Question
+questions_of tree e = map (question_of e.moment (principal_of e.call)) (asked tree e.call e.answers)
+
+-- what is written for it: the reply as one record of one fragment, or nothing
+abbrev pub written_or_nothing : Option (List ℕ) → List ℕ
+written_or_nothing None = []
+written_or_nothing (Some message) = written_record message
+
+abbrev pub written_for : Files → Exchange → List ℕ
+written_for tree e = written_or_nothing (reply tree e.call e.answers)
+
+-- The clock is read once for a COMPOUND, and for nothing else.
+abbrev pub ReadsClock : {C : Type 0} → (C → ℕ → C → Type 0) → C → Call → ℕ → C → Type 0
+ReadsClock tells old (calls.Compound xid principal compound) moment new = tells old moment new
+ReadsClock tells old call moment new = new ≡ old
+
+-- One record was read as its call, and the service was asked what the call asks at that moment, given
+-- the answers.
+abbrev pub IsExchanged : {S C : Type 0} → Rules S C → S → C → Exchange → S → C → Type 0
+IsExchanged rules service clock e service' clock' =
+    IsCall e.message e.call
+    × Asks rules.gives service (questions_of rules.tree e) e.answers service'
+    × ReadsClock rules.tells clock e.call e.moment clock'
+
+-- the exchanges follow one another
+abbrev pub AreExchanged : {S C : Type 0} → Rules S C → S → C → List Exchange → S → C → Type 0
+AreExchanged rules service clock [] service' clock' = (service' ≡ service) × (clock' ≡ clock)
+AreExchanged {S = S} {C = C} rules service clock (e ∷ es) service' clock' =
+    (s : S) × (c : C) × IsExchanged rules service clock e s c × AreExchanged rules s c es service' clock'
+
+abbrev pub messages_of : List Exchange → List (List ℕ)
+messages_of es = map (λ e. e.message) es
+
+abbrev pub written_for_all : Files → List Exchange → List ℕ
+written_for_all tree es = flat_map (written_for tree) es

@@ -1,0 +1,21 @@
+-- Records that are whole, answered in their order: what the crate's own functions promise one another.
+use Rattle.std.specs.Prelude.{◌≡◌, ℕ, List, [], ◌++◌, Result, Ok, Err, OnOk}
+use Rattle.nfs_server.specs.declared.serve_error.ServeError.{ServeError}
+use Rattle.nfs_server.specs.declared.serve_error.ServeError.TheVariants as errors
+use Rattle.nfs_server.specs.Connection.{Scene}
+use Rattle.nfs_server.specs.Device.{Device, IsCut, IsWritten}
+use Rattle.nfs_server.specs.Exchange.{Exchange, Rules, AreExchanged, messages_of, written_for_all}
+
+-- how the replies went out: all of them, or, where a write failed, in part
+abbrev pub GoesOut : {D T : Type 0} → Device D → Result T ServeError → D → List ℕ → D → Type 0
+GoesOut device (Err errors.Write) = IsCut device
+GoesOut device result = IsWritten device
+
+-- Records were answered in their order, all of them unless there was an error.
+pub record IsServed {D S C T : Type 0} (device : Device D) (rules : Rules S C) (before : Scene D S C) (messages : List (List ℕ)) (result : Result T ServeError) (after : Scene D S C) : Type 0 where
+  pub exchanges : List Exchange
+  pub left : List (List ℕ)
+  pub served : messages ≡ messages_of exchanges ++ left
+  pub exchanged : AreExchanged rules before.service before.clock exchanges after.service after.clock
+  pub none_left : OnOk result (left ≡ [])
+  pub written : GoesOut device result before.device (written_for_all rules.tree exchanges) after.device

@@ -1,0 +1,127 @@
+ghost use Rattle.std.specs.Prelude.{◌≡◌, ◌+◌, ◌^◌, ◌<◌, ◌≤◌, ◌++◌, [], length, vec_capacity, IsOk, OnOk, OnErr};
+ghost use Rattle.nfs_rpc.specs.Reply.{IsWritable, written_record, written_reply};
+ghost use Rattle.nfs_server.specs.Exchange.{Exchange, IsExchanged, rules, written_for};
+
+use crate::{Clock, Service, run_compound};
+use byteorder::{BigEndian, ByteOrder};
+use nfs_rpc::{Call, CompoundReply, HEADER_LEN, LAST_FRAGMENT, RECORD_LIMIT, Reply, read_call, write_reply};
+use nfs_tree::Tree;
+use nfs_xdr::{OPERATION_LIMIT, OpResult};
+use std::alloc::{AllocError, Global};
+use std::mem;
+use xdr::write_u32;
+
+/// Room for any reply, with its header.
+const REPLY_ROOM: usize = RECORD_LIMIT + 64;
+
+/// Replies that wait to go out together, and a list for the results of the next COMPOUND.
+#[derive(Debug, Drop)]
+pub(crate) struct Replies {
+    alloc: Global,
+    gathered: Vec<u8>,
+    results: Vec<OpResult>,
+}
+
+impl Replies {
+    /// No replies, with no room for any yet.
+    pub(crate) fn new(alloc: Global) -> Replies
+        ensures gathered { result.gathered.items ≡ [] }
+        ensures results { result.results.items ≡ [] }
+    {
+        Replies {
+            alloc,
+            gathered: Vec::new(alloc),
+            results: Vec::new(alloc),
+        }
+    }
+
+    /// The bytes of the replies.
+    pub(crate) fn as_slice(&self) -> &[u8]
+        ensures { result.now ≡ self.now.gathered.items }
+    {
+        self.gathered.as_slice()
+    }
+
+    /// Forgets the replies.
+    pub(crate) fn clear(&mut self)
+        ensures gathered { self.new.gathered.items ≡ [] }
+        ensures results { self.new.results.items ≡ self.old.results.items }
+    {
+        self.gathered.clear();
+    }
+
+    /// Answers a record, and puts the reply behind the others, as a record of one fragment. All growths
+    /// are made before the service is asked: at an error it wasn't.
+    pub(crate) fn answer<S: Service, C: Clock>(
+        &mut self,
+        message: &[u8],
+        service: &mut S,
+        tree: &Tree,
+        clock: &mut C,
+    ) -> Result<(), AllocError>
+        requires limit { length message.now ≤ RECORD_LIMIT }
+        requires empty { self.old.results.items ≡ [] }
+        requires serves { S.serves service.old ≡ tree.now.nodes }
+        ensures ok { OnOk result ((e : Exchange) × (e.message ≡ message.now)
+            × IsExchanged (rules tree.now S.gives C.tells) service.old clock.old e service.new clock.new
+            × (self.new.gathered.items ≡ self.old.gathered.items ++ written_for tree.now e)) }
+        ensures err { OnErr result ((service.new ≡ service.old) × (clock.new ≡ clock.old)
+            × (self.new.gathered.items ≡ self.old.gathered.items)) }
+        ensures empty { self.new.results.items ≡ [] }
+        ensures serves { S.serves service.new ≡ tree.now.nodes }
+    {
+        self.gathered.reserve(REPLY_ROOM)?;
+        match read_call(self.alloc, message) {
+            Call::Silent => Ok(()),
+            Call::Null(xid) => put_record(&mut self.gathered, xid, &Reply::Null),
+            Call::Answer(xid, reply) => put_record(&mut self.gathered, xid, &reply),
+            Call::Compound(xid, principal, compound) => {
+                self.results.reserve(OPERATION_LIMIT as usize)?;
+                let results = mem::replace(&mut self.results, Vec::new(self.alloc));
+                let moment = clock.now();
+                let reply = run_compound(service, tree, moment, principal, compound, results);
+                self.put_compound(xid, reply)
+            }
+        }
+    }
+
+    // Puts the reply to a COMPOUND behind the others, and keeps the list of its results for the next.
+    fn put_compound(&mut self, xid: u32, reply: CompoundReply) -> Result<(), AllocError>
+        requires short { length (written_reply xid (Reply.Compound reply)) < 2 ^ 31 }
+        requires fits { IsWritable xid (Reply.Compound reply) }
+        requires empty { self.old.results.items ≡ [] }
+        ensures ok { OnOk result (self.new.gathered.items
+            ≡ self.old.gathered.items ++ written_record (written_reply xid (Reply.Compound reply))) }
+        ensures room { length self.old.gathered.items + (4 + length (written_reply xid (Reply.Compound reply)))
+            ≤ vec_capacity self.old.gathered → IsOk result }
+        ensures empty { self.new.results.items ≡ [] }
+    {
+        let reply = Reply::Compound(reply);
+        put_record(&mut self.gathered, xid, &reply)?;
+        let Reply::Compound(reply) = reply else {
+            return Ok(());
+        };
+        self.results = reply.results.into_vec();
+        self.results.clear();
+        Ok(())
+    }
+}
+
+// Puts a reply behind these bytes, as a record of one fragment (RFC 5531, section 11).
+#[tactic(auto, unfolding(xdr::specs::Writing::written_number))]
+fn put_record(out: &mut Vec<u8>, xid: u32, reply: &Reply) -> Result<(), AllocError>
+    requires short { length (written_reply xid reply.now) < 2 ^ 31 }
+    requires fits { IsWritable xid reply.now }
+    ensures ok { OnOk result
+        (out.new.items ≡ out.old.items ++ written_record (written_reply xid reply.now)) }
+    ensures room { length out.old.items + (4 + length (written_reply xid reply.now)) ≤ vec_capacity out.old
+        → IsOk result }
+{
+    let start = out.len();
+    // The header's place, until the length is known.
+    write_u32(out, 0).map_err(|_| AllocError)?;
+    write_reply(out, xid, reply).map_err(|_| AllocError)?;
+    let len = (out.len() - start - HEADER_LEN) as u32;
+    BigEndian::write_u32(&mut out[start..], LAST_FRAGMENT + len);
+    Ok(())
+}
