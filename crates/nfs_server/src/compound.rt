@@ -16,7 +16,7 @@ use nfs_tree::{Filehandles, Tree};
 use nfs_xdr::{
     ArgOp, Compound, OPERATION_LIMIT, OpResult, Opnum, Principal, Refusal, Request, Status,
 };
-use xdr::{Measure, Sequence, padding_of};
+use xdr::{Bytes, Measure, Sequence, padding_of};
 
 /// Answers a COMPOUND (RFC 7530, section 15.2), operation by operation, up to the first answer other than NFS4_OK. It takes
 /// no memory: `results` is empty, with room for as many results as there may be operations.
@@ -48,7 +48,7 @@ pub fn run_compound<S: Service>(
         principal,
     };
     let ops = operations(&compound.request);
-    let size = head_len(compound.tag.as_slice());
+    let size = head_len(&compound.tag);
     answer_operations(service, &context, ops, size, &mut results);
     CompoundReply {
         status: reply_status(&compound.request, results.as_slice()),
@@ -79,11 +79,13 @@ fn operations(request: &Request) -> &[ArgOp]
 
 // The bytes of the reply's record before the first result.
 #[tactic(auto, unfolding(xdr::specs::Writing::written_opaque, xdr::specs::Writing::written_number))]
-fn head_len(tag: &[u8]) -> usize
+fn head_len(tag: &Bytes) -> usize
     requires { length tag.now < 2 ^ 32 }
-    ensures { result ≡ head_size tag.now }
+    ensures size { result ≡ head_size tag.now }
+    ensures short { result ≤ length tag.now + 39 }
 {
-    ACCEPTED_LEN + 4 + 4 + tag.len() + padding_of(tag.len()) + 4
+    let len = tag.as_slice().len();
+    ACCEPTED_LEN + 4 + 4 + len + padding_of(len) + 4
 }
 
 // The status of the whole: that of the last result, where the operations were answered.
