@@ -1,9 +1,10 @@
 -- A COMPOUND's operations answered in turn, with the state of the service between them.
 use Rattle.std.specs.Prelude.{◌≡◌, ℕ, ◌+◌, List, length, map}
+use Rattle.nfs_tree.specs.Effect.{Effect}
 use Rattle.nfs_tree.specs.declared.filehandles.Filehandles.{Filehandles}
 use Rattle.nfs_tree.specs.Filehandles.{no_filehandles}
 use Rattle.nfs_tree.specs.Tree.{Files}
-use Rattle.nfs_server.specs.Answering.{Dispatch, Told, Ask, dispatch, outcome_of}
+use Rattle.nfs_server.specs.Answering.{Asked, Dispatch, Told, Ask, Outcome, dispatch, outcome_of}
 use Rattle.nfs_server.specs.Asking.{Asks, Question, question_of}
 use Rattle.nfs_server.specs.declared.compound.Context.{Context}
 use Rattle.nfs_xdr.specs.declared.arg_op.ArgOp.{ArgOp}
@@ -36,25 +37,34 @@ pub record Place (S : Type 0) : Type 0 where
 abbrev pub start : {S : Type 0} → S → ℕ → Place S
 start service size = record { service = service; handles = no_filehandles; size = size }
 
--- behind an answer that leaves this service and these filehandles
-abbrev pub behind : {S : Type 0} → Place S → OpResult → S → Filehandles → Place S
-behind old answer service handles =
-    record { service = service; handles = handles; size = old.size + length (op_result.spelling answer) }
+-- behind an answer that leaves these filehandles and this service
+abbrev pub behind : {S : Type 0} → Place S → Effect → S → Place S
+behind old effect service = record {
+  service = service;
+  handles = effect.after;
+  size = old.size + length (op_result.spelling effect.answer);
+}
 
-abbrev pub IsDispatched : {S : Type 0} → Asker S → Place S → Dispatch → OpResult → S → Filehandles → Type 0
-IsDispatched asker old (Told effect) answer service handles =
-    (effect ≡ record { answer = answer; after = handles }) × (service ≡ old.service)
-IsDispatched asker old (Ask question) answer service handles =
-    asker.gives old.service (question_of asker.moment asker.principal question) answer service × (handles ≡ old.handles)
+-- A dispatched operation has this effect, and leaves this service.
+abbrev pub HasEffect : {S : Type 0} → Asker S → Place S → Dispatch → Effect → S → Type 0
+HasEffect asker old (Told told) effect service = (effect ≡ told) × (service ≡ old.service)
+HasEffect asker old (Ask asked) effect service =
+    asker.gives old.service (question_of asker.moment asker.principal asked) effect.answer service
+    × (effect.after ≡ old.handles)
 
--- At this place the operation is answered so, and leaves this service and these filehandles.
-abbrev pub IsAnswer : {S : Type 0} → Asker S → Place S → ArgOp → OpResult → S → Filehandles → Type 0
-IsAnswer asker old op answer service handles =
-    IsDispatched asker old (dispatch asker.tree old.handles old.size op) answer service handles
+-- At this place the operation has this effect, and leaves this service.
+abbrev pub IsAnswered : {S : Type 0} → Asker S → Place S → ArgOp → Effect → S → Type 0
+IsAnswered asker old op effect service =
+    HasEffect asker old (dispatch asker.tree old.handles old.size op) effect service
+
+-- what is asked and told from this place on, given the answers of the service
+abbrev pub outcome_from : {S : Type 0} → Asker S → Place S → List ArgOp → List OpResult → Outcome
+outcome_from asker old ops answers = outcome_of asker.tree old.handles old.size ops answers
 
 -- There are answers of the service by which, from this place on, its questions and the results are determined.
 abbrev pub IsDetermined : {S : Type 0} → Asker S → Place S → List ArgOp → List OpResult → S → Type 0
 IsDetermined asker old ops results new =
+    let asks : List Asked → List Question = map (question_of asker.moment asker.principal) in
     (answers : List OpResult)
-    × Asks asker.gives old.service (map (question_of asker.moment asker.principal) (outcome_of asker.tree old.handles old.size ops answers).asked) answers new
-    × (results ≡ (outcome_of asker.tree old.handles old.size ops answers).results)
+    × Asks asker.gives old.service (asks (outcome_from asker old ops answers).asked) answers new
+    × (results ≡ (outcome_from asker old ops answers).results)

@@ -4,7 +4,7 @@ ghost use Rattle.nfs_server.specs.Answering.{compound_outcome, compound_reply, h
 ghost use Rattle.nfs_server.specs.Asking.{Asks, question_of};
 ghost use Rattle.nfs_rpc.specs.Call.{HasFewOperations, IsWithinLimits};
 ghost use Rattle.nfs_tree.specs.Filehandles.{AreNodes};
-ghost use Rattle.nfs_server.specs.Folding.{IsAnswer, IsDetermined, asker_of, start};
+ghost use Rattle.nfs_server.specs.Folding.{IsAnswered, IsDetermined, asker_of, start};
 ghost use Rattle.nfs_xdr.specs.Compound.{compound_result};
 ghost use Rattle.nfs_xdr.specs.declared.op_result.OpResult.{OpResult};
 ghost use Rattle.nfs_xdr.specs.OpResult.{op_result, status_of};
@@ -34,11 +34,15 @@ pub fn run_compound<S: Service>(
     requires room { OPERATION_LIMIT ≤ vec_capacity results }
     // The service was asked what the COMPOUND asks, given the answers, and the reply is that of the answers.
     ensures answers { (answers : List OpResult)
-        × Asks S.gives service.old (map (question_of moment principal) (compound_outcome tree.now compound answers).asked) answers service.new
+        × Asks S.gives service.old
+        (map (question_of moment principal) (compound_outcome tree.now compound answers).asked)
+        answers service.new
         × (result ≡ compound_reply tree.now compound answers) }
     ensures serves { S.serves service.new ≡ tree.now.nodes }
     // The reply is a record that may be sent.
-    ensures fits { ACCEPTED_LEN + length (compound_result.spelling (result.status, (result.tag, result.results))) ≤ RECORD_LIMIT }
+    ensures fits { ACCEPTED_LEN
+        + length (compound_result.spelling (result.status, (result.tag, result.results)))
+        ≤ RECORD_LIMIT }
     // The reply has a form, and so do all of its results.
     ensures form { compound_result.Fits (result.status, (result.tag, result.results)) }
 {
@@ -114,9 +118,11 @@ fn answer_operations<S: Service>(
     requires serves { S.serves service.old ≡ context.now.tree.now.nodes }
     requires empty { results.old.items ≡ [] }
     requires room { length ops.now ≤ vec_capacity results.old }
-    ensures answers { IsDetermined (asker_of S.gives context.now) (start service.old head) ops.now results.new.items service.new }
+    ensures answers { IsDetermined (asker_of S.gives context.now) (start service.old head) ops.now
+        results.new.items service.new }
     ensures serves { S.serves service.new ≡ context.now.tree.now.nodes }
-    ensures fits { head + length (flat_map op_result.spelling results.new.items) ≤ max (head + 12) RECORD_LIMIT }
+    ensures fits { head + length (flat_map op_result.spelling results.new.items)
+        ≤ max (head + 12) RECORD_LIMIT }
     ensures form { All op_result.Fits results.new.items }
 {
     let mut handles = Filehandles::new();
@@ -151,12 +157,16 @@ fn answer_one<S: Service>(
     requires few { size < 2 ^ 41 }
     requires serves { S.serves service.old ≡ context.now.tree.now.nodes }
     requires nodes { AreNodes context.now.tree.now handles.old }
-    ensures answer { IsAnswer (asker_of S.gives context.now) (record { service = service.old; handles = handles.old; size = size }) op.now result service.new handles.new }
+    ensures answer { IsAnswered (asker_of S.gives context.now)
+        (record { service = service.old; handles = handles.old; size = size }) op.now
+        (record { answer = result; after = handles.new }) service.new }
     ensures serves { S.serves service.new ≡ context.now.tree.now.nodes }
     ensures nodes { AreNodes context.now.tree.now handles.new }
     ensures form { op_result.Fits result }
-    ensures last { is_ok (status_of result) ≡ false → size + length (op_result.spelling result) ≤ max (size + 12) (RECORD_LIMIT - 12) }
-    ensures goes_on { is_ok (status_of result) ≡ true → size + length (op_result.spelling result) ≤ RECORD_LIMIT - 12 }
+    ensures last { is_ok (status_of result) ≡ false
+        → size + length (op_result.spelling result) ≤ max (size + 12) (RECORD_LIMIT - 12) }
+    ensures goes_on { is_ok (status_of result) ≡ true
+        → size + length (op_result.spelling result) ≤ RECORD_LIMIT - 12 }
 {
     let op = match op {
         ArgOp::Run(op) => op,
