@@ -1,4 +1,4 @@
--- A COMPOUND (RFC 7530, section 15.2): a fold over its operations, given the answers of the service.
+-- A COMPOUND (RFC 7530, section 15.2): a fold over its operations, given what the service answers.
 use Rattle.std.specs.Prelude.{ℕ, ◌+◌, ◌-◌, slice_get, Bool, true, false, not, nat_le, List, [], ◌∷◌, length, Option, Some, None, if◌then◌else◌}
 use Rattle.nfs_rpc.specs.declared.call.Call.{Call}
 use Rattle.nfs_rpc.specs.declared.call.Call.TheVariants as calls
@@ -56,7 +56,7 @@ asks question (answer ∷ answers) more =
     let rest = goes_on answer (more answer answers) in
     record { asked = question ∷ rest.asked; results = rest.results }
 
--- Who answers an operation: it is told an answer and the filehandles after it, or the service is asked.
+-- Who answers an operation: it is told its effect, or the service is asked.
 pub data Dispatch : Type 0 where
   Told : Effect → Dispatch
   Ask : Asked → Dispatch
@@ -66,8 +66,8 @@ abbrev pub by_effect : Option Effect → Asked → Dispatch
 by_effect (Some effect) question = Told effect
 by_effect None question = Ask question
 
--- What ends the list isn't run. An operation is run only where there is room for any answer to it behind the `size` bytes
--- of the reply's record so far.
+-- What ends the list isn't run. An operation is run only where there is room for any answer to it,
+-- behind the `size` bytes of the reply's record so far.
 abbrev pub dispatch : Files → Filehandles → ℕ → ArgOp → Dispatch
 dispatch tree handles size (BadArgs o) = Told (stays handles (refusal_of o refusals.BadXdr))
 dispatch tree handles size (Unsupported o) =
@@ -75,7 +75,8 @@ dispatch tree handles size (Unsupported o) =
 dispatch tree handles size (Illegal number) =
     Told (stays handles (refusal_of opnums.Illegal refusals.OpIllegal))
 dispatch tree handles size (Run op) =
-    if not (nat_le (size + room_of (opnum_of op)) RECORD_LIMIT) then Told (stays handles (resource op))
+    if not (nat_le (size + room_of (opnum_of op)) RECORD_LIMIT)
+    then Told (stays handles (resource op))
     else by_effect (effect_of tree handles op) (record { op = op; filehandle = handles.current })
 
 -- The operations in turn, behind `size` bytes of the reply's record.
@@ -85,9 +86,11 @@ outcome_of tree handles size (op ∷ ops) answers =
     let size_with : OpResult → ℕ = λ answer. size + length (op_result.spelling answer) in
     elim (dispatch tree handles size op) [
       | Told effect ↦
-          goes_on effect.answer (outcome_of tree effect.after (size_with effect.answer) ops answers)
+          goes_on effect.answer
+          (outcome_of tree effect.after (size_with effect.answer) ops answers)
       | Ask question ↦
-          asks question answers (λ answer others. outcome_of tree handles (size_with answer) ops others)
+          asks question answers
+          (λ answer others. outcome_of tree handles (size_with answer) ops others)
     ]
 
 -- the reply's status is that of the last result
@@ -102,7 +105,7 @@ last_status results = status_or_ok (slice_get results (length results - 1))
 abbrev pub head_size : List ℕ → ℕ
 head_size tag = ACCEPTED_LEN + (4 + (length (written_opaque tag) + 4))
 
--- what a COMPOUND asks for that is answered at all has operations
+-- the operations that are answered in turn: none where the whole COMPOUND is refused
 abbrev pub operations_of : Request → List ArgOp
 operations_of (MinorVersion minor) = []
 operations_of (TooMany count) = []

@@ -12,7 +12,7 @@ use Rattle.nfs_xdr.specs.declared.op_result.OpResult.{OpResult}
 use Rattle.nfs_xdr.specs.declared.principal.Principal.{Principal}
 use Rattle.nfs_xdr.specs.OpResult.{op_result}
 
--- Who asks, and what stays the same meanwhile: what the service gives, the tree, the moment and the principal.
+-- Who asks: what stays the same from one operation to the next, and what the service gives.
 pub record Asker (S : Type 0) : Type 1 where
   pub gives : S → Question → OpResult → S → Type 0
   pub tree : Files
@@ -27,7 +27,8 @@ asker_of gives context = record {
   principal = context.principal;
 }
 
--- What one operation hands on to the next: the service, the filehandles and the size of the reply's record.
+-- What one operation hands on to the next: the service, the filehandles, the size of the reply's
+-- record.
 pub record Place (S : Type 0) : Type 0 where
   pub service : S
   pub handles : Filehandles
@@ -61,7 +62,8 @@ IsAnswered asker old op effect service =
 abbrev pub outcome_from : {S : Type 0} → Asker S → Place S → List ArgOp → List OpResult → Outcome
 outcome_from asker old ops answers = outcome_of asker.tree old.handles old.size ops answers
 
--- There are answers of the service by which, from this place on, its questions and the results are determined.
+-- There are answers of the service by which its questions and the results from this place on are
+-- determined.
 abbrev pub IsDetermined : {S : Type 0} → Asker S → Place S → List ArgOp → List OpResult → S → Type 0
 IsDetermined asker old ops results new =
     let asks : List Asked → List Question = map (question_of asker.moment asker.principal) in

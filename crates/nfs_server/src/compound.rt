@@ -1,4 +1,4 @@
-ghost use Rattle.std.specs.Prelude.{◌≡◌, ◌+◌, ◌-◌, ◌^◌, ◌<◌, ◌≤◌, true, false, max, List, [], map, length, vec_capacity};
+ghost use Rattle.std.specs.Prelude.{◌≡◌, ◌+◌, ◌-◌, ◌^◌, ◌<◌, ◌≤◌, true, false, max, List, [], map, length, vec_capacity, IsOk, OnOk};
 ghost use Rattle.std.specs.List.{All, flat_map};
 ghost use Rattle.nfs_server.specs.Answering.{compound_outcome, compound_reply, head_size, is_ok, operations_of, request_status};
 ghost use Rattle.nfs_server.specs.Asking.{Asks, question_of};
@@ -16,10 +16,12 @@ use nfs_tree::{Filehandles, Tree};
 use nfs_xdr::{
     ArgOp, Compound, OPERATION_LIMIT, OpResult, Opnum, Principal, Refusal, Request, Status,
 };
+use std::alloc::AllocError;
 use xdr::{Bytes, Measure, Sequence, padding_of};
 
-/// Answers a COMPOUND (RFC 7530, section 15.2), operation by operation, up to the first answer other than NFS4_OK. It takes
-/// no memory: `results` is empty, with room for as many results as there may be operations.
+/// Answers a COMPOUND (RFC 7530, section 15.2), operation by operation, up to the first answer
+/// other than NFS4_OK. It takes no memory: `results` is empty, with room for as many results as
+/// there may be operations.
 pub fn run_compound<S: Service>(
     service: &mut S,
     tree: &Tree,
@@ -32,7 +34,7 @@ pub fn run_compound<S: Service>(
     requires serves { S.serves service.old ≡ tree.now.nodes }
     requires empty { results.items ≡ [] }
     requires room { OPERATION_LIMIT ≤ vec_capacity results }
-    // The service was asked what the COMPOUND asks, given the answers, and the reply is that of the answers.
+    // The service was asked what the COMPOUND asks, given its answers, and the reply is theirs.
     ensures answers { (answers : List OpResult)
         × Asks S.gives service.old
         (map (question_of moment principal) (compound_outcome tree.now compound answers).asked)
@@ -59,6 +61,18 @@ pub fn run_compound<S: Service>(
         tag: compound.tag,
         results: Sequence::new(results),
     }
+}
+
+/// Makes room for the results of a COMPOUND. It takes no memory where there is room enough, as in the results
+/// of an earlier reply, which `Sequence::into_vec` gives back.
+pub(crate) fn make_result_room(results: &mut Vec<OpResult>) -> Result<(), AllocError>
+    ensures empty { results.new.items ≡ [] }
+    ensures room { OnOk result (OPERATION_LIMIT ≤ vec_capacity results.new) }
+    ensures kept { OPERATION_LIMIT ≤ vec_capacity results.old → IsOk result }
+    ensures capacity { vec_capacity results.old ≤ vec_capacity results.new }
+{
+    results.clear();
+    results.reserve(OPERATION_LIMIT as usize)
 }
 
 // What stays the same from one operation to the next.
@@ -145,8 +159,8 @@ fn is_ok(answer: &OpResult) -> bool
     matches!(answer.status(), Status::Ok)
 }
 
-// Answers what stands in the list, behind `size` bytes of the reply's record. What ends the list isn't run, nor is an
-// operation to which the reply may have no room for an answer.
+// Answers what stands in the list, behind `size` bytes of the reply's record. What ends the list
+// isn't run, nor is an operation whose answer the reply may have no room for.
 fn answer_one<S: Service>(
     service: &mut S,
     context: &Context<'_>,
