@@ -19,69 +19,109 @@ abbrev Follows : {S : Type 0} → Asker S → Place S → Bool → List ArgOp �
 Follows asker place ok ops results new =
     MatchBool ok (IsDetermined asker place ops results new) ((results ≡ []) × (new ≡ place.service))
 
-determined_by : {S : Type 0} (asker : Asker S) (old : Place S) (op : ArgOp) (ops : List ArgOp) (effect : Effect) (results : List OpResult) (service new : S) (ok : Bool) (how : Dispatch)
+-- one more result
+with_result : {results more : List OpResult} (answer : OpResult) → results ≡ more
+    → ◌≡◌ {A = List OpResult} (answer ∷ results) (answer ∷ more)
+with_result answer same = ap (λ (r : List OpResult). answer ∷ r) same
+
+determined_by : {S : Type 0} (asker : Asker S) (old : Place S) (op : ArgOp) (ops : List ArgOp)
+    (effect : Effect) (results : List OpResult) (service new : S) (ok : Bool) (how : Dispatch)
     → dispatch asker.tree old.handles old.size op ≡ how → is_ok (status_of effect.answer) ≡ ok
-    → HasEffect asker old how effect service → Follows asker (behind old effect service) ok ops results new
+    → HasEffect asker old how effect service
+    → Follows asker (behind old effect service) ok ops results new
     → IsDetermined asker old (op ∷ ops) (effect.answer ∷ results) new
 unfolding outcome_of
 determined_by asker old op ops effect results service new true (Told told) by goes is rest =
-    let here = by ∙ ap (λ e. Told e) (sym is.0) in
-    (rest.0, rw (here, goes, outcome_of) (rw (← is.1) rest.1), rw (here, goes, outcome_of) (ap (λ (r : List OpResult). effect.answer ∷ r) rest.2))
+    let here = by ∙ ap (λ e. Told e) (sym is.0) in (
+      rest.0,
+      rw (here, goes, outcome_of) (rw (← is.1) rest.1),
+      rw (here, goes, outcome_of) (with_result effect.answer rest.2),
+    )
 determined_by asker old op ops effect results service new false (Told told) by ends is rest =
-    let here = by ∙ ap (λ e. Told e) (sym is.0) in
-    ([], rw (here, ends, outcome_of) (rest.1 ∙ is.1), rw (here, ends, outcome_of) (ap (λ (r : List OpResult). effect.answer ∷ r) rest.0))
+    let here = by ∙ ap (λ e. Told e) (sym is.0) in (
+      [],
+      rw (here, ends, outcome_of) (rest.1 ∙ is.1),
+      rw (here, ends, outcome_of) (with_result effect.answer rest.0),
+    )
 determined_by asker old op ops effect results service new true (Ask asked) by goes is rest =
-    let next = rw is.1 at rest in
-    (effect.answer ∷ next.0, rw (by, goes, outcome_of) (service, is.0, next.1), rw (by, goes, outcome_of) (ap (λ (r : List OpResult). effect.answer ∷ r) next.2))
-determined_by asker old op ops effect results service new false (Ask asked) by ends is rest =
-    (effect.answer ∷ [], rw (by, ends, outcome_of) (service, is.0, rest.1), rw (by, ends, outcome_of) (ap (λ (r : List OpResult). effect.answer ∷ r) rest.0))
+    let next = rw is.1 at rest in (
+      effect.answer ∷ next.0,
+      rw (by, goes, outcome_of) (service, is.0, next.1),
+      rw (by, goes, outcome_of) (with_result effect.answer next.2),
+    )
+determined_by asker old op ops effect results service new false (Ask asked) by ends is rest = (
+  effect.answer ∷ [],
+  rw (by, ends, outcome_of) (service, is.0, rest.1),
+  rw (by, ends, outcome_of) (with_result effect.answer rest.0),
+)
 
--- Whatever is determined from now on, with the results so far before it, is determined from the first place on.
-abbrev pub Completes : {S : Type 0} → Asker S → Place S → List ArgOp → Place S → List ArgOp → List OpResult → Type 0
+-- Whatever is determined from now on, with the results so far before it, is determined from the first
+-- place on.
+abbrev pub Completes : {S : Type 0} → Asker S → Place S → List ArgOp → Place S → List ArgOp
+    → List OpResult → Type 0
 Completes {S = S} asker first ops now rest so_far =
-    (results : List OpResult) (new : S) → IsDetermined asker now rest results new → IsDetermined asker first ops (so_far ++ results) new
+    (results : List OpResult) (new : S) → IsDetermined asker now rest results new
+    → IsDetermined asker first ops (so_far ++ results) new
 
--- the next of the operations was answered, and what follows its answer is this
-completes : {S : Type 0} (asker : Asker S) (first now : Place S) (ops : List ArgOp) (so_far : List OpResult) (i : ℕ) (op : ArgOp) (effect : Effect) (service : S) (results : List OpResult) (new : S) (ok : Bool)
-    → i < length ops → op ≡ get_or ops i op → IsAnswered asker now op effect service → is_ok (status_of effect.answer) ≡ ok
-    → Completes asker first ops now (drop i ops) so_far → Follows asker (behind now effect service) ok (drop (suc i) ops) results new
+-- the next of the operations has this effect, and what follows its answer is this
+completes : {S : Type 0} (asker : Asker S) (first now : Place S) (ops : List ArgOp)
+    (so_far : List OpResult) (i : ℕ) (op : ArgOp) (effect : Effect) (service : S)
+    (results : List OpResult) (new : S) (ok : Bool)
+    → i < length ops → op ≡ get_or ops i op → IsAnswered asker now op effect service
+    → is_ok (status_of effect.answer) ≡ ok → Completes asker first ops now (drop i ops) so_far
+    → Follows asker (behind now effect service) ok (drop (suc i) ops) results new
     → IsDetermined asker first ops (so_far ++ effect.answer ∷ results) new
-completes {S = S} asker first now ops so_far i op effect service results new ok lt is answered goes more rest =
-    let left : drop i ops ≡ op ∷ drop (suc i) ops = drop-cons ops i op lt ∙ ap (λ (o : ArgOp). o ∷ drop (suc i) ops) (sym is) in
+completes asker first now ops so_far i op effect service results new ok lt is answered goes more rest =
+    let here = ap (λ (o : ArgOp). o ∷ drop (suc i) ops) (sym is) in
+    let left : drop i ops ≡ op ∷ drop (suc i) ops = drop-cons ops i op lt ∙ here in
+    let how = dispatch asker.tree now.handles now.size op in
+    let all = determined_by asker now op (drop (suc i) ops) effect results service new ok how refl goes answered rest in
     more (effect.answer ∷ results) new
-    (subst (λ (o : List ArgOp). IsDetermined asker now o (effect.answer ∷ results) new) (sym left)
-    (determined_by asker now op (drop (suc i) ops) effect results service new ok (dispatch asker.tree now.handles now.size op) refl goes answered rest))
+    (subst (λ (o : List ArgOp). IsDetermined asker now o (effect.answer ∷ results) new) (sym left) all)
 
 -- others follow
-pub completes_more : {S : Type 0} (asker : Asker S) (first now : Place S) (ops : List ArgOp) (so_far : List OpResult) (i : ℕ) (op : ArgOp) (effect : Effect) (service : S)
-    → i < length ops → op ≡ get_or ops i op → IsAnswered asker now op effect service → is_ok (status_of effect.answer) ≡ true
-    → Completes asker first ops now (drop i ops) so_far
-    → Completes asker first ops (behind now effect service) (drop (i + 1) ops) (so_far ++ effect.answer ∷ [])
+pub completes_more : {S : Type 0} (asker : Asker S) (first now : Place S) (ops : List ArgOp)
+    (so_far : List OpResult) (i : ℕ) (op : ArgOp) (effect : Effect) (service : S)
+    → i < length ops → op ≡ get_or ops i op → IsAnswered asker now op effect service
+    → is_ok (status_of effect.answer) ≡ true → Completes asker first ops now (drop i ops) so_far
+    → Completes asker first ops (behind now effect service) (drop (i + 1) ops)
+    (so_far ++ effect.answer ∷ [])
 completes_more asker first now ops so_far i op effect service lt is answered goes more results new rest =
     let next : i + 1 ≡ suc i = omega arith in
+    let more_rest = rw next at rest in
     rw append_assoc
-    (completes asker first now ops so_far i op effect service results new true lt is answered goes more (rw next at rest))
+    (completes asker first now ops so_far i op effect service results new true lt is answered goes more more_rest)
 
 -- it is the last
-pub completes_last : {S : Type 0} (asker : Asker S) (first now : Place S) (ops : List ArgOp) (so_far : List OpResult) (i : ℕ) (op : ArgOp) (effect : Effect) (service : S)
-    → i < length ops → op ≡ get_or ops i op → IsAnswered asker now op effect service → is_ok (status_of effect.answer) ≡ false
-    → Completes asker first ops now (drop i ops) so_far
+pub completes_last : {S : Type 0} (asker : Asker S) (first now : Place S) (ops : List ArgOp)
+    (so_far : List OpResult) (i : ℕ) (op : ArgOp) (effect : Effect) (service : S)
+    → i < length ops → op ≡ get_or ops i op → IsAnswered asker now op effect service
+    → is_ok (status_of effect.answer) ≡ false → Completes asker first ops now (drop i ops) so_far
     → IsDetermined asker first ops (so_far ++ effect.answer ∷ []) service
 completes_last asker first now ops so_far i op effect service lt is answered ends more =
     completes asker first now ops so_far i op effect service [] service false lt is answered ends more (refl, refl)
 
 -- no operation is left
-pub completes_none : {S : Type 0} (asker : Asker S) (first now : Place S) (ops : List ArgOp) (so_far : List OpResult) (i : ℕ)
-    → length ops ≤ i → Completes asker first ops now (drop i ops) so_far → IsDetermined asker first ops so_far now.service
+pub completes_none : {S : Type 0} (asker : Asker S) (first now : Place S) (ops : List ArgOp)
+    (so_far : List OpResult) (i : ℕ)
+    → length ops ≤ i → Completes asker first ops now (drop i ops) so_far
+    → IsDetermined asker first ops so_far now.service
 unfolding outcome_of
 completes_none asker first now ops so_far i le more =
     let none : drop i ops ≡ [] = drop_of_length-le ops le in
     let all = more [] now.service (rw none ([], refl, refl)) in
     subst (λ (r : List OpResult). IsDetermined asker first ops r now.service) (append-nil so_far) all
 
+-- the bytes of results
+abbrev bytes_of : List OpResult → List ℕ
+bytes_of results = flat_map op_result.spelling results
+
 -- the length of the results with one more
-pub length_with : (results : List OpResult) (answer : OpResult) → length (flat_map op_result.spelling (results ++ answer ∷ [])) ≡ length (flat_map op_result.spelling results) + length (op_result.spelling answer)
+pub length_with : (results : List OpResult) (answer : OpResult)
+    → length (flat_map op_result.spelling (results ++ answer ∷ []))
+    ≡ length (flat_map op_result.spelling results) + length (op_result.spelling answer)
 length_with results answer =
     ap length (flat_map-append op_result.spelling results (answer ∷ []))
-    ∙ length-append (flat_map op_result.spelling results) (flat_map op_result.spelling (answer ∷ []))
-    ∙ ap (λ (x : List ℕ). length (flat_map op_result.spelling results) + length x) (flat_map-cons op_result.spelling answer [] ∙ append-nil (op_result.spelling answer))
+    ∙ length-append (bytes_of results) (bytes_of (answer ∷ []))
+    ∙ ap (λ (x : List ℕ). length (bytes_of results) + length x)
+    (flat_map-cons op_result.spelling answer [] ∙ append-nil (op_result.spelling answer))

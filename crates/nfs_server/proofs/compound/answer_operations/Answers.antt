@@ -29,7 +29,7 @@ loop-op-preserved g c =
           (completes_more asker first now c.args.ops.now c.loop-op.results.items c.loop-op.op-index c.op-item.result effect c.answer_one-answer.new.service
           c.loop-op-test.true c.op-item.is c.answer_one-answer.ensures.answer goes c.loop-op.invariant.completes);
       count = omega (arith, c.push_reserved.ensures.len);
-      room = c.push_reserved.ensures.capacity ∙ c.loop-op.invariant.room;
+      room = omega (arith, c.push_reserved.ensures.capacity, c.loop-op.invariant.room);
       size = rw (c.push_reserved.ensures.items, length_with, c.written_len-size.ensures) (omega (arith, c.loop-op.invariant.size));
       within = omega (arith, c.answer_one-answer.ensures.goes_on goes, c.written_len-size.ensures);
       form = rw c.push_reserved.ensures.items (All-push op_result.Fits c.loop-op.results.items c.answer_one-answer.result c.loop-op.invariant.form c.answer_one-answer.ensures.form);
