@@ -24,6 +24,7 @@ with_result : {results more : List OpResult} (answer : OpResult) → results ≡
     → ◌≡◌ {A = List OpResult} (answer ∷ results) (answer ∷ more)
 with_result answer same = ap (λ (r : List OpResult). answer ∷ r) same
 
+-- an operation that is dispatched so, and what follows its answer
 determined_by : {S : Type 0} (asker : Asker S) (old : Place S) (op : ArgOp) (ops : List ArgOp)
     (effect : Effect) (results : List OpResult) (service new : S) (ok : Bool) (how : Dispatch)
     → dispatch asker.tree old.handles old.size op ≡ how → is_ok (status_of effect.answer) ≡ ok
@@ -55,8 +56,7 @@ determined_by asker old op ops effect results service new false (Ask asked) by e
   rw (by, ends, outcome_of) (with_result effect.answer rest.0),
 )
 
--- Whatever is determined from now on, with the results so far before it, is determined from the first
--- place on.
+-- Whatever is determined from now on is, behind the results so far, determined from the first on.
 abbrev pub Completes : {S : Type 0} → Asker S → Place S → List ArgOp → Place S → List ArgOp
     → List OpResult → Type 0
 Completes {S = S} asker first ops now rest so_far =
@@ -71,13 +71,15 @@ completes : {S : Type 0} (asker : Asker S) (first now : Place S) (ops : List Arg
     → is_ok (status_of effect.answer) ≡ ok → Completes asker first ops now (drop i ops) so_far
     → Follows asker (behind now effect service) ok (drop (suc i) ops) results new
     → IsDetermined asker first ops (so_far ++ effect.answer ∷ results) new
-completes asker first now ops so_far i op effect service results new ok lt is answered goes more rest =
+completes asker first now ops so_far i op effect service results new ok lt is has goes more rest =
     let here = ap (λ (o : ArgOp). o ∷ drop (suc i) ops) (sym is) in
     let left : drop i ops ≡ op ∷ drop (suc i) ops = drop-cons ops i op lt ∙ here in
     let how = dispatch asker.tree now.handles now.size op in
-    let all = determined_by asker now op (drop (suc i) ops) effect results service new ok how refl goes answered rest in
-    more (effect.answer ∷ results) new
-    (subst (λ (o : List ArgOp). IsDetermined asker now o (effect.answer ∷ results) new) (sym left) all)
+    let after = drop (suc i) ops in
+    let all =
+    determined_by asker now op after effect results service new ok how refl goes has rest in
+    let Left : List ArgOp → Type 0 = λ o. IsDetermined asker now o (effect.answer ∷ results) new in
+    more (effect.answer ∷ results) new (subst Left (sym left) all)
 
 -- others follow
 pub completes_more : {S : Type 0} (asker : Asker S) (first now : Place S) (ops : List ArgOp)
@@ -86,11 +88,12 @@ pub completes_more : {S : Type 0} (asker : Asker S) (first now : Place S) (ops :
     → is_ok (status_of effect.answer) ≡ true → Completes asker first ops now (drop i ops) so_far
     → Completes asker first ops (behind now effect service) (drop (i + 1) ops)
     (so_far ++ effect.answer ∷ [])
-completes_more asker first now ops so_far i op effect service lt is answered goes more results new rest =
+completes_more asker first now ops so_far i op effect service lt is has goes more results new rest =
     let next : i + 1 ≡ suc i = omega arith in
     let more_rest = rw next at rest in
     rw append_assoc
-    (completes asker first now ops so_far i op effect service results new true lt is answered goes more more_rest)
+    (completes asker first now ops so_far i op effect service results new true lt is has goes more
+    more_rest)
 
 -- it is the last
 pub completes_last : {S : Type 0} (asker : Asker S) (first now : Place S) (ops : List ArgOp)
@@ -98,8 +101,9 @@ pub completes_last : {S : Type 0} (asker : Asker S) (first now : Place S) (ops :
     → i < length ops → op ≡ get_or ops i op → IsAnswered asker now op effect service
     → is_ok (status_of effect.answer) ≡ false → Completes asker first ops now (drop i ops) so_far
     → IsDetermined asker first ops (so_far ++ effect.answer ∷ []) service
-completes_last asker first now ops so_far i op effect service lt is answered ends more =
-    completes asker first now ops so_far i op effect service [] service false lt is answered ends more (refl, refl)
+completes_last asker first now ops so_far i op effect service lt is has ends more =
+    completes asker first now ops so_far i op effect service [] service false lt is has ends more
+    (refl, refl)
 
 -- no operation is left
 pub completes_none : {S : Type 0} (asker : Asker S) (first now : Place S) (ops : List ArgOp)
@@ -110,7 +114,8 @@ unfolding outcome_of
 completes_none asker first now ops so_far i le more =
     let none : drop i ops ≡ [] = drop_of_length-le ops le in
     let all = more [] now.service (rw none ([], refl, refl)) in
-    subst (λ (r : List OpResult). IsDetermined asker first ops r now.service) (append-nil so_far) all
+    let With : List OpResult → Type 0 = λ r. IsDetermined asker first ops r now.service in
+    subst With (append-nil so_far) all
 
 -- the bytes of results
 abbrev bytes_of : List OpResult → List ℕ
