@@ -1,7 +1,7 @@
 -- The reply to a record.
-use Rattle.std.proofs.Common.{◌≡◌, ℕ, ◌+◌, ◌≤◌, List, [], ◌∷◌, ◌++◌, length, map, Result, Ok, Err, refl, ap, ◌∙◌, arith}
+use Rattle.std.proofs.Common.{◌≡◌, ℕ, ◌+◌, ◌≤◌, List, [], ◌++◌, length, map, Result, Ok, Err, refl, ap, ◌∙◌, arith}
 use Rattle.std.specs.Prelude.{OnOk, OnErr, IsOk}
-use Rattle.std.proofs.lemmas.List.{length-append, length-take}
+use Rattle.std.proofs.lemmas.List.{length-append}
 use Rattle.nfs_xdr.specs.declared.principal.Principal.{Principal}
 use Rattle.nfs_rpc.specs.declared.call.Call.TheVariants as calls
 use Rattle.nfs_rpc.specs.declared.records.TheConstants.{RECORD_LIMIT}
@@ -20,18 +20,11 @@ use Rattle.nfs_xdr.specs.Status.{status}
 use Rattle.nfs_xdr.specs.declared.op_result.OpResult.{OpResult}
 use Rattle.std.specs.List.{flat_map}
 use Rattle.nfs_xdr.specs.OpResult.{op_result}
-use Rattle.xdr.specs.Writing.{written_number, written_opaque, written_u32, zeros}
-use Rattle.xdr.specs.Layout.{padding_of}
+use Rattle.xdr.specs.Writing.{written_number, written_opaque, written_u32}
 
 pub length_accepted : (xid state : ℕ) → length (written_accepted xid state) ≡ ACCEPTED_LEN
 unfolding written_opaque written_number
 length_accepted xid state = refl
-
-pub head_size_le : (tag : List ℕ) → head_size tag ≤ length tag + 39
-unfolding written_opaque written_number
-head_size_le tag =
-    let pad : length (zeros (padding_of (length tag))) ≤ 3 = omega (arith, length-take {A = ℕ} (padding_of (length tag)) (0 ∷ 0 ∷ 0 ∷ 0 ∷ [])) in
-    omega (arith, length-append tag (zeros (padding_of (length tag))))
 
 abbrev result_of : CompoundReply → List ℕ
 result_of reply = compound_result.spelling (reply.status, (reply.tag, reply.results))

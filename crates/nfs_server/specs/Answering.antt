@@ -1,4 +1,4 @@
--- A COMPOUND (RFC 7530, section 15.2): a fold over its operations, given the answers of the service.
+-- A COMPOUND (RFC 7530, section 15.2): a fold over its operations, given what the service answers.
 use Rattle.std.specs.Prelude.{ℕ, ◌+◌, ◌-◌, slice_get, Bool, true, false, not, nat_le, List, [], ◌∷◌, length, Option, Some, None, if◌then◌else◌}
 use Rattle.nfs_rpc.specs.declared.call.Call.{Call}
 use Rattle.nfs_rpc.specs.declared.call.Call.TheVariants as calls
@@ -7,6 +7,7 @@ use Rattle.nfs_rpc.specs.declared.reply.CompoundReply.{CompoundReply}
 use Rattle.nfs_rpc.specs.declared.reply.Reply.TheVariants as replies
 use Rattle.nfs_rpc.specs.declared.reply.TheConstants.{ACCEPTED_LEN}
 use Rattle.nfs_tree.specs.declared.filehandles.Filehandles.{Filehandles}
+use Rattle.nfs_tree.specs.Effect.{Effect, stays}
 use Rattle.nfs_tree.specs.Filehandles.{no_filehandles}
 use Rattle.nfs_tree.specs.operations.{effect_of}
 use Rattle.nfs_tree.specs.Tree.{Files}
@@ -42,38 +43,54 @@ pub record Outcome : Type 0 where
   pub asked : List Asked
   pub results : List OpResult
 
--- nothing more is asked, and this is the last result
-abbrev pub ends_with : OpResult → Outcome
-ends_with answer = record { asked = []; results = answer ∷ [] }
-
 -- An answer other than NFS4_OK is the last.
 abbrev pub goes_on : OpResult → Outcome → Outcome
-goes_on answer more = if is_ok (status_of answer) then record { asked = more.asked; results = answer ∷ more.results } else ends_with answer
+goes_on answer more =
+    if is_ok (status_of answer) then record { asked = more.asked; results = answer ∷ more.results }
+    else record { asked = []; results = answer ∷ [] }
 
 -- the service is asked
 abbrev pub asks : Asked → List OpResult → (OpResult → List OpResult → Outcome) → Outcome
 asks question [] more = record { asked = question ∷ []; results = [] }
 asks question (answer ∷ answers) more =
-    let rest = goes_on answer (more answer answers) in record { asked = question ∷ rest.asked; results = rest.results }
+    let rest = goes_on answer (more answer answers) in
+    record { asked = question ∷ rest.asked; results = rest.results }
 
--- `size` is that of the reply's record so far. What ends the list isn't run. An operation is run only where there is room for any
--- answer to it: one on the tree is answered by its effect, and the service is asked any other.
+-- Who answers an operation: it is told its effect, or the service is asked.
+pub data Dispatch : Type 0 where
+  Told : Effect → Dispatch
+  Ask : Asked → Dispatch
+
+-- An operation on the tree is answered by its effect, and the service is asked any other.
+abbrev pub by_effect : Option Effect → Asked → Dispatch
+by_effect (Some effect) question = Told effect
+by_effect None question = Ask question
+
+-- What ends the list isn't run. An operation is run only where there is room for any answer to it,
+-- behind the `size` bytes of the reply's record so far.
+abbrev pub dispatch : Files → Filehandles → ℕ → ArgOp → Dispatch
+dispatch tree handles size (BadArgs o) = Told (stays handles (refusal_of o refusals.BadXdr))
+dispatch tree handles size (Unsupported o) =
+    Told (stays handles (refusal_of (opnums.Unsupported o) refusals.NotSupp))
+dispatch tree handles size (Illegal number) =
+    Told (stays handles (refusal_of opnums.Illegal refusals.OpIllegal))
+dispatch tree handles size (Run op) =
+    if not (nat_le (size + room_of (opnum_of op)) RECORD_LIMIT)
+    then Told (stays handles (resource op))
+    else by_effect (effect_of tree handles op) (record { op = op; filehandle = handles.current })
+
+-- The operations in turn, behind `size` bytes of the reply's record.
 unfoldable pub outcome_of : Files → Filehandles → ℕ → List ArgOp → List OpResult → Outcome
 outcome_of tree handles size [] answers = record { asked = []; results = [] }
-outcome_of tree handles size (BadArgs o ∷ ops) answers = ends_with (refusal_of o refusals.BadXdr)
-outcome_of tree handles size (Unsupported o ∷ ops) answers =
-    ends_with (refusal_of (opnums.Unsupported o) refusals.NotSupp)
-outcome_of tree handles size (Illegal number ∷ ops) answers =
-    ends_with (refusal_of opnums.Illegal refusals.OpIllegal)
-outcome_of tree handles size (Run op ∷ ops) answers =
-    if not (nat_le (size + room_of (opnum_of op)) RECORD_LIMIT) then ends_with (resource op)
-    else elim (effect_of tree handles op) [
-      | Some effect ↦
-          let size = size + length (op_result.spelling effect.answer) in
-          goes_on effect.answer (outcome_of tree effect.after size ops answers)
-      | None ↦
-          let question : Asked = record { op = op; filehandle = handles.current } in
-          asks question answers (λ answer others. outcome_of tree handles (size + length (op_result.spelling answer)) ops others)
+outcome_of tree handles size (op ∷ ops) answers =
+    let size_with : OpResult → ℕ = λ answer. size + length (op_result.spelling answer) in
+    elim (dispatch tree handles size op) [
+      | Told effect ↦
+          goes_on effect.answer
+          (outcome_of tree effect.after (size_with effect.answer) ops answers)
+      | Ask question ↦
+          asks question answers
+          (λ answer others. outcome_of tree handles (size_with answer) ops others)
     ]
 
 -- the reply's status is that of the last result
@@ -88,10 +105,11 @@ last_status results = status_or_ok (slice_get results (length results - 1))
 abbrev pub head_size : List ℕ → ℕ
 head_size tag = ACCEPTED_LEN + (4 + (length (written_opaque tag) + 4))
 
-abbrev pub request_outcome : Files → Compound → List OpResult → Request → Outcome
-request_outcome tree c answers (MinorVersion minor) = record { asked = []; results = [] }
-request_outcome tree c answers (TooMany count) = record { asked = []; results = [] }
-request_outcome tree c answers (Operations ops) = outcome_of tree no_filehandles (head_size c.tag) ops answers
+-- the operations that are answered in turn: none where the whole COMPOUND is refused
+abbrev pub operations_of : Request → List ArgOp
+operations_of (MinorVersion minor) = []
+operations_of (TooMany count) = []
+operations_of (Operations ops) = ops
 
 abbrev pub request_status : List OpResult → Request → Status
 request_status results (MinorVersion minor) = status.Refused refusals.MinorVersMismatch
@@ -99,7 +117,8 @@ request_status results (TooMany count) = status.Refused refusals.Resource
 request_status results (Operations ops) = last_status results
 
 abbrev pub compound_outcome : Files → Compound → List OpResult → Outcome
-compound_outcome tree c answers = request_outcome tree c answers c.request
+compound_outcome tree c answers =
+    outcome_of tree no_filehandles (head_size c.tag) (operations_of c.request) answers
 
 abbrev pub compound_reply : Files → Compound → List OpResult → CompoundReply
 compound_reply tree c answers =
@@ -115,5 +134,6 @@ asked tree call answers = []
 abbrev pub reply : Files → Call → List OpResult → Option (List ℕ)
 reply tree calls.Silent answers = None
 reply tree (calls.Null xid) answers = Some (written_reply xid replies.Null)
-reply tree (calls.Compound xid principal c) answers = Some (written_reply xid (replies.Compound (compound_reply tree c answers)))
+reply tree (calls.Compound xid principal c) answers =
+    Some (written_reply xid (replies.Compound (compound_reply tree c answers)))
 reply tree (calls.Answer xid answer) answers = Some (written_reply xid answer)

@@ -15,14 +15,18 @@ Question = Request
 abbrev pub question_of : ℕ → Principal → Asked → Question
 question_of moment principal asked = request_of moment principal asked.op asked.filehandle
 
--- From old, the service may answer these questions so, one after the other, and go on to new. `gives` is one question.
-abbrev pub Asks : {S : Type 0} → (S → Question → OpResult → S → Type 0) → S → List Question → List OpResult → S → Type 0
+-- From old, the service may answer these questions so, one after the other, and go on to new.
+-- `gives` is one question.
+abbrev pub Asks : {S : Type 0} → (S → Question → OpResult → S → Type 0)
+    → S → List Question → List OpResult → S → Type 0
 Asks gives old [] [] new = new ≡ old
-Asks {S = S} gives old (question ∷ questions) (answer ∷ answers) new = (mid : S) × gives old question answer mid × Asks gives mid questions answers new
+Asks {S = S} gives old (question ∷ questions) (answer ∷ answers) new =
+    (mid : S) × gives old question answer mid × Asks gives mid questions answers new
 Asks gives old [] (answer ∷ answers) new = ⊥
 Asks gives old (question ∷ questions) [] new = ⊥
 
--- a core answers a question: it is the journal's next entry, or the answer is NFS4ERR_RESOURCE and nothing changes
+-- A core answers a question: it is the journal's next entry, or the answer is NFS4ERR_RESOURCE and
+-- nothing changes.
 abbrev pub GivenByCore : Server → Question → OpResult → Server → Type 0
 GivenByCore old question answer new =
     (number : Option ℕ) × Applies old new question answer number

@@ -1,56 +1,72 @@
 -- A COMPOUND's operations answered in turn, with the state of the service between them.
-use Rattle.std.specs.Prelude.{◌≡◌, ℕ, ◌+◌, nat_le, List, [], ◌∷◌, length, map, MatchBool, MatchOption}
-use Rattle.nfs_rpc.specs.declared.records.TheConstants.{RECORD_LIMIT}
+use Rattle.std.specs.Prelude.{◌≡◌, ℕ, ◌+◌, List, length, map}
+use Rattle.nfs_tree.specs.Effect.{Effect}
 use Rattle.nfs_tree.specs.declared.filehandles.Filehandles.{Filehandles}
-use Rattle.nfs_tree.specs.operations.{effect_of}
+use Rattle.nfs_tree.specs.Filehandles.{no_filehandles}
 use Rattle.nfs_tree.specs.Tree.{Files}
-use Rattle.nfs_server.specs.Answering.{compound_outcome, is_ok, outcome_of}
-use Rattle.nfs_xdr.specs.declared.compound.Compound.{Compound}
+use Rattle.nfs_server.specs.Answering.{Asked, Dispatch, Told, Ask, Outcome, dispatch, outcome_of}
 use Rattle.nfs_server.specs.Asking.{Asks, Question, question_of}
-use Rattle.nfs_xdr.specs.declared.principal.Principal.{Principal}
-use Rattle.nfs_core.specs.Step.{resource}
+use Rattle.nfs_server.specs.declared.compound.Context.{Context}
 use Rattle.nfs_xdr.specs.declared.arg_op.ArgOp.{ArgOp}
-use Rattle.nfs_xdr.specs.declared.arg_op.ArgOp.TheVariants.{Run, BadArgs, Unsupported, Illegal}
-use Rattle.nfs_xdr.specs.declared.operations.Opnum.TheVariants as opnums
-use Rattle.nfs_xdr.specs.declared.status.Refusal.TheVariants as refusals
 use Rattle.nfs_xdr.specs.declared.op_result.OpResult.{OpResult}
-use Rattle.nfs_xdr.specs.Op.{opnum_of}
-use Rattle.nfs_xdr.specs.operations.{room_of}
-use Rattle.nfs_xdr.specs.OpResult.{op_result, refusal_of, status_of}
+use Rattle.nfs_xdr.specs.declared.principal.Principal.{Principal}
+use Rattle.nfs_xdr.specs.OpResult.{op_result}
 
--- nothing is run, and this is the answer
-abbrev pub IsUnasked : {S : Type 0} → OpResult → Filehandles → S → OpResult → Filehandles → S → Type 0
-IsUnasked told handles old answer after new = (answer ≡ told) × (after ≡ handles) × (new ≡ old)
+-- Who asks: what stays the same from one operation to the next, and what the service gives.
+pub record Asker (S : Type 0) : Type 1 where
+  pub gives : S → Question → OpResult → S → Type 0
+  pub tree : Files
+  pub moment : ℕ
+  pub principal : Principal
 
--- From old, what stands in the list is answered so behind `size` bytes of the reply under these filehandles, and leads to new and
--- to the filehandles after.
-abbrev pub IsAnswer : {S : Type 0} → (S → Question → OpResult → S → Type 0) → Files → ℕ → ℕ → Principal → Filehandles → ArgOp → S → OpResult → Filehandles → S → Type 0
-IsAnswer gives tree size moment principal handles (BadArgs o) = IsUnasked (refusal_of o refusals.BadXdr) handles
-IsAnswer gives tree size moment principal handles (Unsupported o) =
-    IsUnasked (refusal_of (opnums.Unsupported o) refusals.NotSupp) handles
-IsAnswer gives tree size moment principal handles (Illegal number) =
-    IsUnasked (refusal_of opnums.Illegal refusals.OpIllegal) handles
-IsAnswer gives tree size moment principal handles (Run op) = λ old answer after new.
-    MatchBool (nat_le (size + room_of (opnum_of op)) RECORD_LIMIT)
-    (MatchOption (effect_of tree handles op)
-    (gives old (question_of moment principal (record { op = op; filehandle = handles.current })) answer new × (after ≡ handles))
-    (λ effect. (effect ≡ record { answer = answer; after = after }) × (new ≡ old)))
-    (IsUnasked (resource op) handles old answer after new)
+abbrev pub asker_of : {S : Type 0} → (S → Question → OpResult → S → Type 0) → Context → Asker S
+asker_of gives context = record {
+  gives = gives;
+  tree = context.tree.now;
+  moment = context.moment;
+  principal = context.principal;
+}
 
--- the operations are answered so in turn, up to the first answer other than NFS4_OK
-abbrev pub AreAnswers : {S : Type 0} → (S → Question → OpResult → S → Type 0) → Files → ℕ → ℕ → Principal → Filehandles → List ArgOp → S → List OpResult → S → Type 0
-AreAnswers gives tree size moment principal handles [] old results new = (results ≡ []) × (new ≡ old)
-AreAnswers gives tree size moment principal handles (op ∷ ops) old [] new = ⊥
-AreAnswers {S = S} gives tree size moment principal handles (op ∷ ops) old (answer ∷ answers) new =
-    (mid : S) × (after : Filehandles) × IsAnswer gives tree size moment principal handles op old answer after mid
-    × MatchBool (is_ok (status_of answer)) (AreAnswers gives tree (size + length (op_result.spelling answer)) moment principal after ops mid answers new) ((answers ≡ []) × (new ≡ mid))
+-- What one operation hands on to the next: the service, the filehandles, the size of the reply's
+-- record.
+pub record Place (S : Type 0) : Type 0 where
+  pub service : S
+  pub handles : Filehandles
+  pub size : ℕ
 
--- there are answers of the service by which its questions and the results are determined
-abbrev pub IsDetermined : {S : Type 0} → (S → Question → OpResult → S → Type 0) → Files → ℕ → ℕ → Principal → Filehandles → List ArgOp → S → List OpResult → S → Type 0
-IsDetermined gives tree size moment principal handles ops old results new =
-    (answers : List OpResult) × Asks gives old (map (question_of moment principal) (outcome_of tree handles size ops answers).asked) answers new × (results ≡ (outcome_of tree handles size ops answers).results)
+-- before the first operation
+abbrev pub start : {S : Type 0} → S → ℕ → Place S
+start service size = record { service = service; handles = no_filehandles; size = size }
 
--- the same of a whole COMPOUND
-abbrev pub IsCompoundAnswered : {S : Type 0} → (S → Question → OpResult → S → Type 0) → Files → ℕ → Principal → Compound → S → List OpResult → S → Type 0
-IsCompoundAnswered gives tree moment principal compound old results new =
-    (answers : List OpResult) × Asks gives old (map (question_of moment principal) (compound_outcome tree compound answers).asked) answers new × (results ≡ (compound_outcome tree compound answers).results)
+-- behind an answer that leaves these filehandles and this service
+abbrev pub behind : {S : Type 0} → Place S → Effect → S → Place S
+behind old effect service = record {
+  service = service;
+  handles = effect.after;
+  size = old.size + length (op_result.spelling effect.answer);
+}
+
+-- A dispatched operation has this effect, and leaves this service.
+abbrev pub HasEffect : {S : Type 0} → Asker S → Place S → Dispatch → Effect → S → Type 0
+HasEffect asker old (Told told) effect service = (effect ≡ told) × (service ≡ old.service)
+HasEffect asker old (Ask asked) effect service =
+    asker.gives old.service (question_of asker.moment asker.principal asked) effect.answer service
+    × (effect.after ≡ old.handles)
+
+-- At this place the operation has this effect, and leaves this service.
+abbrev pub IsAnswered : {S : Type 0} → Asker S → Place S → ArgOp → Effect → S → Type 0
+IsAnswered asker old op effect service =
+    HasEffect asker old (dispatch asker.tree old.handles old.size op) effect service
+
+-- what is asked and told from this place on, given the answers of the service
+abbrev pub outcome_from : {S : Type 0} → Asker S → Place S → List ArgOp → List OpResult → Outcome
+outcome_from asker old ops answers = outcome_of asker.tree old.handles old.size ops answers
+
+-- There are answers of the service by which its questions and the results from this place on are
+-- determined.
+abbrev pub IsDetermined : {S : Type 0} → Asker S → Place S → List ArgOp → List OpResult → S → Type 0
+IsDetermined asker old ops results new =
+    let asks : List Asked → List Question = map (question_of asker.moment asker.principal) in
+    (answers : List OpResult)
+    × Asks asker.gives old.service (asks (outcome_from asker old ops answers).asked) answers new
+    × (results ≡ (outcome_from asker old ops answers).results)

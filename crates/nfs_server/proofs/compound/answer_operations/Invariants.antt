@@ -4,17 +4,18 @@ use Rattle.std.specs.List.{All, flat_map}
 use Rattle.nfs_rpc.specs.declared.records.TheConstants.{RECORD_LIMIT}
 use Rattle.nfs_xdr.specs.OpResult.{op_result}
 use Rattle.nfs_tree.specs.Filehandles.{AreNodes}
+use Rattle.nfs_server.specs.Folding.{asker_of, start}
 use Rattle.nfs_server.proofs.Folding.{Completes}
 use Rattle.nfs_server.proofs.compound.answer_operations.Given as goal
 
 abbrev pub invariant-loop-op : goal.invariant-loop-op
 invariant-loop-op g l = record {
-  completes : Completes g.S.Service.gives l.tree l.start l.size l.moment l.principal l.ops l.handles (drop l.op-index l.ops) l.fn.service l.service l.results.items;
+  completes : Completes (asker_of g.S.Service.gives l.context) (start l.fn.service l.head) l.ops (record { service = l.service; handles = l.handles; size = l.size }) (drop l.op-index l.ops) l.results.items;
   count : vec_len l.results ≡ l.op-index;
   room : vec_capacity l.results ≡ vec_capacity l.fn.results;
-  size : l.size ≡ l.start + length (flat_map op_result.spelling l.results.items);
-  within : l.size ≤ max l.start (RECORD_LIMIT - 12);
+  size : l.size ≡ l.head + length (flat_map op_result.spelling l.results.items);
+  within : l.size ≤ max l.head (RECORD_LIMIT - 12);
   form : All op_result.Fits l.results.items;
-  serves : g.S.Service.serves l.service ≡ l.tree.nodes;
-  nodes : AreNodes l.tree l.handles;
+  serves : g.S.Service.serves l.service ≡ l.context.tree.now.nodes;
+  nodes : AreNodes l.context.tree.now l.handles;
 }
