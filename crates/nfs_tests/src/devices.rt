@@ -34,7 +34,8 @@ impl Read for Trickle<'_> {
     }
 }
 
-/// Takes one byte at a time, but for one write where it has taken `room` bytes: that one fails, or takes nothing.
+/// Takes one byte at a time, but for one write where it has taken `room` bytes: that one fails, or
+/// takes nothing.
 #[derive(Drop)]
 struct Narrow {
     taken: Vec<u8>,
@@ -105,8 +106,8 @@ fn fragments(rt: HostRuntime) -> Result<(), Fail> {
     Ok(())
 }
 
-/// A read that fails within the second record, whatever the kind of the failure: the first was answered, and the read isn't
-/// tried again, which would bring the rest.
+/// A read that fails within the second record, in whatever way: the first was answered, and the read
+/// isn't tried again, which would bring the rest.
 #[test]
 fn read_fails(rt: HostRuntime) -> Result<(), Fail> {
     let alloc = rt.alloc();
@@ -133,8 +134,8 @@ fn read_fails(rt: HostRuntime) -> Result<(), Fail> {
     Ok(())
 }
 
-/// How the connection of two records ends, and what was written, where a write within the second reply fails once with this
-/// kind, or takes nothing.
+/// What two calls bring where a write within the second reply fails once with this kind, or takes
+/// nothing: the bytes that went out, and how the connection ends.
 fn cut(
     alloc: Global,
     failure: Option<ErrorKind>,
@@ -161,7 +162,8 @@ fn front_of_replies(alloc: Global) -> Result<Vec<u8>, AllocError> {
     Ok(bytes)
 }
 
-/// A write that fails in the second reply: what went out is a beginning of the two, and the write isn't tried again.
+/// A write that fails in the second reply, in whatever way: what went out is a beginning of the two,
+/// and the write isn't tried again.
 #[test]
 fn write_fails(rt: HostRuntime) -> Result<(), Fail> {
     let expected = front_of_replies(rt.alloc())?;

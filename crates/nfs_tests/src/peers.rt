@@ -9,8 +9,8 @@ use std::io;
 use std::io::{ErrorKind, Read, Write};
 use std::test::Fail;
 
-/// Gives pieces in turn, each with the number of bytes that the peer has to have by then. A read that comes before that fails,
-/// and nothing more is given.
+/// Gives pieces in turn, each behind a number: the bytes of replies that the peer has to have by
+/// then. A read that comes before that fails, and nothing more is given.
 #[derive(Drop)]
 struct Turns<'a> {
     piece: &'a [u8],
@@ -58,8 +58,8 @@ impl Write for Meter<'_> {
     }
 }
 
-/// Two calls of 44 bytes, cut at the end of the first or anywhere in the second: what is behind the cut comes only where the first
-/// reply, of 28 bytes, is there, and the end of the input only where both are.
+/// Two calls of 44 bytes, cut at the end of the first or anywhere in the second: what is behind the
+/// cut comes only where the first reply, of 28 bytes, is there, and the end only where both are.
 #[test]
 fn reply_comes_before_more_is_read(rt: HostRuntime) -> Result<(), Fail> {
     let alloc = rt.alloc();

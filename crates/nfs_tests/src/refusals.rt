@@ -74,7 +74,8 @@ impl Line {
     }
 }
 
-/// The arguments of a SETCLIENTID like `SET_CLIENT_ID` from the same client once it has started anew: its verifier is another.
+/// The arguments of a SETCLIENTID like `SET_CLIENT_ID` with another verifier: the client has started
+/// anew.
 fn set_anew() -> [u32; 17] {
     let mut arguments = SET_CLIENT_ID;
     arguments[4] = 0x0102_0305;
