@@ -1,4 +1,4 @@
-//! A peer that waits for a reply before it sends more.
+//! A peer that waits for a reply before it sends more, and one that counts writes.
 
 use crate::messages::{call, opened, reply};
 use nfs_core::Moment;
@@ -35,11 +35,12 @@ impl Read for Turns<'_> {
     }
 }
 
-/// Takes all that it is given, and tells the peer how many bytes it has.
+/// Takes all that it is given, tells the peer how many bytes it has, and counts the writes.
 #[derive(Drop)]
 struct Meter<'a> {
     taken: Vec<u8>,
     replied: &'a Cell<usize>,
+    writes: usize,
 }
 
 impl Write for Meter<'_> {
@@ -47,6 +48,7 @@ impl Write for Meter<'_> {
         match self.taken.extend_from_slice(buf) {
             Ok(()) => {
                 self.replied.set(self.taken.len());
+                self.writes = self.writes.saturating_add(1);
                 Ok(buf.len())
             }
             Err(AllocError) => Ok(0),
@@ -79,6 +81,7 @@ fn reply_comes_before_more_is_read(rt: HostRuntime) -> Result<(), Fail> {
         let mut sink = Counted::new(Meter {
             taken: Vec::new(alloc),
             replied: &replied,
+            writes: 0,
         });
         let (tree, core) = opened(alloc)?;
         let mut lent = Lent::new(core);
@@ -91,5 +94,33 @@ fn reply_comes_before_more_is_read(rt: HostRuntime) -> Result<(), Fail> {
             "cut at {cut}"
         );
     }
+    Ok(())
+}
+
+/// 100 records that come in one read: their replies go out in at most two writes.
+#[test]
+fn replies_go_out_together(rt: HostRuntime) -> Result<(), Fail> {
+    let alloc = rt.alloc();
+    let mut input = Vec::new(alloc);
+    let mut expected = Vec::new(alloc);
+    for xid in 0..100 {
+        input.extend_from_slice(call(alloc, xid, 0, &[])?.as_slice())?;
+        expected.extend_from_slice(reply(alloc, xid, &[])?.as_slice())?;
+    }
+    let replied = Cell::new(0);
+    let mut source = Counted::new(input.as_slice());
+    let mut sink = Counted::new(Meter {
+        taken: Vec::new(alloc),
+        replied: &replied,
+        writes: 0,
+    });
+    let (tree, core) = opened(alloc)?;
+    let mut lent = Lent::new(core);
+    let mut clock = Stopped::at(Moment::new(0).unwrap());
+    let outcome = serve_connection(alloc, &mut source, &mut sink, &mut lent, &tree, &mut clock);
+    let peer = sink.into_device();
+    assert_eq!(rt; outcome, Ok(0));
+    assert!(rt; peer.taken.as_slice() == expected.as_slice());
+    assert!(rt; peer.writes <= 2, "{} writes", peer.writes);
     Ok(())
 }
