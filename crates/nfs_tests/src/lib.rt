@@ -23,6 +23,8 @@ mod limits;
 #[cfg(test)]
 mod messages;
 #[cfg(test)]
+mod peers;
+#[cfg(test)]
 mod principals;
 #[cfg(test)]
 mod refusals;

@@ -37,6 +37,33 @@ impl Line {
         })
     }
 
+    /// A SETCLIENTID that gives this client number and confirm value.
+    fn set(
+        alloc: Global,
+        xid: u32,
+        arguments: &[u32],
+        number: u32,
+        value: u32,
+    ) -> Result<Line, AllocError> {
+        let given = [0, 0, 1, 35, 0, 1, number, 0, value];
+        Line::new(alloc, xid, arguments, &given, &[10018, 0, 1, 35, 10018])
+    }
+
+    /// The confirmation of this client number and confirm value.
+    fn confirm(alloc: Global, xid: u32, number: u32, value: u32) -> Result<Line, AllocError> {
+        let arguments = [0, 0, 1, 36, 1, number, 0, value];
+        let unconfirmed = [10018, 0, 1, 36, 10018];
+        Line::new(alloc, xid, &arguments, &[0, 0, 1, 36, 0], &unconfirmed)
+    }
+
+    /// A GETATTR of the root's type.
+    fn attributes(alloc: Global, xid: u32) -> Result<Line, AllocError> {
+        let arguments = [0, 0, 2, 24, 9, 1, 2];
+        let told = [0, 0, 2, 24, 0, 9, 0, 1, 2, 4, 2];
+        let untold = [10018, 0, 2, 24, 0, 9, 10018];
+        Line::new(alloc, xid, &arguments, &told, &untold)
+    }
+
     /// Whether this is how the call may be refused: by the end of the connection before anything was run, or by a reply.
     fn refuses(&self, output: &[u8], outcome: Result<usize, ServeError>) -> bool {
         match outcome {
@@ -47,26 +74,12 @@ impl Line {
     }
 }
 
-/// SETCLIENTID, its confirmation, the confirmation again, and attributes.
-fn script(alloc: Global) -> Result<[Line; 4], AllocError> {
-    let confirm = [0, 0, 1, 36, 1, 1, 0, 1];
-    let confirmed = [0, 0, 1, 36, 0];
-    let unconfirmed = [10018, 0, 1, 36, 10018];
-    let given = [0, 0, 1, 35, 0, 1, 1, 0, 1];
-    let attributes = [0, 0, 2, 24, 9, 1, 2];
-    let told = [0, 0, 2, 24, 0, 9, 0, 1, 2, 4, 2];
-    Ok([
-        Line::new(alloc, 1, &SET_CLIENT_ID, &given, &[10018, 0, 1, 35, 10018])?,
-        Line::new(alloc, 2, &confirm, &confirmed, &unconfirmed)?,
-        Line::new(alloc, 3, &confirm, &confirmed, &unconfirmed)?,
-        Line::new(
-            alloc,
-            4,
-            &attributes,
-            &told,
-            &[10018, 0, 2, 24, 0, 9, 10018],
-        )?,
-    ])
+/// The arguments of a SETCLIENTID like `SET_CLIENT_ID` with another verifier: the client has started
+/// anew.
+fn set_anew() -> [u32; 17] {
+    let mut arguments = SET_CLIENT_ID;
+    arguments[4] = 0x0102_0305;
+    arguments
 }
 
 /// What comes back for a message, put into `output`, which has room.
@@ -130,11 +143,10 @@ fn told(
     Some(output)
 }
 
-#[test]
-fn refused_once(rt: HostRuntime) -> Result<(), Fail> {
-    let alloc = rt.alloc();
+/// Sends four calls in turn to a server of their own.
+fn tell_each(alloc: Global, script: Result<[Line; 4], AllocError>) -> Result<(), Fail> {
     // Where memory is refused for the test itself, there is nothing to learn.
-    let Ok(lines) = script(alloc) else {
+    let Ok(lines) = script else {
         return Ok(());
     };
     let Ok(output) = Vec::with_capacity(alloc, 1024) else {
@@ -142,11 +154,56 @@ fn refused_once(rt: HostRuntime) -> Result<(), Fail> {
     };
     let (tree, core) = opened_again(alloc)?;
     let mut lent = Lent::new(core);
-    let output = told(alloc, &mut lent, &tree, &lines[0], output).ok_or("SETCLIENTID")?;
-    let output = told(alloc, &mut lent, &tree, &lines[1], output).ok_or("its confirmation")?;
-    let output = told(alloc, &mut lent, &tree, &lines[2], output).ok_or("its confirmation again")?;
-    told(alloc, &mut lent, &tree, &lines[3], output).ok_or("attributes")?;
+    let output = told(alloc, &mut lent, &tree, &lines[0], output).ok_or("the first call")?;
+    let output = told(alloc, &mut lent, &tree, &lines[1], output).ok_or("the second call")?;
+    let output = told(alloc, &mut lent, &tree, &lines[2], output).ok_or("the third call")?;
+    told(alloc, &mut lent, &tree, &lines[3], output).ok_or("the fourth call")?;
     Ok(())
+}
+
+fn client_and_attributes(alloc: Global) -> Result<[Line; 4], AllocError> {
+    Ok([
+        Line::set(alloc, 1, &SET_CLIENT_ID, 1, 1)?,
+        Line::confirm(alloc, 2, 1, 1)?,
+        Line::confirm(alloc, 3, 1, 1)?,
+        Line::attributes(alloc, 4)?,
+    ])
+}
+
+/// A client id, its confirmation, the confirmation again, and attributes.
+#[test]
+fn refused_once(rt: HostRuntime) -> Result<(), Fail> {
+    tell_each(rt.alloc(), client_and_attributes(rt.alloc()))
+}
+
+fn client_and_update(alloc: Global) -> Result<[Line; 4], AllocError> {
+    Ok([
+        Line::set(alloc, 1, &SET_CLIENT_ID, 1, 1)?,
+        Line::confirm(alloc, 2, 1, 1)?,
+        Line::set(alloc, 3, &SET_CLIENT_ID, 1, 2)?,
+        Line::confirm(alloc, 4, 1, 2)?,
+    ])
+}
+
+/// A client that asks again, with the verifier that it had: it keeps its number.
+#[test]
+fn update_refused_once(rt: HostRuntime) -> Result<(), Fail> {
+    tell_each(rt.alloc(), client_and_update(rt.alloc()))
+}
+
+fn client_and_restart(alloc: Global) -> Result<[Line; 4], AllocError> {
+    Ok([
+        Line::set(alloc, 1, &SET_CLIENT_ID, 1, 1)?,
+        Line::confirm(alloc, 2, 1, 1)?,
+        Line::set(alloc, 3, &set_anew(), 2, 2)?,
+        Line::confirm(alloc, 4, 2, 2)?,
+    ])
+}
+
+/// A client that has started anew: it gets another number, and its old record leaves.
+#[test]
+fn restart_refused_once(rt: HostRuntime) -> Result<(), Fail> {
+    tell_each(rt.alloc(), client_and_restart(rt.alloc()))
 }
 
 /// Three records, cut here and there: a piece that is refused leaves all as it was, and is taken when it comes again.

@@ -43,6 +43,17 @@ fn default_tree_has_its_nodes(rt: HostRuntime) -> Result<(), Fail> {
     Ok(())
 }
 
+/// The default tree's document has no policy: delegations are given for all, and callbacks are probed.
+#[test]
+fn default_tree_has_its_policy(rt: HostRuntime) -> Result<(), Fail> {
+    let policy = Policy {
+        delegations: Delegations::All,
+        callbacks: Callbacks::Probe,
+    };
+    assert!(rt; Tree::from_toml(rt.alloc(), DEFAULT_TREE)?.policy() == policy);
+    Ok(())
+}
+
 #[test]
 fn looks_up_names(rt: HostRuntime) -> Result<(), Fail> {
     let tree = Tree::from_toml(rt.alloc(), DEFAULT_TREE)?;

@@ -1,0 +1,126 @@
+//! A peer that waits for a reply before it sends more, and one that counts writes.
+
+use crate::messages::{call, opened, reply};
+use nfs_core::Moment;
+use nfs_server::{Counted, Lent, Stopped, serve_connection};
+use std::alloc::AllocError;
+use std::cell::Cell;
+use std::io;
+use std::io::{ErrorKind, Read, Write};
+use std::test::Fail;
+
+/// Gives pieces in turn, each behind a number: the bytes of replies that the peer has to have by
+/// then. A read that comes before that fails, and nothing more is given.
+#[derive(Drop)]
+struct Turns<'a> {
+    piece: &'a [u8],
+    turns: &'a [(usize, &'a [u8])],
+    replied: &'a Cell<usize>,
+}
+
+impl Read for Turns<'_> {
+    fn read(&mut self, buf: &mut [u8]) -> io::Result<usize> {
+        if self.piece.is_empty() {
+            let [(wanted, piece), rest @ ..] = self.turns else {
+                return Ok(0);
+            };
+            if self.replied.get() < *wanted {
+                self.turns = &[];
+                return Err(io::Error::from(ErrorKind::WouldBlock));
+            }
+            self.piece = piece;
+            self.turns = rest;
+        }
+        self.piece.read(buf)
+    }
+}
+
+/// Takes all that it is given, tells the peer how many bytes it has, and counts the writes.
+#[derive(Drop)]
+struct Meter<'a> {
+    taken: Vec<u8>,
+    replied: &'a Cell<usize>,
+    writes: usize,
+}
+
+impl Write for Meter<'_> {
+    fn write(&mut self, buf: &[u8]) -> io::Result<usize> {
+        match self.taken.extend_from_slice(buf) {
+            Ok(()) => {
+                self.replied.set(self.taken.len());
+                self.writes = self.writes.saturating_add(1);
+                Ok(buf.len())
+            }
+            Err(AllocError) => Ok(0),
+        }
+    }
+
+    fn flush(&mut self) -> io::Result<()> {
+        Ok(())
+    }
+}
+
+/// Two calls of 44 bytes, cut at the end of the first or anywhere in the second: what is behind the
+/// cut comes only where the first reply, of 28 bytes, is there, and the end only where both are.
+#[test]
+fn reply_comes_before_more_is_read(rt: HostRuntime) -> Result<(), Fail> {
+    let alloc = rt.alloc();
+    let mut input = call(alloc, 7, 0, &[])?;
+    input.extend_from_slice(call(alloc, 8, 0, &[])?.as_slice())?;
+    let mut expected = reply(alloc, 7, &[])?;
+    expected.extend_from_slice(reply(alloc, 8, &[])?.as_slice())?;
+    for cut in 44..input.len() {
+        let (front, behind) = input.as_slice().split_at(cut);
+        let turns: [(usize, &[u8]); 3] = [(0, front), (28, behind), (56, &[])];
+        let replied = Cell::new(0);
+        let mut source = Counted::new(Turns {
+            piece: &[],
+            turns: &turns,
+            replied: &replied,
+        });
+        let mut sink = Counted::new(Meter {
+            taken: Vec::new(alloc),
+            replied: &replied,
+            writes: 0,
+        });
+        let (tree, core) = opened(alloc)?;
+        let mut lent = Lent::new(core);
+        let mut clock = Stopped::at(Moment::new(0).unwrap());
+        let outcome = serve_connection(alloc, &mut source, &mut sink, &mut lent, &tree, &mut clock);
+        assert_eq!(rt; outcome, Ok(0), "cut at {cut}");
+        assert_eq!(rt;
+            sink.into_device().taken.as_slice(),
+            expected.as_slice(),
+            "cut at {cut}"
+        );
+    }
+    Ok(())
+}
+
+/// 100 records that come in one read: their replies go out in at most two writes.
+#[test]
+fn replies_go_out_together(rt: HostRuntime) -> Result<(), Fail> {
+    let alloc = rt.alloc();
+    let mut input = Vec::new(alloc);
+    let mut expected = Vec::new(alloc);
+    for xid in 0..100 {
+        input.extend_from_slice(call(alloc, xid, 0, &[])?.as_slice())?;
+        expected.extend_from_slice(reply(alloc, xid, &[])?.as_slice())?;
+    }
+    let replied = Cell::new(0);
+    let mut source = Counted::new(input.as_slice());
+    let mut sink = Counted::new(Meter {
+        taken: Vec::new(alloc),
+        replied: &replied,
+        writes: 0,
+    });
+    let (tree, core) = opened(alloc)?;
+    let mut lent = Lent::new(core);
+    let mut clock = Stopped::at(Moment::new(0).unwrap());
+    let outcome = serve_connection(alloc, &mut source, &mut sink, &mut lent, &tree, &mut clock);
+    let peer = sink.into_device();
+    assert_eq!(rt; outcome, Ok(0));
+    assert!(rt; peer.taken.as_slice() == expected.as_slice());
+    assert!(rt; peer.writes <= 2, "{} writes", peer.writes);
+    Ok(())
+}
