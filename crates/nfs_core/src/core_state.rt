@@ -142,12 +142,9 @@ fn enter(
     }
     let decision = decide(alloc, tables, journal, &request)?;
     let answer = copy_of(&decision.answer)?;
-    let call = Call {
-        request,
-        answer: decision.answer,
-    };
+    let call = Call { request, answer };
     let number = take_in(tables, journal, call, decision.change)?;
-    Ok((answer, number))
+    Ok((decision.answer, number))
 }
 
 fn copy_of(answer: &OpResult) -> Result<OpResult, AllocError>

@@ -1,5 +1,5 @@
 ghost use Rattle.std.specs.Prelude.{◌≡◌, ◌<◌, ◌^◌, ◌++◌, IfOk, OnOk, if◌then◌else◌};
-ghost use Rattle.nfs_tree.specs.Attributes.{asked, attributes_of, number_of, supported, value_asked, value_of, values_of};
+ghost use Rattle.nfs_tree.specs.Attributes.{asked, attributes_of, mask_of, number_of, supported, value_asked, value_of, values_of};
 ghost use Rattle.nfs_tree.specs.Tree.{is_directory};
 ghost use Rattle.xdr.specs.Writing.{written_u32, written_u64};
 
@@ -47,6 +47,9 @@ pub const ATTRIBUTES: [Attribute; 14] = [
 
 /// The word whose bits are the numbers of the attributes.
 const SUPPORTED: u32 = 0x0018_0fff;
+
+/// The bytes of the values of all attributes.
+const VALUES_LEN: usize = 92;
 
 /// The type of a file (NF4REG).
 const REGULAR_FILE: u32 = 1;
@@ -104,12 +107,8 @@ impl Tree {
             lease,
         };
         let word = asked(mask);
-        let mut words = Vec::new(alloc);
-        if word != 0 {
-            words.push(word)?;
-        }
         Ok(Fattr {
-            mask: Bitmap::new(words),
+            mask: mask_of(alloc, word)?,
             values: Bytes::new(values_of(alloc, subject, word, &ATTRIBUTES)?),
         })
     }
@@ -125,6 +124,16 @@ fn asked(mask: &[u32]) -> u32
     }
 }
 
+// A bitmap of this one word, or of none where it is 0.
+fn mask_of(alloc: Global, word: u32) -> Result<Bitmap, AllocError>
+    ensures { IfOk result (λ b. b ≡ mask_of word) }
+{
+    if word == 0 {
+        return Bitmap::copy_of(alloc, &[]);
+    }
+    Bitmap::copy_of(alloc, &[word])
+}
+
 // The values of those among these attributes that the word asks for.
 fn values_of(
     alloc: Global,
@@ -134,7 +143,7 @@ fn values_of(
 ) -> Result<Vec<u8>, AllocError>
     ensures { IfOk result (λ v. v.items ≡ values_of subject word attributes.now) }
 {
-    let mut values = Vec::new(alloc);
+    let mut values = Vec::with_capacity(alloc, VALUES_LEN)?;
     for attribute in attributes {
         if write_asked(&mut values, subject, word, *attribute).is_err() {
             return Err(AllocError);

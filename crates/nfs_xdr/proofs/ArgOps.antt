@@ -26,7 +26,7 @@ use Rattle.xdr.specs.laws.Reads.{decided, lacks, reads_number}
 abbrev IsRuled : Opnum → Type 0
 IsRuled o = class_of o ≢ OnNothing
 
-numbered : (number : ℕ) (o : Opnum) → opnum_of number ≡ Some o → number_of o ≡ number
+pub numbered : (number : ℕ) (o : Opnum) → opnum_of number ≡ Some o → number_of o ≡ number
 numbered number o e = eqb-true (number_of o) number (passes (λ o. eqb (number_of o) number) OPNUMS o e)
 
 one_opnum : (number : ℕ) (o found : Opnum) → opnum_of number ≡ Some found → number_of o ≡ number → o ≡ found

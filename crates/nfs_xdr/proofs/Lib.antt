@@ -3,3 +3,4 @@ pub mod CompoundLists
 pub mod Compounds
 pub mod Words
 pub mod Refusals
+pub mod Opnums

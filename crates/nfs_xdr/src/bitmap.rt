@@ -1,15 +1,20 @@
-ghost use Rattle.std.specs.Prelude.{◌≡◌};
+ghost use Rattle.std.specs.Prelude.{◌≡◌, ◌≤◌, length, IfOk, IsOk};
 ghost use Rattle.nfs_xdr.specs.Bitmap as forms;
+ghost use Rattle.xdr.specs.Reading.{Gives, each_at, number_at};
 
+use smallvec::SmallVec;
 use std::alloc::{AllocError, Global};
 use std::marker::Model;
-use xdr::{Measure, NO_LIMIT, Sequence, Wire, WireError, write_many};
+use xdr::{Measure, NO_LIMIT, Wire, WireError, read_u32, write_many};
+
+/// The words that have the bits of all attributes of NFSv4.0. So many take no memory.
+const FEW_WORDS: usize = 2;
 
 /// A set of attributes (bitmap4): bit b is bit b mod 32 of word b / 32. Contracts see the list of the words, so that
 /// other zero words at the end are another value.
 #[derive(Debug, Drop)]
 pub struct Bitmap {
-    words: Vec<u32>,
+    words: SmallVec<u32, FEW_WORDS>,
 }
 
 impl Model for Bitmap {
@@ -25,7 +30,19 @@ impl Bitmap {
     pub fn new(words: Vec<u32>) -> Bitmap
         ensures { result ≡ words.items }
     {
-        Bitmap { words }
+        Bitmap {
+            words: SmallVec::from_vec(words),
+        }
+    }
+
+    /// A copy of these words. It takes memory only where they are more than two.
+    pub fn copy_of(alloc: Global, words: &[u32]) -> Result<Bitmap, AllocError>
+        ensures ok { IfOk result (λ b. b ≡ words.now) }
+        ensures few { length words.now ≤ FEW_WORDS → IsOk result }
+    {
+        Ok(Bitmap {
+            words: SmallVec::from_slice(alloc, words)?,
+        })
     }
 
     /// The words.
@@ -55,17 +72,39 @@ impl Clone for Bitmap {
 
     fn clone(&self) -> Result<Bitmap, AllocError> {
         Ok(Bitmap {
-            words: self.words.clone()?,
+            words: SmallVec::from_slice(*self.words.allocator(), self.as_slice())?,
         })
     }
+}
+
+// So many words. Memory is taken word by word.
+fn read_words(
+    alloc: Global,
+    count: u32,
+    bytes: &[u8],
+) -> Result<(SmallVec<u32, FEW_WORDS>, &[u8]), WireError>
+    ensures { Gives (λ x. (x.0.items, x.1.now)) result (each_at (number_at 4) count bytes.now) }
+{
+    let mut words = SmallVec::new(alloc);
+    let mut rest = bytes;
+    for _ in 0..count {
+        let (word, behind) = read_u32(rest)?;
+        match words.push(word) {
+            Ok(()) => rest = behind,
+            Err(_) => return Err(WireError::Memory),
+        }
+    }
+    Ok((words, rest))
 }
 
 impl Wire for Bitmap {
     ghost form = { forms.bitmap };
 
+    #[tactic(auto, unfolding(xdr::specs::Reading::many_at))]
     fn read(alloc: Global, bytes: &[u8]) -> Result<(Bitmap, &[u8]), WireError> {
-        let (words, rest) = Sequence::<u32>::read(alloc, bytes)?;
-        Ok((Bitmap::new(words.into_vec()), rest))
+        let (count, rest) = read_u32(bytes)?;
+        let (words, rest) = read_words(alloc, count, rest)?;
+        Ok((Bitmap { words }, rest))
     }
 
     fn write(&self, out: &mut Vec<u8>) -> Result<(), WireError> {

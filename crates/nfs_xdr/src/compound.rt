@@ -82,7 +82,9 @@ fn read_request(alloc: Global, minor: u32, count: u32, bytes: &[u8]) -> Result<R
 fn read_operations(alloc: Global, count: u32, bytes: &[u8]) -> Result<Sequence<ArgOp>, AllocError>
     ensures { IfOk result (λ ops. ops ≡ operations_at count bytes.now) }
 {
-    let mut ops = Vec::new(alloc);
+    // Each begins with a number of four bytes, so that a false count takes little memory.
+    let most = (count as usize).min(bytes.len() / 4);
+    let mut ops = Vec::with_capacity(alloc, most)?;
     let mut rest = bytes;
     for _ in 0..count {
         let (op, behind) = read_op(alloc, rest)?;

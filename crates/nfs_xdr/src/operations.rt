@@ -136,48 +136,50 @@ macro_rules! class_of_opnum {
     };
 }
 
-macro_rules! all_opnums {
-    (
-        [$($X:ident = $n:literal $c:ident,)*]
-        [$($Y:ident = $m:literal $d:ident,)*]
-        $($other:expr,)*
-    ) => {
-        [$(Opnum::$X,)* $(Opnum::$Y,)* $($other,)*]
-    };
-}
+// The least number of an operation.
+const FIRST_NUMBER: u32 = 3;
 
-/// Every operation.
-pub const OPNUMS: [Opnum; 38] = each_operation!(
-    all_opnums
+/// Every operation: those of the numbers from 3 to 39 in their order, and then `Illegal`.
+pub const OPNUMS: [Opnum; 38] = [
+    Opnum::Access,
     Opnum::Unsupported(Unsupported::Close),
     Opnum::Unsupported(Unsupported::Commit),
     Opnum::Unsupported(Unsupported::Create),
     Opnum::Unsupported(Unsupported::Delegpurge),
     Opnum::Unsupported(Unsupported::Delegreturn),
+    Opnum::Getattr,
+    Opnum::Getfh,
     Opnum::Unsupported(Unsupported::Link),
     Opnum::Unsupported(Unsupported::Lock),
     Opnum::Unsupported(Unsupported::Lockt),
     Opnum::Unsupported(Unsupported::Locku),
+    Opnum::Lookup,
     Opnum::Unsupported(Unsupported::Lookupp),
     Opnum::Unsupported(Unsupported::Nverify),
     Opnum::Unsupported(Unsupported::Open),
     Opnum::Unsupported(Unsupported::Openattr),
     Opnum::Unsupported(Unsupported::OpenConfirm),
     Opnum::Unsupported(Unsupported::OpenDowngrade),
+    Opnum::Putfh,
     Opnum::Unsupported(Unsupported::Putpubfh),
+    Opnum::Putrootfh,
     Opnum::Unsupported(Unsupported::Read),
     Opnum::Unsupported(Unsupported::Readdir),
     Opnum::Unsupported(Unsupported::Readlink),
     Opnum::Unsupported(Unsupported::Remove),
     Opnum::Unsupported(Unsupported::Rename),
     Opnum::Unsupported(Unsupported::Renew),
+    Opnum::Restorefh,
+    Opnum::Savefh,
     Opnum::Unsupported(Unsupported::Secinfo),
     Opnum::Unsupported(Unsupported::Setattr),
+    Opnum::Setclientid,
+    Opnum::SetclientidConfirm,
     Opnum::Unsupported(Unsupported::Verify),
     Opnum::Unsupported(Unsupported::Write),
     Opnum::Unsupported(Unsupported::ReleaseLockowner),
     Opnum::Illegal,
-);
+];
 
 impl Opnum {
     /// Its number on the wire.
@@ -191,7 +193,9 @@ impl Opnum {
     pub fn from_number(number: u32) -> Option<Opnum>
         ensures { result ≡ opnum_of number }
     {
-        OPNUMS.iter().copied().find(|o| o.number() == number)
+        let place = number.saturating_sub(FIRST_NUMBER) as usize;
+        let opnum = OPNUMS[place.min(OPNUMS.len() - 1)];
+        (opnum.number() == number).then_some(opnum)
     }
 
     /// What it is asked of.

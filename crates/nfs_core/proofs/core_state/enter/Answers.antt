@@ -1,15 +1,11 @@
-use Rattle.std.proofs.Common.{rules, ◌∙◌, ap, sym, subst}
-use Rattle.nfs_core.specs.Deciding.{IsSendable}
+use Rattle.std.proofs.Common.{rules, ◌∙◌, ap, refl}
 use Rattle.nfs_core.specs.Step.{entry_of, with_entry}
 use Rattle.nfs_core.specs.Room.{state_of}
 use Rattle.nfs_core.proofs.Journals.{Follows-decided}
 use Rattle.nfs_core.proofs.core_state.enter.Goals as goal
-use Rattle.nfs_xdr.specs.declared.op_result.OpResult.{OpResult}
 
 pub returns-clause-sendable : goal.returns-clause-sendable
-returns-clause-sendable c =
-    let is_sendable : OpResult → Type 0 = λ answer. IsSendable c.args.request.op answer in
-    subst is_sendable (sym c.in_ok-answer.ensures) c.in_ok-decision.ensures.1
+returns-clause-sendable c = c.in_ok-decision.ensures.1
 
 pub returns-clause-entered : goal.returns-clause-entered
 returns-clause-entered c =
@@ -18,7 +14,7 @@ returns-clause-entered c =
     let answer = c.in_ok-answer in
     let entered = c.in_ok-number.ensures in (
       entered.number,
-      entered.entry ∙ ap (λ a. with_entry (entry_of request a) journal) (sym answer.ensures),
-      Follows-decided _ c.in_ok-decision.decision journal (state_of c.args.tables.now) (record { request = request; answer = answer.answer }) (state_of c.take_in.new.tables)
-          c.in_ok-decision.ensures.0 (search rules) (returns-clause-sendable c).not_resource answer.ensures entered.change c.requires.node,
+      entered.entry ∙ ap (λ a. with_entry (entry_of request a) journal) answer.ensures,
+      Follows-decided _ c.in_ok-decision.decision journal (state_of c.args.tables.now) (record { request = request; answer = c.in_ok-decision.decision.answer }) (state_of c.take_in.new.tables)
+          c.in_ok-decision.ensures.0 (search rules) (returns-clause-sendable c).not_resource refl entered.change c.requires.node,
     )
