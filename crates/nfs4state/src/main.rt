@@ -1,12 +1,14 @@
-//! A server of NFSv4.0's state, whose journal explains every reply.
+//! A server of NFSv4.0's state, whose journal explains every change of the state.
 #![tactic(auto)]
 
+ghost use Rattle.std.specs.Prelude.{◌≡◌, [], IfOk};
 ghost use Rattle.nfs_options.specs.CommandLine.{IsOnceWithinLimits};
 
-use nfs_core::Core;
+use nfs_core::{Core, CoreError};
 use nfs_options::{Declined, OnceOptions, Subcommand, options};
 use nfs_server::{Counted, Fault, read_tree, run_once};
 use nfs_tree::{DEFAULT_TREE, Tree};
+use std::alloc::Global;
 use std::process::ExitCode;
 use std::{env, fs, io};
 
@@ -39,14 +41,27 @@ fn once(rt: &HostRuntime, options: &OnceOptions<'_>) -> u8
         Ok(tree) => tree,
         Err(fault) => return told(rt, fault),
     };
-    let policy = tree.policy();
-    let Ok(core) = Core::new(rt.alloc(), &tree, options.lease, options.epoch, policy) else {
+    let Ok(core) = core_of(rt.alloc(), options, &tree) else {
         return told(rt, Fault::NoMemory);
     };
     let mut source = Counted::new(rt.stdin());
     let mut sink = Counted::new(rt.stdout());
     let mut errors = rt.stderr();
     run_once(rt.alloc(), core, &tree, &mut source, &mut sink, &mut errors)
+}
+
+// A core for the tree, which gives the policy, and for the lease and the epoch of the options.
+fn core_of(alloc: Global, options: &OnceOptions<'_>, tree: &Tree) -> Result<Core, CoreError>
+    requires limits { IsOnceWithinLimits options.now }
+    ensures { IfOk result (λ core. core.journal ≡ record {
+      nodes = tree.now.nodes;
+      epoch = options.now.epoch;
+      lease = options.now.lease;
+      policy = tree.now.policy;
+      entries = [];
+    }) }
+{
+    Core::new(alloc, tree, options.lease, options.epoch, tree.policy())
 }
 
 // The tree of the file, or the one without a file.

@@ -7,3 +7,4 @@ pub mod Serving
 pub mod Courses
 pub mod Ends
 pub mod JournalGains
+pub mod CourseLaws

@@ -8,4 +8,5 @@ pub mod Pair
 pub mod Exchange
 pub mod Connection
 pub mod Serving
+pub mod CourseLaws
 pub mod Once

@@ -147,7 +147,6 @@ fn serve_ready<D: Duplex, S: Service, C: Clock>(
 ) -> Result<(), ServeError>
     requires limits { AllByRecursion (λ message. length message ≤ RECORD_LIMIT) records.old.ready }
     requires idle { replies.old.gathered.items ≡ [] }
-    requires empty { replies.old.results.items ≡ [] }
     requires writes { D.write_failures device.old < 2 ^ 64 - 1 }
     requires serves { S.serves service.old ≡ tree.now.nodes }
     ensures serves { S.serves service.new ≡ tree.now.nodes }
@@ -156,7 +155,6 @@ fn serve_ready<D: Duplex, S: Service, C: Clock>(
         (scene device.new service.new clock.new) }
     ensures taken { OnOk result (records.new ≡ record records.old { ready = [] }) }
     ensures idle { OnOk result (replies.new.gathered.items ≡ []) }
-    ensures empty { replies.new.results.items ≡ [] }
     ensures reads { D.read_failures device.new ≡ D.read_failures device.old }
     ensures ok { OnOk result (D.write_failures device.new ≡ D.write_failures device.old) }
     ensures write_failed { IsErrOf result ServeError.Write
@@ -185,7 +183,6 @@ fn send<D: Duplex>(device: &mut D, replies: &mut Replies) -> Result<(), ServeErr
     ensures err { OnErr result (IsCut D.device device.old replies.old.gathered.items device.new) }
     ensures write { OnErr result (result ≡ Err ServeError.Write) }
     ensures idle { OnOk result (replies.new.gathered.items ≡ []) }
-    ensures results { replies.new.results.items ≡ replies.old.results.items }
     ensures reads { D.read_failures device.new ≡ D.read_failures device.old }
     ensures kept { OnOk result (D.write_failures device.new ≡ D.write_failures device.old) }
     ensures failed { OnErr result (D.write_failures device.old < D.write_failures device.new) }

@@ -26,6 +26,7 @@ pub fn run_once<R: Source, W: Sink, E: Write>(
     requires reads { R.failures source.old < 2 ^ 64 - 1 }
     requires writes { W.failures sink.old < 2 ^ 64 - 1 }
     requires tree { core.journal.nodes ≡ tree.now.nodes }
+    requires policy { core.journal.policy ≡ tree.now.policy }
     // The input was served as a connection from this core on, and the status says how that ended.
     ensures served { (lent : Lent) × (clock : Stopped) × (lent' : Lent) × (clock' : Stopped)
         × (outcome : Result ℕ ServeError)

@@ -2,11 +2,12 @@ ghost use Rattle.std.specs.Prelude.{◌≡◌, ◌+◌, ◌^◌, ◌<◌, ◌≤
 ghost use Rattle.nfs_rpc.specs.Reply.{IsWritable, written_record, written_reply};
 ghost use Rattle.nfs_server.specs.Exchange.{Exchange, IsExchanged, rules, written_for};
 
+use crate::compound::make_result_room;
 use crate::{Clock, Service, run_compound};
 use byteorder::{BigEndian, ByteOrder};
 use nfs_rpc::{Call, CompoundReply, HEADER_LEN, LAST_FRAGMENT, RECORD_LIMIT, Reply, read_call, write_reply};
 use nfs_tree::Tree;
-use nfs_xdr::{OPERATION_LIMIT, OpResult};
+use nfs_xdr::OpResult;
 use std::alloc::{AllocError, Global};
 use std::mem;
 use xdr::write_u32;
@@ -25,8 +26,7 @@ pub(crate) struct Replies {
 impl Replies {
     /// No replies, with no room for any yet.
     pub(crate) fn new(alloc: Global) -> Replies
-        ensures gathered { result.gathered.items ≡ [] }
-        ensures results { result.results.items ≡ [] }
+        ensures { result.gathered.items ≡ [] }
     {
         Replies {
             alloc,
@@ -44,8 +44,7 @@ impl Replies {
 
     /// Forgets the replies.
     pub(crate) fn clear(&mut self)
-        ensures gathered { self.new.gathered.items ≡ [] }
-        ensures results { self.new.results.items ≡ self.old.results.items }
+        ensures { self.new.gathered.items ≡ [] }
     {
         self.gathered.clear();
     }
@@ -60,14 +59,12 @@ impl Replies {
         clock: &mut C,
     ) -> Result<(), AllocError>
         requires limit { length message.now ≤ RECORD_LIMIT }
-        requires empty { self.old.results.items ≡ [] }
         requires serves { S.serves service.old ≡ tree.now.nodes }
         ensures ok { OnOk result ((e : Exchange) × (e.message ≡ message.now)
             × IsExchanged (rules tree.now S.gives C.tells) service.old clock.old e service.new clock.new
             × (self.new.gathered.items ≡ self.old.gathered.items ++ written_for tree.now e)) }
         ensures err { OnErr result ((service.new ≡ service.old) × (clock.new ≡ clock.old)
             × (self.new.gathered.items ≡ self.old.gathered.items)) }
-        ensures empty { self.new.results.items ≡ [] }
         ensures serves { S.serves service.new ≡ tree.now.nodes }
     {
         self.gathered.reserve(REPLY_ROOM)?;
@@ -76,7 +73,7 @@ impl Replies {
             Call::Null(xid) => put_record(&mut self.gathered, xid, &Reply::Null),
             Call::Answer(xid, reply) => put_record(&mut self.gathered, xid, &reply),
             Call::Compound(xid, principal, compound) => {
-                self.results.reserve(OPERATION_LIMIT as usize)?;
+                make_result_room(&mut self.results)?;
                 let results = mem::replace(&mut self.results, Vec::new(self.alloc));
                 let moment = clock.now();
                 let reply = run_compound(service, tree, moment, principal, compound, results);
@@ -89,12 +86,10 @@ impl Replies {
     fn put_compound(&mut self, xid: u32, reply: CompoundReply) -> Result<(), AllocError>
         requires short { length (written_reply xid (Reply.Compound reply)) < 2 ^ 31 }
         requires fits { IsWritable xid (Reply.Compound reply) }
-        requires empty { self.old.results.items ≡ [] }
         ensures ok { OnOk result (self.new.gathered.items
             ≡ self.old.gathered.items ++ written_record (written_reply xid (Reply.Compound reply))) }
         ensures room { length self.old.gathered.items + (4 + length (written_reply xid (Reply.Compound reply)))
             ≤ vec_capacity self.old.gathered → IsOk result }
-        ensures empty { self.new.results.items ≡ [] }
     {
         let reply = Reply::Compound(reply);
         put_record(&mut self.gathered, xid, &reply)?;
@@ -102,7 +97,6 @@ impl Replies {
             return Ok(());
         };
         self.results = reply.results.into_vec();
-        self.results.clear();
         Ok(())
     }
 }

@@ -55,7 +55,8 @@ pub fn served(alloc: Global, input: &[u8]) -> Result<(Vec<u8>, Result<usize, Ser
 
 /// A fresh server with lease 90 and epoch 1, on the tree that it has without a file of its own.
 pub fn opened(alloc: Global) -> Result<(Tree, Core), Fail>
-    ensures { IfOk result (λ r. r.1.journal.nodes ≡ r.0.nodes) }
+    ensures { IfOk result (λ r. (r.1.journal.nodes ≡ r.0.nodes)
+        × (r.1.journal.policy ≡ r.0.policy)) }
 {
     let tree = Tree::from_toml(alloc, DEFAULT_TREE)?;
     let core = Core::new(alloc, &tree, 90, 1, tree.policy())?;

@@ -102,7 +102,8 @@ fn sent(
 
 /// A server, also where memory is refused once for its tree or for its core.
 fn opened_again(alloc: Global) -> Result<(Tree, Core), Fail>
-    ensures { IfOk result (λ r. r.1.journal.nodes ≡ r.0.nodes) }
+    ensures { IfOk result (λ r. (r.1.journal.nodes ≡ r.0.nodes)
+        × (r.1.journal.policy ≡ r.0.policy)) }
 {
     let tree = match Tree::from_toml(alloc, DEFAULT_TREE) {
         Err(TreeError::Memory) => Tree::from_toml(alloc, DEFAULT_TREE)?,

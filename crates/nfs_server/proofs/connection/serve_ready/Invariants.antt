@@ -12,7 +12,6 @@ invariant-loop-message g l = record {
   served : HasServed g.D.Duplex.device (rules l.fn.tree g.S.Service.gives g.C.Clock.tells) (scene l.fn.device l.fn.service l.fn.clock) l.fn.records.ready l.records.ready l.replies.gathered.items (scene l.device l.service l.clock);
   limits : AllByRecursion (λ message. length message ≤ RECORD_LIMIT) l.records.ready;
   same : l.records ≡ record l.fn.records { ready = l.records.ready };
-  empty : l.replies.results.items ≡ [];
   serves : g.S.Service.serves l.service ≡ l.fn.tree.nodes;
   reads : g.D.Duplex.read_failures l.device ≡ g.D.Duplex.read_failures l.fn.device;
   writes : g.D.Duplex.write_failures l.device ≡ g.D.Duplex.write_failures l.fn.device;

@@ -12,7 +12,6 @@ invariant-loop-records g l = record {
   sound : IsStream l.records;
   goes : l.records.is_too_long ≡ false;
   idle : l.replies.gathered.items ≡ [];
-  empty : l.replies.results.items ≡ [];
   serves : g.S.Service.serves l.service ≡ l.fn.tree.nodes;
   reads : g.D.Duplex.read_failures l.device ≡ g.D.Duplex.read_failures l.fn.device;
   writes : g.D.Duplex.write_failures l.device ≡ g.D.Duplex.write_failures l.fn.device;

@@ -1,0 +1,219 @@
+-- What follows of every course.
+use Rattle.std.proofs.Common.{◌≡◌, ◌≢◌, ℕ, List, [], ◌∷◌, ◌++◌, Option, Result, Ok, Err, inl, inr, refl, sym, ap, subst, ◌∙◌, append_assoc, map}
+use Rattle.std.specs.Prelude.{OnOk}
+use Rattle.std.specs.List.{flat_map}
+use Rattle.std.specs.Io.KnownBytes.{Appends, Consumes, IsAtEnd, Keeps}
+use Rattle.std.proofs.KnownBytes.{Appends-nil, Appends-kept, Appends-trans, Consumes-kept, Consumes-nil, Consumes-trans}
+use Rattle.std.proofs.lemmas.List.{append-nil}
+use Rattle.std.proofs.lemmas.List.Concat.{flat_map-cons}
+use Rattle.std.proofs.lemmas.Grind.{flat_map-append}
+use Rattle.nfs_core.specs.declared.entry.Entry.{Entry}
+use Rattle.nfs_rpc.specs.Records.{SplitGoesOn, Splits}
+use Rattle.nfs_tree.specs.Tree.{Files}
+use Rattle.nfs_server.specs.declared.serve_error.ServeError.{ServeError}
+use Rattle.nfs_server.specs.declared.serve_error.ServeError.TheVariants as errors
+use Rattle.nfs_server.specs.declared.service.Lent.{Lent}
+use Rattle.nfs_server.specs.Asking.{Asks, Question}
+use Rattle.nfs_server.specs.Connection.{Scene, Turn, Course, AreTurns, EndsWith, IsCourse, IsIdle, IsTurn, all_exchanges, exchanges_of, rest_after, text_of}
+use Rattle.nfs_server.specs.CourseLaws.{HasBytes, IsOneText, IsWrittenBy, TellsBytes}
+use Rattle.nfs_server.specs.Device.{Device, AreTaken, IsCut, IsWritten}
+use Rattle.nfs_server.specs.Exchange.{Exchange, Rules, AreExchanged, messages_of, questions_of, written_for_all}
+use Rattle.nfs_server.proofs.Serving.{exchanged_then, messages-append, written-append}
+use Rattle.nfs_xdr.specs.declared.op_result.OpResult.{OpResult}
+
+-- turns behind a text whose rest they begin with
+texts_go_on : {D S C : Type 0} (goes_on : SplitGoesOn) (device : Device D) (rules : Rules S C) (before after : Scene D S C) (text : List ℕ) (messages : List (List ℕ)) (behind : List ℕ) (turns : List Turn)
+    → Splits text messages behind → AreTurns device rules before behind turns after
+    → Splits (text ++ text_of turns) (messages ++ messages_of (exchanges_of turns)) (rest_after behind turns)
+texts_go_on goes_on device rules before after text messages behind [] split are =
+    subst (λ (t : List ℕ). Splits t (messages ++ []) behind) (sym (append-nil text)) (subst (λ (m : List (List ℕ)). Splits text m behind) (sym (append-nil messages)) split)
+texts_go_on goes_on device rules before after text messages behind (turn ∷ turns) split are =
+    let piece = turn.piece in
+    let here = messages_of turn.exchanges in
+    let all : here ++ turn.unanswered ≡ here = ap (λ (m : List (List ℕ)). here ++ m) are.2 ∙ append-nil here in
+    let more = goes_on text piece messages here behind turn.rest split (subst (λ (m : List (List ℕ)). Splits (behind ++ piece) m turn.rest) all are.1.split) in
+    let others = texts_go_on goes_on device rules are.0 after (text ++ piece) (messages ++ here) turn.rest turns more are.4 in
+    let texts : (text ++ piece) ++ text_of turns ≡ text ++ text_of (turn ∷ turns) =
+    append_assoc text piece (text_of turns) ∙ ap (λ (t : List ℕ). text ++ t) (sym (flat_map-cons (λ (t : Turn). t.piece) turn turns)) in
+    let found : (messages ++ here) ++ messages_of (exchanges_of turns) ≡ messages ++ messages_of (exchanges_of (turn ∷ turns)) =
+    append_assoc messages here (messages_of (exchanges_of turns)) ∙ ap (λ (m : List (List ℕ)). messages ++ m) (sym (messages-append turn.exchanges (exchanges_of turns)) ∙ ap (λ (es : List Exchange). messages_of es) (sym (flat_map-cons (λ (t : Turn). t.exchanges) turn turns))) in
+    subst (λ (t : List ℕ). Splits t (messages ++ messages_of (exchanges_of (turn ∷ turns))) (rest_after turn.rest turns)) texts
+    (subst (λ (m : List (List ℕ)). Splits ((text ++ piece) ++ text_of turns) m (rest_after turn.rest turns)) found others)
+
+-- the text of which nothing was read yet
+abbrev nothing_read : Type 0
+nothing_read = Splits [] [] []
+
+pub is_one_text : {D S C : Type 0} (goes_on : SplitGoesOn) (none : nothing_read) (device : Device D) (rules : Rules S C) → IsOneText device rules
+is_one_text goes_on none device rules before after turns are = texts_go_on goes_on device rules before after [] [] [] turns none are
+
+-- what turns asked of the service, one exchange after the other
+turns_exchanged : {D S C : Type 0} (device : Device D) (rules : Rules S C) (before after : Scene D S C) (behind : List ℕ) (turns : List Turn)
+    → AreTurns device rules before behind turns after → AreExchanged rules before.service before.clock (exchanges_of turns) after.service after.clock
+turns_exchanged {D = D} {S = S} {C = C} device rules before after behind [] are = (ap (λ (s : Scene D S C). s.service) are, ap (λ (s : Scene D S C). s.clock) are)
+turns_exchanged {D = D} {S = S} {C = C} device rules before after behind (turn ∷ turns) are =
+    subst (λ (es : List Exchange). AreExchanged rules before.service before.clock es after.service after.clock) (sym (flat_map-cons (λ (t : Turn). t.exchanges) turn turns))
+    (exchanged_then rules turn.exchanges (exchanges_of turns) before.service are.0.service after.service before.clock are.0.clock after.clock are.1.exchanged (turns_exchanged device rules are.0 after turn.rest turns are.4))
+
+idle_exchanged : {D S C : Type 0} (device : Device D) (rules : Rules S C) (before after : Scene D S C) (exchanges : List Exchange) → exchanges ≡ [] → after ≡ record before { device = after.device } → AreExchanged rules before.service before.clock exchanges after.service after.clock
+idle_exchanged {D = D} {S = S} {C = C} device rules before after exchanges none same =
+    subst (λ (es : List Exchange). AreExchanged rules before.service before.clock es after.service after.clock) (sym none) (ap (λ (s : Scene D S C). s.service) same, ap (λ (s : Scene D S C). s.clock) same)
+
+end_exchanged : {D S C : Type 0} (device : Device D) (rules : Rules S C) (before : Scene D S C) (course : Course) (result : Result ℕ ServeError) (after : Scene D S C)
+    → EndsWith device rules before course result after → AreExchanged rules before.service before.clock course.last.exchanges after.service after.clock
+end_exchanged device rules before course (Ok len) after ends = idle_exchanged device rules before after course.last.exchanges ends.0.0 ends.0.1
+end_exchanged device rules before course (Err errors.Read) after ends = idle_exchanged device rules before after course.last.exchanges ends.0 ends.2
+end_exchanged device rules before course (Err errors.Write) after ends = ends.exchanged
+end_exchanged device rules before course (Err errors.TooLong) after ends = ends.0.exchanged
+end_exchanged {D = D} {S = S} {C = C} device rules before course (Err errors.Memory) after (inl ends) =
+    idle_exchanged device rules before after course.last.exchanges ends.1 (ends.3 ∙ ap (λ (s : Scene D S C). record before { device = s.device }) (sym ends.3))
+end_exchanged device rules before course (Err errors.Memory) after (inr (inl ends)) = idle_exchanged device rules before after course.last.exchanges ends.0 ends.1
+end_exchanged device rules before course (Err errors.Memory) after (inr (inr ends)) = ends.exchanged
+end_exchanged device rules before course (Err errors.TooMuch) after ends = idle_exchanged device rules before after course.last.exchanges ends.0.0 ends.0.1
+
+pub course_exchanged : {D S C : Type 0} (device : Device D) (rules : Rules S C) (before : Scene D S C) (course : Course) (result : Result ℕ ServeError) (after : Scene D S C)
+    → IsCourse device rules before course result after → AreExchanged rules before.service before.clock (all_exchanges course) after.service after.clock
+course_exchanged device rules before course result after is =
+    exchanged_then rules (exchanges_of course.turns) course.last.exchanges before.service is.0.service after.service before.clock is.0.clock after.clock
+    (turns_exchanged device rules before is.0 [] course.turns is.1) (end_exchanged device rules is.0 course result after is.3)
+
+asks_then : {S : Type 0} (gives : S → Question → OpResult → S → Type 0) (a b c : S) (questions more : List Question) (answers others : List OpResult) → Asks gives a questions answers b → Asks gives b more others c → Asks gives a (questions ++ more) (answers ++ others) c
+asks_then {S = S} gives a b c [] more [] others first second = subst (λ (s : S). Asks gives s more others c) first second
+asks_then gives a b c (question ∷ questions) more (answer ∷ answers) others first second = (first.0, first.1, asks_then gives first.0 b c questions more answers others first.2 second)
+asks_then gives a b c [] more (answer ∷ answers) others first second = absurd first
+asks_then gives a b c (question ∷ questions) more [] others first second = absurd first
+
+-- exchanges one after the other are questions one after the other
+pub exchanges_ask : {S C : Type 0} (rules : Rules S C) (s new : S) (c after : C) (es : List Exchange) → AreExchanged rules s c es new after
+    → Asks rules.gives s (flat_map (questions_of rules.tree) es) (flat_map (λ (e : Exchange). e.answers) es) new
+exchanges_ask rules s new c after [] are = are.0
+exchanges_ask {S = S} rules s new c after (e ∷ es) are =
+    let here = asks_then rules.gives s are.0 new (questions_of rules.tree e) (flat_map (questions_of rules.tree) es) e.answers (flat_map (λ (x : Exchange). x.answers) es) are.2.1 (exchanges_ask rules are.0 new are.1 after es are.3) in
+    subst (λ (q : List Question). Asks rules.gives s q (flat_map (λ (x : Exchange). x.answers) (e ∷ es)) new) (sym (flat_map-cons (questions_of rules.tree) e es))
+    (subst (λ (a : List OpResult). Asks rules.gives s (questions_of rules.tree e ++ flat_map (questions_of rules.tree) es) a new) (sym (flat_map-cons (λ (x : Exchange). x.answers) e es)) here)
+
+-- what the device tells, call by call
+taken_bytes : {D : Type 0} (device : Device D) (remaining contents : D → Option (List ℕ)) (tells : TellsBytes device remaining contents) (a b : D) (parts : List (List ℕ)) → AreTaken device a parts b
+    → Appends (contents a) (contents b) (flat_map (λ part. part) parts) × (remaining b ≡ remaining a)
+taken_bytes {D = D} device remaining contents tells a b [] taken =
+    (subst (λ (x : D). Appends (contents a) (contents x) []) (sym taken) (Appends-nil (contents a)), ap remaining taken)
+taken_bytes device remaining contents tells a b (part ∷ parts) taken =
+    let one = tells.takes a taken.0 part taken.1 in
+    let others = taken_bytes device remaining contents tells taken.0 b parts taken.2 in (
+      subst (λ (w : List ℕ). Appends (contents a) (contents b) w) (sym (flat_map-cons (λ (p : List ℕ). p) part parts)) (Appends-trans (contents a) (contents taken.0) (contents b) part (flat_map (λ p. p) parts) one.0 others.0),
+      others.1 ∙ one.1,
+    )
+
+written_bytes : {D : Type 0} (device : Device D) (remaining contents : D → Option (List ℕ)) (tells : TellsBytes device remaining contents) (a b : D) (bytes : List ℕ) → IsWritten device a bytes b
+    → Appends (contents a) (contents b) bytes × (remaining b ≡ remaining a)
+written_bytes device remaining contents tells a b bytes written =
+    let taken = taken_bytes device remaining contents tells a b written.0 written.2 in
+    (subst (λ (w : List ℕ). Appends (contents a) (contents b) w) (sym written.1) taken.0, taken.1)
+
+-- a turn, whose replies went out so far
+turn_bytes : {D S C : Type 0} (device : Device D) (rules : Rules S C) (remaining contents : D → Option (List ℕ)) (tells : TellsBytes device remaining contents) (out : Device D → D → List ℕ → D → Type 0) (before : Scene D S C) (behind : List ℕ) (turn : Turn) (after : Scene D S C) (written : List ℕ)
+    → (t : IsTurn device rules out before behind turn after) → Appends (contents t.mid) (contents after.device) written × (remaining after.device ≡ remaining t.mid)
+    → Consumes (remaining before.device) (remaining after.device) turn.piece × Appends (contents before.device) (contents after.device) written
+turn_bytes device rules remaining contents tells out before behind turn after written t wrote =
+    let read = tells.gives before.device t.mid turn.piece t.reads in (
+      subst (λ (o : Option (List ℕ)). Consumes (remaining before.device) o turn.piece) (sym wrote.1) read.0,
+      subst (λ (o : Option (List ℕ)). Appends o (contents after.device) written) read.2 wrote.0,
+    )
+
+turns_bytes : {D S C : Type 0} (device : Device D) (rules : Rules S C) (remaining contents : D → Option (List ℕ)) (tells : TellsBytes device remaining contents) (before : Scene D S C) (behind : List ℕ) (turns : List Turn) (after : Scene D S C)
+    → AreTurns device rules before behind turns after
+    → Consumes (remaining before.device) (remaining after.device) (text_of turns) × Appends (contents before.device) (contents after.device) (written_for_all rules.tree (exchanges_of turns))
+turns_bytes {D = D} {S = S} {C = C} device rules remaining contents tells before behind [] after are = (
+  subst (λ (s : Scene D S C). Consumes (remaining before.device) (remaining s.device) []) (sym are) (Consumes-nil (remaining before.device)),
+  subst (λ (s : Scene D S C). Appends (contents before.device) (contents s.device) []) (sym are) (Appends-nil (contents before.device)),
+)
+turns_bytes device rules remaining contents tells before behind (turn ∷ turns) after are =
+    let mid = are.0 in
+    let written = written_for_all rules.tree turn.exchanges in
+    let others = written_for_all rules.tree (exchanges_of turns) in
+    let one = turn_bytes device rules remaining contents tells IsWritten before behind turn mid written are.1 (written_bytes device remaining contents tells are.1.mid mid.device written are.1.written) in
+    let more = turns_bytes device rules remaining contents tells mid turn.rest turns after are.4 in
+    let all : written ++ others ≡ written_for_all rules.tree (exchanges_of (turn ∷ turns)) =
+    sym (ap (λ (es : List Exchange). written_for_all rules.tree es) (flat_map-cons (λ (t : Turn). t.exchanges) turn turns) ∙ written-append rules.tree turn.exchanges (exchanges_of turns)) in (
+      subst (λ (x : List ℕ). Consumes (remaining before.device) (remaining after.device) x) (sym (flat_map-cons (λ (t : Turn). t.piece) turn turns)) (Consumes-trans (remaining before.device) (remaining mid.device) (remaining after.device) turn.piece (text_of turns) one.0 more.0),
+      subst (λ (x : List ℕ). Appends (contents before.device) (contents after.device) x) all (Appends-trans (contents before.device) (contents mid.device) (contents after.device) written others one.1 more.1),
+    )
+
+-- a last turn whose replies all went out
+last_bytes : {D S C : Type 0} (device : Device D) (rules : Rules S C) (remaining contents : D → Option (List ℕ)) (tells : TellsBytes device remaining contents) (before : Scene D S C) (behind : List ℕ) (last : Turn) (after : Scene D S C)
+    → IsTurn device rules IsWritten before behind last after
+    → Consumes (remaining before.device) (remaining after.device) last.piece × Appends (contents before.device) (contents after.device) (written_for_all rules.tree last.exchanges)
+last_bytes device rules remaining contents tells before behind last after t =
+    turn_bytes device rules remaining contents tells IsWritten before behind last after (written_for_all rules.tree last.exchanges) t (written_bytes device remaining contents tells t.mid after.device (written_for_all rules.tree last.exchanges) t.written)
+
+-- nothing was written behind the turns
+silent_bytes : (tree : Files) (es : List Exchange) (a b : Option (List ℕ)) → es ≡ [] → b ≡ a → Appends a b (written_for_all tree es)
+silent_bytes tree es a b none same = rw (none, same) (Appends-nil a)
+
+-- the turns, and what came behind them, all of which was written
+joined_bytes : {D S C : Type 0} (device : Device D) (rules : Rules S C) (remaining contents : D → Option (List ℕ)) (tells : TellsBytes device remaining contents) (before mid after : Scene D S C) (course : Course)
+    → AreTurns device rules before [] course.turns mid
+    → Consumes (remaining mid.device) (remaining after.device) course.last.piece × Appends (contents mid.device) (contents after.device) (written_for_all rules.tree course.last.exchanges)
+    → Consumes (remaining before.device) (remaining after.device) (text_of course.turns ++ course.last.piece)
+    × Appends (contents before.device) (contents after.device) (written_for_all rules.tree (all_exchanges course))
+joined_bytes device rules remaining contents tells before mid after course are end =
+    let turns = turns_bytes device rules remaining contents tells before [] course.turns mid are in (
+      Consumes-trans (remaining before.device) (remaining mid.device) (remaining after.device) (text_of course.turns) course.last.piece turns.0 end.0,
+      subst (λ (x : List ℕ). Appends (contents before.device) (contents after.device) x) (sym (written-append rules.tree (exchanges_of course.turns) course.last.exchanges))
+          (Appends-trans (contents before.device) (contents mid.device) (contents after.device) (written_for_all rules.tree (exchanges_of course.turns)) (written_for_all rules.tree course.last.exchanges) turns.1 end.1),
+    )
+
+idle_bytes : {D S C : Type 0} (device : Device D) (rules : Rules S C) (remaining contents : D → Option (List ℕ)) (tells : TellsBytes device remaining contents) (before : Scene D S C) (last : Turn) (after : Scene D S C)
+    → IsIdle device rules before last after
+    → Consumes (remaining before.device) (remaining after.device) last.piece × Appends (contents before.device) (contents after.device) (written_for_all rules.tree last.exchanges)
+idle_bytes device rules remaining contents tells before last after idle =
+    let read = tells.gives before.device after.device last.piece idle.2 in
+    (read.0, silent_bytes rules.tree last.exchanges (contents before.device) (contents after.device) idle.0 read.2)
+
+memory_bytes : {D S C : Type 0} (device : Device D) (rules : Rules S C) (remaining contents : D → Option (List ℕ)) (tells : TellsBytes device remaining contents) (before : Scene D S C) (course : Course) (after : Scene D S C)
+    → EndsWith device rules before course (Err errors.Memory) after
+    → Consumes (remaining before.device) (remaining after.device) course.last.piece × Appends (contents before.device) (contents after.device) (written_for_all rules.tree course.last.exchanges)
+memory_bytes {D = D} {S = S} {C = C} device rules remaining contents tells before course after (inl ends) = (
+  rw (ends.2) (subst (λ (s : Scene D S C). Consumes (remaining before.device) (remaining s.device) []) (sym ends.3) (Consumes-nil (remaining before.device))),
+  silent_bytes rules.tree course.last.exchanges (contents before.device) (contents after.device) ends.1 (ap (λ (s : Scene D S C). contents s.device) ends.3),
+)
+memory_bytes device rules remaining contents tells before course after (inr (inl ends)) = idle_bytes device rules remaining contents tells before course.last after ends
+memory_bytes device rules remaining contents tells before course after (inr (inr ends)) = last_bytes device rules remaining contents tells before (rest_after [] course.turns) course.last after ends
+
+pub has_bytes : {D S C : Type 0} (device : Device D) (rules : Rules S C) (remaining contents : D → Option (List ℕ)) → TellsBytes device remaining contents → HasBytes device rules remaining contents
+has_bytes device rules remaining contents tells before after course (Ok len) is =
+    let all = joined_bytes device rules remaining contents tells before is.0 after course is.1 (idle_bytes device rules remaining contents tells is.0 course.last after is.3.0) in
+    let read = tells.gives is.0.device after.device course.last.piece is.3.0.2 in
+    (all.0, read.1 is.3.1, (written_for_all rules.tree (all_exchanges course), refl, all.1))
+has_bytes device rules remaining contents tells before after course (Err errors.Read) is =
+    let failed = tells.fails_to_read is.0.device after.device is.3.3 in
+    let none : Consumes (remaining is.0.device) (remaining after.device) course.last.piece =
+    rw (is.3.1) (Consumes-kept (remaining is.0.device) (remaining is.0.device) (remaining after.device) [] (Consumes-nil (remaining is.0.device)) failed.0) in
+    let all = joined_bytes device rules remaining contents tells before is.0 after course is.1 (none, silent_bytes rules.tree course.last.exchanges (contents is.0.device) (contents after.device) is.3.0 failed.1) in
+    (all.0, tt, (written_for_all rules.tree (all_exchanges course), refl, all.1))
+has_bytes device rules remaining contents tells before after course (Err errors.Write) is =
+    let mid = is.0 in
+    let t = is.3 in
+    let cut = t.written in
+    let wrote = written_bytes device remaining contents tells t.mid cut.2 cut.0 cut.5 in
+    let failed = tells.fails_to_write cut.2 after.device cut.6 in
+    let end = turn_bytes device rules remaining contents tells IsCut mid (rest_after [] course.turns) course.last after cut.0 t
+    (Appends-kept (contents t.mid) (contents cut.2) (contents after.device) cut.0 wrote.0 failed.0, failed.1 ∙ wrote.1) in
+    let turns = turns_bytes device rules remaining contents tells before [] course.turns mid is.1 in (
+      Consumes-trans (remaining before.device) (remaining mid.device) (remaining after.device) (text_of course.turns) course.last.piece turns.0 end.0,
+      tt,
+      (
+        written_for_all rules.tree (exchanges_of course.turns) ++ cut.0,
+        (cut.0, cut.1, cut.3, cut.4, refl),
+        Appends-trans (contents before.device) (contents mid.device) (contents after.device) (written_for_all rules.tree (exchanges_of course.turns)) cut.0 turns.1 end.1,
+      ),
+    )
+has_bytes device rules remaining contents tells before after course (Err errors.TooLong) is =
+    let all = joined_bytes device rules remaining contents tells before is.0 after course is.1 (last_bytes device rules remaining contents tells is.0 (rest_after [] course.turns) course.last after is.3.0) in
+    (all.0, tt, (written_for_all rules.tree (all_exchanges course), refl, all.1))
+has_bytes {D = D} {S = S} {C = C} device rules remaining contents tells before after course (Err errors.TooMuch) is =
+    let all = joined_bytes device rules remaining contents tells before is.0 after course is.1 (idle_bytes device rules remaining contents tells is.0 course.last after is.3.0) in
+    (all.0, tt, (written_for_all rules.tree (all_exchanges course), refl, all.1))
+has_bytes {D = D} {S = S} {C = C} device rules remaining contents tells before after course (Err errors.Memory) is =
+    let all = joined_bytes device rules remaining contents tells before is.0 after course is.1 (memory_bytes device rules remaining contents tells is.0 course after is.3) in
+    (all.0, tt, (written_for_all rules.tree (all_exchanges course), refl, all.1))

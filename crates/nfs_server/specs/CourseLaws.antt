@@ -1,0 +1,62 @@
+-- What follows of every course: of the whole text, of devices that tell their bytes, of the journal.
+use Rattle.std.specs.Prelude.{◌≡◌, ◌≢◌, ℕ, List, [], ◌++◌, Option, Result, Ok, Err, OnOk}
+use Rattle.std.specs.List.{flat_map}
+use Rattle.std.specs.Io.KnownBytes.{Appends, Consumes, IsAtEnd, Keeps}
+use Rattle.nfs_core.specs.declared.entry.Entry.{Entry}
+use Rattle.nfs_rpc.specs.Records.{Splits}
+use Rattle.nfs_tree.specs.Tree.{Files}
+use Rattle.nfs_server.specs.declared.serve_error.ServeError.{ServeError}
+use Rattle.nfs_server.specs.declared.serve_error.ServeError.TheVariants as errors
+use Rattle.nfs_server.specs.declared.service.Lent.{Lent}
+use Rattle.nfs_server.specs.Asking.{Question, GivenByCore}
+use Rattle.nfs_server.specs.Connection.{Scene, Turn, Course, AreTurns, IsCourse, all_exchanges, exchanges_of, rest_after, text_of}
+use Rattle.nfs_server.specs.Device.{Device}
+use Rattle.nfs_server.specs.Entries.{AreEntries}
+use Rattle.nfs_server.specs.Exchange.{Exchange, Rules, messages_of, questions_of, rules, written_for_all}
+use Rattle.nfs_xdr.specs.declared.op_result.OpResult.{OpResult}
+
+-- The records that were answered turn by turn are those of the whole text, in order.
+abbrev pub IsOneText : {D S C : Type 0} → Device D → Rules S C → Type 0
+IsOneText {D = D} {S = S} {C = C} device rules =
+    (before after : Scene D S C) (turns : List Turn)
+    → AreTurns device rules before [] turns after
+    → Splits (text_of turns) (messages_of (exchanges_of turns)) (rest_after [] turns)
+
+-- What a course wrote: the replies to all records that were answered, or, where a write failed, a
+-- beginning of them that ends within those to the records of the last read.
+abbrev pub IsWrittenBy : {T : Type 0} → Files → Course → Result T ServeError → List ℕ → Type 0
+IsWrittenBy tree course (Err errors.Write) written =
+    (front : List ℕ) × (back : List ℕ)
+    × (written_for_all tree course.last.exchanges ≡ front ++ back) × (back ≢ [])
+    × (written ≡ written_for_all tree (exchanges_of course.turns) ++ front)
+IsWrittenBy tree course result written = written ≡ written_for_all tree (all_exchanges course)
+
+-- A device tells its bytes: those that reads will give, and those that were written.
+pub record TellsBytes {D : Type 0} (device : Device D) (remaining contents : D → Option (List ℕ)) : Type 0 where
+  pub gives : (a b : D) (piece : List ℕ) → device.gives a piece b
+      → Consumes (remaining a) (remaining b) piece × (piece ≡ [] → IsAtEnd (remaining b)) × (contents b ≡ contents a)
+  pub fails_to_read : (a b : D) → device.fails_to_read a b → Keeps (remaining a) (remaining b) × (contents b ≡ contents a)
+  pub takes : (a b : D) (part : List ℕ) → device.takes a part b → Appends (contents a) (contents b) part × (remaining b ≡ remaining a)
+  pub fails_to_write : (a b : D) → device.fails_to_write a b → Keeps (contents a) (contents b) × (remaining b ≡ remaining a)
+
+-- What a course read is taken from the front of what the device had, up to its end where the course
+-- ends well, and what it wrote stands behind what was written before.
+abbrev pub HasBytes : {D S C : Type 0} → Device D → Rules S C → (remaining contents : D → Option (List ℕ)) → Type 0
+HasBytes {D = D} {S = S} {C = C} device rules remaining contents =
+    (before after : Scene D S C) (course : Course) (result : Result ℕ ServeError)
+    → IsCourse device rules before course result after
+    → Consumes (remaining before.device) (remaining after.device) (text_of course.turns ++ course.last.piece)
+    × OnOk result (IsAtEnd (remaining after.device))
+    × ((written : List ℕ) × IsWrittenBy rules.tree course result written
+    × Appends (contents before.device) (contents after.device) written)
+
+-- Over a lent core the journal gains the entries of what a course asked, in order, and no others.
+abbrev pub GainsEntries : {D C : Type 0} → Device D → Files → (Lent → Question → OpResult → Lent → Type 0) → (C → ℕ → C → Type 0) → Type 0
+GainsEntries {D = D} {C = C} device tree gives tells =
+    (before after : Scene D Lent C) (course : Course) (result : Result ℕ ServeError)
+    → IsCourse device (rules tree gives tells) before course result after
+    → (entries : List Entry)
+    × AreEntries (flat_map (questions_of tree) (all_exchanges course))
+      (flat_map (λ e. e.answers) (all_exchanges course)) entries
+    × (after.service.core.journal
+      ≡ record before.service.core.journal { entries = before.service.core.journal.entries ++ entries })
