@@ -1,14 +1,14 @@
 -- What follows of every course.
-use Rattle.std.proofs.Common.{◌≡◌, ◌≢◌, ℕ, List, [], ◌∷◌, ◌++◌, Option, Result, Ok, Err, inl, inr, refl, sym, ap, subst, ◌∙◌, append_assoc, map}
+use Rattle.std.proofs.Common.{◌≡◌, ◌≢◌, ℕ, List, [], ◌∷◌, ◌++◌, Option, Result, Ok, Err, inl, inr, refl, sym, ap, subst, ◌∙◌, append_assoc, map, length, arith}
 use Rattle.std.specs.Prelude.{OnOk}
 use Rattle.std.specs.List.{flat_map}
 use Rattle.std.specs.Io.KnownBytes.{Appends, Consumes, IsAtEnd, Keeps}
 use Rattle.std.proofs.KnownBytes.{Appends-nil, Appends-kept, Appends-trans, Consumes-kept, Consumes-nil, Consumes-trans}
-use Rattle.std.proofs.lemmas.List.{append-nil}
+use Rattle.std.proofs.lemmas.List.{append-nil, length-append}
 use Rattle.std.proofs.lemmas.List.Concat.{flat_map-cons}
 use Rattle.std.proofs.lemmas.Grind.{flat_map-append}
 use Rattle.nfs_core.specs.declared.entry.Entry.{Entry}
-use Rattle.nfs_rpc.specs.Records.{SplitGoesOn, Splits}
+use Rattle.nfs_rpc.specs.Records.{IsRest, SplitGoesOn, Splits}
 use Rattle.nfs_tree.specs.Tree.{Files}
 use Rattle.nfs_server.specs.declared.serve_error.ServeError.{ServeError}
 use Rattle.nfs_server.specs.declared.serve_error.ServeError.TheVariants as errors
@@ -40,12 +40,16 @@ texts_go_on goes_on device rules before after text messages behind (turn ∷ tur
     subst (λ (t : List ℕ). Splits t (messages ++ messages_of (exchanges_of (turn ∷ turns))) (rest_after turn.rest turns)) texts
     (subst (λ (m : List (List ℕ)). Splits ((text ++ piece) ++ text_of turns) m (rest_after turn.rest turns)) found others)
 
--- the text of which nothing was read yet
-abbrev nothing_read : Type 0
-nothing_read = Splits [] [] []
+-- no record begins where there are no bytes
+none_begins : IsRest []
+none_begins message front back whole is within =
+    let last = is.6 in
+    omega (arith, ap length whole, length-append front back, ap length is.4, length-append is.2 is.3, ap length last.2, length-append last.0 is.1, last.1.four)
 
-pub is_one_text : {D S C : Type 0} (goes_on : SplitGoesOn) (none : nothing_read) (device : Device D) (rules : Rules S C) → IsOneText device rules
-is_one_text goes_on none device rules before after turns are = texts_go_on goes_on device rules before after [] [] [] turns none are
+pub is_one_text : {D S C : Type 0} (goes_on : SplitGoesOn) (device : Device D) (rules : Rules S C) → IsOneText device rules
+is_one_text goes_on device rules before after turns are =
+    let none : Splits [] [] [] = record { front = []; whole = refl; records = refl; none_left = none_begins } in
+    texts_go_on goes_on device rules before after [] [] [] turns none are
 
 -- what turns asked of the service, one exchange after the other
 turns_exchanged : {D S C : Type 0} (device : Device D) (rules : Rules S C) (before after : Scene D S C) (behind : List ℕ) (turns : List Turn)
