@@ -1,21 +1,17 @@
 -- What follows of every course.
-use Rattle.std.proofs.Common.{◌≡◌, ◌≢◌, ℕ, List, [], ◌∷◌, ◌++◌, Option, Result, Ok, Err, inl, inr, refl, sym, ap, subst, ◌∙◌, append_assoc, map, length, arith}
-use Rattle.std.specs.Prelude.{OnOk}
+use Rattle.std.proofs.Common.{◌≡◌, ℕ, List, [], ◌∷◌, ◌++◌, Option, Result, Ok, Err, inl, inr, refl, sym, ap, subst, ◌∙◌, append_assoc, length, arith}
 use Rattle.std.specs.List.{flat_map}
-use Rattle.std.specs.Io.KnownBytes.{Appends, Consumes, IsAtEnd, Keeps}
+use Rattle.std.specs.Io.KnownBytes.{Appends, Consumes}
 use Rattle.std.proofs.KnownBytes.{Appends-nil, Appends-kept, Appends-trans, Consumes-kept, Consumes-nil, Consumes-trans}
 use Rattle.std.proofs.lemmas.List.{append-nil, length-append}
 use Rattle.std.proofs.lemmas.List.Concat.{flat_map-cons}
-use Rattle.std.proofs.lemmas.Grind.{flat_map-append}
-use Rattle.nfs_core.specs.declared.entry.Entry.{Entry}
 use Rattle.nfs_rpc.specs.Records.{IsRest, SplitGoesOn, Splits}
 use Rattle.nfs_tree.specs.Tree.{Files}
 use Rattle.nfs_server.specs.declared.serve_error.ServeError.{ServeError}
 use Rattle.nfs_server.specs.declared.serve_error.ServeError.TheVariants as errors
-use Rattle.nfs_server.specs.declared.service.Lent.{Lent}
 use Rattle.nfs_server.specs.Asking.{Asks, Question}
 use Rattle.nfs_server.specs.Connection.{Scene, Turn, Course, AreTurns, EndsWith, IsCourse, IsIdle, IsTurn, all_exchanges, exchanges_of, rest_after, text_of}
-use Rattle.nfs_server.specs.CourseLaws.{HasBytes, IsOneText, IsWrittenBy, TellsBytes}
+use Rattle.nfs_server.specs.CourseLaws.{HasBytes, IsOneText, TellsBytes}
 use Rattle.nfs_server.specs.Device.{Device, AreTaken, IsCut, IsWritten}
 use Rattle.nfs_server.specs.Exchange.{Exchange, Rules, AreExchanged, messages_of, questions_of, written_for_all}
 use Rattle.nfs_server.proofs.Serving.{exchanged_then, messages-append, written-append}

@@ -1,5 +1,5 @@
 -- The course of a connection, as far as it has come.
-use Rattle.std.proofs.Common.{◌≡◌, ◌≢◌, ℕ, ◌+◌, ◌^◌, ◌<◌, ◌≤◌, ◌⊎◌, inl, inr, true, false, List, [], ◌∷◌, ◌++◌, length, take, Result, Ok, Err, refl, sym, ap, subst, ◌∙◌, arith}
+use Rattle.std.proofs.Common.{◌≡◌, ◌≢◌, ℕ, ◌+◌, ◌<◌, ◌≤◌, ◌⊎◌, inl, inr, true, false, List, [], ◌∷◌, ◌++◌, length, take, Result, Ok, Err, refl, sym, ap, subst, ◌∙◌, arith}
 use Rattle.std.specs.List.{AllByRecursion}
 use Rattle.std.specs.Prelude.{◌↔◌, IsErrOf}
 use Rattle.std.proofs.lemmas.List.{append-nil, length-append, length-take}
@@ -9,8 +9,8 @@ use Rattle.nfs_rpc.specs.declared.records.TheConstants.{RECORD_LIMIT}
 use Rattle.nfs_rpc.specs.Records.{AreRecords, IsNew, IsStream, IsTooLong, Keeps, Splits, Stream, TakesPiece}
 use Rattle.nfs_server.specs.declared.serve_error.ServeError.{ServeError}
 use Rattle.nfs_server.specs.declared.serve_error.ServeError.TheVariants as errors
-use Rattle.nfs_server.specs.Connection.{Scene, Turn, Course, AreTurns, EndsWith, HasCourse, IsIdle, IsTurn, rest_after, scene, text_of}
-use Rattle.nfs_server.specs.Device.{Device, IsCut, IsWritten}
+use Rattle.nfs_server.specs.Connection.{Scene, Turn, AreTurns, EndsWith, HasCourse, IsTurn, rest_after, scene, text_of}
+use Rattle.nfs_server.specs.Device.{Device, IsWritten}
 use Rattle.nfs_server.specs.Exchange.{Rules, messages_of}
 use Rattle.nfs_server.specs.Serving.{GoesOut, IsServed}
 use Rattle.nfs_server.proofs.Serving.{errs, error_is}

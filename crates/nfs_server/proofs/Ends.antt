@@ -1,8 +1,8 @@
 -- A course over a pair that borrows a source and a sink is a course over the two.
-use Rattle.std.proofs.Common.{◌≡◌, ℕ, List, [], ◌∷◌, ◌++◌, Result, Ok, Err, inl, inr, refl, ap, subst, sym, ◌∙◌}
+use Rattle.std.proofs.Common.{◌≡◌, ℕ, List, [], ◌∷◌, Result, Ok, Err, inl, inr, refl, ap, subst, sym, ◌∙◌}
 use Rattle.nfs_server.specs.declared.serve_error.ServeError.{ServeError}
 use Rattle.nfs_server.specs.declared.serve_error.ServeError.TheVariants as errors
-use Rattle.nfs_server.specs.Connection.{Scene, Turn, Course, AreTurns, EndsWith, HasCourse, IsCourse, IsIdle, IsTurn, rest_after, scene}
+use Rattle.nfs_server.specs.Connection.{Scene, Turn, Course, AreTurns, EndsWith, HasCourse, IsIdle, IsTurn, rest_after, scene}
 use Rattle.nfs_server.specs.Device.{Device, AreTaken, IsCut, IsWritten}
 use Rattle.nfs_server.specs.Ends.{Ends, device_of, ends}
 use Rattle.nfs_server.specs.Exchange.{Rules}

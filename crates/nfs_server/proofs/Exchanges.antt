@@ -1,7 +1,6 @@
 -- A record that is answered, as an exchange.
-use Rattle.std.proofs.Common.{◌≡◌, ℕ, List, [], ◌++◌, length, map, refl, sym, ap, ◌∙◌}
+use Rattle.std.proofs.Common.{◌≡◌, ℕ, List, [], ◌++◌, map, refl, sym, ap, ◌∙◌}
 use Rattle.std.proofs.lemmas.List.{append-nil}
-use Rattle.nfs_rpc.specs.declared.call.Call.{Call}
 use Rattle.nfs_rpc.specs.declared.call.Call.TheVariants as calls
 use Rattle.nfs_rpc.specs.declared.reply.CompoundReply.{CompoundReply}
 use Rattle.nfs_rpc.specs.declared.reply.Reply.{Reply}

@@ -1,23 +1,15 @@
 -- The reply to a record.
-use Rattle.std.proofs.Common.{◌≡◌, ℕ, ◌+◌, ◌≤◌, List, [], ◌++◌, length, map, Result, Ok, Err, refl, ap, ◌∙◌, arith}
+use Rattle.std.proofs.Common.{◌≡◌, ℕ, ◌+◌, ◌≤◌, List, ◌++◌, length, Result, Ok, Err, refl, arith}
 use Rattle.std.specs.Prelude.{OnOk, OnErr, IsOk}
 use Rattle.std.proofs.lemmas.List.{length-append}
-use Rattle.nfs_xdr.specs.declared.principal.Principal.{Principal}
-use Rattle.nfs_rpc.specs.declared.call.Call.TheVariants as calls
 use Rattle.nfs_rpc.specs.declared.records.TheConstants.{RECORD_LIMIT}
 use Rattle.nfs_rpc.specs.declared.reply.CompoundReply.{CompoundReply}
-use Rattle.nfs_rpc.specs.declared.reply.Reply.{Reply}
 use Rattle.nfs_rpc.specs.declared.reply.Reply.TheVariants as replies
 use Rattle.nfs_rpc.specs.declared.reply.TheConstants.{ACCEPTED_LEN, ACCEPTED_SUCCESS}
-use Rattle.nfs_tree.specs.Tree.{Files}
-use Rattle.nfs_server.specs.Answering.{compound_outcome, compound_reply, head_size}
-use Rattle.nfs_server.specs.Asking.{Asks, Question, question_of}
-use Rattle.nfs_rpc.specs.Call.{IsCall}
-use Rattle.nfs_rpc.specs.Reply.{written_accepted, written_record, written_reply}
-use Rattle.nfs_xdr.specs.declared.compound.Compound.{Compound}
+use Rattle.nfs_server.specs.Answering.{head_size}
+use Rattle.nfs_rpc.specs.Reply.{written_accepted, written_reply}
 use Rattle.nfs_xdr.specs.Compound.{compound_result}
 use Rattle.nfs_xdr.specs.Status.{status}
-use Rattle.nfs_xdr.specs.declared.op_result.OpResult.{OpResult}
 use Rattle.std.specs.List.{flat_map}
 use Rattle.nfs_xdr.specs.OpResult.{op_result}
 use Rattle.xdr.specs.Writing.{written_number, written_opaque, written_u32}

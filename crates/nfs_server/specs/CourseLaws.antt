@@ -1,5 +1,5 @@
 -- What follows of every course: of the whole text, of devices that tell their bytes, of the journal.
-use Rattle.std.specs.Prelude.{◌≡◌, ◌≢◌, ℕ, List, [], ◌++◌, Option, Result, Ok, Err, OnOk}
+use Rattle.std.specs.Prelude.{◌≡◌, ◌≢◌, ℕ, List, [], ◌++◌, Option, Result, Err, OnOk}
 use Rattle.std.specs.List.{flat_map}
 use Rattle.std.specs.Io.KnownBytes.{Appends, Consumes, IsAtEnd, Keeps}
 use Rattle.nfs_core.specs.declared.entry.Entry.{Entry}
@@ -8,11 +8,11 @@ use Rattle.nfs_tree.specs.Tree.{Files}
 use Rattle.nfs_server.specs.declared.serve_error.ServeError.{ServeError}
 use Rattle.nfs_server.specs.declared.serve_error.ServeError.TheVariants as errors
 use Rattle.nfs_server.specs.declared.service.Lent.{Lent}
-use Rattle.nfs_server.specs.Asking.{Question, GivenByCore}
+use Rattle.nfs_server.specs.Asking.{Question}
 use Rattle.nfs_server.specs.Connection.{Scene, Turn, Course, AreTurns, IsCourse, all_exchanges, exchanges_of, rest_after, text_of}
 use Rattle.nfs_server.specs.Device.{Device}
 use Rattle.nfs_server.specs.Entries.{AreEntries}
-use Rattle.nfs_server.specs.Exchange.{Exchange, Rules, messages_of, questions_of, rules, written_for_all}
+use Rattle.nfs_server.specs.Exchange.{Rules, messages_of, questions_of, rules, written_for_all}
 use Rattle.nfs_xdr.specs.declared.op_result.OpResult.{OpResult}
 
 -- The records that were answered turn by turn are those of the whole text, in order.
@@ -57,6 +57,6 @@ GainsEntries {D = D} {C = C} device tree gives tells =
     → IsCourse device (rules tree gives tells) before course result after
     → (entries : List Entry)
     × AreEntries (flat_map (questions_of tree) (all_exchanges course))
-      (flat_map (λ e. e.answers) (all_exchanges course)) entries
+    (flat_map (λ e. e.answers) (all_exchanges course)) entries
     × (after.service.core.journal
-      ≡ record before.service.core.journal { entries = before.service.core.journal.entries ++ entries })
+    ≡ record before.service.core.journal { entries = before.service.core.journal.entries ++ entries })

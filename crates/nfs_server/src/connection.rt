@@ -7,8 +7,8 @@ ghost use Rattle.nfs_server.specs.Exchange.{rules};
 ghost use Rattle.nfs_server.specs.Serving.{IsServed};
 ghost use Rattle.nfs_rpc.specs.Records.{IsStream, TakesPiece};
 
-use crate::replies::Replies;
 use crate::duplex::Pair;
+use crate::replies::Replies;
 use crate::{Clock, DeviceFailed, Duplex, ServeError, Service, Sink, Source};
 use nfs_rpc::{RECORD_LIMIT, RecordError, Records};
 use nfs_tree::Tree;

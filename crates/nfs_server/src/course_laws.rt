@@ -6,7 +6,7 @@ ghost use Rattle.nfs_server.specs.Exchange.{rules};
 ghost use Rattle.nfs_tree.specs.Tree.{Files};
 
 use crate::{Clock, Counted, Duplex, Lent, Service, Sink, Source};
-use nfs_rpc::{split_goes_on};
+use nfs_rpc::split_goes_on;
 use std::io::{Read, Write};
 
 /// The law that the records of a connection, answered turn by turn, are those of the whole text.
@@ -21,7 +21,7 @@ pub fn turns_are_of_one_text<D: Duplex, S: Service, C: Clock>()
 pub fn bytes_of_a_connection<R: Read, W: Write, S: Service, C: Clock>()
     ensures { (tree : Files) → HasBytes
         (device_of ⟦<Counted<R> as Source>⟧.gives ⟦<Counted<R> as Source>⟧.fails
-          ⟦<Counted<W> as Sink>⟧.takes ⟦<Counted<W> as Sink>⟧.fails)
+        ⟦<Counted<W> as Sink>⟧.takes ⟦<Counted<W> as Sink>⟧.fails)
         (rules tree S.gives C.tells)
         (λ ends. R.remaining ends.source.device) (λ ends. W.contents ends.sink.device) }
 {}

@@ -18,9 +18,7 @@ mod tree_file;
 pub use clock::{Clock, Stopped};
 pub use compound::run_compound;
 pub use connection::{STREAM_LIMIT, serve_connection, serve_duplex};
-pub use course_laws::{
-    bytes_of_a_connection, journal_of_a_connection, turns_are_of_one_text,
-};
+pub use course_laws::{bytes_of_a_connection, journal_of_a_connection, turns_are_of_one_text};
 pub use device::{Counted, DeviceFailed, Sink, Source};
 pub use duplex::Duplex;
 pub use fault::Fault;

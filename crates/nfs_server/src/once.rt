@@ -32,9 +32,9 @@ pub fn run_once<R: Source, W: Sink, E: Write>(
         × (outcome : Result ℕ ServeError)
         × (lent.core ≡ core) × (clock.moment ≡ 0)
         × HasCourse (device_of R.gives R.fails W.takes W.fails)
-          (rules tree.now ⟦<Lent as Service>⟧.gives ⟦<Stopped as Clock>⟧.tells)
-          (scene (ends source.old sink.old) lent clock) outcome
-          (scene (ends source.new sink.new) lent' clock')
+        (rules tree.now ⟦<Lent as Service>⟧.gives ⟦<Stopped as Clock>⟧.tells)
+        (scene (ends source.old sink.old) lent clock) outcome
+        (scene (ends source.new sink.new) lent' clock')
         × (IsErrOf outcome ServeError.Read ↔ R.failures source.old < R.failures source.new)
         × (IsErrOf outcome ServeError.Write ↔ W.failures sink.old < W.failures sink.new)
         × (result ≡ status_of (fault_of outcome)) }

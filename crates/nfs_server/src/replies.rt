@@ -5,7 +5,9 @@ ghost use Rattle.nfs_server.specs.Exchange.{Exchange, IsExchanged, rules, writte
 use crate::compound::make_result_room;
 use crate::{Clock, Service, run_compound};
 use byteorder::{BigEndian, ByteOrder};
-use nfs_rpc::{Call, CompoundReply, HEADER_LEN, LAST_FRAGMENT, RECORD_LIMIT, Reply, read_call, write_reply};
+use nfs_rpc::{
+    Call, CompoundReply, HEADER_LEN, LAST_FRAGMENT, RECORD_LIMIT, Reply, read_call, write_reply,
+};
 use nfs_tree::Tree;
 use nfs_xdr::OpResult;
 use std::alloc::{AllocError, Global};

@@ -1,4 +1,4 @@
-use Rattle.std.proofs.Common.{◌≡◌, ◌≤◌, [], length}
+use Rattle.std.proofs.Common.{◌≡◌, ◌≤◌, length}
 use Rattle.std.specs.List.{AllByRecursion}
 use Rattle.nfs_rpc.specs.declared.records.TheConstants.{RECORD_LIMIT}
 use Rattle.nfs_server.specs.Connection.{scene}
