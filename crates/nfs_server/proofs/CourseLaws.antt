@@ -18,16 +18,16 @@ use Rattle.nfs_server.proofs.Serving.{exchanged_then, messages-append, written-a
 use Rattle.nfs_xdr.specs.declared.op_result.OpResult.{OpResult}
 
 -- turns behind a text whose rest they begin with
-texts_go_on : {D S C : Type 0} (goes_on : SplitGoesOn) (device : Device D) (rules : Rules S C) (before after : Scene D S C) (text : List ℕ) (messages : List (List ℕ)) (behind : List ℕ) (turns : List Turn)
-    → Splits text messages behind → AreTurns device rules before behind turns after
-    → Splits (text ++ text_of turns) (messages ++ messages_of (exchanges_of turns)) (rest_after behind turns)
-texts_go_on goes_on device rules before after text messages behind [] split are =
-    subst (λ (t : List ℕ). Splits t (messages ++ []) behind) (sym (append-nil text)) (subst (λ (m : List (List ℕ)). Splits text m behind) (sym (append-nil messages)) split)
-texts_go_on goes_on device rules before after text messages behind (turn ∷ turns) split are =
+texts_go_on : {D S C : Type 0} (goes_on : SplitGoesOn) (device : Device D) (rules : Rules S C) (before after : Scene D S C) (text : List ℕ) (messages : List (List ℕ)) (carried : List ℕ) (turns : List Turn)
+    → Splits text messages carried → AreTurns device rules before carried turns after
+    → Splits (text ++ text_of turns) (messages ++ messages_of (exchanges_of turns)) (rest_after carried turns)
+texts_go_on goes_on device rules before after text messages carried [] split are =
+    subst (λ (t : List ℕ). Splits t (messages ++ []) carried) (sym (append-nil text)) (subst (λ (m : List (List ℕ)). Splits text m carried) (sym (append-nil messages)) split)
+texts_go_on goes_on device rules before after text messages carried (turn ∷ turns) split are =
     let piece = turn.piece in
     let here = messages_of turn.exchanges in
     let all : here ++ turn.unanswered ≡ here = ap (λ (m : List (List ℕ)). here ++ m) are.2 ∙ append-nil here in
-    let more = goes_on text piece messages here behind turn.rest split (subst (λ (m : List (List ℕ)). Splits (behind ++ piece) m turn.rest) all are.1.split) in
+    let more = goes_on text piece messages here carried turn.rest split (subst (λ (m : List (List ℕ)). Splits (carried ++ piece) m turn.rest) all are.1.split) in
     let others = texts_go_on goes_on device rules are.0 after (text ++ piece) (messages ++ here) turn.rest turns more are.4 in
     let texts : (text ++ piece) ++ text_of turns ≡ text ++ text_of (turn ∷ turns) =
     append_assoc text piece (text_of turns) ∙ ap (λ (t : List ℕ). text ++ t) (sym (flat_map-cons (λ (t : Turn). t.piece) turn turns)) in
@@ -45,13 +45,14 @@ none_begins message front back whole is within =
 pub is_one_text : {D S C : Type 0} (goes_on : SplitGoesOn) (device : Device D) (rules : Rules S C) → IsOneText device rules
 is_one_text goes_on device rules before after turns are =
     let none : Splits [] [] [] = record { front = []; whole = refl; records = refl; none_left = none_begins } in
-    texts_go_on goes_on device rules before after [] [] [] turns none are
+    let all = texts_go_on goes_on device rules before after [] [] [] turns none are in
+    (all, λ piece found rest more. goes_on (text_of turns) piece (messages_of (exchanges_of turns)) found (rest_after [] turns) rest all more)
 
 -- what turns asked of the service, one exchange after the other
-turns_exchanged : {D S C : Type 0} (device : Device D) (rules : Rules S C) (before after : Scene D S C) (behind : List ℕ) (turns : List Turn)
-    → AreTurns device rules before behind turns after → AreExchanged rules before.service before.clock (exchanges_of turns) after.service after.clock
-turns_exchanged {D = D} {S = S} {C = C} device rules before after behind [] are = (ap (λ (s : Scene D S C). s.service) are, ap (λ (s : Scene D S C). s.clock) are)
-turns_exchanged {D = D} {S = S} {C = C} device rules before after behind (turn ∷ turns) are =
+turns_exchanged : {D S C : Type 0} (device : Device D) (rules : Rules S C) (before after : Scene D S C) (carried : List ℕ) (turns : List Turn)
+    → AreTurns device rules before carried turns after → AreExchanged rules before.service before.clock (exchanges_of turns) after.service after.clock
+turns_exchanged {D = D} {S = S} {C = C} device rules before after carried [] are = (ap (λ (s : Scene D S C). s.service) are, ap (λ (s : Scene D S C). s.clock) are)
+turns_exchanged {D = D} {S = S} {C = C} device rules before after carried (turn ∷ turns) are =
     subst (λ (es : List Exchange). AreExchanged rules before.service before.clock es after.service after.clock) (sym (flat_map-cons (λ (t : Turn). t.exchanges) turn turns))
     (exchanged_then rules turn.exchanges (exchanges_of turns) before.service are.0.service after.service before.clock are.0.clock after.clock are.1.exchanged (turns_exchanged device rules are.0 after turn.rest turns are.4))
 
@@ -63,12 +64,12 @@ end_exchanged : {D S C : Type 0} (device : Device D) (rules : Rules S C) (before
     → EndsWith device rules before course result after → AreExchanged rules before.service before.clock course.last.exchanges after.service after.clock
 end_exchanged device rules before course (Ok len) after ends = idle_exchanged device rules before after course.last.exchanges ends.0.0 ends.0.1
 end_exchanged device rules before course (Err errors.Read) after ends = idle_exchanged device rules before after course.last.exchanges ends.0 ends.2
-end_exchanged device rules before course (Err errors.Write) after ends = ends.exchanged
+end_exchanged device rules before course (Err errors.Write) after ends = ends.0.exchanged
 end_exchanged device rules before course (Err errors.TooLong) after ends = ends.0.exchanged
 end_exchanged {D = D} {S = S} {C = C} device rules before course (Err errors.Memory) after (inl ends) =
     idle_exchanged device rules before after course.last.exchanges ends.1 (ends.3 ∙ ap (λ (s : Scene D S C). record before { device = s.device }) (sym ends.3))
-end_exchanged device rules before course (Err errors.Memory) after (inr (inl ends)) = idle_exchanged device rules before after course.last.exchanges ends.0 ends.1
-end_exchanged device rules before course (Err errors.Memory) after (inr (inr ends)) = ends.exchanged
+end_exchanged device rules before course (Err errors.Memory) after (inr (inl ends)) = idle_exchanged device rules before after course.last.exchanges ends.0.0 ends.0.1
+end_exchanged device rules before course (Err errors.Memory) after (inr (inr ends)) = ends.0.exchanged
 end_exchanged device rules before course (Err errors.TooMuch) after ends = idle_exchanged device rules before after course.last.exchanges ends.0.0 ends.0.1
 
 pub course_exchanged : {D S C : Type 0} (device : Device D) (rules : Rules S C) (before : Scene D S C) (course : Course) (result : Result ℕ ServeError) (after : Scene D S C)
@@ -111,27 +112,27 @@ written_bytes device remaining contents tells a b bytes written =
     (subst (λ (w : List ℕ). Appends (contents a) (contents b) w) (sym written.1) taken.0, taken.1)
 
 -- a turn, whose replies went out so far
-turn_bytes : {D S C : Type 0} (device : Device D) (rules : Rules S C) (remaining contents : D → Option (List ℕ)) (tells : TellsBytes device remaining contents) (out : Device D → D → List ℕ → D → Type 0) (before : Scene D S C) (behind : List ℕ) (turn : Turn) (after : Scene D S C) (written : List ℕ)
-    → (t : IsTurn device rules out before behind turn after) → Appends (contents t.mid) (contents after.device) written × (remaining after.device ≡ remaining t.mid)
+turn_bytes : {D S C : Type 0} (device : Device D) (rules : Rules S C) (remaining contents : D → Option (List ℕ)) (tells : TellsBytes device remaining contents) (out : Device D → D → List ℕ → D → Type 0) (before : Scene D S C) (carried : List ℕ) (turn : Turn) (after : Scene D S C) (written : List ℕ)
+    → (t : IsTurn device rules out before carried turn after) → Appends (contents t.mid) (contents after.device) written × (remaining after.device ≡ remaining t.mid)
     → Consumes (remaining before.device) (remaining after.device) turn.piece × Appends (contents before.device) (contents after.device) written
-turn_bytes device rules remaining contents tells out before behind turn after written t wrote =
+turn_bytes device rules remaining contents tells out before carried turn after written t wrote =
     let read = tells.gives before.device t.mid turn.piece t.reads in (
       subst (λ (o : Option (List ℕ)). Consumes (remaining before.device) o turn.piece) (sym wrote.1) read.0,
       subst (λ (o : Option (List ℕ)). Appends o (contents after.device) written) read.2 wrote.0,
     )
 
-turns_bytes : {D S C : Type 0} (device : Device D) (rules : Rules S C) (remaining contents : D → Option (List ℕ)) (tells : TellsBytes device remaining contents) (before : Scene D S C) (behind : List ℕ) (turns : List Turn) (after : Scene D S C)
-    → AreTurns device rules before behind turns after
+turns_bytes : {D S C : Type 0} (device : Device D) (rules : Rules S C) (remaining contents : D → Option (List ℕ)) (tells : TellsBytes device remaining contents) (before : Scene D S C) (carried : List ℕ) (turns : List Turn) (after : Scene D S C)
+    → AreTurns device rules before carried turns after
     → Consumes (remaining before.device) (remaining after.device) (text_of turns) × Appends (contents before.device) (contents after.device) (written_for_all rules.tree (exchanges_of turns))
-turns_bytes {D = D} {S = S} {C = C} device rules remaining contents tells before behind [] after are = (
+turns_bytes {D = D} {S = S} {C = C} device rules remaining contents tells before carried [] after are = (
   subst (λ (s : Scene D S C). Consumes (remaining before.device) (remaining s.device) []) (sym are) (Consumes-nil (remaining before.device)),
   subst (λ (s : Scene D S C). Appends (contents before.device) (contents s.device) []) (sym are) (Appends-nil (contents before.device)),
 )
-turns_bytes device rules remaining contents tells before behind (turn ∷ turns) after are =
+turns_bytes device rules remaining contents tells before carried (turn ∷ turns) after are =
     let mid = are.0 in
     let written = written_for_all rules.tree turn.exchanges in
     let others = written_for_all rules.tree (exchanges_of turns) in
-    let one = turn_bytes device rules remaining contents tells IsWritten before behind turn mid written are.1 (written_bytes device remaining contents tells are.1.mid mid.device written are.1.written) in
+    let one = turn_bytes device rules remaining contents tells IsWritten before carried turn mid written are.1 (written_bytes device remaining contents tells are.1.mid mid.device written are.1.written) in
     let more = turns_bytes device rules remaining contents tells mid turn.rest turns after are.4 in
     let all : written ++ others ≡ written_for_all rules.tree (exchanges_of (turn ∷ turns)) =
     sym (ap (λ (es : List Exchange). written_for_all rules.tree es) (flat_map-cons (λ (t : Turn). t.exchanges) turn turns) ∙ written-append rules.tree turn.exchanges (exchanges_of turns)) in (
@@ -140,11 +141,11 @@ turns_bytes device rules remaining contents tells before behind (turn ∷ turns)
     )
 
 -- a last turn whose replies all went out
-last_bytes : {D S C : Type 0} (device : Device D) (rules : Rules S C) (remaining contents : D → Option (List ℕ)) (tells : TellsBytes device remaining contents) (before : Scene D S C) (behind : List ℕ) (last : Turn) (after : Scene D S C)
-    → IsTurn device rules IsWritten before behind last after
+last_bytes : {D S C : Type 0} (device : Device D) (rules : Rules S C) (remaining contents : D → Option (List ℕ)) (tells : TellsBytes device remaining contents) (before : Scene D S C) (carried : List ℕ) (last : Turn) (after : Scene D S C)
+    → IsTurn device rules IsWritten before carried last after
     → Consumes (remaining before.device) (remaining after.device) last.piece × Appends (contents before.device) (contents after.device) (written_for_all rules.tree last.exchanges)
-last_bytes device rules remaining contents tells before behind last after t =
-    turn_bytes device rules remaining contents tells IsWritten before behind last after (written_for_all rules.tree last.exchanges) t (written_bytes device remaining contents tells t.mid after.device (written_for_all rules.tree last.exchanges) t.written)
+last_bytes device rules remaining contents tells before carried last after t =
+    turn_bytes device rules remaining contents tells IsWritten before carried last after (written_for_all rules.tree last.exchanges) t (written_bytes device remaining contents tells t.mid after.device (written_for_all rules.tree last.exchanges) t.written)
 
 -- nothing was written behind the turns
 silent_bytes : (tree : Files) (es : List Exchange) (a b : Option (List ℕ)) → es ≡ [] → b ≡ a → Appends a b (written_for_all tree es)
@@ -177,8 +178,8 @@ memory_bytes {D = D} {S = S} {C = C} device rules remaining contents tells befor
   rw (ends.2) (subst (λ (s : Scene D S C). Consumes (remaining before.device) (remaining s.device) []) (sym ends.3) (Consumes-nil (remaining before.device))),
   silent_bytes rules.tree course.last.exchanges (contents before.device) (contents after.device) ends.1 (ap (λ (s : Scene D S C). contents s.device) ends.3),
 )
-memory_bytes device rules remaining contents tells before course after (inr (inl ends)) = idle_bytes device rules remaining contents tells before course.last after ends
-memory_bytes device rules remaining contents tells before course after (inr (inr ends)) = last_bytes device rules remaining contents tells before (rest_after [] course.turns) course.last after ends
+memory_bytes device rules remaining contents tells before course after (inr (inl ends)) = idle_bytes device rules remaining contents tells before course.last after ends.0
+memory_bytes device rules remaining contents tells before course after (inr (inr ends)) = last_bytes device rules remaining contents tells before (rest_after [] course.turns) course.last after ends.0
 
 pub has_bytes : {D S C : Type 0} (device : Device D) (rules : Rules S C) (remaining contents : D → Option (List ℕ)) → TellsBytes device remaining contents → HasBytes device rules remaining contents
 has_bytes device rules remaining contents tells before after course (Ok len) is =
@@ -193,7 +194,7 @@ has_bytes device rules remaining contents tells before after course (Err errors.
     (all.0, tt, (written_for_all rules.tree (all_exchanges course), refl, all.1))
 has_bytes device rules remaining contents tells before after course (Err errors.Write) is =
     let mid = is.0 in
-    let t = is.3 in
+    let t = is.3.0 in
     let cut = t.written in
     let wrote = written_bytes device remaining contents tells t.mid cut.2 cut.0 cut.5 in
     let failed = tells.fails_to_write cut.2 after.device cut.6 in

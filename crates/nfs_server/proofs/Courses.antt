@@ -1,5 +1,5 @@
 -- The course of a connection, as far as it has come.
-use Rattle.std.proofs.Common.{◌≡◌, ◌≢◌, ℕ, ◌+◌, ◌<◌, ◌≤◌, ◌⊎◌, inl, inr, true, false, List, [], ◌∷◌, ◌++◌, length, take, Result, Ok, Err, refl, sym, ap, subst, ◌∙◌, arith}
+use Rattle.std.proofs.Common.{◌≡◌, ◌≢◌, ℕ, ◌+◌, ◌^◌, ◌<◌, ◌≤◌, ◌⊎◌, inl, inr, true, false, List, [], ◌∷◌, ◌++◌, length, take, Result, Ok, Err, refl, sym, ap, subst, ◌∙◌, arith}
 use Rattle.std.specs.List.{AllByRecursion}
 use Rattle.std.specs.Prelude.{◌↔◌, IsErrOf}
 use Rattle.std.proofs.lemmas.List.{append-nil, length-append, length-take}
@@ -16,17 +16,17 @@ use Rattle.nfs_server.specs.Serving.{GoesOut, IsServed}
 use Rattle.nfs_server.proofs.Serving.{errs, error_is}
 
 -- one turn more
-turns_more : {D S C : Type 0} (device : Device D) (rules : Rules S C) (a b c : Scene D S C) (behind : List ℕ) (turns : List Turn) (turn : Turn)
-    → AreTurns device rules a behind turns b → IsTurn device rules IsWritten b (rest_after behind turns) turn c → turn.unanswered ≡ [] → (IsTooLong turn.rest → ⊥)
-    → AreTurns device rules a behind (turns ++ turn ∷ []) c
-turns_more {D = D} {S = S} {C = C} device rules a b c behind [] turn are more none goes =
-    (c, subst (λ (x : Scene D S C). IsTurn device rules IsWritten x behind turn c) are more, none, goes, refl)
-turns_more device rules a b c behind (first ∷ turns) turn are more none goes =
+turns_more : {D S C : Type 0} (device : Device D) (rules : Rules S C) (a b c : Scene D S C) (carried : List ℕ) (turns : List Turn) (turn : Turn)
+    → AreTurns device rules a carried turns b → IsTurn device rules IsWritten b (rest_after carried turns) turn c → turn.unanswered ≡ [] → (IsTooLong turn.rest → ⊥)
+    → AreTurns device rules a carried (turns ++ turn ∷ []) c
+turns_more {D = D} {S = S} {C = C} device rules a b c carried [] turn are more none goes =
+    (c, subst (λ (x : Scene D S C). IsTurn device rules IsWritten x carried turn c) are more, none, goes, refl)
+turns_more device rules a b c carried (first ∷ turns) turn are more none goes =
     (are.0, are.1, are.2, are.3, turns_more device rules are.0 b c first.rest turns turn are.4 more none goes)
 
-rest_more : (behind : List ℕ) (turns : List Turn) (turn : Turn) → rest_after behind (turns ++ turn ∷ []) ≡ turn.rest
-rest_more behind [] turn = refl
-rest_more behind (first ∷ turns) turn = rest_more first.rest turns turn
+rest_more : (carried : List ℕ) (turns : List Turn) (turn : Turn) → rest_after carried (turns ++ turn ∷ []) ≡ turn.rest
+rest_more carried [] turn = refl
+rest_more carried (first ∷ turns) turn = rest_more first.rest turns turn
 
 text_more : (turns : List Turn) (turn : Turn) → text_of (turns ++ turn ∷ []) ≡ text_of turns ++ turn.piece
 text_more turns turn =
@@ -88,6 +88,7 @@ pub record IsPart {D S C T : Type 0} (device : Device D) (rules : Rules S C) (be
   pub reads : device.gives now.device piece mid
   pub takes : TakesPiece old new piece
   pub served : IsServed {T = T} device rules (scene mid now.service now.clock) new.ready result after
+  pub within : old.fed + length piece ≤ 2 ^ 40
 
 abbrev rest_of : {D S C T : Type 0} (device : Device D) (rules : Rules S C) (before now : Scene D S C) (old new : Stream) (piece : List ℕ) (result : Result T ServeError) (after : Scene D S C) → IsPart device rules before now old new piece result after → List ℕ
 rest_of device rules before now old new piece result after p = (p.takes.split (rest_after [] p.under_way.turns) p.under_way.keeps).0
@@ -123,9 +124,9 @@ pub ends_part : {D S C T : Type 0} (device : Device D) (rules : Rules S C) (befo
     → IsPart {T = T} device rules before now old new piece (Err error) after
     → HasCourse device rules before (Err error) after
 ends_part {T = T} device rules before now old new piece errors.Write after which sound p =
-    (record { turns = p.under_way.turns; last = turn_of {T = T} device rules before now old new piece (Err errors.Write) after p }, (now, p.under_way.are, omega (arith, p.under_way.fed, sound.bounded), is_turn {T = T} device rules before now old new piece (Err errors.Write) after p))
+    (record { turns = p.under_way.turns; last = turn_of {T = T} device rules before now old new piece (Err errors.Write) after p }, (now, p.under_way.are, omega (arith, p.under_way.fed, sound.bounded), (is_turn {T = T} device rules before now old new piece (Err errors.Write) after p, omega (arith, p.within, p.under_way.fed))))
 ends_part {T = T} device rules before now old new piece errors.Memory after which sound p =
-    (record { turns = p.under_way.turns; last = turn_of {T = T} device rules before now old new piece (Err errors.Memory) after p }, (now, p.under_way.are, omega (arith, p.under_way.fed, sound.bounded), inr (inr (is_turn {T = T} device rules before now old new piece (Err errors.Memory) after p))))
+    (record { turns = p.under_way.turns; last = turn_of {T = T} device rules before now old new piece (Err errors.Memory) after p }, (now, p.under_way.are, omega (arith, p.under_way.fed, sound.bounded), inr (inr (is_turn {T = T} device rules before now old new piece (Err errors.Memory) after p, omega (arith, p.within, p.under_way.fed), p.served.some_left refl))))
 ends_part device rules before now old new piece error after (inl which) sound p = cc
 ends_part device rules before now old new piece error after (inr which) sound p = cc
 
@@ -144,7 +145,7 @@ pub ends_too_long : {D S C T : Type 0} (device : Device D) (rules : Rules S C) (
 ends_too_long {T = T} device rules before now old new last piece x after sound p same told =
     let w = p.takes.split (rest_after [] p.under_way.turns) p.under_way.keeps in
     let long : new.is_too_long ≡ true = sym (ap (λ (s : Stream). s.is_too_long) same) ∙ told in
-    (record { turns = p.under_way.turns; last = turn_of {T = T} device rules before now old new piece (Ok x) after p }, (now, p.under_way.are, omega (arith, p.under_way.fed, sound.bounded), (is_turn {T = T} device rules before now old new piece (Ok x) after p, p.served.none_left, w.2.too_long.0 long)))
+    (record { turns = p.under_way.turns; last = turn_of {T = T} device rules before now old new piece (Ok x) after p }, (now, p.under_way.are, omega (arith, p.under_way.fed, sound.bounded), (is_turn {T = T} device rules before now old new piece (Ok x) after p, omega (arith, p.within, p.under_way.fed), p.served.none_left, w.2.too_long.0 long)))
 
 -- a turn is over
 pub more_served : {D S C T : Type 0} (device : Device D) (rules : Rules S C) (before now : Scene D S C) (old new last : Stream) (piece : List ℕ) (x : T) (after : Scene D S C)

@@ -5,6 +5,6 @@ pub mod Writing
 pub mod Exchanges
 pub mod Serving
 pub mod Courses
-pub mod Ends
+pub mod Sides
 pub mod JournalGains
 pub mod CourseLaws

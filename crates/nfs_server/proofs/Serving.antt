@@ -1,6 +1,6 @@
 -- Records answered one after the other, with replies that wait.
 use Rattle.std.proofs.Common.{◌≡◌, ℕ, List, [], ◌∷◌, ◌++◌, Result, Ok, Err, refl, sym, ap, subst, ◌∙◌, append_assoc}
-use Rattle.std.specs.Prelude.{OnOk, OnErr}
+use Rattle.std.specs.Prelude.{◌≢◌, OnOk, OnErr, IsErrOf}
 use Rattle.std.proofs.lemmas.List.{append-nil}
 use Rattle.std.proofs.lemmas.List.Concat.{flat_map-cons}
 use Rattle.std.proofs.lemmas.Grind.{flat_map-append}
@@ -88,6 +88,12 @@ serves_sent device rules before mid messages left waiting none d s sent is_none 
   written = written_then device before.device mid.device d s.out waiting s.written sent;
 }
 
+write_is_not_memory : {T : Type 0} → IsErrOf {T = T} (Err errors.Write) errors.Memory → ⊥
+write_is_not_memory same = cc
+
+ok_is_no_error : {T : Type 0} {x : T} {e : ServeError} → IsErrOf {T = T} (Ok x) e → ⊥
+ok_is_no_error same = cc
+
 -- serving is over: a write failed in the replies that waited
 pub ends_cut : {D S C T : Type 0} (device : Device D) (rules : Rules S C) (before mid : Scene D S C) (messages left : List (List ℕ)) (waiting : List ℕ) (d : D)
     → HasServed device rules before messages left waiting mid → IsCut device mid.device waiting d
@@ -98,19 +104,21 @@ ends_cut {D = D} device rules before mid messages left waiting d s cut = record 
   served = s.served;
   exchanged = s.exchanged;
   none_left = tt;
+  some_left = λ same none. write_is_not_memory same;
   written = subst (λ (w : List ℕ). IsCut device before.device w d) (sym s.all) (cut_after device before.device mid.device d s.out waiting s.written cut);
 }
 
 -- serving is over: memory was refused for a reply, and those that waited went out
 pub ends_refused : {D S C T : Type 0} (device : Device D) (rules : Rules S C) (before mid : Scene D S C) (messages left : List (List ℕ)) (waiting : List ℕ) (d : D)
-    → HasServed device rules before messages left waiting mid → IsWritten device mid.device waiting d
+    → HasServed device rules before messages left waiting mid → left ≢ [] → IsWritten device mid.device waiting d
     → IsServed {T = T} device rules before messages (Err errors.Memory) (scene d mid.service mid.clock)
-ends_refused device rules before mid messages left waiting d s sent = record {
+ends_refused device rules before mid messages left waiting d s some sent = record {
   exchanges = s.exchanges;
   left = left;
   served = s.served;
   exchanged = s.exchanged;
   none_left = tt;
+  some_left = λ same. some;
   written = subst (λ (w : List ℕ). IsWritten device before.device w d) (sym s.all) (written_then device before.device mid.device d s.out waiting s.written sent);
 }
 
@@ -125,6 +133,7 @@ ends_all {T = T} device rules before mid messages left waiting d (Ok x) s none s
   served = s.served;
   exchanged = s.exchanged;
   none_left = none;
+  some_left = λ same. absurd (ok_is_no_error same);
   written = subst (λ (w : List ℕ). IsWritten device before.device w d) (sym s.all) (written_then device before.device mid.device d s.out waiting s.written sent);
 }
 ends_all {T = T} device rules before mid messages left waiting d (Err e) s none sent cut write =
@@ -145,6 +154,7 @@ ends_so {T = T} device rules before after messages result error failed is_write 
   served = s.served;
   exchanged = s.exchanged;
   none_left = tt;
+  some_left = λ same none. write_is_not_memory same;
   written = s.written;
 })
 
@@ -153,6 +163,10 @@ pub serves_same : {D S C : Type 0} (device : Device D) (rules : Rules S C) (befo
     → HasServed device rules before messages left waiting mid → same ≡ waiting → service ≡ mid.service → clock ≡ mid.clock
     → HasServed device rules before messages left same (scene mid.device service clock)
 serves_same device rules before mid messages left waiting same service clock s is_same same_service same_clock = rw (is_same, same_service, same_clock) s
+
+-- a list that begins with something isn't empty
+pub some_more : {A : Type 0} {xs ys : List A} {x : A} → xs ≡ x ∷ ys → xs ≢ []
+some_more begins none = cc
 
 -- a record is taken from a stream
 pub same_more : (old now next : Stream) (message : List ℕ) → now ≡ record old { ready = now.ready } → now ≡ record next { ready = message ∷ next.ready } → next ≡ record old { ready = next.ready }

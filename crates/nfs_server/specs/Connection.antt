@@ -1,5 +1,5 @@
 -- A connection: turn by turn what was read, asked, answered and written, and how it ends.
-use Rattle.std.specs.Prelude.{◌≡◌, ◌≢◌, ℕ, ◌+◌, ◌^◌, ◌<◌, ◌≤◌, List, [], ◌∷◌, ◌++◌, ◌⊎◌, length, Result, Ok, Err}
+use Rattle.std.specs.Prelude.{◌≡◌, ◌≢◌, ℕ, ◌+◌, ◌^◌, ◌≤◌, List, [], ◌∷◌, ◌++◌, ◌⊎◌, length, Result, Ok, Err}
 use Rattle.std.specs.List.{flat_map}
 use Rattle.nfs_rpc.specs.Records.{IsTooLong, Splits}
 use Rattle.nfs_server.specs.declared.serve_error.ServeError.{ServeError}
@@ -17,29 +17,31 @@ abbrev pub scene : {D S C : Type 0} → D → S → C → Scene D S C
 scene device service clock = record { device = device; service = service; clock = clock }
 
 -- What one read gave, and what came of it: of the records that are whole now those that were answered
--- and those that weren't, and the bytes behind them, of no whole record.
+-- and those that weren't, and the bytes behind them, of no whole record. Where nothing came of the
+-- read, the last two mean nothing.
 pub record Turn : Type 0 where
   pub piece : List ℕ
   pub exchanges : List Exchange
   pub unanswered : List (List ℕ)
   pub rest : List ℕ
 
--- A turn: behind bytes of no whole record a read gives a piece; records that are whole now are
--- answered in their order; and their replies go out, all of them or, where a write fails, in part.
-pub record IsTurn {D S C : Type 0} (device : Device D) (rules : Rules S C) (goes_out : Device D → D → List ℕ → D → Type 0) (before : Scene D S C) (behind : List ℕ) (turn : Turn) (after : Scene D S C) : Type 0 where
+-- A turn. `carried` are the bytes of no whole record that earlier reads gave. A read gives a piece;
+-- records that are whole now are answered in their order; and their replies go out, all of them or,
+-- where a write fails, in part.
+pub record IsTurn {D S C : Type 0} (device : Device D) (rules : Rules S C) (goes_out : Device D → D → List ℕ → D → Type 0) (before : Scene D S C) (carried : List ℕ) (turn : Turn) (after : Scene D S C) : Type 0 where
   pub mid : D
   pub some : turn.piece ≢ []
   pub reads : device.gives before.device turn.piece mid
-  pub split : Splits (behind ++ turn.piece) (messages_of turn.exchanges ++ turn.unanswered) turn.rest
+  pub split : Splits (carried ++ turn.piece) (messages_of turn.exchanges ++ turn.unanswered) turn.rest
   pub exchanged : AreExchanged rules before.service before.clock turn.exchanges after.service after.clock
   pub written : goes_out device mid (written_for_all rules.tree turn.exchanges) after.device
 
 -- Turns one after the other: each is over, every record answered and every reply out, before the next
 -- read, and no record is too long so far.
 abbrev pub AreTurns : {D S C : Type 0} → Device D → Rules S C → Scene D S C → List ℕ → List Turn → Scene D S C → Type 0
-AreTurns device rules before behind [] after = after ≡ before
-AreTurns {D = D} {S = S} {C = C} device rules before behind (turn ∷ turns) after =
-    (mid : Scene D S C) × IsTurn device rules IsWritten before behind turn mid
+AreTurns device rules before carried [] after = after ≡ before
+AreTurns {D = D} {S = S} {C = C} device rules before carried (turn ∷ turns) after =
+    (mid : Scene D S C) × IsTurn device rules IsWritten before carried turn mid
     × (turn.unanswered ≡ []) × (IsTooLong turn.rest → ⊥)
     × AreTurns device rules mid turn.rest turns after
 
@@ -49,13 +51,17 @@ text_of turns = flat_map (λ turn. turn.piece) turns
 
 -- those of them that are of no whole record
 abbrev pub rest_after : List ℕ → List Turn → List ℕ
-rest_after behind [] = behind
-rest_after behind (turn ∷ turns) = rest_after turn.rest turns
+rest_after carried [] = carried
+rest_after carried (turn ∷ turns) = rest_after turn.rest turns
 
 -- What came of a connection: its turns, and the last read with what came of that.
 pub record Course : Type 0 where
   pub turns : List Turn
   pub last : Turn
+
+-- all that it read is within what a connection may carry
+abbrev pub IsWithin : Course → Type 0
+IsWithin course = length (text_of course.turns) + length course.last.piece ≤ 2 ^ 40
 
 -- the records that were answered
 abbrev pub exchanges_of : List Turn → List Exchange
@@ -84,21 +90,21 @@ EndsWith device rules before course (Err errors.Read) after =
     × device.fails_to_read before.device after.device
 -- a write failed in the replies to the records of the last read
 EndsWith device rules before course (Err errors.Write) after =
-    IsTurn device rules IsCut before (rest_after [] course.turns) course.last after
+    IsTurn device rules IsCut before (rest_after [] course.turns) course.last after × IsWithin course
 -- a header of the last read shows a record that is too long: those before it were answered
 EndsWith device rules before course (Err errors.TooLong) after =
-    IsTurn device rules IsWritten before (rest_after [] course.turns) course.last after
+    IsTurn device rules IsWritten before (rest_after [] course.turns) course.last after × IsWithin course
     × (course.last.unanswered ≡ []) × IsTooLong course.last.rest
 -- Memory was refused: before anything was read; for what the last read gave, of which no record was
 -- answered then; or for the reply to one of its records, where those to the records before it went out.
 EndsWith device rules before course (Err errors.Memory) after =
     ((course.turns ≡ []) × (course.last.exchanges ≡ []) × (course.last.piece ≡ []) × (after ≡ before))
-    ⊎ (IsIdle device rules before course.last after
-    ⊎ IsTurn device rules IsWritten before (rest_after [] course.turns) course.last after)
+    ⊎ ((IsIdle device rules before course.last after × IsWithin course × (course.last.piece ≢ []))
+    ⊎ (IsTurn device rules IsWritten before (rest_after [] course.turns) course.last after × IsWithin course
+    × (course.last.unanswered ≢ [])))
 -- more came than a connection may carry
 EndsWith device rules before course (Err errors.TooMuch) after =
-    IsIdle device rules before course.last after
-    × (2 ^ 40 < length (text_of course.turns) + length course.last.piece)
+    IsIdle device rules before course.last after × (IsWithin course → ⊥)
 
 -- what is so of every course
 abbrev pub IsCourse : {D S C : Type 0} → Device D → Rules S C → Scene D S C → Course → Result ℕ ServeError → Scene D S C → Type 0

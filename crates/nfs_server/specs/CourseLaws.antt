@@ -15,12 +15,16 @@ use Rattle.nfs_server.specs.Entries.{AreEntries}
 use Rattle.nfs_server.specs.Exchange.{Rules, messages_of, questions_of, rules, written_for_all}
 use Rattle.nfs_xdr.specs.declared.op_result.OpResult.{OpResult}
 
--- The records that were answered turn by turn are those of the whole text, in order.
+-- The records that were answered turn by turn are those of the whole text, in order; and so are those
+-- of one read more behind them.
 abbrev pub IsOneText : {D S C : Type 0} → Device D → Rules S C → Type 0
 IsOneText {D = D} {S = S} {C = C} device rules =
     (before after : Scene D S C) (turns : List Turn)
     → AreTurns device rules before [] turns after
     → Splits (text_of turns) (messages_of (exchanges_of turns)) (rest_after [] turns)
+    × ((piece : List ℕ) (found : List (List ℕ)) (rest : List ℕ)
+    → Splits (rest_after [] turns ++ piece) found rest
+    → Splits (text_of turns ++ piece) (messages_of (exchanges_of turns) ++ found) rest)
 
 -- What a course wrote: the replies to all records that were answered, or, where a write failed, a
 -- beginning of them that ends within those to the records of the last read.

@@ -3,7 +3,7 @@ pub mod Asking
 pub mod Entries
 pub mod Folding
 pub mod Device
-pub mod Ends
+pub mod Sides
 pub mod Pair
 pub mod Exchange
 pub mod Connection

@@ -2,11 +2,11 @@
 use Rattle.std.specs.Prelude.{◌≡◌, ℕ, List}
 use Rattle.nfs_server.specs.declared.duplex.Pair.{Pair}
 use Rattle.nfs_server.specs.Device.{Device}
-use Rattle.nfs_server.specs.Ends.{Ends, device_of}
+use Rattle.nfs_server.specs.Sides.{Sides, device_of}
 
 -- what the pair borrows, as it is now
-abbrev pub ends_of : {R W : Type 0} → Pair R W → Ends R W
-ends_of pair = record { source = pair.source.now; sink = pair.sink.now }
+abbrev pub sides_of : {R W : Type 0} → Pair R W → Sides R W
+sides_of pair = record { source = pair.source.now; sink = pair.sink.now }
 
 -- the pair borrows what it did
 abbrev pub BorrowsTheSame : {R W : Type 0} → Pair R W → Pair R W → Type 0
@@ -16,10 +16,10 @@ BorrowsTheSame old new =
 -- Its calls are those of the two, and it keeps what it borrows.
 abbrev pub device_of_pair : {R W : Type 0} → (R → List ℕ → R → Type 0) → (R → R → Type 0) → (W → List ℕ → W → Type 0) → (W → W → Type 0) → Device (Pair R W)
 device_of_pair gives fails_to_read takes fails_to_write =
-    let ends = device_of gives fails_to_read takes fails_to_write in
+    let sides = device_of gives fails_to_read takes fails_to_write in
     record {
-      gives = λ old piece new. BorrowsTheSame old new × ends.gives (ends_of old) piece (ends_of new);
-      fails_to_read = λ old new. BorrowsTheSame old new × ends.fails_to_read (ends_of old) (ends_of new);
-      takes = λ old part new. BorrowsTheSame old new × ends.takes (ends_of old) part (ends_of new);
-      fails_to_write = λ old new. BorrowsTheSame old new × ends.fails_to_write (ends_of old) (ends_of new);
+      gives = λ old piece new. BorrowsTheSame old new × sides.gives (sides_of old) piece (sides_of new);
+      fails_to_read = λ old new. BorrowsTheSame old new × sides.fails_to_read (sides_of old) (sides_of new);
+      takes = λ old part new. BorrowsTheSame old new × sides.takes (sides_of old) part (sides_of new);
+      fails_to_write = λ old new. BorrowsTheSame old new × sides.fails_to_write (sides_of old) (sides_of new);
     }

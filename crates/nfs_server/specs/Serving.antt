@@ -1,5 +1,5 @@
 -- Records that are whole, answered in their order: what the crate's own functions promise one another.
-use Rattle.std.specs.Prelude.{◌≡◌, ℕ, List, [], ◌++◌, Result, Err, OnOk}
+use Rattle.std.specs.Prelude.{◌≡◌, ℕ, List, [], ◌++◌, Result, Err, OnOk, IsErrOf, ◌≢◌}
 use Rattle.nfs_server.specs.declared.serve_error.ServeError.{ServeError}
 use Rattle.nfs_server.specs.declared.serve_error.ServeError.TheVariants as errors
 use Rattle.nfs_server.specs.Connection.{Scene}
@@ -18,4 +18,5 @@ pub record IsServed {D S C T : Type 0} (device : Device D) (rules : Rules S C) (
   pub served : messages ≡ messages_of exchanges ++ left
   pub exchanged : AreExchanged rules before.service before.clock exchanges after.service after.clock
   pub none_left : OnOk result (left ≡ [])
+  pub some_left : IsErrOf result errors.Memory → left ≢ []
   pub written : GoesOut device result before.device (written_for_all rules.tree exchanges) after.device

@@ -2,7 +2,7 @@ ghost use Rattle.std.specs.Prelude.{◌≡◌, ◌+◌, ◌-◌, ◌^◌, ◌<�
 ghost use Rattle.std.specs.List.{AllByRecursion};
 ghost use Rattle.nfs_server.specs.Connection.{HasCourse, scene};
 ghost use Rattle.nfs_server.specs.Device.{IsCut, IsWritten};
-ghost use Rattle.nfs_server.specs.Ends.{Ends, device_of, ends};
+ghost use Rattle.nfs_server.specs.Sides.{Sides, device_of, sides};
 ghost use Rattle.nfs_server.specs.Exchange.{rules};
 ghost use Rattle.nfs_server.specs.Serving.{IsServed};
 ghost use Rattle.nfs_rpc.specs.Records.{IsStream, TakesPiece};
@@ -38,8 +38,8 @@ pub fn serve_connection<R: Source, W: Sink, S: Service, C: Clock>(
     requires serves { S.serves service.old ≡ tree.now.nodes }
     ensures serves { S.serves service.new ≡ tree.now.nodes }
     ensures course { HasCourse (device_of R.gives R.fails W.takes W.fails) (rules tree.now S.gives C.tells)
-        (scene (ends source.old sink.old) service.old clock.old) result
-        (scene (ends source.new sink.new) service.new clock.new) }
+        (scene (sides source.old sink.old) service.old clock.old) result
+        (scene (sides source.new sink.new) service.new clock.new) }
     ensures read_failed { IsErrOf result ServeError.Read ↔ R.failures source.old < R.failures source.new }
     ensures write_failed { IsErrOf result ServeError.Write ↔ W.failures sink.old < W.failures sink.new }
 {

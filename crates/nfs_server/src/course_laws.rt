@@ -1,7 +1,7 @@
 //! Laws of every course of a connection.
 ghost use Rattle.std.specs.Prelude.{◌≡◌};
 ghost use Rattle.nfs_server.specs.CourseLaws.{GainsEntries, HasBytes, IsOneText};
-ghost use Rattle.nfs_server.specs.Ends.{device_of};
+ghost use Rattle.nfs_server.specs.Sides.{device_of};
 ghost use Rattle.nfs_server.specs.Exchange.{rules};
 ghost use Rattle.nfs_tree.specs.Tree.{Files};
 
@@ -9,9 +9,12 @@ use crate::{Clock, Counted, Duplex, Lent, Service, Sink, Source};
 use nfs_rpc::split_goes_on;
 use std::io::{Read, Write};
 
-/// The law that the records of a connection, answered turn by turn, are those of the whole text.
-pub fn turns_are_of_one_text<D: Duplex, S: Service, C: Clock>()
-    ensures { (tree : Files) → IsOneText D.device (rules tree S.gives C.tells) }
+/// The law that the records of a connection, answered turn by turn, are those of the whole text, and
+/// that those of the last read go on from there.
+pub fn turns_are_of_one_text<D: Duplex, R: Source, W: Sink, S: Service, C: Clock>()
+    ensures together { (tree : Files) → IsOneText D.device (rules tree S.gives C.tells) }
+    ensures apart { (tree : Files) → IsOneText (device_of R.gives R.fails W.takes W.fails)
+        (rules tree S.gives C.tells) }
 {
     split_goes_on();
 }
@@ -23,12 +26,14 @@ pub fn bytes_of_a_connection<R: Read, W: Write, S: Service, C: Clock>()
         (device_of ⟦<Counted<R> as Source>⟧.gives ⟦<Counted<R> as Source>⟧.fails
         ⟦<Counted<W> as Sink>⟧.takes ⟦<Counted<W> as Sink>⟧.fails)
         (rules tree S.gives C.tells)
-        (λ ends. R.remaining ends.source.device) (λ ends. W.contents ends.sink.device) }
+        (λ sides. R.remaining sides.source.device) (λ sides. W.contents sides.sink.device) }
 {}
 
 /// The law that the journal of a lent core gains the entries of what a connection asked, in order, and
 /// no others.
-pub fn journal_of_a_connection<R: Source, W: Sink, C: Clock>()
-    ensures { (tree : Files) → GainsEntries (device_of R.gives R.fails W.takes W.fails) tree
+pub fn journal_of_a_connection<D: Duplex, R: Source, W: Sink, C: Clock>()
+    ensures together { (tree : Files) → GainsEntries D.device tree
+        ⟦<Lent as Service>⟧.gives C.tells }
+    ensures apart { (tree : Files) → GainsEntries (device_of R.gives R.fails W.takes W.fails) tree
         ⟦<Lent as Service>⟧.gives C.tells }
 {}

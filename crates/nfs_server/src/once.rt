@@ -1,6 +1,6 @@
 ghost use Rattle.std.specs.Prelude.{◌≡◌, ◌-◌, ◌^◌, ◌<◌, ◌↔◌, ℕ, Result, IsErrOf};
 ghost use Rattle.nfs_server.specs.Connection.{HasCourse, scene};
-ghost use Rattle.nfs_server.specs.Ends.{device_of, ends};
+ghost use Rattle.nfs_server.specs.Sides.{device_of, sides};
 ghost use Rattle.nfs_server.specs.Exchange.{rules};
 ghost use Rattle.nfs_server.specs.Once.{fault_of, status_of};
 ghost use Rattle.nfs_server.specs.declared.clock.Stopped.{Stopped};
@@ -33,8 +33,8 @@ pub fn run_once<R: Source, W: Sink, E: Write>(
         × (lent.core ≡ core) × (clock.moment ≡ 0)
         × HasCourse (device_of R.gives R.fails W.takes W.fails)
         (rules tree.now ⟦<Lent as Service>⟧.gives ⟦<Stopped as Clock>⟧.tells)
-        (scene (ends source.old sink.old) lent clock) outcome
-        (scene (ends source.new sink.new) lent' clock')
+        (scene (sides source.old sink.old) lent clock) outcome
+        (scene (sides source.new sink.new) lent' clock')
         × (IsErrOf outcome ServeError.Read ↔ R.failures source.old < R.failures source.new)
         × (IsErrOf outcome ServeError.Write ↔ W.failures sink.old < W.failures sink.new)
         × (result ≡ status_of (fault_of outcome)) }

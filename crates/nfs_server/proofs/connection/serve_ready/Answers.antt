@@ -7,7 +7,7 @@ use Rattle.nfs_server.specs.declared.serve_error.ServeError.{ServeError}
 use Rattle.nfs_server.specs.declared.serve_error.ServeError.TheVariants as errors
 use Rattle.nfs_server.specs.Connection.{scene}
 use Rattle.nfs_server.specs.Exchange.{rules}
-use Rattle.nfs_server.proofs.Serving.{HasServed, ends_all, ends_cut, ends_refused, ends_so, error_is, same_more, serves_none, serves_one, serves_same, serves_sent}
+use Rattle.nfs_server.proofs.Serving.{HasServed, ends_all, ends_cut, ends_refused, ends_so, error_is, same_more, serves_none, serves_one, serves_same, serves_sent, some_more}
 use Rattle.nfs_server.proofs.connection.serve_ready.Goals as goal
 use Rattle.nfs_server.proofs.connection.serve_ready.Goals.{then-as_slice-gt-GATHER_LIMIT+in_ok-send, else-as_slice-gt-GATHER_LIMIT}
 
@@ -43,7 +43,9 @@ returns-in-Err-clause-served g c =
     let then = scene c.loop-message.device c.answer.new.service c.answer.new.clock in
     let refused = c.in-Err.ensures.err in
     let same = serves_same g.D.Duplex.device by start here c.args.records.now.ready c.loop-message.records.ready c.loop-message.replies.gathered.items c.answer.new.self.gathered.items c.answer.new.service c.answer.new.clock c.loop-message.invariant.served refused.2 refused.0 refused.1 in
-    ends_refused g.D.Duplex.device by start then c.args.records.now.ready c.loop-message.records.ready c.answer.new.self.gathered.items c.send.new.device same c.in_ok-send-in-Err.ensures.ok
+    let ready : c.loop-message.records.ready ≡ c.as_slice.result.now ∷ c.next.new.self.ready =
+    ap (λ (s : Stream). s.ready) c.in-Some.ensures.some ∙ ap (λ (m : List ℕ). m ∷ c.next.new.self.ready) (sym c.as_slice.ensures.value) in
+    ends_refused g.D.Duplex.device by start then c.args.records.now.ready c.loop-message.records.ready c.answer.new.self.gathered.items c.send.new.device same (some_more ready) c.in_ok-send-in-Err.ensures.ok
 
 pub returns-in_err-send-clause-served : goal.returns-in_err-send-clause-served
 returns-in_err-send-clause-served g c =

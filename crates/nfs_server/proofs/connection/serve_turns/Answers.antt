@@ -39,7 +39,7 @@ returns-then-count-fed-clause-course g c =
     let piece = take c.in-Ok.count c.read.new.buffer in
     ends_idle g.D.Duplex.device (rules c.args.tree.now g.S.Service.gives g.C.Clock.tells) (scene c.args.device.now c.args.service.now c.args.clock.now) (scene c.loop-records.device c.loop-records.service c.loop-records.clock)
     c.loop-records.records piece (Err errors.TooMuch) c.read.new.self c.loop-records.invariant.under_way c.loop-records.invariant.sound
-    ((refl, refl, c.in-Ok.ensures.gives), omega (arith, length-take c.in-Ok.count c.read.new.buffer, c.loop-records.invariant.under_way.fed, c.fed.ensures.value, c.in-Ok.ensures.within, c.if-count-fed.true))
+    ((refl, refl, c.in-Ok.ensures.gives), λ within. omega (arith, within, length-take c.in-Ok.count c.read.new.buffer, c.loop-records.invariant.under_way.fed, c.fed.ensures.value, c.in-Ok.ensures.within, c.if-count-fed.true))
 
 pub returns-in_err-take_in-clause-course : goal.returns-in_err-take_in-clause-course
 returns-in_err-take_in-clause-course g c =
@@ -48,7 +48,11 @@ returns-in_err-take_in-clause-course g c =
     let memory : c.from_residual.result ≡ Err errors.Memory = p.1 ∙ ap (λ (e : ServeError). Err e) (p.2 ∙ error_is c.in_err-take_in.field-0.0 errors.Memory c.in_err-take_in.ensures.memory) in
     rw memory
     (ends_idle g.D.Duplex.device (rules c.args.tree.now g.S.Service.gives g.C.Clock.tells) (scene c.args.device.now c.args.service.now c.args.clock.now) (scene c.loop-records.device c.loop-records.service c.loop-records.clock)
-    c.loop-records.records piece (Err errors.Memory) c.read.new.self c.loop-records.invariant.under_way c.loop-records.invariant.sound (inr (inl (refl, refl, c.in-Ok.ensures.gives))))
+    c.loop-records.records piece (Err errors.Memory) c.read.new.self c.loop-records.invariant.under_way c.loop-records.invariant.sound (inr (inl (
+      (refl, refl, c.in-Ok.ensures.gives),
+      omega (arith, length-take c.in-Ok.count c.read.new.buffer, c.loop-records.invariant.under_way.fed, c.loop-records.invariant.sound.bounded, c.fed.ensures.value, c.in-Ok.ensures.within, c.if-count-fed.false),
+      some_piece c.read.new.buffer c.in-Ok.count c.in-Ok.ensures.within c.in-Ok.count-test.1,
+    ))))
 
 pub serve_ready-requires-clause-limits : goal.serve_ready-requires-clause-limits
 serve_ready-requires-clause-limits g c =
@@ -68,6 +72,7 @@ returns-in_err-serve_ready-clause-course g c =
       reads = c.in-Ok.ensures.gives;
       takes = c.in_ok-take_in.ensures.ok;
       served = c.in_err-serve_ready.ensures.served;
+      within = omega (arith, length-take c.in-Ok.count c.read.new.buffer, c.loop-records.invariant.sound.bounded, c.fed.ensures.value, c.in-Ok.ensures.within, c.if-count-fed.false);
     })
 
 pub returns-in_err-serve_ready-clause-read_failed : goal.returns-in_err-serve_ready-clause-read_failed
@@ -93,6 +98,7 @@ returns-then-is_too_long-clause-course g c =
       reads = c.in-Ok.ensures.gives;
       takes = c.in_ok-take_in.ensures.ok;
       served = c.in_ok-serve_ready.ensures.served;
+      within = omega (arith, length-take c.in-Ok.count c.read.new.buffer, c.loop-records.invariant.sound.bounded, c.fed.ensures.value, c.in-Ok.ensures.within, c.if-count-fed.false);
     }) c.in_ok-serve_ready.ensures.taken (sym c.is_too_long.ensures.value ∙ c.if-is_too_long.true)
 
 pub loop-records-preserved : goal.loop-records-preserved
@@ -107,6 +113,7 @@ loop-records-preserved g c =
             reads = c.in-Ok.ensures.gives;
             takes = c.in_ok-take_in.ensures.ok;
             served = c.in_ok-serve_ready.ensures.served;
+            within = omega (arith, length-take c.in-Ok.count c.read.new.buffer, c.loop-records.invariant.sound.bounded, c.fed.ensures.value, c.in-Ok.ensures.within, c.if-count-fed.false);
           }) c.in_ok-serve_ready.ensures.taken (sym c.is_too_long.ensures.value ∙ c.if-is_too_long.false);
       sound = still_stream c.take_in.new.records c.serve_ready.new.records c.in_ok-serve_ready.ensures.taken c.in_ok-take_in.ensures.sound;
       goes = sym c.is_too_long.ensures.value ∙ c.if-is_too_long.false;

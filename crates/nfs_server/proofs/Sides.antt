@@ -4,9 +4,9 @@ use Rattle.nfs_server.specs.declared.serve_error.ServeError.{ServeError}
 use Rattle.nfs_server.specs.declared.serve_error.ServeError.TheVariants as errors
 use Rattle.nfs_server.specs.Connection.{Scene, Turn, Course, AreTurns, EndsWith, HasCourse, IsIdle, IsTurn, rest_after, scene}
 use Rattle.nfs_server.specs.Device.{Device, AreTaken, IsCut, IsWritten}
-use Rattle.nfs_server.specs.Ends.{Ends, device_of, ends}
+use Rattle.nfs_server.specs.Sides.{Sides, device_of, sides}
 use Rattle.nfs_server.specs.Exchange.{Rules}
-use Rattle.nfs_server.specs.Pair.{BorrowsTheSame, device_of_pair, ends_of}
+use Rattle.nfs_server.specs.Pair.{BorrowsTheSame, device_of_pair, sides_of}
 use Rattle.nfs_server.specs.declared.duplex.Pair.{Pair}
 
 -- Each call of one device, made where it is bound, is that call of another, and leaves it bound.
@@ -40,20 +40,20 @@ cut_as from to view IsBound is a b bytes bound cut =
 -- `goes_out` is either of the two
 turn_as : {D E S C : Type 0} (from : Device D) (to : Device E) (view : D → E) (IsBound : D → Type 0) (is : Is from to view IsBound) (rules : Rules S C) (out : Device D → D → List ℕ → D → Type 0) (out' : Device E → E → List ℕ → E → Type 0)
     → ((a b : D) (bytes : List ℕ) → IsBound a → out from a bytes b → out' to (view a) bytes (view b) × IsBound b)
-    → (before : Scene D S C) (behind : List ℕ) (turn : Turn) (after : Scene D S C) → IsBound before.device → IsTurn from rules out before behind turn after
-    → IsTurn to rules out' (scene_as view before) behind turn (scene_as view after) × IsBound after.device
-turn_as from to view IsBound is rules out out' goes before behind turn after bound t =
+    → (before : Scene D S C) (carried : List ℕ) (turn : Turn) (after : Scene D S C) → IsBound before.device → IsTurn from rules out before carried turn after
+    → IsTurn to rules out' (scene_as view before) carried turn (scene_as view after) × IsBound after.device
+turn_as from to view IsBound is rules out out' goes before carried turn after bound t =
     let read = is.gives before.device t.mid turn.piece bound t.reads in
     let written = goes t.mid after.device _ read.1 t.written in
     (record { mid = view t.mid; some = t.some; reads = read.0; split = t.split; exchanged = t.exchanged; written = written.0 }, written.1)
 
-turns_as : {D E S C : Type 0} (from : Device D) (to : Device E) (view : D → E) (IsBound : D → Type 0) (is : Is from to view IsBound) (rules : Rules S C) (before : Scene D S C) (behind : List ℕ) (turns : List Turn) (after : Scene D S C)
-    → IsBound before.device → AreTurns from rules before behind turns after
-    → AreTurns to rules (scene_as view before) behind turns (scene_as view after) × IsBound after.device
-turns_as {D = D} {S = S} {C = C} from to view IsBound is rules before behind [] after bound are =
+turns_as : {D E S C : Type 0} (from : Device D) (to : Device E) (view : D → E) (IsBound : D → Type 0) (is : Is from to view IsBound) (rules : Rules S C) (before : Scene D S C) (carried : List ℕ) (turns : List Turn) (after : Scene D S C)
+    → IsBound before.device → AreTurns from rules before carried turns after
+    → AreTurns to rules (scene_as view before) carried turns (scene_as view after) × IsBound after.device
+turns_as {D = D} {S = S} {C = C} from to view IsBound is rules before carried [] after bound are =
     (ap (λ (s : Scene D S C). scene_as view s) are, subst (λ (s : Scene D S C). IsBound s.device) (sym are) bound)
-turns_as from to view IsBound is rules before behind (turn ∷ turns) after bound are =
-    let one = turn_as from to view IsBound is rules IsWritten IsWritten (written_as from to view IsBound is) before behind turn are.0 bound are.1 in
+turns_as from to view IsBound is rules before carried (turn ∷ turns) after bound are =
+    let one = turn_as from to view IsBound is rules IsWritten IsWritten (written_as from to view IsBound is) before carried turn are.0 bound are.1 in
     let others = turns_as from to view IsBound is rules are.0 turn.rest turns after one.1 are.4 in
     ((scene_as view are.0, one.0, are.2, are.3, others.0), others.1)
 
@@ -74,18 +74,19 @@ end_as {D = D} {S = S} {C = C} from to view IsBound is rules before course (Err 
     let failed = is.fails_to_read before.device after.device bound ends.3 in
     ((ends.0, ends.1, ap (λ (s : Scene D S C). scene (view after.device) s.service s.clock) ends.2, failed.0), failed.1)
 end_as from to view IsBound is rules before course (Err errors.Write) after bound ends =
-    turn_as from to view IsBound is rules IsCut IsCut (cut_as from to view IsBound is) before (rest_after [] course.turns) course.last after bound ends
+    let turn = turn_as from to view IsBound is rules IsCut IsCut (cut_as from to view IsBound is) before (rest_after [] course.turns) course.last after bound ends.0 in
+    ((turn.0, ends.1), turn.1)
 end_as from to view IsBound is rules before course (Err errors.TooLong) after bound ends =
     let turn = turn_as from to view IsBound is rules IsWritten IsWritten (written_as from to view IsBound is) before (rest_after [] course.turns) course.last after bound ends.0 in
-    ((turn.0, ends.1, ends.2), turn.1)
+    ((turn.0, ends.1, ends.2, ends.3), turn.1)
 end_as {D = D} {S = S} {C = C} from to view IsBound is rules before course (Err errors.Memory) after bound (inl ends) =
     (inl (ends.0, ends.1, ends.2, ap (λ (s : Scene D S C). scene_as view s) ends.3), subst (λ (s : Scene D S C). IsBound s.device) (sym ends.3) bound)
 end_as from to view IsBound is rules before course (Err errors.Memory) after bound (inr (inl ends)) =
-    let idle = idle_as from to view IsBound is rules before course.last after bound ends in
-    (inr (inl idle.0), idle.1)
+    let idle = idle_as from to view IsBound is rules before course.last after bound ends.0 in
+    (inr (inl (idle.0, ends.1, ends.2)), idle.1)
 end_as from to view IsBound is rules before course (Err errors.Memory) after bound (inr (inr ends)) =
-    let turn = turn_as from to view IsBound is rules IsWritten IsWritten (written_as from to view IsBound is) before (rest_after [] course.turns) course.last after bound ends in
-    (inr (inr turn.0), turn.1)
+    let turn = turn_as from to view IsBound is rules IsWritten IsWritten (written_as from to view IsBound is) before (rest_after [] course.turns) course.last after bound ends.0 in
+    (inr (inr (turn.0, ends.1, ends.2)), turn.1)
 end_as from to view IsBound is rules before course (Err errors.TooMuch) after bound ends =
     let idle = idle_as from to view IsBound is rules before course.last after bound ends.0 in
     ((idle.0, ends.1), idle.1)
@@ -100,9 +101,9 @@ course_as from to view IsBound is rules before result after bound has =
     ((course, (scene_as view has.1.0, turns.0, has.1.2, end.0)), end.1)
 
 -- a pair is its ends, as long as it borrows them
-pub pair_is_ends : {R W : Type 0} (gives : R → List ℕ → R → Type 0) (fails : R → R → Type 0) (takes : W → List ℕ → W → Type 0) (fails' : W → W → Type 0) (start : Pair R W)
-    → Is (device_of_pair gives fails takes fails') (device_of gives fails takes fails') ends_of (λ p. BorrowsTheSame start p)
-pair_is_ends gives fails takes fails' start = record {
+pub pair_is_sides : {R W : Type 0} (gives : R → List ℕ → R → Type 0) (fails : R → R → Type 0) (takes : W → List ℕ → W → Type 0) (fails' : W → W → Type 0) (start : Pair R W)
+    → Is (device_of_pair gives fails takes fails') (device_of gives fails takes fails') sides_of (λ p. BorrowsTheSame start p)
+pair_is_sides gives fails takes fails' start = record {
   gives = λ a b piece bound did. (did.1, (did.0.0 ∙ bound.0, did.0.1 ∙ bound.1));
   fails_to_read = λ a b bound did. (did.1, (did.0.0 ∙ bound.0, did.0.1 ∙ bound.1));
   takes = λ a b part bound did. (did.1, (did.0.0 ∙ bound.0, did.0.1 ∙ bound.1));
@@ -110,15 +111,15 @@ pair_is_ends gives fails takes fails' start = record {
 }
 
 -- a course over a pair that borrows a source and a sink is one over these, and the pair still borrows them
-pub course_of_ends : {R W S C : Type 0} (gives : R → List ℕ → R → Type 0) (fails : R → R → Type 0) (takes : W → List ℕ → W → Type 0) (fails' : W → W → Type 0) (rules : Rules S C) (before : Scene (Pair R W) S C) (result : Result ℕ ServeError) (after : Scene (Pair R W) S C)
+pub course_of_sides : {R W S C : Type 0} (gives : R → List ℕ → R → Type 0) (fails : R → R → Type 0) (takes : W → List ℕ → W → Type 0) (fails' : W → W → Type 0) (rules : Rules S C) (before : Scene (Pair R W) S C) (result : Result ℕ ServeError) (after : Scene (Pair R W) S C)
     → HasCourse (device_of_pair gives fails takes fails') rules before result after
-    → HasCourse (device_of gives fails takes fails') rules (scene_as ends_of before) result (scene_as ends_of after) × BorrowsTheSame before.device after.device
-course_of_ends gives fails takes fails' rules before result after has =
-    course_as (device_of_pair gives fails takes fails') (device_of gives fails takes fails') ends_of (λ p. BorrowsTheSame before.device p) (pair_is_ends gives fails takes fails' before.device) rules before result after (refl, refl) has
+    → HasCourse (device_of gives fails takes fails') rules (scene_as sides_of before) result (scene_as sides_of after) × BorrowsTheSame before.device after.device
+course_of_sides gives fails takes fails' rules before result after has =
+    course_as (device_of_pair gives fails takes fails') (device_of gives fails takes fails') sides_of (λ p. BorrowsTheSame before.device p) (pair_is_sides gives fails takes fails' before.device) rules before result after (refl, refl) has
 
 -- the ends are told by other names
-pub course_to : {R W S C : Type 0} (device : Device (Ends R W)) (rules : Rules S C) (before : Scene (Ends R W) S C) (result : Result ℕ ServeError) (source source' : R) (sink sink' : W) (service : S) (clock : C)
+pub course_to : {R W S C : Type 0} (device : Device (Sides R W)) (rules : Rules S C) (before : Scene (Sides R W) S C) (result : Result ℕ ServeError) (source source' : R) (sink sink' : W) (service : S) (clock : C)
     → source' ≡ source → sink' ≡ sink
-    → HasCourse device rules before result (scene (ends source sink) service clock)
-    → HasCourse device rules before result (scene (ends source' sink') service clock)
+    → HasCourse device rules before result (scene (sides source sink) service clock)
+    → HasCourse device rules before result (scene (sides source' sink') service clock)
 course_to device rules before result source source' sink sink' service clock same same' has = rw (same, same') has

@@ -2,12 +2,12 @@
 use Rattle.std.specs.Prelude.{◌≡◌, ℕ, List}
 use Rattle.nfs_server.specs.Device.{Device}
 
-pub record Ends (R W : Type 0) : Type 0 where
+pub record Sides (R W : Type 0) : Type 0 where
   pub source : R
   pub sink : W
 
 -- A read leaves the sink as it was, and a write the source.
-abbrev pub device_of : {R W : Type 0} → (R → List ℕ → R → Type 0) → (R → R → Type 0) → (W → List ℕ → W → Type 0) → (W → W → Type 0) → Device (Ends R W)
+abbrev pub device_of : {R W : Type 0} → (R → List ℕ → R → Type 0) → (R → R → Type 0) → (W → List ℕ → W → Type 0) → (W → W → Type 0) → Device (Sides R W)
 device_of gives fails_to_read takes fails_to_write = record {
   gives = λ old piece new. gives old.source piece new.source × (new.sink ≡ old.sink);
   fails_to_read = λ old new. fails_to_read old.source new.source × (new.sink ≡ old.sink);
@@ -15,5 +15,5 @@ device_of gives fails_to_read takes fails_to_write = record {
   fails_to_write = λ old new. fails_to_write old.sink new.sink × (new.source ≡ old.source);
 }
 
-abbrev pub ends : {R W : Type 0} → R → W → Ends R W
-ends source sink = record { source = source; sink = sink }
+abbrev pub sides : {R W : Type 0} → R → W → Sides R W
+sides source sink = record { source = source; sink = sink }
