@@ -55,7 +55,7 @@ pub fn serve_connection<R: Source, W: Sink, S: Service, C: Clock>(
 /// for it. `Read` and `Write` come just where a read or a write failed, `TooLong` where a header shows
 /// a record above `RECORD_LIMIT`, `TooMuch` where more than `STREAM_LIMIT` bytes came, and `Memory`
 /// where memory was refused for what was read, or for a reply, of which nothing was run then. What
-/// was done before an error stands, and its replies went out.
+/// was done before an error stands, and its replies went out, but for those of a write that failed.
 pub fn serve_duplex<D: Duplex, S: Service, C: Clock>(
     alloc: Global,
     device: &mut D,
