@@ -31,8 +31,8 @@ pub enum Request {
     Operations(Sequence<ArgOp>),
 }
 
-/// Reads the arguments of a COMPOUND; bytes behind them are ignored. Short and TooLong come where the tag, the
-/// minor version or the count can't be read.
+/// Reads the arguments of a COMPOUND; bytes after them are ignored. Short where the tag, the minor version or
+/// the count can't be read; a tag has no limit, so TooLong never comes.
 pub fn read_compound(alloc: Global, bytes: &[u8]) -> Result<Compound, WireError>
     // What is read stands in the layout. Where nothing is, nothing there does, or memory was refused.
     ensures stands { IfOk result (λ compound. IsCompound compound bytes.now) }
