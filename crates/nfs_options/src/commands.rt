@@ -39,7 +39,7 @@ fn once_command<'a>(alloc: Global) -> Result<Command<'a>, AllocError>
         alloc,
         "lease",
         "SECONDS",
-        "How long a client's state is kept unrenewed, 1 to 86400 seconds [default: 90]",
+        "The lease that clients see, 1 to 86400 seconds [default: 90]",
     );
     let epoch = option(
         alloc,
