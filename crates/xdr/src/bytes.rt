@@ -3,16 +3,16 @@ ghost use Rattle.std.specs.Prelude.{◌≡◌, ◌==◌, IfOk};
 use std::alloc::{AllocError, Global};
 use std::marker::Model;
 
-/// The greatest length that can be said before bytes.
+/// The greatest length that can be written before bytes.
 pub const NO_LIMIT: u32 = u32::MAX;
 
-/// Bytes that a value owns, of which at most `LIMIT` can be written (opaque<LIMIT>). Contracts see the list of them.
+/// Owned bytes, of which at most `LIMIT` can be written (opaque<LIMIT>). Contracts see the list of them.
 #[derive(Debug, Drop)]
 pub struct Opaque<const LIMIT: u32> {
     items: Vec<u8>,
 }
 
-/// Bytes of any length that can be said.
+/// Owned bytes of any length that can be written.
 pub type Bytes = Opaque<NO_LIMIT>;
 
 impl<const LIMIT: u32> Model for Opaque<LIMIT> {
