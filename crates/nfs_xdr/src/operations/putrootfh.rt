@@ -1,6 +1,6 @@
 use crate::Answer;
 
-/// PUTROOTFH has none (RFC 7530, section 16.22).
+/// PUTROOTFH has no arguments (RFC 7530, section 16.22).
 pub type Arguments = ();
 
 /// A status alone.

@@ -1,6 +1,6 @@
 use crate::Answer;
 
-/// RESTOREFH has none (RFC 7530, section 16.29).
+/// RESTOREFH has no arguments (RFC 7530, section 16.29).
 pub type Arguments = ();
 
 /// A status alone.
