@@ -76,8 +76,8 @@ fn tree(rt: &HostRuntime, path: Option<&str>) -> Result<Tree, Fault> {
         Err(_) => Err(Fault::FileNotRead),
     }
 }
+
 // The functions below ignore an error in writing, since there is no other place to report it.
-// If these can't be written, there is no other place to report it.
 
 fn helped(rt: &HostRuntime, text: &str) -> ExitCode {
     let _ = rt.print(text);
