@@ -21,7 +21,7 @@ U32 = Number 4
 abbrev pub U64 : ℕ → List ℕ → Type 0
 U64 = Number 8
 
--- 1 or 0
+-- a bool, as the number 1 or 0
 abbrev pub Flag : Bool → List ℕ → Type 0
 Flag b = U32 (if b then 1 else 0)
 

@@ -24,7 +24,7 @@ impl<const LIMIT: u32> Model for Opaque<LIMIT> {
 }
 
 impl<const LIMIT: u32> Opaque<LIMIT> {
-    /// These bytes, taking no memory.
+    /// A value that owns these bytes, taking no memory.
     pub fn new(items: Vec<u8>) -> Opaque<LIMIT>
         ensures { result ≡ items.items }
     {
