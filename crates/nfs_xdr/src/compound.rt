@@ -25,9 +25,9 @@ pub struct Compound {
 pub enum Request {
     /// A minor version other than 0.
     MinorVersion(u32),
-    /// More operations than the limit of 64: this count.
+    /// More operations than the limit of 64; this is their count.
     TooMany(u32),
-    /// The operations, up to the first that ends the list.
+    /// The operations, up to the first one that ends the list.
     Operations(Sequence<ArgOp>),
 }
 
@@ -82,7 +82,7 @@ fn read_request(alloc: Global, minor: u32, count: u32, bytes: &[u8]) -> Result<R
 fn read_operations(alloc: Global, count: u32, bytes: &[u8]) -> Result<Sequence<ArgOp>, AllocError>
     ensures { IfOk result (λ ops. ops ≡ operations_at count bytes.now) }
 {
-    // Each begins with a number of four bytes, so that a false count takes little memory.
+    // Each operation takes at least four bytes, so a false count doesn't take much memory.
     let most = (count as usize).min(bytes.len() / 4);
     let mut ops = Vec::with_capacity(alloc, most)?;
     let mut rest = bytes;

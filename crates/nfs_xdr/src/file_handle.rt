@@ -6,7 +6,7 @@ use std::alloc::{AllocError, Global};
 use std::marker::Model;
 use xdr::{Measure, Wire, WireError, padding_of, read_opaque, write_opaque};
 
-/// The most bytes of a filehandle (NFS4_FHSIZE).
+/// The greatest length of a filehandle in bytes (NFS4_FHSIZE).
 pub const FILE_HANDLE_LIMIT: usize = 128;
 
 /// A filehandle (nfs_fh4): up to 128 bytes that only the server interprets. It takes no memory. Contracts see the

@@ -137,7 +137,7 @@ macro_rules! class_of_opnum {
     };
 }
 
-// The least number of an operation.
+// The smallest number of an operation.
 const FIRST_NUMBER: u32 = 3;
 
 /// Every operation: those with the numbers from 3 to 39 in this order, and then `Illegal`.

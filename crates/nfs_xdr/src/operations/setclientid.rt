@@ -5,7 +5,7 @@ use crate::{Address, Answer, Callback, Verifier};
 use std::alloc::Global;
 use xdr::{Opaque, Wire, WireError, write_three};
 
-/// The most bytes of a client's id (NFS4_OPAQUE_LIMIT).
+/// The greatest length of a client's id in bytes (NFS4_OPAQUE_LIMIT).
 pub const ID_LIMIT: u32 = 1024;
 
 /// The client that introduces itself, and where it is called back (RFC 7530, section 16.33).

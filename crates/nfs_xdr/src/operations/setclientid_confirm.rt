@@ -16,7 +16,7 @@ pub struct SetclientidConfirm {
     pub confirm: u64,
 }
 
-/// A status alone.
+/// A status without further data.
 pub type Outcome = Answer<()>;
 
 impl Wire for SetclientidConfirm {
