@@ -1,4 +1,4 @@
--- The call that is read of a record is what the rules give for it, and the rules give one call for each record.
+-- The call that is read from a record is the one that the rules give, and the rules give one call for each record.
 use Rattle.std.proofs.Common.{◌≡◌, ℕ, cond, not, eqb, List, [], ◌∷◌, Option, Some, None, Result, Ok, Err, refl, sym, ap, subst, ◌∙◌, inl, inr}
 use Rattle.std.specs.Prelude.{IsOk}
 use Rattle.std.proofs.lemmas.Bool.{eqb-true, eqb-false, eq-eqb}

@@ -99,7 +99,8 @@ all_found_long text behind messages bodies first count is few above counts f =
       },
     )
 
--- The part of a piece before `rest` was added to what was kept, and this is what was found of them.
+-- The part of a piece before `rest` was added to what was kept, with these records and this unfinished
+-- record as the result.
 abbrev pub AreFoundSoFar : List ℕ → Unfinished → List ℕ → List ℕ → List (List ℕ) → List ℕ → Unfinished → Type 0
 AreFoundSoFar start from piece rest messages bodies first =
     (done : List ℕ) × (piece ≡ done ++ rest)

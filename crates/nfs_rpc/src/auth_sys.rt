@@ -4,10 +4,10 @@ ghost use Rattle.xdr.specs.Reading.{Answers, as_value};
 
 use xdr::{WireError, read_opaque, read_u32};
 
-/// The most bytes of a machine's name (RFC 5531, appendix A).
+/// The greatest length of a machine's name, in bytes (RFC 5531, appendix A).
 pub const MACHINE_NAME_LIMIT: u32 = 255;
 
-/// The most groups of a user, not counting the user's first group.
+/// How many groups a user can have, not counting the user's first group.
 pub const GID_LIMIT: u32 = 16;
 
 // The user in the body of an AUTH_SYS credential. The rest of the body is read and ignored.

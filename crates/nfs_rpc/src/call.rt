@@ -29,9 +29,9 @@ pub const PROC_COMPOUND: u32 = 1;
 pub enum Call {
     /// Nothing: the record gets no reply.
     Silent,
-    /// NULL, with the call's xid.
+    /// A call of NULL, with its xid.
     Null(u32),
-    /// COMPOUND, with the call's xid.
+    /// A call of COMPOUND, with its xid.
     Compound(u32, Principal, Compound),
     /// A reply that needs no service, with the call's xid.
     Answer(u32, Reply),

@@ -12,7 +12,7 @@ pub const AUTH_NONE: u32 = 0;
 
 pub const AUTH_SYS: u32 = 1;
 
-/// The most bytes in the body of a credential or a verifier.
+/// The greatest length of the body of a credential or a verifier, in bytes.
 pub const BODY_LIMIT: u32 = 400;
 
 // The principal of a credential, or `None` if the server doesn't accept its flavor or can't read its body.

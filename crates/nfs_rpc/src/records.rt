@@ -8,10 +8,10 @@ use std::collections::VecDeque;
 use std::marker::Model;
 use thiserror::Error;
 
-/// The most bytes of a record, not counting the headers of its fragments.
+/// The greatest length of a record in bytes, not counting the headers of its fragments.
 pub const RECORD_LIMIT: usize = 262_144;
 
-/// The bytes of a fragment's header.
+/// The length of a fragment's header in bytes.
 pub const HEADER_LEN: usize = 4;
 
 /// The bit in a header that marks the last fragment of a record.
@@ -83,8 +83,8 @@ impl Records {
         requires { self.old.fed + length piece.now ≤ 2 ^ 40 }
         ensures ok { OnOk result (TakesPiece self.old self.new piece.now × (self.new.is_too_long ≡ false)) }
 
-        // At the first header of a record that is too long, the piece is still taken, and the records before it are
-        // kept.
+        // At the first header of a record that is too long, the piece is still taken,
+        // and the records before it are kept.
         ensures too_long { IsErrOf result RecordError.TooLong → IsTrue self.new.is_too_long }
         ensures first { IsErrOf result RecordError.TooLong → self.old.is_too_long ≡ false → TakesPiece self.old self.new piece.now }
         ensures again { IsTrue self.old.is_too_long → IsErrOf result RecordError.TooLong × (self.new ≡ self.old) }

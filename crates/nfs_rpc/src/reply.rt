@@ -38,10 +38,10 @@ pub const DENIED_AUTH_ERROR: u32 = 1;
 /// Why the credential of a denied call isn't accepted (auth_stat).
 pub const AUTH_BADCRED: u32 = 1;
 
-/// The bytes of an accepted reply up to its state.
+/// The length of an accepted reply up to and including its state, in bytes.
 pub const ACCEPTED_LEN: usize = 24;
 
-/// The most bytes of a reply that needs no service.
+/// The greatest length of a reply that needs no service, in bytes.
 pub const SHORT_REPLY_LEN: usize = 32;
 
 /// The result of a COMPOUND.
@@ -56,21 +56,21 @@ pub struct CompoundReply {
 /// The reply to a call.
 #[derive(Debug, Drop)]
 pub enum Reply {
-    /// SUCCESS, to NULL.
+    /// SUCCESS, the reply to NULL.
     Null,
-    /// SUCCESS and the result, to COMPOUND.
+    /// SUCCESS with the result, the reply to COMPOUND.
     Compound(CompoundReply),
-    /// PROG_UNAVAIL: another program.
+    /// PROG_UNAVAIL: the call is for another program.
     ProgUnavail,
-    /// PROG_MISMATCH: another version of the program.
+    /// PROG_MISMATCH: the call is for another version of the program.
     ProgMismatch,
-    /// PROC_UNAVAIL: no such procedure.
+    /// PROC_UNAVAIL: there is no such procedure.
     ProcUnavail,
     /// GARBAGE_ARGS: the arguments can't be read.
     GarbageArgs,
     /// SYSTEM_ERR: memory ran out.
     SystemError,
-    /// RPC_MISMATCH: another version of RPC.
+    /// RPC_MISMATCH: the call uses another version of RPC.
     RpcMismatch,
     /// AUTH_ERROR: the credential isn't accepted or can't be read.
     AuthError,
