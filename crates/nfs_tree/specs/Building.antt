@@ -117,7 +117,7 @@ abbrev pub built : Files → List Entry → Result Files TreeError
 built old [] = Ok old
 built old (entry ∷ entries) = added old entry >>= λ new. built new entries
 
--- the tree of a document, built from the root alone
+-- the tree of a document, built from a tree that has only the root
 abbrev pub tree_of_document : Document → Result Files TreeError
 tree_of_document d = built (record { nodes = []; policy = d.policy }) d.entries
 

@@ -3,7 +3,7 @@ use Rattle.std.specs.Prelude.{ℕ, ◌<◌, Option, None, IfSome}
 use Rattle.nfs_tree.specs.declared.filehandles.Filehandles.{Filehandles}
 use Rattle.nfs_tree.specs.Tree.{Files, node_count}
 
--- both are absent when a COMPOUND begins
+-- both filehandles are absent when a COMPOUND begins
 abbrev pub no_filehandles : Filehandles
 no_filehandles = record { current = None; saved = None }
 

@@ -17,7 +17,7 @@ Leads nodes from [] to = from ≡ to
 Leads nodes from (name ∷ names) to =
     (next : ℕ) × (child nodes from name ≡ Some next) × Leads nodes next names to
 
--- The node is a directory, or a file of this text.
+-- The node is a directory, or a file with this text.
 abbrev pub IsOfKind : List Node → ℕ → NodeKind → Type 0
 IsOfKind nodes n Directory = is_directory nodes n ≡ true
 IsOfKind nodes n (File text) = text_of nodes n ≡ Some text

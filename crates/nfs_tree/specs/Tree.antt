@@ -23,7 +23,7 @@ slash = 47
 abbrev pub is_name_byte : ℕ → Bool
 is_name_byte b = not (b == 0) && not (b == slash)
 
--- 1 to 255 bytes, none of them zero or a slash, and neither `.` nor `..`
+-- a valid name: 1 to 255 bytes, none of them zero or a slash, and neither `.` nor `..`
 abbrev pub is_name : List ℕ → Bool
 is_name name =
     not (length name == 0) && nat_le (length name) NAME_LIMIT

@@ -113,7 +113,7 @@ fn files_among(nodes: &[Node]) -> usize
     nodes.iter().filter(|n| !n.kind.is_directory()).count()
 }
 
-// Nodes for these names, each in the one before it, numbered from `number` on.
+// A node for each of these names, numbered from `number` on: the first in `parent`, and each other in the one before.
 fn chain_of(
     alloc: Global,
     parent: u32,

@@ -1,7 +1,7 @@
 ghost use Rattle.std.specs.Prelude.{◌≡◌};
 ghost use Rattle.nfs_tree.specs.Filehandles.{no_filehandles};
 
-/// The most bytes that the answer to an operation on the tree takes in a reply.
+/// The greatest length of the answer to an operation on the tree, in bytes.
 pub const TREE_ANSWER_LIMIT: usize = 20;
 
 /// The nodes of the current and the saved filehandle (RFC 7530, section 15.2). Each is absent until an operation of the

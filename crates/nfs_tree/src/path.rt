@@ -7,10 +7,10 @@ use crate::TreeError;
 use std::alloc::{AllocError, Global};
 use xdr::{Bytes, Sequence};
 
-/// The most bytes in a name.
+/// The greatest length of a name in bytes.
 pub const NAME_LIMIT: usize = 255;
 
-/// The most names in a path.
+/// How many names a path can have.
 pub const PATH_LIMIT: usize = 8;
 
 /// The names of a path, 1 to `PATH_LIMIT` of them; Name if the path doesn't consist of such names, joined by `/`.

@@ -7,16 +7,16 @@ use byteorder::{BigEndian, ByteOrder};
 use std::alloc::AllocError;
 use std::marker::Model;
 
-/// The number of the root.
+/// The number of the root node.
 pub const ROOT: u32 = 0;
 
-/// The most files in a tree.
+/// How many files a tree can have.
 pub const FILE_LIMIT: usize = 64;
 
-/// The most directories in a tree, not counting the root.
+/// How many directories a tree can have, not counting the root.
 pub const DIRECTORY_LIMIT: usize = 64;
 
-/// The most bytes in a file's text.
+/// The greatest length of a file's text in bytes.
 pub const TEXT_LIMIT: usize = 65_536;
 
 /// The length of a filehandle in bytes.

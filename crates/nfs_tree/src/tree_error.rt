@@ -11,7 +11,7 @@ pub enum TreeError {
     /// The text isn't TOML, or isn't a document with the keys of a tree.
     #[error("the text is no document of a tree (1)")]
     Syntax = 1,
-    /// A path isn't 1 to 8 names.
+    /// A path doesn't consist of 1 to 8 valid names.
     #[error("a path is not 1 to 8 names (2)")]
     Name = 2,
     /// A text is too long, or there are too many files or directories.
