@@ -11,7 +11,7 @@ use Rattle.nfs_tree.specs.Tree.{node_count, text_of}
 
 pub record State : Type 0 where
   pub clients : Registry
-  -- in order of the numbers of their nodes
+  -- ordered by the numbers of their nodes
   pub files : List StoredFile
 
 -- the file of the node with this number before any client changes it, if the node has a text

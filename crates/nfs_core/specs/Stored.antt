@@ -7,7 +7,7 @@ use Rattle.nfs_tree.specs.declared.node.Node.{Node}
 
 pub record Stored : Type 0 where
   pub clients : Registry
-  -- in order of the numbers of their nodes
+  -- ordered by the numbers of their nodes
   pub files : List StoredFile
 
 abbrev pub meaning : Stored → State

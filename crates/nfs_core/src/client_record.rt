@@ -27,7 +27,7 @@ pub struct ClientRecord {
 /// What is known about the path to a client's callbacks.
 #[derive(Clone, Copy, Debug, PartialEq, Eq)]
 pub enum PathMark {
-    /// Nothing yet.
+    /// Nothing is known yet.
     Unknown,
     /// A callback was answered, or is assumed to have been.
     Up,
@@ -35,10 +35,10 @@ pub enum PathMark {
     Down,
 }
 
-/// The most bytes of r_netid, and of r_addr, in a client's record.
+/// The greatest length of r_netid, and of r_addr, in a client's record, in bytes.
 pub const ADDRESS_LIMIT: usize = 128;
 
-/// The most client numbers that are given out in one run of the server.
+/// How many client numbers can be given out in one run of the server.
 pub const CLIENT_LIMIT: u32 = 4096;
 
 impl ClientRecord {

@@ -21,7 +21,7 @@ use nfs_xdr::{Op, OpResult, Principal, Refusal};
 use std::alloc::{AllocError, Global};
 use std::marker::Model;
 
-/// The most bytes that an answer takes in a reply.
+/// The greatest length of an answer in a reply, in bytes.
 pub const ANSWER_LIMIT: usize = 2036;
 
 /// The state of a server (RFC 7530, section 9), and the journal of the changes that led to it.

@@ -15,5 +15,5 @@ pub struct Call {
     pub answer: OpResult,
 }
 
-/// The most entries that a journal can have.
+/// How many entries a journal can have.
 pub const JOURNAL_LIMIT: usize = 1_000_000;

@@ -1,4 +1,4 @@
--- SETCLIENTID (RFC 7530, section 16.33.5).
+-- SETCLIENTID (RFC 7530, section 16.33.5): its answer, and its change of the clients' records.
 use Rattle.std.specs.Prelude.{Option, option_map}
 use Rattle.nfs_core.specs.declared.change.Change.TheVariants.{Clients}
 use Rattle.nfs_core.specs.declared.clients.client_change.ClientChange.{ClientChange}

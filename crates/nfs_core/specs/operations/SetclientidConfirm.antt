@@ -1,4 +1,4 @@
--- SETCLIENTID_CONFIRM (RFC 7530, section 16.34.5).
+-- SETCLIENTID_CONFIRM (RFC 7530, section 16.34.5): its answer, and its change of the clients' records.
 use Rattle.std.specs.Prelude.{Option, Some}
 use Rattle.nfs_core.specs.declared.change.Change.TheVariants.{Clients}
 use Rattle.nfs_core.specs.declared.client_record.PathMark.{PathMark}
