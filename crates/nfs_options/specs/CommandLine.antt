@@ -29,7 +29,7 @@ once =
 abbrev pub program : App
 program = with_subcommand (on_top (λ s. record s { disable_help_subcommand = true }) (new_app (codes "nfs4state"))) once.top
 
--- the text of an option's value, if it is given
+-- the text of an option's value, if the option is present
 abbrev pub text_of : Option (Bor Text) → Option Text
 text_of = option_map (λ s. s.now)
 
