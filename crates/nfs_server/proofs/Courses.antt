@@ -43,7 +43,7 @@ pub record IsUnderWay {D S C : Type 0} (device : Device D) (rules : Rules S C) (
 pub starts : {D S C : Type 0} (device : Device D) (rules : Rules S C) (before : Scene D S C) (stream : Stream) → IsNew stream → IsUnderWay device rules before stream before
 starts device rules before stream new = record { turns = []; are = refl; keeps = new.keeps; idle = new.idle; fed = new.fed }
 
--- a last read to whose bytes no record was answered
+-- a last read after which no record was answered
 abbrev pub idle : List ℕ → Turn
 idle piece = record { piece = piece; exchanges = []; unanswered = []; rest = [] }
 

@@ -4,7 +4,7 @@ use nfs_core::Moment;
 
 /// Gives the present moment.
 pub trait Clock {
-    /// The states between which the clock may go when it shows this moment.
+    /// How the clock may be read: its state before, the moment that it shows, and its state after.
     ghost tells: { Self → ℕ → Self → Type 0 };
 
     fn now(&mut self) -> Moment

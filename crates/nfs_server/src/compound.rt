@@ -33,7 +33,8 @@ pub fn run_compound<S: Service>(
     requires serves { S.serves service.old ≡ tree.now.nodes }
     requires empty { results.items ≡ [] }
     requires room { OPERATION_LIMIT ≤ vec_capacity results }
-    // The service was asked what the COMPOUND asks given its answers, and the reply is the one for these answers.
+    // The service was asked what the COMPOUND asks given its answers, and the reply is the one
+    // for these answers.
     ensures answers { (answers : List OpResult)
         × Asks S.gives service.old
         (map (question_of moment principal) (compound_outcome tree.now compound answers).asked)

@@ -14,10 +14,10 @@ use nfs_rpc::{RECORD_LIMIT, RecordError, Records};
 use nfs_tree::Tree;
 use std::alloc::{AllocError, Global};
 
-/// The most bytes that a connection may carry in its input.
+/// How many bytes the input of a connection may have.
 pub const STREAM_LIMIT: u64 = 1 << 40;
 
-// The most bytes that are read from a device at once.
+// How many bytes are read from a device at most at once.
 const PIECE_LEN: usize = 65_536;
 
 // Once more bytes of replies than this are waiting, they are written before the next record is answered.

@@ -11,9 +11,10 @@ pub struct DeviceFailed;
 
 /// Where bytes are read from. It counts its failed reads.
 pub trait Source {
-    /// The states between which a successful read of these bytes may go; there are none only at the end of the input.
+    /// How a read may succeed: the state before, the bytes that it gives, and the state after. It gives no bytes only
+    /// at the end of the input.
     ghost gives: { Self → List ℕ → Self → Type 0 };
-    /// The states between which a failed read may go.
+    /// How a read may fail: the state before, and the state after.
     ghost fails: { Self → Self → Type 0 };
     /// How often a read has failed.
     ghost failures: { Self → ℕ };
@@ -31,9 +32,9 @@ pub trait Source {
 
 /// Where bytes are written to. It counts its failed writes.
 pub trait Sink {
-    /// The states between which a write that takes these bytes may go.
+    /// How a write may succeed: the state before, the bytes that it takes, and the state after.
     ghost takes: { Self → List ℕ → Self → Type 0 };
-    /// The states between which a failed write may go.
+    /// How a write may fail: the state before, and the state after.
     ghost fails: { Self → Self → Type 0 };
     /// How often a write has failed.
     ghost failures: { Self → ℕ };

@@ -27,7 +27,8 @@ pub fn run_once<R: Source, W: Sink, E: Write>(
     requires writes { W.failures sink.old < 2 ^ 64 - 1 }
     requires tree { core.journal.nodes ≡ tree.now.nodes }
     requires policy { core.journal.policy ≡ tree.now.policy }
-    // The input was served as one connection, starting from this core, and the status says how it ended.
+    // The input was served as one connection, starting from this core, and the status says
+    // how it ended.
     ensures served { (lent : Lent) × (clock : Stopped) × (lent' : Lent) × (clock' : Stopped)
         × (outcome : Result ℕ ServeError)
         × (lent.core ≡ core) × (clock.moment ≡ 0)

@@ -14,7 +14,7 @@ use nfs_xdr::{Op, OpResult, Principal};
 
 /// Answers the operations that need the state.
 pub trait Service {
-    /// The states between which the service may go when it answers a question in this way.
+    /// How the service may answer a question: its state before, the question, the answer, and its state after.
     ghost gives: { Self → Question → OpResult → Self → Type 0 };
     /// The nodes of the tree that the service serves.
     ghost serves: { Self → List Node };
