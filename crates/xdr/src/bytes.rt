@@ -3,10 +3,11 @@ ghost use Rattle.std.specs.Prelude.{◌≡◌, ◌==◌, IfOk};
 use std::alloc::{AllocError, Global};
 use std::marker::Model;
 
-/// The greatest length that can be written before bytes.
+/// The greatest length of bytes that can be written: it has to fit in four bytes.
 pub const NO_LIMIT: u32 = u32::MAX;
 
-/// Owned bytes, of which at most `LIMIT` can be written (opaque<LIMIT>). Contracts see the list of them.
+/// Owned bytes, which can be written if there are at most `LIMIT` of them (opaque<LIMIT>). Contracts see the list of
+/// them.
 #[derive(Debug, Drop)]
 pub struct Opaque<const LIMIT: u32> {
     items: Vec<u8>,
