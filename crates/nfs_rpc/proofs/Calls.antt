@@ -25,7 +25,7 @@ use Rattle.nfs_rpc.specs.ReadingCalls.{call_of, compound_or_garbage, header_call
 reads_there : {A : Type 0} (form : Form A) (bytes : List ℕ) (value : A) (rest : List ℕ) → Begins (form.layout value) bytes rest → form.at bytes ≡ Ok (value, rest)
 reads_there form bytes value rest found = ap form.at found.1 ∙ form.reads.complete value found.0 rest found.2
 
--- Credentials: a principal that is read of one is its principal.
+-- Credentials: a principal that is read from a credential is its principal.
 user_stands : (a : OpaqueAuth) (p : Principal) (r : Read AuthSys) → a.0 ≡ AUTH_SYS → auth_sys.at a.1 ≡ r → user_of r ≡ Some p → IsOf a p
 user_stands a p (Ok x) flavor read e =
     let some : ◌≡◌ {A = Option Principal} (Some (principals.AuthSys x.0.uid)) (Some p) = e in
@@ -73,7 +73,7 @@ has_header Is message h rest read is = (h, rest, header.reads.sound message h re
 no_header : (message : List ℕ) (e : WireError) → header.at message ≡ Err e → (h : CallHeader) (rest : List ℕ) → Begins (header.layout h) message rest → ⊥
 no_header = lacks header.layout header.at header.reads
 
--- The rules in their order, from those for the program on.
+-- The rules in their order: those from the procedure on, and those from the program on.
 abbrev ProcedureRules : List ℕ → List (Call → Type 0)
 ProcedureRules message = HasNull message ∷ HasAnotherProcedure message ∷ HasCompound message ∷ HasGarbage message ∷ []
 
