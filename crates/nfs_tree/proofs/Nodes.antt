@@ -107,7 +107,7 @@ no_position p xs all =
 pub no_child : (k parent : ℕ) (name : List ℕ) (nodes : List Node) → k < parent → ParentsWithin k nodes → child nodes parent name ≡ None
 no_child k parent name nodes above p = ap (option_map (λ place. place + 1)) (no_position (is_child parent name) nodes (none_before k parent name nodes above p))
 
--- the parents of nodes have numbers within the list, if each node fits after those before it
+-- the numbers of parents are at most the number of nodes, if each node fits after those before it
 pub parents_of : (before nodes : List Node) → ParentsWithin (length before) before → EachFits before nodes → ParentsWithin (length (before ++ nodes)) (before ++ nodes)
 parents_of before [] p fits = rw append-nil p
 parents_of before (node ∷ nodes) p fits =

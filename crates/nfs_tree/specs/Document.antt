@@ -17,7 +17,7 @@ use Rattle.nfs_tree.specs.declared.policy.Policy.{Policy}
 use Rattle.nfs_tree.specs.declared.tree_error.TreeError.{TreeError}
 use Rattle.nfs_tree.specs.declared.tree_error.TreeError.TheVariants as errors
 
--- continues with the value, if there is one
+-- continues with the value if there is one, and otherwise gives `None`
 infixl 10 ◌>>=◌
 abbrev pub ◌>>=◌ : {A B : Type 0} → Option A → (A → Option B) → Option B
 None >>= f = None

@@ -47,7 +47,7 @@ IsFileAt nodes n text entry = LeadsTo nodes entry n × (entry.kind ≡ File text
 abbrev pub Agree : Entry → Entry → Type 0
 Agree one other = one.path ≡ other.path → (one.kind ≡ Directory) × (other.kind ≡ Directory)
 
--- No other names lead from the root to the node that these lead to.
+-- Only these names lead from the root to the node.
 abbrev pub IsOneWay : List Node → ℕ → List (List ℕ) → Type 0
 IsOneWay nodes n names = (others : List (List ℕ)) → Leads nodes ROOT others n → others ≡ names
 
