@@ -16,23 +16,23 @@ use Rattle.nfs_xdr.specs.Principal.{is_same_principal}
 abbrev pub Outcome : Type 0
 Outcome = PlainAnswer (Unit {0})
 
--- The case that applies to a call of SETCLIENTID_CONFIRM.
+-- The case that applies to a call of SETCLIENTID_CONFIRM, which names a record by its clientid and its confirm value.
 pub data Confirmation : Type 0 where
-  -- no record has the clientid and the confirm value
+  -- no record has the clientid and the confirm value of the call
   Stale : Confirmation
-  -- the record with them belongs to another principal, or another principal's client with state is using its id
+  -- the named record belongs to another principal, or another principal's client with state is using its id
   InUse : Confirmation
-  -- a confirmed record has them: the call is a retransmission
+  -- the named record is already confirmed: the call is a retransmission
   Retransmission : Confirmation
-  -- the unconfirmed record is confirmed, and its id had no confirmed record before
+  -- the named record becomes the confirmed record of its id, which had none before
   First : ClientRecord → Confirmation
-  -- the id's confirmed record has the clientid of the unconfirmed one, and is updated from it
+  -- the id's confirmed record has the same clientid as the named unconfirmed record, and is updated from it
   Update : ClientRecord → ClientRecord → Confirmation
-  -- the unconfirmed record replaces the id's confirmed one, whose client is removed
+  -- the named unconfirmed record replaces the id's confirmed record, whose client is removed
   InPlaceOf : ClientRecord → ClientRecord → Confirmation
 
--- The case if an unconfirmed record has the clientid and the confirm value. It depends on the confirmed record with the
--- same id; `has_state` is whether the client of that record has state.
+-- The case if an unconfirmed record is named. It depends on the confirmed record with the same id; `has_state` is
+-- whether the client of that record has state.
 abbrev pub confirmation_beside : Option ClientRecord → ClientRecord → Bool → Confirmation
 confirmation_beside None r has_state = First r
 confirmation_beside (Some old) r has_state =
@@ -40,14 +40,13 @@ confirmation_beside (Some old) r has_state =
     else (if not (is_same_principal old.principal r.principal) && has_state then InUse
     else InPlaceOf old r)
 
--- The case if no unconfirmed record has the clientid and the confirm value. It depends on the confirmed record that has
--- them.
+-- The case if no unconfirmed record is named. It depends on the confirmed record that is named, if there is one.
 abbrev pub confirmation_before : Option ClientRecord → Principal → Confirmation
 confirmation_before None principal = Stale
 confirmation_before (Some r) principal =
     if is_same_principal r.principal principal then Retransmission else InUse
 
--- The case that applies, given the unconfirmed record with the clientid and the confirm value, if there is one.
+-- The case that applies, given the unconfirmed record that is named, if there is one.
 abbrev pub finding :
     Option ClientRecord → Registry → Bool → Principal → SetclientidConfirm → Confirmation
 finding (Some r) registry has_state principal args =

@@ -38,16 +38,16 @@ is_unconfirmed_of id r = not r.confirmed && is_of id r
 abbrev pub confirmed_of : Registry → List ℕ → Option ClientRecord
 confirmed_of registry id = find (is_confirmed_of id) registry.records
 
--- the record has the clientid and the confirm value in the arguments of SETCLIENTID_CONFIRM
+-- the arguments of SETCLIENTID_CONFIRM name the record, by its clientid and its confirm value
 abbrev pub is_named_by : SetclientidConfirm → ClientRecord → Bool
 is_named_by args r = is_same_client r.client args.client && (r.confirm == args.confirm)
 
--- the unconfirmed record with the clientid and the confirm value in these arguments, if there is one
+-- the unconfirmed record that the arguments of SETCLIENTID_CONFIRM name, if there is one
 abbrev pub unconfirmed_named_by : SetclientidConfirm → Registry → Option ClientRecord
 unconfirmed_named_by args registry =
     find (λ r. not r.confirmed && is_named_by args r) registry.records
 
--- the confirmed record with the clientid and the confirm value in these arguments, if there is one
+-- the confirmed record that the arguments of SETCLIENTID_CONFIRM name, if there is one
 abbrev pub confirmed_named_by : SetclientidConfirm → Registry → Option ClientRecord
 confirmed_named_by args registry = find (λ r. r.confirmed && is_named_by args r) registry.records
 

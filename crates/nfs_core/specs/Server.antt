@@ -17,7 +17,8 @@ abbrev pub IsLawful : Server → Type 0
 IsLawful server = Lawful server.journal (meaning server.stored)
 
 -- One call of `apply`: the server `old` answers the request and becomes `new`. With a number the answered request is
--- the journal's entry of that number, as the operation's rule decides; without one it is refused, and nothing changes.
+-- the journal's entry of that number, as the operation's rule decides. Without a number the answer is
+-- NFS4ERR_RESOURCE, and nothing changes.
 abbrev pub Applies : Server → Server → Request → OpResult → Option ℕ → Type 0
 Applies old new request answer None = (answer ≡ resource request.op) × (new ≡ old)
 Applies old new request answer (Some number) =

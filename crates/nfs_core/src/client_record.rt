@@ -66,7 +66,7 @@ impl ClientRecord {
         !self.confirmed && self.is_of(id)
     }
 
-    /// Whether the record has the clientid and the confirm value in the arguments of SETCLIENTID_CONFIRM.
+    /// Whether the arguments of SETCLIENTID_CONFIRM name the record, by its clientid and its confirm value.
     pub(crate) fn is_named_by(&self, args: &SetclientidConfirm) -> bool
         ensures { result ≡ is_named_by args.now self.now }
     {

@@ -66,7 +66,7 @@ impl Clients {
         self.records.iter().find(|r| r.is_confirmed_of(id))
     }
 
-    /// The unconfirmed record with the clientid and the confirm value in these arguments, if there is one.
+    /// The unconfirmed record that the arguments of SETCLIENTID_CONFIRM name, if there is one.
     pub(crate) fn unconfirmed_named_by(&self, args: &SetclientidConfirm) -> Option<&ClientRecord>
         ensures { option_copied result ≡ unconfirmed_named_by args.now self.now.registry }
     {
@@ -75,7 +75,7 @@ impl Clients {
             .find(|r| !r.confirmed && r.is_named_by(args))
     }
 
-    /// The confirmed record with the clientid and the confirm value in these arguments, if there is one.
+    /// The confirmed record that the arguments of SETCLIENTID_CONFIRM name, if there is one.
     pub(crate) fn confirmed_named_by(&self, args: &SetclientidConfirm) -> Option<&ClientRecord>
         ensures { option_copied result ≡ confirmed_named_by args.now self.now.registry }
     {
