@@ -9,7 +9,8 @@ use Rattle.nfs_server.specs.Exchange.{Rules}
 use Rattle.nfs_server.specs.Pair.{BorrowsTheSame, device_of_pair, sides_of}
 use Rattle.nfs_server.specs.declared.duplex.Pair.{Pair}
 
--- If a device is bound, each of its calls is a call of the other device, and leaves it bound.
+-- In a state in which `IsBound` holds, each call of the device `from` is a call of the device `to`, seen through
+-- `view`, and `IsBound` still holds after it.
 pub record Is {D E : Type 0} (from : Device D) (to : Device E) (view : D → E) (IsBound : D → Type 0) : Type 0 where
   pub gives : (a b : D) (piece : List ℕ) → IsBound a → from.gives a piece b → to.gives (view a) piece (view b) × IsBound b
   pub fails_to_read : (a b : D) → IsBound a → from.fails_to_read a b → to.fails_to_read (view a) (view b) × IsBound b

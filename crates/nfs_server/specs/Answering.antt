@@ -49,7 +49,7 @@ goes_on answer more =
     if is_ok (status_of answer) then record { asked = more.asked; results = answer ∷ more.results }
     else record { asked = []; results = answer ∷ [] }
 
--- the service is asked a question, and the next of its answers is the answer
+-- the service is asked a question, and the first of its remaining answers is the answer to it
 abbrev pub asks : Asked → List OpResult → (OpResult → List OpResult → Outcome) → Outcome
 asks question [] more = record { asked = question ∷ []; results = [] }
 asks question (answer ∷ answers) more =

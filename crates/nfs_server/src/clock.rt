@@ -2,7 +2,7 @@ ghost use Rattle.std.specs.Prelude.{◌≡◌, ℕ};
 
 use nfs_core::Moment;
 
-/// Gives the present moment.
+/// A clock, which gives the present moment.
 pub trait Clock {
     /// How the clock may be read: its state before, the moment that it shows, and its state after.
     ghost tells: { Self → ℕ → Self → Type 0 };

@@ -14,10 +14,10 @@ use nfs_rpc::{RECORD_LIMIT, RecordError, Records};
 use nfs_tree::Tree;
 use std::alloc::{AllocError, Global};
 
-/// How many bytes the input of a connection may have.
+/// The greatest number of bytes in the input of a connection.
 pub const STREAM_LIMIT: u64 = 1 << 40;
 
-// How many bytes are read from a device at most at once.
+// The greatest number of bytes that one read asks a device for.
 const PIECE_LEN: usize = 65_536;
 
 // Once more bytes of replies than this are waiting, they are written before the next record is answered.
