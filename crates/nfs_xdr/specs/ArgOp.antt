@@ -24,8 +24,8 @@ ends_list (Illegal number) = true
 abbrev pub LacksOp : List ℕ → Type 0
 LacksOp bytes = (o : Op) (rest : List ℕ) → Begins (op.layout o) bytes rest → ⊥
 
--- Which entry is at the front of the bytes, and the bytes after it: an operation with its arguments, or only the number
--- of one, or, if there are fewer than four bytes, nothing.
+-- Which entry is at the front of the bytes, and the bytes after it: an operation with its arguments, or only a number,
+-- or, if there are fewer than four bytes, nothing.
 abbrev pub StandsAt : List ℕ → ArgOp → List ℕ → Type 0
 StandsAt bytes (Run o) rest = Begins (op.layout o) bytes rest
 StandsAt bytes (BadArgs o) rest =
