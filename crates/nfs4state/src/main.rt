@@ -33,8 +33,7 @@ fn words(rt: &HostRuntime) -> io::Result<Vec<String>> {
     Ok(env::args(rt)?.collect(rt.alloc())?)
 }
 
-// `nfs4state once`: reads records from standard input, and writes replies to standard output. Nothing is read or
-// written before the core exists.
+// `nfs4state once`: records from standard input, replies to standard output. Neither is touched before there is a core.
 fn once(rt: &HostRuntime, options: &OnceOptions<'_>) -> u8
     requires { IsOnceWithinLimits options.now }
 {

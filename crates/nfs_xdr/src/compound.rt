@@ -31,8 +31,8 @@ pub enum Request {
     Operations(Sequence<ArgOp>),
 }
 
-/// Reads the arguments of a COMPOUND, and ignores any bytes after them. Short or TooLong if the tag, the minor version
-/// or the count can't be read.
+/// Reads the arguments of a COMPOUND; bytes after them are ignored. Short where the tag, the minor version or
+/// the count can't be read; a tag has no limit, so TooLong never comes.
 pub fn read_compound(alloc: Global, bytes: &[u8]) -> Result<Compound, WireError>
     // What is read matches the layout. On an error no COMPOUND matches it, or memory ran out.
     ensures stands { IfOk result (λ compound. IsCompound compound bytes.now) }
