@@ -12,7 +12,7 @@ use std::alloc::Global;
 use std::process::ExitCode;
 use std::{env, fs, io};
 
-/// What the words of the command line ask for: see `nfs4state --help`.
+/// Does what the words of the command line ask for: see `nfs4state --help`.
 fn main(rt: HostRuntime) -> ExitCode {
     let words = match words(&rt) {
         Ok(words) => words,
@@ -50,7 +50,7 @@ fn once(rt: &HostRuntime, options: &OnceOptions<'_>) -> u8
     run_once(rt.alloc(), core, &tree, &mut source, &mut sink, &mut errors)
 }
 
-// A core for the tree, which gives the policy, and for the lease and the epoch of the options.
+// A core for the tree, with the tree's policy, and the lease and the epoch of the options.
 fn core_of(alloc: Global, options: &OnceOptions<'_>, tree: &Tree) -> Result<Core, CoreError>
     requires limits { IsOnceWithinLimits options.now }
     ensures { IfOk result (λ core. core.journal ≡ record {
@@ -64,7 +64,7 @@ fn core_of(alloc: Global, options: &OnceOptions<'_>, tree: &Tree) -> Result<Core
     Core::new(alloc, tree, options.lease, options.epoch, tree.policy())
 }
 
-// The tree of the file, or the one without a file.
+// The tree that the file describes, or the default tree if no file is given.
 fn tree(rt: &HostRuntime, path: Option<&str>) -> Result<Tree, Fault> {
     let Some(path) = path else {
         return Tree::from_toml(rt.alloc(), DEFAULT_TREE).map_err(Fault::from);
@@ -76,7 +76,7 @@ fn tree(rt: &HostRuntime, path: Option<&str>) -> Result<Tree, Fault> {
     }
 }
 
-// Nobody is left to tell where these can't be written either.
+// The functions below ignore an error in writing, since there is no other place to report it.
 
 fn helped(rt: &HostRuntime, text: &str) -> ExitCode {
     let _ = rt.print(text);

@@ -1,4 +1,4 @@
--- Lawful journals.
+-- Lawful journals: those whose entries the rules allow.
 use Rattle.std.proofs.Common.{◌≡◌, ◌≢◌, ℕ, ◌<◌, ◌≤◌, ◌⊎◌, inl, inr, Option, Some, None, List, [], ◌∷◌, ◌++◌, length, refl, sym, ap, ◌∙◌, ◌+◌, subst, append_assoc, append-nil, arith}
 use Rattle.nfs_core.specs.declared.entry.Call.{Call}
 use Rattle.nfs_core.specs.declared.entry.TheConstants.{JOURNAL_LIMIT}
@@ -17,7 +17,7 @@ use Rattle.nfs_core.specs.Server.{Server, Applies, IsLawful}
 use Rattle.nfs_core.specs.State.{State, History, empty_server}
 use Rattle.nfs_core.specs.Step.{Follows, IsFilehandle, Step, AtMostOneStep, entry_of, changed, resource, with_entry}
 
--- entries that lead to a state, and one more from there
+-- entries that lead to a state, and one more entry that leads on from there
 Leads-append : (journal : History) (old mid new : State) (entries : List Entry) (entry : Entry) → Leads journal old entries mid → Step (record journal { entries = journal.entries ++ entries }) mid entry new → Leads journal old (entries ++ entry ∷ []) new
 Leads-append journal old mid new [] entry leads step =
     let from_mid : List Entry → Type 0 = λ es. Step (record journal { entries = es }) mid entry new in
@@ -27,22 +27,22 @@ Leads-append journal old mid new (first ∷ entries) entry leads step =
     let from_mid : List Entry → Type 0 = λ es. Step (record journal { entries = es }) mid entry new in
     (leads.0, leads.1, Leads-append (with_entry first journal) leads.0 mid new entries entry leads.2 (subst from_mid (sym (append_assoc journal.entries (first ∷ []) entries)) step))
 
--- a lawful journal and one more entry
+-- a lawful journal with one more entry that the rules allow is lawful
 pub Lawful-step : (journal : History) (old new : State) (entry : Entry) → Lawful journal old → Step journal old entry new → Lawful (with_entry entry journal) new
 Lawful-step journal old new entry lawful step =
     Leads-append (record journal { entries = [] }) (empty_server journal.nodes) old new journal.entries entry lawful step
 
--- a call that its rule decides so comes next
+-- a call may come next in the journal if its rule decides its answer and its change
 pub Follows-decided : (ruled : Option Decision) (decision : Decision) (journal : History) (old : State) (call : Call) (new : State) → ruled ≡ Some decision → length journal.entries < JOURNAL_LIMIT → call.answer ≢ resource call.request.op → call.answer ≡ decision.answer → new ≡ changed decision.change old → IsFilehandle journal call.request.filehandle → Follows ruled journal old call new
 Follows-decided ruled decision journal old call new ruled_so below other answered moved node = rw ruled_so (below, other, answered, moved, node)
 
--- where the rule says nothing, or the journal is full, no call comes next
+-- if the rule gives no decision, or the journal is full, no call may come next
 pub none_follows : (ruled : Option Decision) (journal : History) (old : State) (call : Call) (new : State) → (ruled ≡ None) ⊎ (JOURNAL_LIMIT ≤ length journal.entries) → Follows ruled journal old call new → ⊥
 none_follows None journal old call new limit follows = follows
 none_follows (Some decision) journal old call new (inl none) follows = cc
 none_follows (Some decision) journal old call new (inr full) follows = omega (arith, follows.0)
 
--- a lawful core that answers a call is lawful
+-- a lawful core that answers a call stays lawful
 pub Lawful-applies : (old new : Server) (request : Request) (answer : OpResult) (number : ℕ) → IsLawful old → Applies old new request answer (Some number) → IsLawful new
 Lawful-applies old new request answer number lawful applies =
     let P : History → Type 0 = λ journal. Lawful journal (meaning new.stored) in
@@ -55,11 +55,11 @@ Follows-unique (Some decision) journal old call call' new new' f f' = (f.2 ∙ s
 pub Step-unique : AtMostOneStep
 Step-unique journal old request answer answer' new new' s s' = Follows-unique (rule request.op journal old request) journal old (record { request = request; answer = answer }) (record { request = request; answer = answer' }) new new' s s'
 
--- a core that is as it was is as lawful as it was
+-- a core that hasn't changed is as lawful as before
 pub Lawful-same : (journal journal' : History) (stored stored' : Stored) → journal' ≡ journal → stored' ≡ stored → Lawful journal (meaning stored) → Lawful journal' (meaning stored')
 Lawful-same journal journal' stored stored' same_journal same_stored lawful = rw (same_journal, same_stored) lawful
 
--- a change gives one confirm value at most
+-- a change uses at most one confirm value
 changed_confirm : (change : Change) (old : State) → (changed change old).clients.last_confirm ≤ old.clients.last_confirm + 1
 changed_confirm changes.Nothing old = omega arith
 changed_confirm (changes.Clients client_changes.Nothing) old = omega arith
@@ -78,6 +78,6 @@ Leads-confirm journal old new [] leads = omega (arith, ap (λ (s : State). s.cli
 Leads-confirm journal old new (entry ∷ entries) leads =
     omega (arith, Step-confirm journal old entry leads.0 leads.1, Leads-confirm (with_entry entry journal) leads.0 new entries leads.2)
 
--- no more confirm values were given than there are entries
+-- no more confirm values were given out than the journal has entries
 pub Lawful-confirm : (journal : History) (state : State) → Lawful journal state → state.clients.last_confirm ≤ length journal.entries
 Lawful-confirm journal state lawful = omega (arith, Leads-confirm (record journal { entries = [] }) (empty_server journal.nodes) state journal.entries lawful)

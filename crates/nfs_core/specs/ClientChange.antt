@@ -5,15 +5,15 @@ use Rattle.nfs_core.specs.declared.clients.client_change.ClientChange.{ClientCha
 use Rattle.nfs_core.specs.declared.clients.client_change.ClientChange.TheVariants as changes
 use Rattle.nfs_core.specs.Registry.{Registry, is_of, is_unconfirmed_of}
 
--- the unconfirmed record comes, and an earlier unconfirmed one of its id goes
+-- the unconfirmed record is added, and an earlier unconfirmed record with the same id is removed
 abbrev pub with_unconfirmed : ClientRecord → List ClientRecord → List ClientRecord
 with_unconfirmed r records = filter (λ s. not (is_unconfirmed_of r.id s)) records ++ r ∷ []
 
--- the confirmed record comes, and all others of its id go
+-- the confirmed record is added, and all other records with the same id are removed
 abbrev pub with_confirmed : ClientRecord → List ClientRecord → List ClientRecord
 with_confirmed r records = filter (λ s. not (is_of r.id s)) records ++ r ∷ []
 
--- the records after the change, and what was given last
+-- the records after the change, and the last client number and confirm value that were given out
 abbrev pub with_change : ClientChange → Registry → Registry
 with_change changes.Nothing old = old
 with_change (changes.Arrives r) old = record {

@@ -1,10 +1,10 @@
--- What a change of the clients' records needs: for the crate's own functions alone.
+-- What a change of the clients' records needs; used only in the contracts of this crate's own functions.
 use Rattle.std.specs.Prelude.{ℕ, ◌<◌, ◌-◌, ◌^◌, ⊤}
 use Rattle.nfs_core.specs.declared.clients.client_change.ClientChange.{ClientChange}
 use Rattle.nfs_core.specs.declared.clients.client_change.ClientChange.TheVariants as changes
 use Rattle.nfs_core.specs.Registry.{Registry}
 
--- The clients' records, and for how many more of them there is room.
+-- The clients' records, and how many more of them fit without taking memory.
 pub record RoomyClients : Type 0 where
   pub registry : Registry
   pub room : ℕ
@@ -17,8 +17,7 @@ HasRoomFor (changes.Updates r) clients = 0 < clients.room
 HasRoomFor (changes.Confirms r) clients = 0 < clients.room
 HasRoomFor (changes.Replaces r client) clients = 0 < clients.room
 
--- the next client number and the next confirm value, where the change gives them, are numbers of four
--- bytes and of eight
+-- the next client number and the next confirm value, if the change uses them, fit in four bytes and in eight bytes
 abbrev pub HasNumbersFor : ClientChange → Registry → Type 0
 HasNumbersFor changes.Nothing registry = ⊤
 HasNumbersFor (changes.Arrives r) registry =

@@ -12,28 +12,27 @@ use Rattle.nfs_xdr.specs.declared.status.Refusal.TheVariants.{StaleClientId}
 use Rattle.nfs_xdr.specs.Answer.{PlainAnswer}
 use Rattle.nfs_xdr.specs.Principal.{is_same_principal}
 
--- what SETCLIENTID_CONFIRM answers: a status alone
+-- the answer of SETCLIENTID_CONFIRM: a status without further data
 abbrev pub Outcome : Type 0
 Outcome = PlainAnswer (Unit {0})
 
--- What the call finds.
+-- The case that applies to a call of SETCLIENTID_CONFIRM, which names a record by its clientid and its confirm value.
 pub data Confirmation : Type 0 where
-  -- no record has the clientid and the confirm value
+  -- no record has the clientid and the confirm value of the call
   Stale : Confirmation
-  -- the record that is named is another principal's, or its id is in use by another principal's
-  -- client with state
+  -- the named record belongs to another principal, or another principal's client with state is using its id
   InUse : Confirmation
-  -- a confirmed record is named: the call was sent before
+  -- the named record is already confirmed: the call is a retransmission
   Retransmission : Confirmation
-  -- the unconfirmed record becomes its id's confirmed one; there was none
+  -- the named record becomes the confirmed record of its id, which had none before
   First : ClientRecord → Confirmation
-  -- the id's confirmed record has the clientid of the unconfirmed one, and is updated by it
+  -- the id's confirmed record has the same clientid as the named unconfirmed record, and is updated from it
   Update : ClientRecord → ClientRecord → Confirmation
-  -- the unconfirmed record takes the place of the id's confirmed one, whose client leaves
+  -- the named unconfirmed record replaces the id's confirmed record, whose client is removed
   InPlaceOf : ClientRecord → ClientRecord → Confirmation
 
--- The case where an unconfirmed record is named, by the confirmed record of its id. `has_state`: whether
--- the client of that one has state.
+-- The case if an unconfirmed record is named. It depends on the confirmed record with the same id; `has_state` is
+-- whether the client of that record has state.
 abbrev pub confirmation_beside : Option ClientRecord → ClientRecord → Bool → Confirmation
 confirmation_beside None r has_state = First r
 confirmation_beside (Some old) r has_state =
@@ -41,13 +40,13 @@ confirmation_beside (Some old) r has_state =
     else (if not (is_same_principal old.principal r.principal) && has_state then InUse
     else InPlaceOf old r)
 
--- The case where no unconfirmed record is named, by the confirmed one that is.
+-- The case if no unconfirmed record is named. It depends on the confirmed record that is named, if there is one.
 abbrev pub confirmation_before : Option ClientRecord → Principal → Confirmation
 confirmation_before None principal = Stale
 confirmation_before (Some r) principal =
     if is_same_principal r.principal principal then Retransmission else InUse
 
--- The case, by the unconfirmed record that is named.
+-- The case that applies, given the unconfirmed record that is named, if there is one.
 abbrev pub finding :
     Option ClientRecord → Registry → Bool → Principal → SetclientidConfirm → Confirmation
 finding (Some r) registry has_state principal args =
@@ -57,18 +56,17 @@ finding (Some r) registry has_state principal args =
 finding None registry has_state principal args =
     confirmation_before (confirmed_named_by args registry) principal
 
--- the record, confirmed, and its path has this mark
+-- the record, now confirmed, with this mark for its path
 abbrev pub confirmed_record : PathMark → ClientRecord → ClientRecord
 confirmed_record path r = record r { confirmed = true; path = path }
 
--- The client keeps its clientid and its principal; verifier, callback and confirm value are those of
--- the unconfirmed record.
+-- The confirmed record after an update: it keeps its clientid and its principal, and takes the verifier, the callback
+-- and the confirm value of the unconfirmed record.
 abbrev pub updated_record : PathMark → ClientRecord → ClientRecord → ClientRecord
 updated_record path old r =
     record old { verifier = r.verifier; callback = r.callback; confirm = r.confirm; path = path }
 
--- The answer and the change in each case. `path`: the mark of the path of a client that is confirmed
--- now.
+-- The answer and the change in each case. `path` is the mark for the path of a client that is confirmed by this call.
 abbrev pub confirmation_by : Confirmation → PathMark → Outcome × ClientChange
 confirmation_by Stale path = (Refused StaleClientId, Nothing)
 confirmation_by InUse path = (ClidInUse tt, Nothing)
@@ -77,14 +75,14 @@ confirmation_by (First r) path = (Done tt, Confirms (confirmed_record path r))
 confirmation_by (Update old r) path = (Done tt, Confirms (updated_record path old r))
 confirmation_by (InPlaceOf old r) path = (Done tt, Replaces (confirmed_record path r) old.client)
 
--- the answer and the change
+-- the answer of SETCLIENTID_CONFIRM and its change of the clients' records
 abbrev pub confirmation :
     PathMark → Bool → Registry → Principal → SetclientidConfirm → Outcome × ClientChange
 confirmation path has_state registry principal args =
     let found = finding (unconfirmed_named_by args registry) registry has_state principal args in
     confirmation_by found path
 
--- the confirmed record of the id that the call would confirm
+-- the confirmed record of the id that the call would confirm, if there is one
 abbrev pub holder_of : Option ClientRecord → Registry → Option ClientRecord
 holder_of None registry = None
 holder_of (Some r) registry = confirmed_of registry r.id

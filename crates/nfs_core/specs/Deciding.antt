@@ -1,4 +1,4 @@
--- What the functions that decide promise: for the crate's own functions alone.
+-- What the functions that decide an operation guarantee; used only in the contracts of this crate's own functions.
 use Rattle.std.specs.Prelude.{◌≡◌, ◌≢◌, ◌≤◌, length, Option, Some, None, Result, Ok, Err}
 use Rattle.nfs_core.specs.declared.clients.clients_error.ClientsError.{ClientsError}
 use Rattle.nfs_core.specs.declared.clients.clients_error.ClientsError.TheVariants as errors
@@ -14,26 +14,26 @@ use Rattle.nfs_xdr.specs.declared.op.Op.{Op}
 use Rattle.nfs_xdr.specs.declared.op_result.OpResult.{OpResult}
 use Rattle.nfs_xdr.specs.OpResult.{op_result}
 
--- The answer goes into a reply: it isn't NFS4ERR_RESOURCE, it has a form, and isn't too long.
+-- The answer can be sent in a reply: it isn't NFS4ERR_RESOURCE, it fits its form, and it isn't too long.
 pub record IsSendable (op : Op) (answer : OpResult) : Type 0 where
   pub not_resource : answer ≢ resource op
   pub form : op_result.Fits answer
   pub short : length (op_result.spelling answer) ≤ ANSWER_LIMIT
 
--- From this state, what is decided of the operation is what its rule says. A limit is told just where
--- the rule says nothing.
+-- In this state, what was decided about the operation is what its rule says. Limit is returned exactly if the rule
+-- gives no decision.
 abbrev pub Decides : Option Decision → State → Op → Result Decision Shortage → Type 0
 Decides ruled state op (Ok decision) =
     (ruled ≡ Some decision) × IsSendable op decision.answer × HasNumbers decision.change state
 Decides ruled state op (Err Limit) = ruled ≡ None
 Decides ruled state op (Err Memory) = ruled ≢ None
 
--- No answer to the request may come next.
+-- No answer to the request may come next in the journal.
 abbrev pub HasNoStep : History → State → Request → Type 0
 HasNoStep journal old request =
     (answer : OpResult) (new : State) → Step journal old (entry_of request answer) new → ⊥
 
--- what refuses a change of the clients' records
+-- the shortage that an error of the clients' records leads to
 abbrev pub shortage_of : ClientsError → Shortage
 shortage_of errors.Full = Limit
 shortage_of errors.Memory = Memory

@@ -16,21 +16,21 @@ use Rattle.nfs_xdr.specs.declared.operations.setclientid_confirm.SetclientidConf
 use Rattle.nfs_xdr.specs.declared.principal.Principal.{Principal}
 use Rattle.nfs_xdr.specs.Principal.{is_same_principal}
 
--- what SETCLIENTID answers
+-- the answer of SETCLIENTID
 abbrev pub Outcome : Type 0
 Outcome = Answer SetclientidConfirm (Unit {0}) Address
 
--- What the call finds among the records of its id.
+-- The case that applies to a call of SETCLIENTID, given the confirmed record with its id.
 pub data Finding : Type 0 where
   -- another principal's client has the id, and has state
   InUse : Address → Finding
-  -- the client of the id's confirmed record sends the verifier that it had: its callback is updated
+  -- the client of the id's confirmed record sends the same verifier as before: only its callback is updated
   Update : ClientId → Finding
-  -- a client that gets a number: the id is new, was never confirmed, is another principal's without
-  -- state, or is of a client that has restarted, since its verifier is another
+  -- a client that gets a new number: its id is unknown, was never confirmed, or belongs to another principal's client
+  -- without state, or the client has restarted, since its verifier has changed
   Arrival : Finding
 
--- The case, by the id's confirmed record. `has_state`: whether the client of that record has state.
+-- The case, given the confirmed record with the id. `has_state` is whether the client of that record has state.
 abbrev pub finding : Option ClientRecord → Bool → Principal → Setclientid → Finding
 finding None has_state principal args = Arrival
 finding (Some r) has_state principal args =
@@ -38,7 +38,7 @@ finding (Some r) has_state principal args =
     then (if bytes_eq r.verifier.0 args.verifier.0 then Update r.client else Arrival)
     else (if has_state then InUse r.callback.address else Arrival)
 
--- the record that SETCLIENTID makes of a clientid and a confirm value, to be confirmed
+-- the record that SETCLIENTID adds for a clientid and a confirm value, not yet confirmed
 abbrev pub unconfirmed_record : Principal → Setclientid → SetclientidConfirm → ClientRecord
 unconfirmed_record principal args answer = record {
   id = args.id;
@@ -51,20 +51,20 @@ unconfirmed_record principal args answer = record {
   path = Unknown;
 }
 
--- a number is left for another client
+-- there is still a number for another client
 abbrev pub has_number_left : Registry → Bool
 has_number_left registry = nat_lt registry.last_number CLIENT_LIMIT
 
--- the clientid of the next client number
+-- the clientid with the next client number
 abbrev pub next_client : ℕ → Registry → ClientId
 next_client epoch registry = record { epoch = epoch; number = registry.last_number + 1 }
 
--- the clientid with the next confirm value
+-- a clientid together with the next confirm value
 abbrev pub next_confirm : ClientId → Registry → SetclientidConfirm
 next_confirm client registry = record { client = client; confirm = registry.last_confirm + 1 }
 
--- The answer and the change in each case, or none where a limit would be passed. `epoch` is the
--- server's run.
+-- The answer and the change in each case, or `None` if a limit would be exceeded. `epoch` is the number of the server's
+-- run.
 abbrev pub registration_by :
     Finding → ℕ → Registry → Principal → Setclientid → Option (Outcome × ClientChange)
 registration_by (InUse address) epoch registry principal args = Some (ClidInUse address, Nothing)
@@ -79,7 +79,7 @@ registration_by Arrival epoch registry principal args =
     then Some (Done answer, Arrives (unconfirmed_record principal args answer))
     else None
 
--- the answer and the change, or none where a limit would be passed
+-- the answer of SETCLIENTID and its change of the clients' records, or `None` if a limit would be exceeded
 abbrev pub registration :
     ℕ → Bool → Registry → Principal → Setclientid → Option (Outcome × ClientChange)
 registration epoch has_state registry principal args =

@@ -7,47 +7,47 @@ use Rattle.nfs_xdr.specs.declared.operations.setclientid_confirm.SetclientidConf
 use Rattle.nfs_core.specs.declared.client_record.ClientRecord.{ClientRecord}
 use Rattle.nfs_core.specs.declared.client_record.TheConstants.{ADDRESS_LIMIT}
 
--- The records in the order in which they came, and the client number and the confirm value that were
--- given last; 0 before the first.
+-- The records in the order in which they were added, and the last client number and the last confirm value that were
+-- given out; each is 0 before the first.
 pub record Registry : Type 0 where
   pub records : List ClientRecord
   pub last_number : ℕ
   pub last_confirm : ℕ
 
--- no client has come yet
+-- a registry without clients
 abbrev pub no_clients : Registry
 no_clients = record { records = []; last_number = 0; last_confirm = 0 }
 
--- the two are one clientid
+-- the two clientids are the same
 abbrev pub is_same_client : ClientId → ClientId → Bool
 is_same_client a b = (a.epoch == b.epoch) && (a.number == b.number)
 
--- the record is of this id
+-- the record has this id
 abbrev pub is_of : List ℕ → ClientRecord → Bool
 is_of id r = bytes_eq r.id id
 
--- the record is this id's confirmed one
+-- the record is the confirmed one with this id
 abbrev pub is_confirmed_of : List ℕ → ClientRecord → Bool
 is_confirmed_of id r = r.confirmed && is_of id r
 
--- the record is this id's unconfirmed one
+-- the record is the unconfirmed one with this id
 abbrev pub is_unconfirmed_of : List ℕ → ClientRecord → Bool
 is_unconfirmed_of id r = not r.confirmed && is_of id r
 
--- the id's confirmed record, if there is one
+-- the confirmed record with this id, if there is one
 abbrev pub confirmed_of : Registry → List ℕ → Option ClientRecord
 confirmed_of registry id = find (is_confirmed_of id) registry.records
 
--- SETCLIENTID_CONFIRM names the record, by its clientid and its confirm value
+-- the arguments of SETCLIENTID_CONFIRM name the record, by its clientid and its confirm value
 abbrev pub is_named_by : SetclientidConfirm → ClientRecord → Bool
 is_named_by args r = is_same_client r.client args.client && (r.confirm == args.confirm)
 
--- the unconfirmed record that it names, if there is one
+-- the unconfirmed record that the arguments of SETCLIENTID_CONFIRM name, if there is one
 abbrev pub unconfirmed_named_by : SetclientidConfirm → Registry → Option ClientRecord
 unconfirmed_named_by args registry =
     find (λ r. not r.confirmed && is_named_by args r) registry.records
 
--- the confirmed record that it names, if there is one
+-- the confirmed record that the arguments of SETCLIENTID_CONFIRM name, if there is one
 abbrev pub confirmed_named_by : SetclientidConfirm → Registry → Option ClientRecord
 confirmed_named_by args registry = find (λ r. r.confirmed && is_named_by args r) registry.records
 

@@ -1,4 +1,4 @@
--- The state's core: the journal, and what is stored.
+-- The core of the server: the journal, and what is stored.
 use Rattle.std.specs.Prelude.{◌≡◌, ℕ, length, Option, Some, None}
 use Rattle.nfs_core.specs.declared.request.Request.{Request}
 use Rattle.nfs_core.specs.Lawful.{Lawful}
@@ -12,12 +12,13 @@ pub record Server : Type 0 where
   pub journal : History
   pub stored : Stored
 
--- its journal leads to the state that is stored
+-- the server's journal leads to the state that is stored
 abbrev pub IsLawful : Server → Type 0
 IsLawful server = Lawful server.journal (meaning server.stored)
 
--- From old, the operation that is asked for so gets this answer and leads to new: by the number it is
--- the journal's next entry, as its rule decides, and with none it is refused.
+-- One call of `apply`: the server `old` answers the request and becomes `new`. With a number the answered request is
+-- the journal's entry of that number, as the operation's rule decides. Without a number the answer is
+-- NFS4ERR_RESOURCE, and nothing changes.
 abbrev pub Applies : Server → Server → Request → OpResult → Option ℕ → Type 0
 Applies old new request answer None = (answer ≡ resource request.op) × (new ≡ old)
 Applies old new request answer (Some number) =

@@ -1,4 +1,4 @@
--- The state that the rules speak of, and the journal of its changes.
+-- The state that the rules of the operations refer to, and the journal of its changes.
 use Rattle.std.specs.Prelude.{ℕ, zero, suc, Bool, false, ◌==◌, List, [], ◌∷◌, ◌++◌, length, find, Option, Some, None}
 use Rattle.nfs_xdr.specs.declared.client_id.ClientId.{ClientId}
 use Rattle.nfs_core.specs.declared.client_record.ClientRecord.{ClientRecord}
@@ -11,15 +11,15 @@ use Rattle.nfs_tree.specs.Tree.{node_count, text_of}
 
 pub record State : Type 0 where
   pub clients : Registry
-  -- in order of the numbers of their nodes
+  -- ordered by the numbers of their nodes
   pub files : List StoredFile
 
--- the node of this number, as a file that no client has changed, if it has a text
+-- the file of the node with this number before any client changes it, if the node has a text
 abbrev pub initial_file : ℕ → Option (List ℕ) → List StoredFile
 initial_file node None = []
 initial_file node (Some text) = record { node = node; bytes = text; change = 0 } ∷ []
 
--- the files among the nodes of lower numbers
+-- the files among the nodes with lower numbers
 abbrev pub files_below : List Node → ℕ → List StoredFile
 files_below nodes zero = []
 files_below nodes (suc node) = files_below nodes node ++ initial_file node (text_of nodes node)
@@ -27,11 +27,11 @@ files_below nodes (suc node) = files_below nodes node ++ initial_file node (text
 abbrev pub initial_files : List Node → List StoredFile
 initial_files nodes = files_below nodes (node_count nodes)
 
--- the file of a node
+-- the file of a node, if it has one
 abbrev pub file_of : List StoredFile → ℕ → Option StoredFile
 file_of files node = find (λ f. f.node == node) files
 
--- how often a file was changed, and how many bytes it has; a directory has neither
+-- how often a file was changed, and how many bytes it has; both are 0 for a directory
 abbrev pub change_of : Option StoredFile → ℕ
 change_of None = 0
 change_of (Some f) = f.change
@@ -40,26 +40,27 @@ abbrev pub size_of : Option StoredFile → ℕ
 size_of None = 0
 size_of (Some f) = length f.bytes
 
--- a server of these nodes that no client has come to
+-- a server with these nodes to which no client has come
 abbrev pub empty_server : List Node → State
 empty_server nodes = record { clients = no_clients; files = initial_files nodes }
 
--- What the server was opened with, and its entries in order, the first of them number 0.
+-- What the server was started with, and the journal's entries in order, numbered from 0.
 pub record History : Type 0 where
-  -- of the tree
+  -- the nodes of the tree
   pub nodes : List Node
-  -- the run, the upper half of each clientid
+  -- the number of the server's run, the upper half of each clientid
   pub epoch : ℕ
   -- the lease in seconds
   pub lease : ℕ
   pub policy : Policy
   pub entries : List Entry
 
--- the client has state (RFC 7530, section 9.1.1): there are no opens, lock states or delegations yet
+-- whether the client has state (RFC 7530, section 9.1.1); no client does, since there are no opens, locks or
+-- delegations yet
 abbrev pub has_state : State → ClientId → Bool
 has_state state client = false
 
--- the same of the client of a record that may be there
+-- whether the client of a record has state, if there is a record
 abbrev pub record_has_state : State → Option ClientRecord → Bool
 record_has_state state None = false
 record_has_state state (Some r) = has_state state r.client

@@ -1,4 +1,4 @@
--- How one entry leads from a state to the next.
+-- How one entry of the journal leads from a state to the next.
 use Rattle.std.specs.Prelude.{◌≡◌, ◌≢◌, ℕ, ◌<◌, [], ◌∷◌, ◌++◌, length, Option, Some, None, IfSome}
 use Rattle.nfs_core.specs.declared.change.Change.{Change}
 use Rattle.nfs_core.specs.declared.change.Change.TheVariants as changes
@@ -28,11 +28,11 @@ changed (changes.Clients change) old = record old { clients = with_change change
 abbrev pub resource : Op → OpResult
 resource op = refusal_of (opnum_of op) Resource
 
--- the current filehandle, if there is one, is that of a node
+-- the current filehandle, if there is one, is that of a node of the tree
 abbrev pub IsFilehandle : History → Option ℕ → Type 0
 IsFilehandle journal filehandle = IfSome filehandle (λ node. node < node_count journal.nodes)
 
--- the request for an operation
+-- a request for an operation
 abbrev pub request_of : ℕ → Principal → Op → Option ℕ → Request
 request_of moment principal op filehandle =
     record { moment = moment; principal = principal; op = op; filehandle = filehandle }
@@ -43,13 +43,13 @@ entry_of request answer =
     let call : Call = record { request = request; answer = answer } in
     entries.Call call
 
--- the journal with one entry more
+-- the journal with one more entry at the end
 abbrev pub with_entry : Entry → History → History
 with_entry entry journal = record journal { entries = journal.entries ++ entry ∷ [] }
 
--- From old, the call comes next in the journal by what its rule decides, and leads to new. No call
--- that is answered NFS4ERR_RESOURCE comes in, nor one where a limit would be passed, nor one whose
--- filehandle is that of no node.
+-- In the state old, the call may come next in the journal as its rule decides, and leads to the state new. Calls that
+-- are answered NFS4ERR_RESOURCE, that would exceed a limit, or whose filehandle belongs to no node are never in the
+-- journal.
 abbrev pub Follows : Option Decision → History → State → Call → State → Type 0
 Follows None journal old call new = ⊥
 Follows (Some decision) journal old call new =
@@ -59,7 +59,7 @@ Follows (Some decision) journal old call new =
     × (new ≡ changed decision.change old)
     × IsFilehandle journal call.request.filehandle
 
--- From old, with this journal so far, the entry may come next and lead to new.
+-- In the state old, after this journal, the entry may come next and leads to the state new.
 abbrev pub Step : History → State → Entry → State → Type 0
 Step journal old (entries.Call call) new =
     Follows (rule call.request.op journal old call.request) journal old call new

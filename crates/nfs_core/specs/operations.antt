@@ -12,8 +12,8 @@ pub mod Getattr
 pub mod Setclientid
 pub mod SetclientidConfirm
 
--- What is decided of an operation that is asked for so, by journal and state; none where a limit
--- would be passed. An operation without an entry has no rule here.
+-- What the rule of an operation decides for a request, given the journal and the state; `None` if a limit would be
+-- exceeded. An operation without an entry in the journal has no rule here.
 abbrev pub rule : Op → History → State → Request → Option Decision
 rule (ops.Getattr mask) journal state request = getattr.rule journal state request.filehandle mask
 rule (ops.Setclientid args) journal state request = setclientid.rule journal state request args

@@ -14,14 +14,14 @@ use nfs_xdr::operations::setclientid_confirm::SetclientidConfirm;
 use std::alloc::{AllocError, Global};
 use std::marker::Model;
 
-/// The clients' records in the order in which they came, and what was given last. SETCLIENTID and its
-/// confirmation are decided first (`set`, `confirm`); after `make_room` the change takes no memory.
+/// The clients' records in the order in which they were added, and the numbers that were given out last. SETCLIENTID
+/// and SETCLIENTID_CONFIRM are decided first (`set`, `confirm`); after `make_room` the change takes no memory.
 #[derive(Debug, Drop)]
 pub(crate) struct Clients {
     records: Vec<ClientRecord>,
-    /// The client number that was given last; 0 before the first.
+    /// The client number that was given out last; 0 before the first.
     last_number: u32,
-    /// The confirm value that was given last; 0 before the first.
+    /// The confirm value that was given out last; 0 before the first.
     last_confirm: u64,
 }
 
@@ -48,7 +48,7 @@ impl Clients {
     ghost use Rattle.nfs_core.specs.ClientRoom.{HasNumbersFor, HasRoomFor};
     ghost use Rattle.nfs_core.specs.Registry.{confirmed_named_by, confirmed_of, no_clients, unconfirmed_named_by};
 
-    /// No clients yet, taking no memory.
+    /// A registry without clients, taking no memory.
     pub(crate) fn new(alloc: Global) -> Clients
         ensures { result.registry ≡ no_clients }
     {
@@ -59,14 +59,14 @@ impl Clients {
         }
     }
 
-    /// The id's confirmed record, if there is one.
+    /// The confirmed record with this id, if there is one.
     pub(crate) fn confirmed_of(&self, id: &[u8]) -> Option<&ClientRecord>
         ensures { option_copied result ≡ confirmed_of self.now.registry id.now }
     {
         self.records.iter().find(|r| r.is_confirmed_of(id))
     }
 
-    /// The unconfirmed record that SETCLIENTID_CONFIRM names, if there is one.
+    /// The unconfirmed record that the arguments of SETCLIENTID_CONFIRM name, if there is one.
     pub(crate) fn unconfirmed_named_by(&self, args: &SetclientidConfirm) -> Option<&ClientRecord>
         ensures { option_copied result ≡ unconfirmed_named_by args.now self.now.registry }
     {
@@ -75,7 +75,7 @@ impl Clients {
             .find(|r| !r.confirmed && r.is_named_by(args))
     }
 
-    /// The confirmed record that it names, if there is one.
+    /// The confirmed record that the arguments of SETCLIENTID_CONFIRM name, if there is one.
     pub(crate) fn confirmed_named_by(&self, args: &SetclientidConfirm) -> Option<&ClientRecord>
         ensures { option_copied result ≡ confirmed_named_by args.now self.now.registry }
     {
@@ -98,7 +98,7 @@ impl Clients {
         }
     }
 
-    /// Makes the change, for which there is room. It takes no memory.
+    /// Makes the change, for which there has to be room. It takes no memory.
     pub(crate) fn commit(&mut self, change: ClientChange)
         requires room { HasRoomFor change self.old }
         requires numbers { HasNumbersFor change self.old.registry }
@@ -121,7 +121,7 @@ impl Clients {
     }
 }
 
-// Puts the record, for which there is room, at the end, and drops an unconfirmed one of its id.
+// Adds the record at the end, where there has to be room, and removes an unconfirmed record with the same id.
 fn put_unconfirmed(records: &mut Vec<ClientRecord>, newcomer: ClientRecord)
     requires { vec_len records.old < vec_capacity records.old }
     ensures { records.new.items ≡ with_unconfirmed newcomer records.old.items }
@@ -130,7 +130,7 @@ fn put_unconfirmed(records: &mut Vec<ClientRecord>, newcomer: ClientRecord)
     records.push_reserved(newcomer);
 }
 
-// Puts the record, for which there is room, at the end, and drops all others of its id.
+// Adds the record at the end, where there has to be room, and removes all other records with the same id.
 fn put_confirmed(records: &mut Vec<ClientRecord>, newcomer: ClientRecord)
     requires { vec_len records.old < vec_capacity records.old }
     ensures { records.new.items ≡ with_confirmed newcomer records.old.items }

@@ -1,10 +1,10 @@
 use std::alloc::AllocError;
 use thiserror::Error;
 
-/// Why the core refused a call that answers no operation.
+/// Why a call of the core that doesn't answer an operation failed.
 #[derive(Clone, Copy, Debug, PartialEq, Eq, Error)]
 pub enum CoreError {
-    /// Memory was refused.
+    /// Memory ran out.
     #[error("no memory (4)")]
     Memory = 4,
 }

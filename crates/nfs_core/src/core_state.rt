@@ -21,11 +21,10 @@ use nfs_xdr::{Op, OpResult, Principal, Refusal};
 use std::alloc::{AllocError, Global};
 use std::marker::Model;
 
-/// The most bytes of an answer in a reply.
+/// The greatest length of an answer in a reply, in bytes.
 pub const ANSWER_LIMIT: usize = 2036;
 
-/// The state of a server (RFC 7530, section 9) and the journal of its changes, which leads to that
-/// state.
+/// The state of a server (RFC 7530, section 9), and the journal of the changes that led to it.
 #[derive(Debug, Drop)]
 pub struct Core {
     alloc: Global,
@@ -46,8 +45,8 @@ impl Model for Core {
 }
 
 impl Core {
-    /// A server of this tree's files that no client has come to, for the run `epoch` with this lease in
-    /// seconds. Memory where a growth was refused for its copy of the tree.
+    /// A server with the files of this tree, to which no client has come. `lease` is in seconds, and `epoch` is the
+    /// number of the server's run. Fails if memory runs out while the tree is copied.
     pub fn new(
         alloc: Global,
         tree: &Tree,
@@ -75,9 +74,9 @@ impl Core {
         })
     }
 
-    /// Answers an operation that has a rule here (`Op::has_entry`), and gives its entry's number in the
-    /// journal. With no number the answer is NFS4ERR_RESOURCE and nothing has changed: the journal is
-    /// full, memory was refused, or a limit would be passed. `filehandle` is a node of the tree.
+    /// Answers an operation that has an entry in the journal (`Op::has_entry`), and returns the entry's number. Without
+    /// a number the answer is NFS4ERR_RESOURCE and nothing has changed: the journal is full, memory ran out, or a limit
+    /// would be exceeded. `filehandle` has to be a node of the tree.
     pub fn apply(
         &mut self,
         moment: Moment,
@@ -104,7 +103,7 @@ impl Core {
         }
     }
 
-    /// The journal.
+    /// The journal of the changes that led to the state.
     pub fn journal(&self) -> &Journal
         ensures journal { result.now ≡ self.now.journal }
         ensures lawful { IsLawful self.now }
@@ -113,8 +112,8 @@ impl Core {
     }
 }
 
-// Enters what is asked for, with its answer: the answer and the entry's number. A limit is told only
-// where no answer may come next, and want of memory only where no limit would be passed.
+// Answers the request and enters it in the journal. Returns the answer and the entry's number. Fails with Limit only if
+// no answer may come next, and with Memory only if no limit would be exceeded.
 fn enter(
     alloc: Global,
     tables: &mut Tables,
@@ -153,7 +152,7 @@ fn copy_of(answer: &OpResult) -> Result<OpResult, AllocError>
     answer.clone()
 }
 
-// Makes room for the change and for the entry, then makes the change and enters the call.
+// Makes room for the change and for the entry, then makes the change and adds the call to the journal.
 fn take_in(
     tables: &mut Tables,
     journal: &mut Journal,
@@ -174,7 +173,7 @@ fn take_in(
     Ok(push_entry(&mut journal.entries, Entry::Call(call)))
 }
 
-/// The law that a request has at most one answer from a state, and leads to at most one state.
+/// The law that a request has at most one answer in a state, and leads to at most one state.
 pub fn at_most_one_step()
     ensures { AtMostOneStep }
 {}

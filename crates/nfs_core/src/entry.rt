@@ -1,7 +1,7 @@
 use crate::Request;
 use nfs_xdr::OpResult;
 
-/// One change of the state, as the journal keeps it.
+/// One event that the journal records.
 #[derive(Debug, Drop)]
 pub enum Entry {
     /// An operation that was answered.
@@ -15,5 +15,5 @@ pub struct Call {
     pub answer: OpResult,
 }
 
-/// The most entries of a journal.
+/// How many entries a journal can have.
 pub const JOURNAL_LIMIT: usize = 1_000_000;

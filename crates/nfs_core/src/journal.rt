@@ -12,14 +12,14 @@ pub const LEASE_MIN: u32 = 1;
 /// The longest lease, in seconds.
 pub const LEASE_MAX: u32 = 86_400;
 
-/// What the server was opened with, and its entries in order, the first of them number 0.
+/// What the server was started with, and the journal's entries in order, numbered from 0.
 #[derive(Debug, Drop)]
 pub struct Journal {
     tree: Tree,
     epoch: u32,
     lease: u32,
     policy: Policy,
-    // What enters a call reaches it, since it makes room here before it changes the state.
+    // Visible in the crate because a call makes room in the list before it changes the state.
     pub(crate) entries: Vec<Entry>,
 }
 
@@ -62,21 +62,21 @@ impl Journal {
         }
     }
 
-    /// The tree that the server was opened with.
+    /// The tree that the server was started with.
     pub fn tree(&self) -> &Tree
         ensures { result.now.nodes ≡ self.now.nodes }
     {
         &self.tree
     }
 
-    /// The server's choices.
+    /// The policy that the server was started with.
     pub fn policy(&self) -> Policy
         ensures { result ≡ self.now.policy }
     {
         self.policy
     }
 
-    /// The server's run, the upper half of each clientid that it gives.
+    /// The number of the server's run, the upper half of each clientid that it gives out.
     pub fn epoch(&self) -> u32
         ensures { result ≡ self.now.epoch }
     {
@@ -98,7 +98,7 @@ impl Journal {
         self.entries.as_slice()
     }
 
-    /// Whether it has as many entries as it may have.
+    /// Whether the journal has as many entries as it can have.
     pub(crate) fn is_full(&self) -> bool
         ensures { result ≡ nat_le JOURNAL_LIMIT (length self.now.entries) }
     {
@@ -106,8 +106,8 @@ impl Journal {
     }
 }
 
-/// Puts the entry at the end, where there is room, and gives its number. It is about the entries alone,
-/// since a journal's value doesn't tell that there is room.
+/// Adds the entry at the end, where there has to be room, and returns its number. It takes only the entries because the
+/// contract of a journal says nothing about the room in it.
 pub(crate) fn push_entry(entries: &mut Vec<Entry>, entry: Entry) -> u32
     requires below { length entries.old.items < JOURNAL_LIMIT }
     requires room { vec_len entries.old < vec_capacity entries.old }

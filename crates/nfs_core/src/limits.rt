@@ -5,8 +5,8 @@ use crate::core_state::ANSWER_LIMIT;
 use crate::entry::JOURNAL_LIMIT;
 use crate::journal::{LEASE_MAX, LEASE_MIN};
 
-/// The limits that the rules name: entries of a journal, client numbers of a run, bytes of an r_netid
-/// or r_addr, seconds of a lease, and bytes of an answer in a reply.
+/// The limits in the rules: on the entries of a journal, the client numbers of a run, the bytes of an r_netid or
+/// r_addr, the seconds of a lease, and the bytes of an answer in a reply.
 pub fn limits_of_the_state()
     ensures journal { JOURNAL_LIMIT ≡ 1000000 }
     ensures clients { (CLIENT_LIMIT ≡ 4096) × (ADDRESS_LIMIT ≡ 128) }

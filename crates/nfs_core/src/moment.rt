@@ -2,7 +2,7 @@ ghost use Rattle.std.specs.Prelude.{◌≡◌, ◌<◌, ◌≤◌, ◌^◌, IsTr
 
 use std::marker::Model;
 
-/// A moment: whole seconds, below 2^40. Contracts see the number.
+/// A point in time, in whole seconds below 2^40. Contracts see the number.
 #[derive(Clone, Copy, Debug)]
 pub struct Moment {
     seconds: u64,
@@ -21,7 +21,7 @@ impl Model for Moment {
 }
 
 impl Moment {
-    /// The moment of these seconds, or none from 2^40 on.
+    /// The moment with this number of seconds, or `None` from 2^40 on.
     pub fn new(seconds: u64) -> Option<Moment>
         ensures { MatchOption result (2 ^ 40 ≤ seconds) (λ m. (m ≡ seconds)) }
     {
@@ -32,7 +32,7 @@ impl Moment {
         }
     }
 
-    /// Its seconds.
+    /// The number of seconds.
     pub fn seconds(self) -> u64
         ensures value { result ≡ self }
         ensures below { result < 2 ^ 40 }

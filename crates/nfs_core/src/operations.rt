@@ -1,4 +1,4 @@
-// The operations with an entry, one file each, which decides the answer and the change.
+// The operations that have an entry in the journal. Each has its own file, which decides the answer and the change.
 ghost use Rattle.std.specs.Prelude.{◌-◌, ◌^◌, ◌<◌, IsTrue};
 ghost use Rattle.nfs_core.specs.operations.{rule};
 ghost use Rattle.nfs_core.specs.Deciding.{Decides};
@@ -17,7 +17,7 @@ use crate::{Journal, Request};
 use nfs_xdr::Op;
 use std::alloc::Global;
 
-/// Decides by its rule how an operation with an entry is answered, and what it changes.
+/// Decides, by the operation's rule, how a request is answered and what it changes.
 pub(crate) fn decide(
     alloc: Global,
     tables: &Tables,

@@ -4,20 +4,20 @@ use crate::Moment;
 use nfs_xdr::{Op, Principal};
 use std::alloc::AllocError;
 
-/// An operation that the state is asked for: who sent it, when, and under which filehandle.
+/// A request for an operation on the state: who sent it, when, and with which current filehandle.
 #[derive(Debug, Drop)]
 pub struct Request {
     pub moment: Moment,
     pub principal: Principal,
     pub op: Op,
-    /// The current filehandle's node, if there is one.
+    /// The node of the current filehandle, if there is one.
     pub filehandle: Option<u32>,
 }
 
 impl Request {
     ghost use Rattle.nfs_core.specs.Step.{request_of};
 
-    /// The request of a copy of the operation.
+    /// A request for a copy of the operation.
     pub(crate) fn of_copy(
         moment: Moment,
         principal: Principal,

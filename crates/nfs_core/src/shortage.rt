@@ -6,9 +6,9 @@ use std::alloc::AllocError;
 /// Why a request is answered NFS4ERR_RESOURCE and changes nothing.
 #[derive(Clone, Copy, Debug, PartialEq, Eq)]
 pub(crate) enum Shortage {
-    /// A limit would be passed.
+    /// A limit would be exceeded.
     Limit,
-    /// Memory was refused.
+    /// Memory ran out.
     Memory,
 }
 

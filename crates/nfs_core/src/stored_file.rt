@@ -6,6 +6,6 @@ pub struct StoredFile {
     /// The number of its node in the tree.
     pub node: u32,
     pub bytes: Bytes,
-    /// How many writes changed it (the attribute change).
+    /// How many writes changed the file (the attribute change).
     pub change: u64,
 }

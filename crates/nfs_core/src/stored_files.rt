@@ -8,7 +8,7 @@ use std::alloc::{AllocError, Global};
 use std::marker::Model;
 use xdr::Bytes;
 
-/// The files as they are now, in order of the numbers of their nodes.
+/// The files as they are now, in the order of their nodes' numbers.
 #[derive(Debug, Drop)]
 pub(crate) struct StoredFiles {
     files: Vec<StoredFile>,
@@ -24,7 +24,7 @@ impl Model for StoredFiles {
 }
 
 impl StoredFiles {
-    /// The tree's files with the texts that it gives them.
+    /// The files of the tree, with the texts that the tree gives them.
     pub(crate) fn of_tree(alloc: Global, tree: &Tree) -> Result<StoredFiles, AllocError>
         ensures { IfOk result (λ f. f ≡ initial_files tree.now.nodes) }
     {
@@ -41,7 +41,7 @@ impl StoredFiles {
         Ok(StoredFiles { files })
     }
 
-    /// The file of a node, if it is one.
+    /// The file of a node, if the node is a file.
     pub(crate) fn find(&self, node: u32) -> Option<&StoredFile>
         ensures { option_copied result ≡ file_of self.now node }
     {

@@ -22,7 +22,7 @@ impl Tables {
     ghost use Rattle.nfs_core.specs.Room.{HasNumbers, HasRoom, state_of, stored_of};
     ghost use Rattle.nfs_core.specs.Stored.{empty_store};
 
-    /// The tree's files, and no client.
+    /// The files of the tree, and no clients.
     pub(crate) fn of_tree(alloc: Global, tree: &Tree) -> Result<Tables, AllocError>
         ensures { IfOk result (λ t. stored_of t ≡ empty_store tree.now.nodes) }
     {
@@ -32,7 +32,7 @@ impl Tables {
         })
     }
 
-    /// How often the file of the node was changed, and how many bytes it has; 0 of a directory.
+    /// How often the file of the node was changed, and how many bytes it has; both are 0 for a directory.
     pub(crate) fn change_and_size(&self, node: u32) -> (u64, u64)
         ensures { result ≡
             (change_of (file_of self.now.files node), size_of (file_of self.now.files node)) }
@@ -53,7 +53,7 @@ impl Tables {
         }
     }
 
-    // Whether the client has state. There is none yet that it could have.
+    // Whether the client has state. No client has any yet.
     fn has_state(&self, _client: ClientId) -> bool
         ensures { result ≡ has_state (state_of self.now) _client }
     {
@@ -71,7 +71,7 @@ impl Tables {
         }
     }
 
-    /// Makes the change, for which there is room. It takes no memory.
+    /// Makes the change, for which there has to be room. It takes no memory.
     pub(crate) fn commit(&mut self, change: Change)
         requires room { HasRoom change self.old }
         requires numbers { HasNumbers change (state_of self.old) }

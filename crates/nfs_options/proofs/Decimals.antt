@@ -1,4 +1,4 @@
--- What `parse` reads of a text without a plus sign.
+-- What `parse` reads from a text without a plus sign.
 use Rattle.std.proofs.Common.{◌≡◌, ◌<◌, ◌^◌, ◌==◌, ℕ, List, [], ◌∷◌, Result, Ok, Err, refl, subst, arith, true, false, slice_index}
 use Rattle.std.specs.Prelude.{SomeIff}
 use Rattle.std.specs.Result.{result_ok}

@@ -1,4 +1,4 @@
--- From clap's errors to the program's.
+-- How an error of clap becomes one of the program.
 use Rattle.std.proofs.Common.{◌≡◌, ◌∙◌, Bool, List, [], ◌∷◌, refl, true, false, true≢false, sym, ap, subst, inl, inr}
 use Rattle.std.specs.Prelude.{◌⊎◌, Err, IfErr, IfOk, IsErrAnd, MatchResult, Ok, Result}
 use Rattle.clap.specs.Words.{IsAmong, Text, fault_of}
@@ -10,7 +10,7 @@ use Rattle.nfs_options.specs.declared.command_line.Subcommand.{Subcommand}
 use Rattle.nfs_options.specs.declared.declined.Declined.{Declined}
 use Rattle.nfs_options.specs.declared.declined.Declined.TheVariants as declined
 
--- clap takes the words, and a value is no number within its limits
+-- the words are declined if clap accepts them, but a value is not a number within its limits
 pub value_declined : (words : List Text) (d : Declined) → fault_of program words ≡ [] → IsMemoryOr (HasNoNumber (once_rows words)) d → IsDeclined words d
 value_declined words declined.Memory e h = tt
 value_declined words (declined.Help text) e h = absurd h
@@ -20,7 +20,7 @@ abbrev is_memory : ErrorKind → Bool
 is_memory OutOfMemory = true
 is_memory _ = false
 
--- clap refuses the words
+-- the words are declined if clap rejects them
 pub words_declined : (words : List Text) (k : ErrorKind) (d : Declined) → (k ≡ OutOfMemory) ⊎ IsAmong k (fault_of program words) → IsDeclinedFor k d → IsDeclined words d
 words_declined words k declined.Memory a h = tt
 words_declined words k (declined.Help text) (inl e) h = absurd (true≢false (ap is_memory (sym e ∙ h)))
@@ -33,7 +33,7 @@ weaker_fault P Q f declined.Memory h = tt
 weaker_fault P Q f (declined.Help text) h = absurd h
 weaker_fault P Q f (declined.Usage text) h = f h
 
--- `?` passes the error on
+-- `?` returns the error, so what holds for it still holds
 pub passed_on : {T : Type 0} (r : Result T Declined) (P : Declined → Type 0) (d : Declined) → IsErrAnd r (λ e. e ≡ d) → P d → IfErr r P
 passed_on (Ok x) P d is h = absurd is
 passed_on (Err e) P d is h = subst P (sym is) h
@@ -42,7 +42,7 @@ no_words_fault : (name : Text) → fault_of program (name ∷ []) ≡ []
 unfolding clap_on_literals
 no_words_fault name = refl
 
--- the program's name alone is declined only for memory
+-- the program's name alone is declined only if memory runs out
 pub bare_declined : (words : List Text) (d : Declined) (name : Text) → IsDeclined words d → words ≡ name ∷ [] → d ≡ declined.Memory
 bare_declined words d name h e = go d (subst (λ ws. IsDeclined ws d) e h)
   where

@@ -1,4 +1,4 @@
--- The command line of the program: what its words ask for.
+-- The command line of the program: what its words ask the program to do.
 use Rattle.std.specs.Prelude.{◌≡◌, ◌≢◌, ◌≤◌, ◌⊎◌, [], ℕ, List, Option, Some, None, codes, option_map, true, ⊤}
 use Rattle.std.specs.Borrow.{Bor}
 use Rattle.std.specs.Str.Parse.{IsNumeral, digits_value}
@@ -13,7 +13,7 @@ use Rattle.nfs_options.specs.declared.command_line.Subcommand.{Subcommand}
 use Rattle.nfs_options.specs.declared.command_line.Subcommand.TheVariants as subcommand
 use Rattle.nfs_core.specs.declared.journal.TheConstants.{LEASE_MIN, LEASE_MAX}
 
--- ---- the command, as clap reads words by it
+-- ---- the command by which clap reads the words
 
 -- `--NAME VALUE` or `--NAME=VALUE`, at most once
 abbrev pub option_rule : Text → Rule
@@ -25,26 +25,26 @@ once =
     with_rule (with_rule (with_rule (new_app (codes "once")) (option_rule (codes "tree")))
     (option_rule (codes "lease"))) (option_rule (codes "epoch"))
 
--- the program: its subcommands, no options of its own but help's, and no subcommand `help`
+-- the program: its subcommands, no options of its own except clap's help, and no subcommand `help`
 abbrev pub program : App
 program = with_subcommand (on_top (λ s. record s { disable_help_subcommand = true }) (new_app (codes "nfs4state"))) once.top
 
--- the text of an option's value, if it is given
+-- the text of an option's value, if the option is present
 abbrev pub text_of : Option (Bor Text) → Option Text
 text_of = option_map (λ s. s.now)
 
 -- ---- numbers
 
--- n is what the text spells in decimal digits alone, within the limits
+-- n is the number that the text gives in decimal digits, with nothing else, and is within the limits
 abbrev pub SpellsWithin : ℕ → ℕ → Text → ℕ → Type 0
 SpellsWithin least most text n = IsNumeral 10 text × (digits_value 10 text ≡ n) × (least ≤ n) × (n ≤ most)
 
--- n is an option's number: what its value spells, or the default where it isn't given
+-- n is the number of an option: the one that its value gives, or the default if the option is absent
 abbrev pub IsNumber : ℕ → ℕ → ℕ → Option Text → ℕ → Type 0
 IsNumber least most default None n = n ≡ default
 IsNumber least most default (Some text) n = SpellsWithin least most text n
 
--- an option is given, and its value spells no number within the limits
+-- an option is present, and its value is not a number within the limits
 abbrev pub IsNoNumber : ℕ → ℕ → Option Text → Type 0
 IsNoNumber least most None = ⊥
 IsNoNumber least most (Some text) = (n : ℕ) → SpellsWithin least most text n → ⊥
@@ -58,9 +58,9 @@ epoch_default = 1
 abbrev pub epoch_max : ℕ
 epoch_max = 4294967295
 
--- ---- what the words ask for
+-- ---- what the words ask the program to do
 
--- the options that the subcommand was given; no subcommand is `once` with none
+-- the options of the subcommand; no subcommand means `once` without options
 abbrev pub given_rows : Option (Text × List Row) → List Row
 given_rows None = []
 given_rows (Some s) = s.1
@@ -68,14 +68,14 @@ given_rows (Some s) = s.1
 abbrev pub once_rows : List Text → List Row
 once_rows words = given_rows (subcommand_of program words)
 
--- the options are those that were given, as text
+-- the options hold what the words give for each of them, or its default
 abbrev pub IsOnce : List Row → OnceOptions → Type 0
 IsOnce rows o =
     (text_of o.tree ≡ first_of (codes "tree") rows)
     × IsNumber LEASE_MIN LEASE_MAX lease_default (first_of (codes "lease") rows) o.lease
     × IsNumber 0 epoch_max epoch_default (first_of (codes "epoch") rows) o.epoch
 
--- an option has a value that is no number within its limits
+-- the value of some option is not a number within its limits
 abbrev pub HasNoNumber : List Row → Type 0
 HasNoNumber rows = IsNoNumber LEASE_MIN LEASE_MAX (first_of (codes "lease") rows)
     ⊎ IsNoNumber 0 epoch_max (first_of (codes "epoch") rows)
@@ -83,7 +83,7 @@ HasNoNumber rows = IsNoNumber LEASE_MIN LEASE_MAX (first_of (codes "lease") rows
 abbrev pub AsksOnce : List Row → Subcommand → Type 0
 AsksOnce rows (subcommand.Once o) = IsOnce rows o
 
--- clap takes the words, and this is what they ask for
+-- clap accepts the words, and this is what they ask for
 abbrev pub Asks : List Text → Subcommand → Type 0
 Asks words s = (fault_of program words ≡ []) × AsksOnce (once_rows words) s
 
@@ -94,26 +94,26 @@ IsOnceWithinLimits o = (LEASE_MIN ≤ o.lease) × (o.lease ≤ LEASE_MAX) × (o.
 abbrev pub IsWithinLimits : Subcommand → Type 0
 IsWithinLimits (subcommand.Once o) = IsOnceWithinLimits o
 
--- clap refuses words with these kinds, and not to show help
+-- clap rejects the words for one of these reasons, other than a request for help
 abbrev pub Refuses : Kinds → Type 0
 Refuses kinds = (k : ErrorKind) × IsAmong k kinds × (k ≢ DisplayHelp)
 
--- memory was refused, or the words are at fault as P says
+-- memory ran out, or the words are at fault as P describes
 abbrev pub IsMemoryOr : Type 0 → Declined → Type 0
 IsMemoryOr P declined.Memory = ⊤
 IsMemoryOr P (declined.Usage text) = P
 IsMemoryOr P (declined.Help text) = ⊥
 
--- why the words ask for nothing: they ask for help, clap refuses them, or a value is no number within its limits
+-- why the words can't be followed: they ask for help, clap rejects them, or a value is not a number within its limits
 abbrev pub IsDeclined : List Text → Declined → Type 0
 IsDeclined words declined.Memory = ⊤
 IsDeclined words (declined.Help text) = IsAmong DisplayHelp (fault_of program words)
 IsDeclined words (declined.Usage text) = Refuses (fault_of program words)
     ⊎ ((fault_of program words ≡ []) × HasNoNumber (once_rows words))
 
--- ---- clap's errors
+-- ---- errors of clap
 
--- what an error of clap's of this kind is here
+-- what an error of this kind from clap becomes in the program
 abbrev pub IsDeclinedFor : ErrorKind → Declined → Type 0
 IsDeclinedFor k declined.Memory = ⊤
 IsDeclinedFor k (declined.Help text) = k ≡ DisplayHelp

@@ -9,7 +9,7 @@ use clap::ArgMatches;
 use std::alloc::Global;
 use std::convert::AsStr;
 
-/// What the words of the command line ask for.
+/// What the words of the command line ask the program to do.
 #[derive(Clone, Copy, Debug, PartialEq, Eq)]
 pub enum Subcommand<'a> {
     /// Serve standard input to its end.
@@ -17,13 +17,14 @@ pub enum Subcommand<'a> {
 }
 
 /// Reads the words of the command line, the first of which is the program's name: `once`, with `--tree FILE`, `--lease
-/// SECONDS` (1 to 86,400, or 90) and `--epoch NUMBER` (0 to 2^32 - 1, or 1), each at most once. Numbers are decimal digits
-/// without a sign. No words behind the name are `once` alone, and `--help` or `-h` in either place asks for help.
+/// SECONDS` (1 to 86,400, by default 90) and `--epoch NUMBER` (0 to 2^32 - 1, by default 1), each at most once. Numbers
+/// are decimal digits without a sign. The program's name alone means `once` without options, and `--help` or `-h`,
+/// before or after `once`, asks for help.
 pub fn options<'a, S: AsStr>(alloc: Global, words: &'a [S]) -> Result<Subcommand<'a>, Declined>
     ensures asked { IfOk result (Asks (map S.text words.now)) }
     ensures limits { IfOk result IsWithinLimits }
     ensures declined { IfErr result (IsDeclined (map S.text words.now)) }
-    // The program's name alone is `once` with the defaults.
+    // The program's name alone means `once` with the defaults.
     ensures bare { (name : List ℕ) → map S.text words.now ≡ name ∷ [] → MatchResult result (AsksOnce []) (λ d. d ≡ Declined.Memory) }
 {
     match program_command(alloc)?.try_get_matches_from(words) {
@@ -33,7 +34,7 @@ pub fn options<'a, S: AsStr>(alloc: Global, words: &'a [S]) -> Result<Subcommand
 }
 
 impl<'a> Subcommand<'a> {
-    // No subcommand is `once` with no options.
+    // No subcommand means `once` without options.
     fn of(alloc: Global, matches: &ArgMatches<'a>) -> Result<Subcommand<'a>, Declined>
         ensures ok { IfOk result (λ s. AsksOnce (given_rows (subcommand_rows_of matches.now)) s × IsWithinLimits s) }
         ensures err { IfErr result (IsMemoryOr (HasNoNumber (given_rows (subcommand_rows_of matches.now)))) }

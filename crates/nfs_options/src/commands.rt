@@ -63,7 +63,7 @@ fn option<'a>(alloc: Global, name: &'a str, value_name: &'a str, help: &'a str) 
         .help(help)
 }
 
-/// A refusal of an option's value of `once`.
+/// The error for a value of an option of `once` that can't be accepted.
 pub(crate) fn value_error(alloc: Global, message: &str) -> Result<Error, AllocError> {
     let mut once = once_command(alloc)?.bin_name("nfs4state once")?;
     once.error(ErrorKind::ValueValidation, message)

@@ -6,19 +6,19 @@ use clap::Error;
 use clap::error::ErrorKind;
 use std::alloc::{AllocError, Global};
 
-/// Why the words of the command line ask for nothing that can be done.
+/// Why the words of the command line don't ask for anything that the program can do.
 #[derive(Debug, Drop)]
 pub enum Declined {
-    /// They ask for help, which is this text, for standard output.
+    /// They ask for help. This is its text, to be printed on standard output.
     Help(String),
-    /// They are at fault. The text says how, for standard error.
+    /// They contain a mistake. The text explains it, and is to be printed on standard error.
     Usage(String),
-    /// Memory was refused while they were read.
+    /// Memory ran out while they were read.
     Memory,
 }
 
 impl Declined {
-    /// What an error of clap's is to the program.
+    /// What an error of clap becomes in the program.
     pub(crate) fn of(alloc: Global, error: &Error) -> Declined
         ensures { IsDeclinedFor (kind_of error.now) result }
     {

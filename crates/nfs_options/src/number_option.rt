@@ -6,20 +6,20 @@ use crate::Declined;
 use crate::commands::value_error;
 use std::alloc::{AllocError, Global};
 
-/// An option of `once` whose value is a number, in decimal digits without a sign.
+/// An option of `once` whose value is a number, written in decimal digits without a sign.
 #[derive(Clone, Copy, Debug)]
 pub(crate) struct NumberOption {
     pub(crate) name: &'static str,
-    /// What help calls the value.
+    /// The name of the value in the help text.
     pub(crate) value_name: &'static str,
     pub(crate) least: u32,
     pub(crate) most: u32,
-    /// The number where the option isn't given.
+    /// The number if the option is absent.
     pub(crate) default: u32,
 }
 
 impl NumberOption {
-    /// The number that the option's value spells, or the default.
+    /// The number that the option's value gives, or the default.
     pub(crate) fn number(&self, alloc: Global, value: Option<&str>) -> Result<u32, Declined>
         ensures ok { IfOk result (IsNumber self.now.least self.now.most self.now.default (text_of value.entry)) }
         ensures err { IfErr result (IsMemoryOr (IsNoNumber self.now.least self.now.most (text_of value.entry))) }
@@ -33,7 +33,7 @@ impl NumberOption {
         }
     }
 
-    // That the text is no number within the limits.
+    // The error for a text that is not a number within the limits.
     fn refusal(&self, alloc: Global, text: &str) -> Declined
         ensures { IsMemoryOr ⊤ result }
     {
@@ -56,7 +56,7 @@ impl NumberOption {
     }
 }
 
-// The number that decimal digits alone spell, where it lies from `least` to `most`.
+// The number that a text gives in decimal digits, with nothing else, if it is from `least` to `most`.
 fn number_within(text: &str, least: u32, most: u32) -> Option<u32>
     ensures { MatchOption result ((n : ℕ) → SpellsWithin least most text.now n → ⊥) (SpellsWithin least most text.now) }
 {
@@ -68,7 +68,7 @@ fn number_within(text: &str, least: u32, most: u32) -> Option<u32>
     }
 }
 
-// The number that decimal digits alone spell. Unlike `parse` it takes no plus sign.
+// The number that a text gives in decimal digits, with nothing else. Unlike `parse`, it accepts no plus sign.
 fn decimal(text: &str) -> Option<u32>
     ensures { SomeIff result (IsNumeral 10 text.now × (digits_value 10 text.now < 2 ^ 32)) (digits_value 10 text.now) }
 {

@@ -11,23 +11,23 @@ use std::alloc::Global;
 /// The options of `once`.
 #[derive(Clone, Copy, Debug, PartialEq, Eq)]
 pub struct OnceOptions<'a> {
-    /// The file that says which files are served, if one is named.
+    /// The file that describes the tree of files to serve, if there is one.
     pub tree: Option<&'a str>,
     /// The lease in seconds, from `LEASE_MIN` to `LEASE_MAX`.
     pub lease: u32,
-    /// The server's run, the upper half of each clientid.
+    /// The number of the server's run, the upper half of each clientid.
     pub epoch: u32,
 }
 
 impl<'a> OnceOptions<'a> {
-    /// What holds where no option is given.
+    /// The values of the options that are absent.
     pub const DEFAULT: OnceOptions<'static> = OnceOptions {
         tree: None,
         lease: 90,
         epoch: 1,
     };
 
-    /// The options that clap found.
+    /// The options that clap found, with the defaults for the others.
     pub(crate) fn of(alloc: Global, matches: &ArgMatches<'a>) -> Result<OnceOptions<'a>, Declined>
         ensures ok { IfOk result (IsOnce (rows_of (found_of matches.now))) }
         ensures limits { IfOk result IsOnceWithinLimits }

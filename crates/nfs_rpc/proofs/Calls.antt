@@ -1,4 +1,4 @@
--- What is read of a record is what its layout calls for, and a record calls for one thing.
+-- The call that is read from a record is the one that the rules give, and the rules give one call for each record.
 use Rattle.std.proofs.Common.{◌≡◌, ℕ, cond, not, eqb, List, [], ◌∷◌, Option, Some, None, Result, Ok, Err, refl, sym, ap, subst, ◌∙◌, inl, inr}
 use Rattle.std.specs.Prelude.{IsOk}
 use Rattle.std.proofs.lemmas.Bool.{eqb-true, eqb-false, eq-eqb}
@@ -21,11 +21,11 @@ use Rattle.nfs_rpc.specs.Credential.{IsOf, OpaqueAuth, principal_of, user_of}
 use Rattle.nfs_rpc.specs.Call.{Body, CallHeader, CallsFor, First, HasAnotherProcedure, HasAnotherProgram, HasAnotherRpc, HasAnotherVersion, HasCompound, HasGarbage, HasHeader, HasNoHeader, HasNoPrincipal, HasNull, IsCall, OneCall, OrRefused, body, header, start}
 use Rattle.nfs_rpc.specs.ReadingCalls.{call_of, compound_or_garbage, header_call, header_of, procedure_call, read_or, some_or, start_call}
 
--- what stands there is read
+-- what the bytes encode is read
 reads_there : {A : Type 0} (form : Form A) (bytes : List ℕ) (value : A) (rest : List ℕ) → Begins (form.layout value) bytes rest → form.at bytes ≡ Ok (value, rest)
 reads_there form bytes value rest found = ap form.at found.1 ∙ form.reads.complete value found.0 rest found.2
 
--- Credentials.
+-- Credentials: a principal that is read from a credential is its principal.
 user_stands : (a : OpaqueAuth) (p : Principal) (r : Read AuthSys) → a.0 ≡ AUTH_SYS → auth_sys.at a.1 ≡ r → user_of r ≡ Some p → IsOf a p
 user_stands a p (Ok x) flavor read e =
     let some : ◌≡◌ {A = Option Principal} (Some (principals.AuthSys x.0.uid)) (Some p) = e in
@@ -61,7 +61,7 @@ one_principal : (a : OpaqueAuth) (p q : Principal) → IsOf a p → IsOf a q →
 one_principal a p q first second =
     let same : ◌≡◌ {A = Option Principal} (Some p) (Some q) = sym (principal_complete a p first) ∙ principal_complete a q second in cc
 
--- Headers. One that is read is the one that stands there.
+-- Headers: a header that is read is the one that the bytes encode.
 the_header : (Is : CallHeader → List ℕ → Type 0) (message : List ℕ) (h : CallHeader) (rest : List ℕ) → header.at message ≡ Ok (h, rest) → HasHeader Is message → Is h rest
 the_header Is message h rest read has =
     let same : (h, rest) ≡ (has.0, has.1) = ok_is (h, rest) (has.0, has.1) (sym read ∙ reads_there header message has.0 has.1 has.2) in
@@ -73,14 +73,14 @@ has_header Is message h rest read is = (h, rest, header.reads.sound message h re
 no_header : (message : List ℕ) (e : WireError) → header.at message ≡ Err e → (h : CallHeader) (rest : List ℕ) → Begins (header.layout h) message rest → ⊥
 no_header = lacks header.layout header.at header.reads
 
--- The rules in their order.
+-- The rules in their order: those from the procedure on, and those from the program on.
 abbrev ProcedureRules : List ℕ → List (Call → Type 0)
 ProcedureRules message = HasNull message ∷ HasAnotherProcedure message ∷ HasCompound message ∷ HasGarbage message ∷ []
 
 abbrev ProgramRules : List ℕ → List (Call → Type 0)
 ProgramRules message = HasAnotherProgram message ∷ HasAnotherVersion message ∷ ProcedureRules message
 
--- A record whose header is read.
+-- The header of a record was read: a start and a body. `behind` are the bytes after it.
 record IsRead (message : List ℕ) (s : Start) (b : Body) (behind : List ℕ) (principal : Principal) : Type 0 where
   read : header.at message ≡ Ok ((s, b), behind)
   principal_is : IsOf b.credential principal
@@ -183,7 +183,7 @@ start_case law message (Ok s) e =
 pub calls_for : OneCompoundStands → (message : List ℕ) → CallsFor message (call_of message)
 calls_for law message = start_case law message (start.at message) refl
 
--- What is refused memory is a COMPOUND.
+-- A call that was read is the call of the record, also where SYSTEM_ERR answers a COMPOUND for which memory ran out.
 pub call_stands : OneCompoundStands → (message : List ℕ) (call : Call) → OrRefused (λ c. c ≡ call_of message) call → IsCall message call
 call_stands law message call (inl e) = inl (subst (CallsFor message) (sym e) (calls_for law message))
 call_stands law message call (inr refused) =
@@ -193,7 +193,7 @@ request_there : (r : Read (List ℕ × (ℕ × ℕ))) → IsOk r → (compound :
 request_there (Ok h) ok = (record { tag = h.0.0; request = request_at h.0.1.0 h.0.1.1 h.1 }, refl)
 request_there (Err e) ok = absurd cc
 
--- Behind a tag, a minor version and a count there is a COMPOUND.
+-- If a tag, a minor version and a count can be read, so can a COMPOUND.
 pub compound_there : (bytes : List ℕ) → IsOk (head.at bytes) → (compound : CompoundArgs) × (compound_at bytes ≡ Ok compound)
 unfolding compound_at
 compound_there bytes ok = request_there (head.at bytes) ok
@@ -203,7 +203,7 @@ refused_compound xid principal bytes ok =
     let found = compound_there bytes ok in
     inr (xid, principal, found.0, ap (compound_or_garbage xid principal) (sym found.1), refl)
 
--- Each rule says one thing, and so does the first of them.
+-- Each rule gives at most one call, and so does the first rule that applies.
 abbrev Single : (Call → Type 0) → Type 0
 Single rule = (a b : Call) → rule a → rule b → a ≡ b
 

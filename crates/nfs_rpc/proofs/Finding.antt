@@ -1,4 +1,4 @@
--- The records at the front of a text, and what is kept of the bytes behind them.
+-- The records at the front of a text, and what is kept of the bytes after them.
 use Rattle.std.proofs.Common.{◌≡◌, ℕ, ◌+◌, ◌<◌, ◌≤◌, Bool, true, false, List, [], ◌∷◌, ◌++◌, length, take, refl, sym, ◌∙◌, ap, subst, arith, append_assoc, length-append, slice_range}
 use Rattle.std.proofs.lemmas.List.{append-nil, take-append-drop, length-take-le}
 use Rattle.std.proofs.lemmas.Slice.{between_to_end}
@@ -14,7 +14,7 @@ use Rattle.nfs_rpc.proofs.Standing.{at_start, at_open, at_last, at_rest, at_with
 pub found_none : (text bodies : List ℕ) (first : Unfinished) → IsAt text bodies first.place → first.count ≡ length text → AreFound text [] bodies first
 found_none text bodies first a count = record { front = []; rest = text; whole = refl; records = refl; stands = a; count = count }
 
--- more bytes behind
+-- more bytes at the end of the text
 pub found_more : (text more : List ℕ) (messages : List (List ℕ)) (bodies longer : List ℕ) (first : Unfinished) (place : Place) (long : Bool) (count : ℕ)
     → ((rest : List ℕ) → IsAt rest bodies first.place → IsAt (rest ++ more) longer place) → count ≡ length more
     → AreFound text messages bodies first → AreFound (text ++ more) messages longer (record { place = place; count = first.count + count; is_too_long = long })
@@ -27,7 +27,7 @@ found_more text more messages bodies longer first place long count behind is f =
   count = omega (arith, f.count, length-append f.rest more);
 }
 
--- behind an open fragment
+-- a fragment that isn't its record's last ends, and the next one begins
 pub found_open : (text bytes : List ℕ) (messages : List (List ℕ)) (bodies : List ℕ) (first : Unfinished) → first.place ≡ InBody 0 false
     → AreFound text messages bodies first → AreFound text messages bodies (record first { place = InHeader bytes 0 })
 found_open text bytes messages bodies first is f = record {
@@ -39,7 +39,7 @@ found_open text bytes messages bodies first is f = record {
   count = f.count;
 }
 
--- behind the last fragment
+-- the last fragment of a record ends, and so does the record
 pub found_last : (text bytes : List ℕ) (messages : List (List ℕ)) (bodies : List ℕ) (first : Unfinished) → first.place ≡ InBody 0 true → Fits (length bodies) first.place
     → AreFound text messages bodies first → AreFound text (messages ++ bodies ∷ []) [] (record { place = InHeader bytes 0; count = 0; is_too_long = false })
 found_last text bytes messages bodies first is fits f =
@@ -53,7 +53,7 @@ found_last text bytes messages bodies first is fits f =
       count = refl;
     }
 
--- where more is wanted all are found
+-- as long as more bytes can be added to what is kept, all whole records of the text are found
 pub all_found : (text : List ℕ) (messages : List (List ℕ)) (bodies : List ℕ) (first : Unfinished) → Stands bodies first.place → first.is_too_long ≡ false
     → AreFound text messages bodies first → AreAllFound text messages bodies first
 all_found text messages bodies first s goes f =
@@ -76,7 +76,7 @@ above_at : (bodies : List ℕ) (place : Place) → IsPlace place → length bodi
 above_at bodies (InHeader bytes len) is few above = absurd (above few)
 above_at bodies (InBody wanted last) is few above = (wanted, last, refl, omega (arith, above))
 
--- where a header brings the record above the limit, all are found, and what is behind is the rest's
+-- if a header brings the record above the limit, all records are found, and the bytes after it belong to the rest
 pub all_found_long : (text behind : List ℕ) (messages : List (List ℕ)) (bodies : List ℕ) (first : Unfinished) (count : ℕ) → IsPlace first.place → length bodies ≤ RECORD_LIMIT
     → (Fits (length bodies) first.place → ⊥) → count ≡ length behind → AreFound text messages bodies first
     → AreAllFound (text ++ behind) messages bodies (record { place = first.place; count = first.count + count; is_too_long = true })
@@ -99,7 +99,8 @@ all_found_long text behind messages bodies first count is few above counts f =
       },
     )
 
--- All but the rest of a piece stands behind what was kept.
+-- The part of a piece before `rest` was added to what was kept, with these records and this unfinished
+-- record as the result.
 abbrev pub AreFoundSoFar : List ℕ → Unfinished → List ℕ → List ℕ → List (List ℕ) → List ℕ → Unfinished → Type 0
 AreFoundSoFar start from piece rest messages bodies first =
     (done : List ℕ) × (piece ≡ done ++ rest)
@@ -109,7 +110,7 @@ module _ (start : List ℕ) (from : Unfinished) (piece : List ℕ) where
   pub so_far_none : AreFoundSoFar start from piece piece [] start from
   so_far_none = ([], refl, λ text a count. subst (λ (l : List ℕ). AreFound l [] start from) (sym (append-nil text)) (found_none text start from a count))
 
-  -- the front of the rest
+  -- bytes from the front of the rest are added
   pub so_far_front : (rest : List ℕ) (messages : List (List ℕ)) (bodies longer : List ℕ) (first : Unfinished) (place : Place) (long : Bool) (count : ℕ) → count ≤ length rest
       → ((text : List ℕ) → IsAt text bodies first.place → IsAt (text ++ take count rest) longer place)
       → AreFoundSoFar start from piece rest messages bodies first
@@ -125,7 +126,7 @@ module _ (start : List ℕ) (from : Unfinished) (piece : List ℕ) where
             (found_more (text ++ f.0) (take count rest) messages bodies longer first place long count behind n (f.2 text a counts)),
       )
 
-  -- the same bytes
+  -- no bytes are added, and what is kept changes
   pub so_far_same : (rest : List ℕ) (messages others : List (List ℕ)) (bodies kept : List ℕ) (first next : Unfinished)
       → ((text : List ℕ) → AreFound text messages bodies first → AreFound text others kept next)
       → AreFoundSoFar start from piece rest messages bodies first → AreFoundSoFar start from piece rest others kept next
@@ -147,7 +148,7 @@ module _ (start : List ℕ) (from : Unfinished) (piece : List ℕ) where
       subst (λ (l : List ℕ). AreAllFound l messages bodies (record { place = first.place; count = first.count + count; is_too_long = true })) whole
       (all_found_long (text ++ f.0) rest messages bodies first count is few above counts (f.2 text a at))
 
--- what begins the bodies begins them with more behind, or the first record
+-- what begins the first record found, or the bodies if there is none, still begins it when the bodies become longer
 pub begins_longer : (start bodies longer : List ℕ) (messages : List (List ℕ)) → Begins start (first_or messages bodies) → Begins bodies longer → Begins start (first_or messages longer)
 begins_longer start bodies longer [] b more = (b.0 ++ more.0, more.1 ∙ ap (λ (l : List ℕ). l ++ more.0) b.1 ∙ append_assoc start b.0 more.0)
 begins_longer start bodies longer (message ∷ messages) b more = b

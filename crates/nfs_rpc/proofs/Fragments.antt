@@ -1,11 +1,11 @@
--- A text is read as fragments and records in one way.
+-- A text is read as fragments and records in only one way.
 use Rattle.std.proofs.Common.{◌≡◌, ℕ, ◌+◌, ◌≤◌, Bool, true, false, List, [], ◌∷◌, ◌++◌, length, refl, sym, ◌∙◌, ap, subst, inl, inr, ◌⊎◌, arith, append_assoc, length-append}
 use Rattle.std.proofs.lemmas.List.{append-nil}
 use Rattle.std.specs.List.{concat}
 use Rattle.nfs_rpc.specs.declared.records.TheConstants.{RECORD_LIMIT}
 use Rattle.nfs_rpc.specs.Records.{IsHeader, IsFragment, AreOpen, IsRecord, AreRecords}
 
--- lists joined in two ways, where the first parts are equally long
+-- two equal lists, each in two parts, have equal parts if the first parts have the same length
 pub append_same : (a b c d : List ℕ) → a ++ b ≡ c ++ d → length a ≡ length c → (a ≡ c) × (b ≡ d)
 append_same [] b [] d e h = (refl, e)
 append_same [] b (y ∷ c) d e h = absurd (omega arith)
@@ -17,14 +17,14 @@ append_same (x ∷ a) b (y ∷ c) d e h =
     let firsts : a ≡ c = rest.0 in
     (cc, rest.1)
 
--- a header says one thing
+-- a header has only one meaning
 pub IsHeader-same : (last last' : Bool) (n n' : ℕ) (h : List ℕ) → IsHeader last n h → IsHeader last' n' h → (last ≡ last') × (n ≡ n')
 IsHeader-same true true n n' h a b = (refl, omega (arith, a.number, b.number))
 IsHeader-same false false n n' h a b = (refl, omega (arith, a.number, b.number))
 IsHeader-same true false n n' h a b = absurd (omega (arith, a.number, b.number, b.fits))
 IsHeader-same false true n n' h a b = absurd (omega (arith, a.number, b.number, a.fits))
 
--- a header, and a fragment at the same place
+-- a header and a fragment at the same place: the header is that of the fragment
 pub IsFragment-header : (last last' : Bool) (n : ℕ) (h x body f t : List ℕ) → IsHeader last n h → IsFragment last' body f → h ++ x ≡ f ++ t
     → (last ≡ last') × (n ≡ length body) × (x ≡ body ++ t)
 IsFragment-header last last' n h x body f t a b e =
@@ -40,7 +40,7 @@ length-fragment last body f a =
     let four = a.1.four in
     omega arith
 
--- two fragments at the same place
+-- two fragments at the same place are equal
 pub IsFragment-same : (last last' : Bool) (body body' f f' t t' : List ℕ) → IsFragment last body f → IsFragment last' body' f' → f ++ t ≡ f' ++ t'
     → (last ≡ last') × (body ≡ body') × (t ≡ t')
 IsFragment-same last last' body body' f f' t t' a b e =
@@ -49,7 +49,7 @@ IsFragment-same last last' body body' f f' t t' a b e =
     let parts = append_same body t body' t' same.2 same.1 in
     (same.0, parts.0, parts.1)
 
--- one fragment more in front of a record
+-- a fragment that isn't the last, put in front of a record, makes a longer record
 pub IsRecord-open : (body f m t : List ℕ) → IsFragment false body f → IsRecord m t → IsRecord (body ++ m) (f ++ t)
 IsRecord-open body f m t a r = (
   body ∷ r.0,
@@ -65,7 +65,7 @@ IsRecord-open body f m t a r = (
 pub IsRecord-last : (body f : List ℕ) → IsFragment true body f → IsRecord body f
 IsRecord-last body f a = ([], body, [], f, refl, refl, a, refl)
 
--- a record's first fragment, and the record that stands behind it where that is not the last
+-- the text begins with a fragment that isn't the last of its record, and the rest of this record follows
 abbrev pub Opened : List ℕ → List ℕ → Type 0
 Opened m text =
     (body : List ℕ) × (f : List ℕ) × (inner : List ℕ) × (t : List ℕ)
@@ -99,7 +99,7 @@ IsRecord-head m text r = elim (IsRecord-cases m text r) [
   | inr o ↦ (false, o.0, o.1, o.3, o.4, o.5, rw o.7 (rw length-append (omega arith)))
 ]
 
--- A record that begins with these open fragments goes on behind them.
+-- If a record begins with these open fragments, the rest of the record follows them.
 pub IsRecord-behind : (bodies : List (List ℕ)) (front back m f t : List ℕ) → AreOpen bodies front → IsRecord m f → front ++ back ≡ f ++ t
     → (inner : List ℕ) × (g : List ℕ) × IsRecord inner g × (back ≡ g ++ t) × (m ≡ concat bodies ++ inner)
 IsRecord-behind [] front back m f t o r e = (m, f, r, ap (λ l. l ++ back) (sym o) ∙ e, refl)
@@ -114,7 +114,7 @@ IsRecord-behind (b ∷ bs) front back m f t o r e =
           (more.0, more.1, more.2, more.3, w.7 ∙ ap (λ l. l ++ w.2) (sym same.1) ∙ ap (λ l. b ++ l) more.4 ∙ sym (append_assoc b (concat bs) more.0))
     ]
 
--- One record stands at the front of a text.
+-- Two records at the front of the same text are equal.
 pub IsRecord-same : (m m' f f' t t' : List ℕ) → IsRecord m f → IsRecord m' f' → f ++ t ≡ f' ++ t' → (m ≡ m') × (t ≡ t')
 IsRecord-same m m' f f' t t' r s e =
     let whole : r.2 ++ (r.3 ++ t) ≡ f' ++ t' = sym (append_assoc r.2 r.3 t) ∙ ap (λ l. l ++ t) (sym r.4) ∙ e in
@@ -129,7 +129,8 @@ IsRecord-same m m' f f' t t' r s e =
           absurd (let no : true ≡ false = same.0 in cc)
     ]
 
--- A header behind open fragments stands within others at the same place, or behind them.
+-- In one text two runs of open fragments, the second followed by a header: the header belongs to the first run, or
+-- comes after it.
 pub AreOpen-header : (bodies others : List (List ℕ)) (front back front' header rest : List ℕ) (last : Bool) (len : ℕ)
     → AreOpen bodies front → AreOpen others front' → IsHeader last len header → front ++ back ≡ front' ++ (header ++ rest)
     → (length (concat others) + len ≤ length (concat bodies))
@@ -153,13 +154,13 @@ AreOpen-header (b ∷ bs) (c ∷ cs) front back front' header rest last len o p 
       | inr w ↦ inr (w.0, w.1, w.2, w.3, let is = w.4 in omega arith)
     ]
 
--- one open fragment more
+-- one more open fragment at the end
 pub AreOpen-push : (bodies : List (List ℕ)) (front body f : List ℕ) → AreOpen bodies front → IsFragment false body f → AreOpen (bodies ++ body ∷ []) (front ++ f)
 AreOpen-push [] front body f o a = (f, [], ap (λ l. l ++ f) o ∙ sym (append-nil f), a, refl)
 AreOpen-push (b ∷ bs) front body f o a =
     (o.0, o.1 ++ f, ap (λ l. l ++ f) o.2 ∙ append_assoc o.0 o.1 f, o.3, AreOpen-push bs o.1 body f o.4 a)
 
--- one record more
+-- one more record at the end
 pub AreRecords-push : (messages : List (List ℕ)) (front m f : List ℕ) → AreRecords messages front → IsRecord m f → length m ≤ RECORD_LIMIT
     → AreRecords (messages ++ m ∷ []) (front ++ f)
 AreRecords-push [] front m f o r fits = (f, [], ap (λ l. l ++ f) o ∙ sym (append-nil f), r, fits, refl)

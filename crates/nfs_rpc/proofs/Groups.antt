@@ -1,4 +1,4 @@
--- Groups are passed over where they can be read.
+-- The list of groups in a credential can be skipped exactly if it can be read.
 use Rattle.std.proofs.Common.{◌≡◌, ℕ, zero, suc, ◌+◌, ◌*◌, ◌≤◌, ◌<◌, false, ltb, List, ◌∷◌, length, drop, Ok, Err, refl, ap, ◌∙◌, arith, inl, inr}
 use Rattle.std.proofs.lemmas.Bool.{le-ltb, ltb-false}
 use Rattle.std.proofs.lemmas.List.{length-drop, drop-drop}

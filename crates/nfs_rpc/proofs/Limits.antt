@@ -1,4 +1,5 @@
--- What stands in the layout of a COMPOUND has a tag and a list of operations of limited lengths, and reading shortens.
+-- In a COMPOUND that matches its layout the tag and the list of operations have limited lengths. Reading a header
+-- leaves at least 40 bytes fewer.
 use Rattle.std.proofs.Common.{◌≡◌, ℕ, zero, suc, ◌+◌, ◌≤◌, Bool, true, false, List, [], ◌∷◌, length, Result, Ok, Err, refl, ap, ◌∙◌, arith}
 use Rattle.std.specs.Prelude.{MatchBool, IfOk}
 use Rattle.std.proofs.lemmas.List.{length-append}
@@ -91,7 +92,7 @@ shortens n layout at reads long view bytes (Err d) e = tt
 pub start_shortens : {X : Type 0} (view : X → Start × List ℕ) (bytes : List ℕ) (r : Result X WireError) → Answers view r (start.at bytes) → IfOk r (λ x. length (view x).1 + 12 ≤ length bytes)
 start_shortens = shortens 12 start.layout start.at start.reads (λ s front h. omega (arith, start_len s front h))
 
--- reading the header, made into another value, shortens as much
+-- reading the body of a header, made into another value, leaves at least 28 bytes fewer
 as_shortens : {X : Type 0} (view : X → Header × List ℕ) (bytes : List ℕ) (r : Result X WireError) (read : Read Body) → body.at bytes ≡ read → Answers view r (read >>= λ a. Ok (header_of a.0, a.1)) → IfOk r (λ x. length (view x).1 + 28 ≤ length bytes)
 as_shortens view bytes (Ok x) (Ok b) given e =
     let found = body.reads.sound bytes b.0 b.1 given in

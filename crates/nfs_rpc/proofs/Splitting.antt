@@ -1,4 +1,4 @@
--- A text is split in one way, and what comes behind it goes on from the rest.
+-- A text is split in only one way, and with a piece after it the split continues from the rest.
 use Rattle.std.proofs.Common.{◌≡◌, ℕ, List, [], ◌∷◌, ◌++◌, refl, sym, ◌∙◌, ap, append_assoc}
 use Rattle.nfs_rpc.specs.Records.{AreRecords, IsRest, OneSplit, SplitGoesOn}
 use Rattle.nfs_rpc.proofs.Fragments.{IsRecord-same}

@@ -1,4 +1,4 @@
--- A place at the end of bytes that are no whole record, and the same with more bytes behind.
+-- The place at the end of bytes that are no whole record, and the place after more bytes.
 use Rattle.std.proofs.Common.{◌≡◌, ℕ, ◌+◌, ◌-◌, ◌<◌, ◌≤◌, Bool, true, false, List, [], ◌∷◌, ◌++◌, length, take, refl, sym, ◌∙◌, ap, subst, inl, inr, arith, append_assoc, length-append, zero-add, add-zero}
 use Rattle.std.proofs.lemmas.List.{append-nil, length-take}
 use Rattle.std.proofs.lemmas.List.Folds.{concat-append}
@@ -13,7 +13,7 @@ use Rattle.nfs_rpc.proofs.Fragments.{append_same, IsHeader-same, IsFragment-head
 pub at_start : (bytes : List ℕ) → IsAt [] [] (InHeader bytes 0)
 at_start bytes = ([], [], refl, refl, refl, omega arith)
 
--- more of a header
+-- more bytes of a header, which still isn't whole
 pub at_header_more : (text bodies bytes header part : List ℕ) (len end : ℕ) → take end header ≡ take len bytes ++ part → end < 4
     → IsAt text bodies (InHeader bytes len) → IsAt (text ++ part) bodies (InHeader header end)
 at_header_more text bodies bytes header part len end longer short a = (
@@ -25,7 +25,7 @@ at_header_more text bodies bytes header part len end longer short a = (
   short,
 )
 
--- the rest of a header
+-- the last bytes of a header
 pub at_header_end : (text bodies bytes header part : List ℕ) (len end : ℕ) (last : Bool) (wanted : ℕ) → take end header ≡ take len bytes ++ part → end ≡ 4
     → IsHeader last wanted (take 4 header) → IsAt text bodies (InHeader bytes len) → IsAt (text ++ part) bodies (InBody wanted last)
 at_header_end text bodies bytes header part len end last wanted longer four is a =
@@ -40,7 +40,7 @@ at_header_end text bodies bytes header part len end last wanted longer four is a
       a.4 ∙ sym (append-nil (concat a.0)),
     )
 
--- more of a body
+-- more bytes of a body
 pub at_body : (text bodies more : List ℕ) (wanted count : ℕ) (last : Bool) → length more ≡ count → count ≤ wanted → IsAt text bodies (InBody wanted last)
     → IsAt (text ++ more) (bodies ++ more) (InBody (wanted - count) last)
 at_body text bodies more wanted count last counts within a =
@@ -55,11 +55,11 @@ at_body text bodies more wanted count last counts within a =
       ap (λ (l : List ℕ). l ++ more) a.7 ∙ append_assoc (concat a.0) a.3 more,
     )
 
--- the fragment that ends here
+-- the fragment whose body ends at this place
 fragment_here : (last : Bool) (header body : List ℕ) → IsHeader last (length body + 0) header → IsFragment last body (header ++ body)
 fragment_here last header body is = (header, subst (λ (n : ℕ). IsHeader last n header) (add-zero (length body)) is, refl)
 
--- behind an open fragment
+-- after an open fragment the next header begins
 pub at_open : (text bodies bytes : List ℕ) → IsAt text bodies (InBody 0 false) → IsAt text bodies (InHeader bytes 0)
 at_open text bodies bytes a = (
   a.0 ++ a.3 ∷ [],
@@ -70,20 +70,20 @@ at_open text bodies bytes a = (
   omega arith,
 )
 
--- behind the last fragment
+-- after the last fragment the bytes are a whole record
 pub at_last : (text bodies : List ℕ) → IsAt text bodies (InBody 0 true) → IsRecord bodies text
 at_last text bodies a = (a.0, a.3, a.1, a.2 ++ a.3, a.4, a.5, fragment_here true a.2 a.3 a.6, a.7)
 
--- Behind open fragments of a text.
+-- What follows from the bytes `back` after open fragments at the front of a text.
 module _ (text front back : List ℕ) (bodies : List (List ℕ)) (whole : text ≡ front ++ back) (o : AreOpen bodies front) where
-  -- no record stands here that would be within the limit
+  -- no record within the limit is at the front if none continues after the open fragments
   rest_from : ((m f t : List ℕ) → IsRecord m f → back ≡ f ++ t → length (concat bodies) + length m ≤ RECORD_LIMIT → ⊥) → IsRest text
   rest_from none m f t e r fits =
       let w = IsRecord-behind bodies front back m f t o r (sym whole ∙ e) in
       let long : length m ≡ length (concat bodies) + length w.0 = ap length w.4 ∙ length-append (concat bodies) w.0 in
       none w.0 w.1 t w.2 w.3 (omega arith)
 
-  -- no header stands here that would bring the record above the limit
+  -- no header brings the record above the limit if none does so after the open fragments
   not_long : length (concat bodies) ≤ RECORD_LIMIT
       → ((more : List (List ℕ)) (middle header remainder : List ℕ) (last : Bool) (len : ℕ) → AreOpen more middle → IsHeader last len header
       → back ≡ middle ++ (header ++ remainder) → RECORD_LIMIT < length (concat bodies) + (length (concat more) + len) → ⊥) → IsTooLong text → ⊥
@@ -93,7 +93,7 @@ module _ (text front back : List ℕ) (bodies : List (List ℕ)) (whole : text �
         | inr w ↦ none w.0 w.1 l.4 l.5 l.1 l.2 w.2 l.8 w.3 (let above = l.9 in let sum = w.4 in omega arith)
       ]
 
-  -- fewer bytes than a header stand here
+  -- fewer bytes than a header has follow the open fragments
   module _ (few : length back < 4) where
     short_rest : IsRest text
     short_rest = rest_from (λ m f t r e _.
@@ -110,7 +110,7 @@ module _ (text front back : List ℕ) (bodies : List (List ℕ)) (whole : text �
         let four = h.four in
         omega arith)
 
-  -- a header and what is behind it stand here
+  -- a header and the bytes after it follow the open fragments
   module _ (header behind : List ℕ) (last : Bool) (len : ℕ) (here : back ≡ header ++ behind) (is : IsHeader last len header) where
     -- the header brings the record above the limit
     long_rest : RECORD_LIMIT < length (concat bodies) + len → IsRest text
@@ -122,7 +122,7 @@ module _ (text front back : List ℕ) (bodies : List (List ℕ)) (whole : text �
         let most = h.6 in
         omega arith)
 
-    -- of the body not all is there
+    -- not all bytes of the body are there
     part_rest : length behind < len → IsRest text
     part_rest few = rest_from (λ m f t r e _.
         let h = IsRecord-head m f r in
@@ -154,7 +154,7 @@ module _ (text front back : List ℕ) (bodies : List (List ℕ)) (whole : text �
 length-body : (bodies : List (List ℕ)) (kept body : List ℕ) (wanted : ℕ) → kept ≡ concat bodies ++ body → length kept + wanted ≡ length (concat bodies) + (length body + wanted)
 length-body bodies kept body wanted is = let sizes : length kept ≡ length (concat bodies) + length body = ap length is ∙ length-append (concat bodies) body in omega arith
 
--- Where more is wanted no whole record stands in front, and none that is too long.
+-- At a place inside a header or a body, no whole record within the limit is at the front of the text.
 pub at_rest : (text bodies : List ℕ) (place : Place) → IsAt text bodies place → WantsMore place → IsRest text
 at_rest text bodies (InHeader bytes len) a more = short_rest text a.1 (take len bytes) a.0 a.2 a.3 (let short : len < 4 = a.5 in omega (arith, length-take len bytes))
 at_rest text bodies (InBody wanted last) a more = part_rest text a.1 (a.2 ++ a.3) a.0 a.4 a.5 a.2 a.3 last (length a.3 + wanted) refl a.6 (omega arith)
@@ -165,7 +165,7 @@ at_within text bodies (InHeader bytes len) a more fits =
 at_within text bodies (InBody wanted last) a more fits =
     part_within text a.1 (a.2 ++ a.3) a.0 a.4 a.5 a.2 a.3 last (length a.3 + wanted) refl a.6 (omega arith) (omega (arith, length-body a.0 bodies a.3 wanted a.7))
 
--- Where a header brings the record above the limit, that is so whatever stands behind.
+-- Once a header brings the record above the limit, this holds whatever bytes follow.
 module _ (text bodies behind : List ℕ) (wanted : ℕ) (last : Bool) (a : IsAt text bodies (InBody wanted last)) (above : RECORD_LIMIT < length bodies + wanted) where
   whole_there : text ++ behind ≡ a.1 ++ (a.2 ++ (a.3 ++ behind))
   whole_there = ap (λ (l : List ℕ). l ++ behind) a.4 ∙ append_assoc a.1 (a.2 ++ a.3) behind ∙ ap (λ (l : List ℕ). a.1 ++ l) (append_assoc a.2 a.3 behind)

@@ -1,4 +1,4 @@
--- What a stream is once a piece was taken.
+-- What a stream holds after it took a piece.
 use Rattle.std.proofs.Common.{◌≡◌, ℕ, ◌+◌, ◌^◌, ◌≤◌, false, List, ◌++◌, length, refl, ap, sym, ◌∙◌, arith, length-append}
 use Rattle.nfs_rpc.specs.declared.records.TheConstants.{RECORD_LIMIT}
 use Rattle.nfs_rpc.specs.declared.unfinished.Unfinished.{Unfinished}

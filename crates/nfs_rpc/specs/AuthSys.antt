@@ -1,10 +1,10 @@
--- The body of a credential of AUTH_SYS (RFC 5531, appendix A): who a client says that it acts for.
+-- The body of an AUTH_SYS credential (RFC 5531, appendix A): for which user a client says that it acts.
 use Rattle.std.specs.Prelude.{ℕ, List}
 use Rattle.std.proofs.Common.{refl}
 use Rattle.nfs_rpc.specs.declared.auth_sys.TheConstants.{GID_LIMIT, MACHINE_NAME_LIMIT}
 use Rattle.xdr.specs.Form.{Form, ◌and◌, of, u32, opaque, many}
 
--- a stamp, the name of the machine, the user, its group, and its other groups
+-- a stamp, the name of the machine, the user, the user's group, and the user's other groups
 pub record AuthSys : Type 0 where
   pub stamp : ℕ
   pub machine_name : List ℕ

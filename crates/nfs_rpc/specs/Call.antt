@@ -1,4 +1,4 @@
--- RPC calls (RFC 5531, section 9): what a record calls for.
+-- RPC calls (RFC 5531, section 9): which call a record is, and how it is to be handled.
 use Rattle.std.specs.Prelude.{◌≡◌, ℕ, ◌+◌, ◌≤◌, ◌⊎◌, List, [], ◌∷◌, length}
 use Rattle.std.proofs.Common.{refl}
 use Rattle.nfs_rpc.specs.declared.call.Call.{Call}
@@ -24,14 +24,14 @@ use Rattle.xdr.specs.Reading.{Begins}
 -- struct call_body { unsigned int rpcvers; unsigned int prog; unsigned int vers; unsigned int proc;
 --   opaque_auth cred; opaque_auth verf; /* procedure-specific parameters start here */ };
 
--- what a call begins with, which is judged whatever follows it: xid, CALL, rpcvers
+-- the beginning of a call: xid, CALL and rpcvers, which is checked no matter what follows
 unfoldable pub start : Form Start
 start =
     of (λ p. record { xid = p.0; rpc_version = p.1.1 }) (λ s. (s.xid, (tt, s.rpc_version)))
     (λ p. refl) (λ s. refl)
     (u32 and constant MESSAGE_CALL and u32)
 
--- prog, vers, proc, cred, verf
+-- the rest of a header: prog, vers, proc, cred, verf
 pub record Body : Type 0 where
   pub program : ℕ
   pub version : ℕ
@@ -53,32 +53,32 @@ body =
     (λ p. refl) (λ b. refl)
     (u32 and u32 and u32 and opaque_auth and opaque_auth)
 
--- all that stands before the arguments
+-- everything before the arguments
 abbrev pub CallHeader : Type 0
 CallHeader = Start × Body
 
 abbrev pub header : Form CallHeader
 header = start and body
 
--- The rules by which a record calls for something, in their order.
+-- The rules that decide what is to be done with a record, in the order in which they are tried.
 
--- Another version of RPC is denied.
+-- A call of another version of RPC is denied.
 abbrev pub HasAnotherRpc : List ℕ → Call → Type 0
 HasAnotherRpc message call =
     (s : Start) × (rest : List ℕ) × Begins (start.layout s) message rest
     × (s.rpc_version ≡ RPC_VERSION → ⊥) × (call ≡ Answer s.xid RpcMismatch)
 
--- Where no header stands nothing is said.
+-- A record without a whole header gets no reply.
 abbrev pub HasNoHeader : List ℕ → Call → Type 0
 HasNoHeader message call =
     ((h : CallHeader) (rest : List ℕ) → Begins (header.layout h) message rest → ⊥) × (call ≡ Silent)
 
--- a header stands there, of which, and of what is behind it, this is so
+-- the message begins with a header, and this holds for the header and the bytes after it
 abbrev pub HasHeader : (CallHeader → List ℕ → Type 0) → List ℕ → Type 0
 HasHeader Is message =
     (h : CallHeader) × (rest : List ℕ) × Begins (header.layout h) message rest × Is h rest
 
--- A credential that is of no principal is denied.
+-- A call is denied if no principal belongs to its credential.
 abbrev pub HasNoPrincipal : List ℕ → Call → Type 0
 HasNoPrincipal message call =
     HasHeader (λ h rest.
@@ -103,7 +103,7 @@ HasAnotherProcedure message call =
     HasHeader (λ h rest.
     (h.1.procedure ≡ PROC_COMPOUND → ⊥) × (call ≡ Answer h.0.xid ProcUnavail)) message
 
--- The arguments of a COMPOUND stand behind the header.
+-- After the header come the arguments of a COMPOUND.
 abbrev pub HasCompound : List ℕ → Call → Type 0
 HasCompound message call =
     HasHeader (λ h rest.
@@ -111,16 +111,16 @@ HasCompound message call =
     × IsOf h.1.credential principal × IsCompound compound rest
     × (call ≡ Compound h.0.xid principal compound)) message
 
--- Anything else behind a header of COMPOUND is garbage.
+-- Any other arguments of a COMPOUND are garbage.
 abbrev pub HasGarbage : List ℕ → Call → Type 0
 HasGarbage message call = HasHeader (λ h rest. call ≡ Answer h.0.xid GarbageArgs) message
 
--- what the first rule says that says anything
+-- the value that the first rule that applies gives
 abbrev pub First : {V : Type 0} → List (V → Type 0) → V → Type 0
 First [] value = ⊥
 First {V = V} (rule ∷ rules) value = rule value ⊎ (((any : V) → rule any → ⊥) × First rules value)
 
--- What a record calls for. Each rule speaks only where none before it does.
+-- The call that a record is. Each rule is used only if none before it applies.
 abbrev pub CallsFor : List ℕ → Call → Type 0
 CallsFor message =
     First (
@@ -128,37 +128,36 @@ CallsFor message =
     ∷ HasAnotherProgram message ∷ HasAnotherVersion message
     ∷ HasNull message ∷ HasAnotherProcedure message ∷ HasCompound message ∷ HasGarbage message ∷ [])
 
--- each record calls for one thing
+-- each record is exactly one call
 abbrev pub OneCall : Type 0
 OneCall =
     (message : List ℕ)
     → (call : Call) × CallsFor message call
     × ((other : Call) → CallsFor message other → other ≡ call)
 
--- The call itself, or SYSTEM_ERR in place of a COMPOUND for which memory was refused.
+-- The call itself, or SYSTEM_ERR in place of a COMPOUND for which memory ran out.
 abbrev pub OrRefused : (Call → Type 0) → Call → Type 0
 OrRefused Is call =
     Is call
     ⊎ ((xid : ℕ) × (principal : Principal) × (compound : CompoundArgs)
     × Is (Compound xid principal compound) × (call ≡ Answer xid SystemError))
 
--- The call that is read. What is no COMPOUND is never answered SYSTEM_ERR, and garbage always
--- GARBAGE_ARGS.
+-- The call that is read. SYSTEM_ERR is answered only to a COMPOUND, and garbage is always answered GARBAGE_ARGS.
 abbrev pub IsCall : List ℕ → Call → Type 0
 IsCall message = OrRefused (CallsFor message)
 
--- no more operations than a COMPOUND may have
+-- there are no more operations than a COMPOUND may have
 abbrev pub HasFewOperations : Request → Type 0
 HasFewOperations (MinorVersion minor) = Unit {0}
 HasFewOperations (TooMany count) = Unit {0}
 HasFewOperations (Operations ops) = length ops ≤ OPERATION_LIMIT
 
--- an answer without the service is short
+-- a reply that needs no service is short
 abbrev pub IsShortReply : ℕ → Reply → Type 0
 IsShortReply xid reply = (length (written_reply xid reply) ≤ SHORT_REPLY_LEN) × IsWritable xid reply
 
--- Beside its tag a record that is a COMPOUND has the 40 bytes of a header with empty bodies, and 12 of
--- the tag's length, the minor version and the count.
+-- A record that is a COMPOUND has, besides its tag, the 40 bytes of a header with empty bodies, and the 12 bytes of the
+-- tag's length, the minor version and the count.
 abbrev pub IsWithinLimits : ℕ → CompoundArgs → Type 0
 IsWithinLimits len c = (length c.tag + 52 ≤ len) × HasFewOperations c.request
 

@@ -14,8 +14,8 @@ OpaqueAuth = ℕ × List ℕ
 abbrev pub opaque_auth : Form OpaqueAuth
 opaque_auth = u32 and opaque BODY_LIMIT
 
--- The principal that a credential is of. AUTH_NONE is with any body, and of AUTH_SYS what is behind the
--- groups is ignored.
+-- The principal of a credential. With AUTH_NONE the body may be anything, and with AUTH_SYS any bytes after the groups
+-- are ignored.
 abbrev pub IsOf : OpaqueAuth → Principal → Type 0
 IsOf credential principals.AuthNone = credential.0 ≡ AUTH_NONE
 IsOf credential (principals.AuthSys uid) =
@@ -23,7 +23,7 @@ IsOf credential (principals.AuthSys uid) =
     × ((a : AuthSys) × (rest : List ℕ) × Begins (auth_sys.layout a) credential.1 rest
     × (a.uid ≡ uid))
 
--- Reading: the user, where the body could be read.
+-- How a credential is read: the user, if the body could be read.
 abbrev pub user_of : Read AuthSys → Option Principal
 user_of (Ok a) = Some (principals.AuthSys a.0.uid)
 user_of (Err e) = None

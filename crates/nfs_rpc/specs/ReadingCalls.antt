@@ -1,5 +1,4 @@
--- What a record calls for, as it is read, check by check. The code does just this, and it is what
--- `CallsFor` says.
+-- How the call is read from a record, check by check, in the order of the code. It gives what `CallsFor` says.
 use Rattle.std.specs.Prelude.{ℕ, ◌==◌, not, List, Option, Some, None, Result, Ok, Err, if◌then◌else◌}
 use Rattle.nfs_rpc.specs.declared.call.Call.{Call}
 use Rattle.nfs_rpc.specs.declared.call.Call.TheVariants.{Silent, Null, Compound, Answer}
@@ -15,7 +14,7 @@ use Rattle.nfs_xdr.specs.declared.compound.Compound.{Compound as CompoundArgs}
 use Rattle.xdr.specs.declared.wire_error.WireError.{WireError}
 use Rattle.xdr.specs.Reading.{Read, as_value}
 
--- what is kept of a header behind the RPC version
+-- what is kept of a header after the RPC version
 abbrev pub header_of : Body → Header
 header_of b =
     record {
@@ -28,7 +27,7 @@ header_of b =
 abbrev pub header_at : List ℕ → Read Header
 header_at = as_value header_of body.at
 
--- what was read goes on to the next check, and else this is the call
+-- the next check if the value could be read, and otherwise the given call
 abbrev pub read_or : {A : Type 0} → Call → Read A → (A → List ℕ → Call) → Call
 read_or call (Ok x) check = check x.0 x.1
 read_or call (Err e) check = call
@@ -37,12 +36,12 @@ abbrev pub some_or : {A : Type 0} → Call → Option A → (A → Call) → Cal
 some_or call (Some x) check = check x
 some_or call None check = call
 
--- a COMPOUND, where its arguments can be read
+-- a COMPOUND if its arguments can be read, and otherwise garbage
 abbrev pub compound_or_garbage : ℕ → Principal → Result CompoundArgs WireError → Call
 compound_or_garbage xid principal (Ok compound) = Compound xid principal compound
 compound_or_garbage xid principal (Err e) = Answer xid GarbageArgs
 
--- behind a credential that is served
+-- the call of a header whose credential is accepted
 abbrev pub procedure_call : ℕ → Header → List ℕ → Principal → Call
 procedure_call xid h rest principal =
     if not (h.program == NFS_PROGRAM) then Answer xid ProgUnavail
@@ -51,7 +50,7 @@ procedure_call xid h rest principal =
     else if not (h.procedure == PROC_COMPOUND) then Answer xid ProcUnavail
     else compound_or_garbage xid principal (compound_at rest)
 
--- behind the RPC version
+-- the call of a header whose RPC version is accepted
 abbrev pub header_call : ℕ → Header → List ℕ → Call
 header_call xid h rest = some_or (Answer xid AuthError) h.principal (procedure_call xid h rest)
 

@@ -7,13 +7,14 @@ use Rattle.nfs_rpc.specs.declared.place.Place.{Place}
 use Rattle.nfs_rpc.specs.declared.place.Place.TheVariants.{InHeader, InBody}
 use Rattle.nfs_rpc.specs.declared.unfinished.Unfinished.{Unfinished}
 
--- Four bytes: the top bit says that the fragment is its record's last, and the other 31 are its length.
+-- A fragment's header, four bytes: the top bit says whether the fragment is its record's last, and the other 31 are its
+-- length.
 pub record IsHeader (last : Bool) (len : ℕ) (bytes : List ℕ) : Type 0 where
   pub four : length bytes ≡ 4
   pub fits : len < 2 ^ 31
   pub number : big_number 4 bytes ≡ (if last then 2 ^ 31 else 0) + len
 
--- a header, and as many bytes as it says
+-- a header, and as many bytes as it announces
 abbrev pub IsFragment : Bool → List ℕ → List ℕ → Type 0
 IsFragment last body text = (header : List ℕ) × IsHeader last (length body) header × (text ≡ header ++ body)
 
@@ -23,51 +24,52 @@ AreOpen [] text = text ≡ []
 AreOpen (body ∷ bodies) text =
     (front : List ℕ) × (back : List ℕ) × (text ≡ front ++ back) × IsFragment false body front × AreOpen bodies back
 
--- A record: the bodies of its fragments, one after the other. Only the last fragment is marked so.
+-- A record: the bodies of its fragments, one after the other. Only the last fragment is marked as the last.
 abbrev pub IsRecord : List ℕ → List ℕ → Type 0
 IsRecord message text =
     (bodies : List (List ℕ)) × (body : List ℕ) × (front : List ℕ) × (back : List ℕ)
     × (text ≡ front ++ back) × AreOpen bodies front × IsFragment true body back × (message ≡ concat bodies ++ body)
 
--- these records and nothing else, none above the limit
+-- the text is exactly these records, none of them above the limit
 abbrev pub AreRecords : List (List ℕ) → List ℕ → Type 0
 AreRecords [] text = text ≡ []
 AreRecords (message ∷ messages) text =
     (front : List ℕ) × (back : List ℕ) × (text ≡ front ++ back)
     × IsRecord message front × (length message ≤ RECORD_LIMIT) × AreRecords messages back
 
--- no record within the limit stands at the front
+-- no record within the limit is at the front
 abbrev pub IsRest : List ℕ → Type 0
 IsRest text = (message front back : List ℕ) → text ≡ front ++ back → IsRecord message front → length message ≤ RECORD_LIMIT → ⊥
 
--- The text is these records, and then a rest that begins with none.
+-- The text is these records, followed by a rest at whose front there is no record.
 pub record Splits (text : List ℕ) (messages : List (List ℕ)) (rest : List ℕ) : Type 0 where
   pub front : List ℕ
   pub whole : text ≡ front ++ rest
   pub records : AreRecords messages front
   pub none_left : IsRest rest
 
--- a header of the first record brings it above the limit
+-- a header of the first record brings the record above the limit
 abbrev pub IsTooLong : List ℕ → Type 0
 IsTooLong text =
     (bodies : List (List ℕ)) × (last : Bool) × (len : ℕ) × (front : List ℕ) × (header : List ℕ) × (back : List ℕ)
     × (text ≡ front ++ (header ++ back)) × AreOpen bodies front × IsHeader last len header
     × (RECORD_LIMIT < length (concat bodies) + len)
 
--- A text is split in one way.
+-- A text is split in only one way.
 abbrev pub OneSplit : Type 0
 OneSplit =
     (text : List ℕ) (records others : List (List ℕ)) (rest remainder : List ℕ)
     → Splits text records rest → Splits text others remainder → (records ≡ others) × (rest ≡ remainder)
 
--- What is split with a piece behind it goes on from the rest.
+-- Once a text is split, the split of the text with a piece after it continues from the rest.
 abbrev pub SplitGoesOn : Type 0
 SplitGoesOn =
     (text piece : List ℕ) (records found : List (List ℕ)) (rest remainder : List ℕ)
     → Splits text records rest → Splits (rest ++ piece) found remainder → Splits (text ++ piece) (records ++ found) remainder
 
--- Of these bytes, which are no whole record, these bodies are kept and this place. The bytes are open fragments and then a part
--- of a header, or open fragments, a header and a part of its body, of which `wanted` bytes are not there yet.
+-- What is kept of bytes that are no whole record: the bodies of the fragments so far, and the place. The bytes are open
+-- fragments and then part of a header, or open fragments, a header and part of its body, of which `wanted` bytes are
+-- still missing.
 abbrev pub IsAt : List ℕ → List ℕ → Place → Type 0
 IsAt text kept (InHeader bytes len) =
     (bodies : List (List ℕ)) × (front : List ℕ)
@@ -77,16 +79,16 @@ IsAt text kept (InBody wanted last) =
     × (text ≡ front ++ (header ++ body)) × AreOpen bodies front × IsHeader last (length body + wanted) header
     × (kept ≡ concat bodies ++ body)
 
--- Of a rest with these bytes this is kept: the bodies so far and a place, how many bytes they are, and whether a record is too
--- long there. Of one that is too long the bodies and the place mean nothing any more.
+-- What is kept of a rest: the bodies so far and a place, how many bytes the rest has, and whether its record is too
+-- long. If it is too long, the bodies and the place have no meaning.
 pub record IsUnfinished (rest bodies : List ℕ) (first : Unfinished) : Type 0 where
   pub none_left : IsRest rest
   pub too_long : IsTrue first.is_too_long ↔ IsTooLong rest
   pub stands : first.is_too_long ≡ false → IsAt rest bodies first.place
   pub count : first.count ≡ length rest
 
--- A stream to its readers: the whole records not yet taken; of the bytes of no whole record yet the bodies, the place where they
--- end, their number and whether their record is too long; and how many bytes came in all.
+-- A stream as its readers see it: the whole records that were not yet taken; of the bytes after them the bodies, the
+-- place where they end, how many they are, and whether their record is too long; and how many bytes came altogether.
 pub record Stream : Type 0 where
   pub ready : List (List ℕ)
   pub bodies : List ℕ
@@ -95,27 +97,27 @@ pub record Stream : Type 0 where
   pub is_too_long : Bool
   pub fed : ℕ
 
--- of a rest with these bytes the stream keeps what it has
+-- what the stream keeps is what has to be kept of this rest
 abbrev pub Keeps : List ℕ → Stream → Type 0
 Keeps rest stream =
     IsUnfinished rest stream.bodies
     (record { place = stream.place; count = stream.count; is_too_long = stream.is_too_long })
 
--- what is so of every stream
+-- what holds for every stream
 pub record IsStream (stream : Stream) : Type 0 where
   pub keeps : (rest : List ℕ) × Keeps rest stream
   pub few : length stream.bodies ≤ RECORD_LIMIT
   pub bounded : stream.fed ≤ 2 ^ 40
 
--- nothing came yet
+-- a stream of which no bytes have come
 pub record IsNew (stream : Stream) : Type 0 where
   pub keeps : Keeps [] stream
   pub idle : stream.ready ≡ []
   pub goes : stream.is_too_long ≡ false
   pub fed : stream.fed ≡ 0
 
--- A piece came. The records that are whole now stand behind those that were: of the rest that was kept and the piece they are
--- split off, and the new rest is kept.
+-- A piece came. The rest that was kept, followed by the piece, is split into the records that are whole now and a new
+-- rest. The records are added after those that were waiting, and the new rest is kept.
 pub record TakesPiece (old new : Stream) (piece : List ℕ) : Type 0 where
   pub found : List (List ℕ)
   pub split : (rest : List ℕ) → Keeps rest old

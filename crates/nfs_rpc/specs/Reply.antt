@@ -18,7 +18,7 @@ use Rattle.xdr.specs.Writing.{written_u32}
 -- union reply_body switch (reply_stat stat)
 --   { case MSG_ACCEPTED: accepted_reply areply; case MSG_DENIED: rejected_reply rreply; };
 
--- An accepted reply, up to what comes with its state: an xid and a verifier.
+-- The form of an accepted reply up to the data that depends on its state: an xid and a verifier.
 -- struct accepted_reply { opaque_auth verf; union switch (accept_stat stat)
 --   { case SUCCESS: opaque results[0];
 --     case PROG_MISMATCH: struct { unsigned int low; unsigned int high; } mismatch_info;
@@ -28,7 +28,7 @@ accepted state =
     of (λ p. (p.0, p.1.1.1.0)) (λ v. (v.0, (tt, (tt, (v.1, tt))))) (λ p. refl) (λ v. refl)
     (u32 and constant MESSAGE_REPLY and constant REPLY_ACCEPTED and opaque_auth and constant state)
 
--- A denied reply, up to what comes with its state: an xid.
+-- The form of a denied reply up to the data that depends on its state: an xid.
 -- union rejected_reply switch (reject_stat stat)
 --   { case RPC_MISMATCH: struct { unsigned int low; unsigned int high; } mismatch_info;
 --     case AUTH_ERROR: auth_stat stat; };
@@ -37,11 +37,11 @@ denied state =
     of (λ p. p.0) (λ xid. (xid, (tt, (tt, tt)))) (λ p. refl) (λ xid. refl)
     (u32 and constant MESSAGE_REPLY and constant REPLY_DENIED and constant state)
 
--- struct { unsigned int low; unsigned int high; } mismatch_info, where one version is served
+-- struct { unsigned int low; unsigned int high; } mismatch_info, of a server that serves one version
 abbrev pub mismatch_info : ℕ → Form (Unit {0} × Unit {0})
 mismatch_info version = constant version and constant version
 
--- the verifier of all replies
+-- the verifier in every reply
 abbrev pub no_verifier : OpaqueAuth
 no_verifier = (AUTH_NONE, [])
 
@@ -68,7 +68,7 @@ reply_arm xid RpcMismatch =
 reply_arm xid AuthError =
     arm (denied DENIED_AUTH_ERROR and constant AUTH_BADCRED) (λ v. AuthError) (xid, tt)
 
--- an accepted reply up to what comes with its state
+-- the bytes of an accepted reply up to the data that depends on its state
 abbrev pub written_accepted : ℕ → ℕ → List ℕ
 written_accepted xid state = (accepted state).spelling (xid, no_verifier)
 
@@ -79,7 +79,7 @@ written_compound_reply c = compound_result.spelling (c.status, (c.tag, c.results
 abbrev pub written_reply : ℕ → Reply → List ℕ
 written_reply xid reply = (reply_arm xid reply).spelling
 
--- the lengths in a reply are within what its form can say
+-- the lengths in a reply are within what its form can express
 abbrev pub IsWritable : ℕ → Reply → Type 0
 IsWritable xid reply = (reply_arm xid reply).Fits
 

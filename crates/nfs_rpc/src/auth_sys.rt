@@ -4,13 +4,13 @@ ghost use Rattle.xdr.specs.Reading.{Answers, as_value};
 
 use xdr::{WireError, read_opaque, read_u32};
 
-/// The most bytes of the name of a machine (RFC 5531, appendix A).
+/// The greatest length of a machine's name, in bytes (RFC 5531, appendix A).
 pub const MACHINE_NAME_LIMIT: u32 = 255;
 
-/// The most groups of a user, beside the first.
+/// How many groups a user can have, not counting the user's first group.
 pub const GID_LIMIT: u32 = 16;
 
-// The user that the body of a credential of AUTH_SYS is of. The rest is read and passed over.
+// The user in the body of an AUTH_SYS credential. The rest of the body is read and ignored.
 #[tactic(auto, unfolding(crate::specs::AuthSys::auth_sys))]
 pub(crate) fn read_uid(body: &[u8]) -> Result<(u32, &[u8]), WireError>
     ensures { Answers (λ x. (x.0, x.1.now)) result
@@ -24,7 +24,7 @@ pub(crate) fn read_uid(body: &[u8]) -> Result<(u32, &[u8]), WireError>
     Ok((uid, rest))
 }
 
-// The groups are passed over.
+// Skips the groups.
 #[tactic(auto, unfolding(xdr::specs::Reading::many_at, xdr::specs::Reading::number_at))]
 fn pass_gids(bytes: &[u8]) -> Result<((), &[u8]), WireError>
     ensures { Answers (λ x. (x.0, x.1.now)) result

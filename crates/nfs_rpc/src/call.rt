@@ -10,12 +10,12 @@ use nfs_xdr::{Compound, Principal, one_request_stands, read_compound};
 use std::alloc::Global;
 use xdr::{WireError, read_constant, read_u32};
 
-/// The type of a message that is a call (RFC 5531, section 9).
+/// The message type of a call (RFC 5531, section 9).
 pub const MESSAGE_CALL: u32 = 0;
 
 pub const RPC_VERSION: u32 = 2;
 
-/// The RPC program of NFS, and its version.
+/// The RPC program number of NFS, and the version of the program.
 pub const NFS_PROGRAM: u32 = 100_003;
 
 pub const NFS_VERSION: u32 = 4;
@@ -24,43 +24,43 @@ pub const PROC_NULL: u32 = 0;
 
 pub const PROC_COMPOUND: u32 = 1;
 
-/// What a record calls for.
+/// What a record asks of the server.
 #[derive(Debug, Drop)]
 pub enum Call {
-    /// Nothing that is answered.
+    /// Nothing: the record gets no reply.
     Silent,
-    /// NULL, with the call's xid.
+    /// A call of NULL, with its xid.
     Null(u32),
-    /// COMPOUND, with the call's xid.
+    /// A call of COMPOUND, with its xid.
     Compound(u32, Principal, Compound),
-    /// An answer that needs no service, with the call's xid.
+    /// A reply that needs no service, with the call's xid.
     Answer(u32, Reply),
 }
 
-/// What a call begins with (RFC 5531, section 9), which is judged whatever follows it.
+/// The beginning of a call (RFC 5531, section 9), which is checked no matter what follows.
 #[derive(Clone, Copy)]
 struct Start {
     xid: u32,
     rpc_version: u32,
 }
 
-/// What stands between this and the arguments.
+/// The part of a call between its beginning and the arguments.
 #[derive(Clone, Copy)]
 struct Header {
     program: u32,
     version: u32,
     procedure: u32,
-    /// Who calls, or `None` where the credential isn't served or can't be read.
+    /// The caller, or `None` if the credential isn't accepted or can't be read.
     principal: Option<Principal>,
 }
 
 /// Reads a record (RFC 5531, section 9).
 ///
-/// A call is refused by the first of these that is so: another RPC version, a credential that isn't served or can't be read,
-/// another program, another version of it, no such procedure, arguments of COMPOUND that can't be read. Nothing is said where
-/// a record isn't a call, or ends before its verifier does, or has a credential or verifier above 400 bytes, but for the RPC
-/// version, which is judged at once. Where memory
-/// is refused for a COMPOUND whose arguments are there, it is to be answered SYSTEM_ERR.
+/// The first of these that applies is the reason why a call is refused: another RPC version, a credential that isn't
+/// accepted or can't be read, another program, another version of the program, no such procedure, arguments of COMPOUND
+/// that can't be read. There is no reply to a record that isn't a call, that ends before its verifier does, or whose
+/// credential or verifier has more than 400 bytes; only the RPC version is checked before that. If memory runs out for
+/// a COMPOUND whose arguments are there, the reply is SYSTEM_ERR.
 pub fn read_call(alloc: Global, message: &[u8]) -> Call
     ensures call { IsCall message.now result }
     ensures limits { IsCallWithinLimits (length message.now) result }
@@ -98,7 +98,7 @@ fn call_from(alloc: Global, message: &[u8]) -> Call
     }
 }
 
-// The call of COMPOUND with these arguments, behind a header of at least 40 bytes.
+// The call of COMPOUND with these arguments, which follow a header of at least 40 bytes.
 fn compound_call(alloc: Global, xid: u32, principal: Principal, bytes: &[u8]) -> Call
     ensures call { OrRefused
         (λ call. call ≡ compound_or_garbage xid principal (compound_at bytes.now)) result }
@@ -153,7 +153,7 @@ fn header_from(bytes: &[u8]) -> Result<(Header, &[u8]), WireError>
     Ok((header, rest))
 }
 
-/// Each record calls for one thing.
+/// Each record is exactly one call.
 pub fn one_call()
     ensures { OneCall }
 {

@@ -7,15 +7,15 @@ use crate::auth_sys::read_uid;
 use nfs_xdr::Principal;
 use xdr::{WireError, read_opaque, read_u32};
 
-/// The flavors of credentials that are served (RFC 5531, section 8.2).
+/// The flavors of credentials that the server accepts (RFC 5531, section 8.2).
 pub const AUTH_NONE: u32 = 0;
 
 pub const AUTH_SYS: u32 = 1;
 
-/// The most bytes of the body of a credential or a verifier.
+/// The greatest length of the body of a credential or a verifier, in bytes.
 pub const BODY_LIMIT: u32 = 400;
 
-// The principal of a credential, or `None` where its flavor isn't served or its body can't be read.
+// The principal of a credential, or `None` if the server doesn't accept its flavor or can't read its body.
 pub(crate) fn read_credential(bytes: &[u8]) -> Result<(Option<Principal>, &[u8]), WireError>
     ensures { Answers (λ x. (x.0, x.1.now)) result
         (as_value principal_of opaque_auth.at bytes.now) }

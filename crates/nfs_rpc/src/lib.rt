@@ -1,4 +1,4 @@
-//! RPC over a stream (RFC 5531): records of bytes, the calls that they are, and the replies to them.
+//! RPC over a stream (RFC 5531): records of bytes, the calls in them, and the replies to these.
 #![tactic(auto)]
 
 mod auth_sys;

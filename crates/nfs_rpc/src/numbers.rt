@@ -10,9 +10,9 @@ use crate::reply::{
     DENIED_RPC_MISMATCH, MESSAGE_REPLY, REPLY_ACCEPTED, REPLY_DENIED, SHORT_REPLY_LEN,
 };
 
-/// The numbers that the layouts and checks name: those of calls, credentials and replies (RFC 5531, sections 8, 9 and
-/// appendix A), of NFSv4 (RFC 7531, section 3), of the headers of fragments (RFC 5531, section 11), and this server's limit of
-/// a record.
+/// The numbers in the layouts and checks: those of calls, credentials and replies (RFC 5531, sections 8, 9 and appendix
+/// A), of NFSv4 (RFC 7531, section 3), of the headers of fragments (RFC 5531, section 11), and this server's limit on
+/// the length of a record.
 pub fn numbers_of_messages()
     ensures calls { (MESSAGE_CALL ≡ 0) × (RPC_VERSION ≡ 2) × (NFS_PROGRAM ≡ 100003)
         × (NFS_VERSION ≡ 4) × (PROC_NULL ≡ 0) × (PROC_COMPOUND ≡ 1) }

@@ -6,25 +6,25 @@ use crate::records::{HEADER_LEN, LAST_FRAGMENT, RECORD_LIMIT};
 use byteorder::{BigEndian, ByteOrder};
 use std::alloc::AllocError;
 
-/// What the four bytes before a fragment say of it (RFC 5531, section 11).
+/// What a fragment's four-byte header says about the fragment (RFC 5531, section 11).
 #[derive(Clone, Copy)]
 struct Header {
     is_last: bool,
-    /// The bytes of the fragment without this header.
+    /// How many bytes the fragment has, without this header.
     len: usize,
 }
 
-/// Where in a fragment a text stops.
+/// Where in a fragment the bytes received so far end.
 #[derive(Clone, Copy)]
 pub(crate) enum Place {
-    /// Behind the first `len` of these bytes of a header.
+    /// After the first `len` of these bytes of a header.
     InHeader { bytes: [u8; HEADER_LEN], len: usize },
-    /// So many bytes before the end of a fragment.
+    /// In a body, `wanted` bytes before the end of the fragment.
     InBody { wanted: usize, is_last: bool },
 }
 
 impl Place {
-    /// Before a fragment.
+    /// Before the first byte of a fragment.
     pub(crate) const START: Place = Place::InHeader {
         bytes: [0; HEADER_LEN],
         len: 0,
@@ -43,7 +43,7 @@ fn header_at(text: &[u8]) -> Header
     }
 }
 
-/// The place behind more bytes of a header.
+/// The place after more bytes of a header.
 fn behind_part(bytes: [u8; HEADER_LEN], len: usize, part: &[u8]) -> Place
     requires { len + length part.now ≤ 4 }
     ensures place { IsPlace result }
@@ -66,8 +66,8 @@ fn behind_part(bytes: [u8; HEADER_LEN], len: usize, part: &[u8]) -> Place
     }
 }
 
-/// Takes bytes from the front of a piece, as far as a header or a body wants them. Those of a body it puts behind the bodies.
-/// It tells how many they are.
+/// Takes bytes from the front of a piece, at most as many as the header or the body still needs. Bytes of a body are
+/// added to the bodies. Returns the new place and how many bytes were taken.
 pub(crate) fn take_front(
     bodies: &mut Vec<u8>,
     place: Place,
@@ -103,7 +103,7 @@ pub(crate) fn take_front(
     }
 }
 
-/// Whether a record is within `RECORD_LIMIT`, as far as its headers up to a place tell.
+/// Whether a record is within `RECORD_LIMIT`, as far as its headers up to this place say.
 pub(crate) fn fits(gathered: usize, place: Place) -> bool
     requires { gathered ≤ RECORD_LIMIT }
     ensures { IsTrue result ↔ Fits gathered place }

@@ -8,13 +8,13 @@ use std::collections::VecDeque;
 use std::marker::Model;
 use thiserror::Error;
 
-/// The most bytes of a record, without the headers of its fragments.
+/// The greatest length of a record in bytes, not counting the headers of its fragments.
 pub const RECORD_LIMIT: usize = 262_144;
 
-/// The bytes of a fragment's header.
+/// The length of a fragment's header in bytes.
 pub const HEADER_LEN: usize = 4;
 
-/// The bit of a header which says that the fragment is its record's last.
+/// The bit in a header that marks the last fragment of a record.
 pub const LAST_FRAGMENT: u32 = 0x8000_0000;
 
 /// Why a piece of a stream was not taken.
@@ -23,21 +23,21 @@ pub enum RecordError {
     /// A record has more bytes than `RECORD_LIMIT`.
     #[error("a record is above its limit (1)")]
     TooLong = 1,
-    /// Memory was refused.
+    /// Memory ran out.
     #[error("no memory (2)")]
     Memory = 2,
 }
 
-/// A stream of bytes, which comes in any pieces, as records of fragments (RFC 5531, section 11).
+/// A stream of bytes, which may arrive in pieces of any size, as records of fragments (RFC 5531, section 11).
 ///
-/// Records that are whole wait until `next` takes them, in their order. Of the bytes behind them no more is kept than the bodies
-/// of the fragments, a place in the last of these and the number of the bytes. Once a record is too long, no more bytes are
+/// Whole records wait in their order until `next` takes them. Of the bytes after them only the bodies of the fragments,
+/// the place in the last fragment and the number of the bytes are kept. Once a record is too long, no more bytes are
 /// taken.
 #[derive(Drop)]
 pub struct Records {
     alloc: Global,
     ready: VecDeque<Vec<u8>>,
-    /// Of the fragments of the record that is not whole.
+    /// The bodies of the fragments of the record that isn't whole yet.
     bodies: Vec<u8>,
     first: Unfinished,
     fed: u64,
@@ -60,7 +60,7 @@ impl Model for Records {
 }
 
 impl Records {
-    /// A stream of which nothing has come.
+    /// A stream of which no bytes have come.
     pub fn new(alloc: Global) -> Records
         ensures empty { IsNew result }
         ensures sound { IsStream result }
@@ -74,16 +74,17 @@ impl Records {
         }
     }
 
-    /// Takes the next piece of the stream. The records that are whole now can be taken by `next`, also where a later
-    /// one is too long.
+    /// Takes the next piece of the stream. The records that are whole now can be taken by `next`, even if a later one
+    /// is too long.
     ///
-    /// A record is too long once a header brings it above `RECORD_LIMIT`. This is told then and at each later feed,
-    /// which changes nothing.
+    /// A record is too long once a header brings it above `RECORD_LIMIT`. TooLong is returned then, and by every later
+    /// call, which changes nothing.
     pub fn feed(&mut self, piece: &[u8]) -> Result<(), RecordError>
         requires { self.old.fed + length piece.now ≤ 2 ^ 40 }
         ensures ok { OnOk result (TakesPiece self.old self.new piece.now × (self.new.is_too_long ≡ false)) }
 
-        // At the first header of a record that is too long the piece is taken, and the records before it are kept.
+        // At the first header of a record that is too long, the piece is still taken,
+        // and the records before it are kept.
         ensures too_long { IsErrOf result RecordError.TooLong → IsTrue self.new.is_too_long }
         ensures first { IsErrOf result RecordError.TooLong → self.old.is_too_long ≡ false → TakesPiece self.old self.new piece.now }
         ensures again { IsTrue self.old.is_too_long → IsErrOf result RecordError.TooLong × (self.new ≡ self.old) }
@@ -110,7 +111,7 @@ impl Records {
         Ok(())
     }
 
-    /// The first record that was not yet taken, without its headers.
+    /// Takes the first record that was not yet taken, without its headers.
     pub fn next(&mut self) -> Option<Vec<u8>>
         ensures some { IfSome result (λ message.
             self.old ≡ record self.new { ready = message.items ∷ self.new.ready }) }
@@ -119,7 +120,7 @@ impl Records {
         self.ready.pop_front()
     }
 
-    /// How many bytes came behind the last whole record, headers included.
+    /// How many bytes came after the last whole record, headers included.
     pub fn rest(&self) -> usize
         ensures value { (rest : List ℕ) → Keeps rest self.now → result ≡ length rest }
         ensures none_left { (rest : List ℕ) → Keeps rest self.now → IsRest rest }
@@ -128,7 +129,7 @@ impl Records {
         self.first.count
     }
 
-    /// How many bytes are held of the record that is not whole.
+    /// How many bytes are kept of the record that isn't whole yet.
     pub fn kept(&self) -> usize
         ensures value { result ≡ length self.now.bodies }
         ensures few { result ≤ RECORD_LIMIT }
@@ -136,7 +137,7 @@ impl Records {
         self.bodies.len()
     }
 
-    /// How many bytes came in all.
+    /// How many bytes came altogether.
     pub fn fed(&self) -> u64
         ensures value { result ≡ self.now.fed }
         ensures bounded { result ≤ 2 ^ 40 }
@@ -144,7 +145,7 @@ impl Records {
         self.fed
     }
 
-    /// Whether a record is above `RECORD_LIMIT`. No more bytes are taken then.
+    /// Whether a record is above `RECORD_LIMIT`. The stream takes no more bytes then.
     pub fn is_too_long(&self) -> bool
         ensures value { result ≡ self.now.is_too_long }
         ensures known { (rest : List ℕ) → Keeps rest self.now → (IsTrue result ↔ IsTooLong rest) }
@@ -153,12 +154,12 @@ impl Records {
     }
 }
 
-/// A text is split into records and a rest in one way.
+/// A text is split into records and a rest in only one way.
 pub fn one_split()
     ensures { OneSplit }
 {}
 
-/// Where a text is split, what comes behind it goes on from the rest.
+/// Once a text is split, the split of the text with a piece after it continues from the rest.
 pub fn split_goes_on()
     ensures { SplitGoesOn }
 {}

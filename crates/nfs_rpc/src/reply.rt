@@ -9,7 +9,7 @@ use crate::credential::AUTH_NONE;
 use nfs_xdr::{OpResult, Status, write_results};
 use xdr::{Bytes, Sequence, Wire, WireError, write_five, write_four, write_two};
 
-/// The type of a message that is a reply (RFC 5531, section 9; msg_type).
+/// The message type of a reply (RFC 5531, section 9; msg_type).
 pub const MESSAGE_REPLY: u32 = 1;
 
 /// Whether a call is accepted or denied (reply_stat).
@@ -35,13 +35,13 @@ pub const DENIED_RPC_MISMATCH: u32 = 0;
 
 pub const DENIED_AUTH_ERROR: u32 = 1;
 
-/// What is wrong with a credential that is refused (auth_stat).
+/// Why the credential of a denied call isn't accepted (auth_stat).
 pub const AUTH_BADCRED: u32 = 1;
 
-/// The bytes of an accepted reply up to its state.
+/// The length of an accepted reply up to and including its state, in bytes.
 pub const ACCEPTED_LEN: usize = 24;
 
-/// The most bytes of a reply that needs no service.
+/// The greatest length of a reply that needs no service, in bytes.
 pub const SHORT_REPLY_LEN: usize = 32;
 
 /// The result of a COMPOUND.
@@ -53,31 +53,31 @@ pub struct CompoundReply {
     pub results: Sequence<OpResult>,
 }
 
-/// What a call is answered.
+/// The reply to a call.
 #[derive(Debug, Drop)]
 pub enum Reply {
-    /// SUCCESS, to NULL.
+    /// SUCCESS, the reply to NULL.
     Null,
-    /// SUCCESS and the result, to COMPOUND.
+    /// SUCCESS with the result, the reply to COMPOUND.
     Compound(CompoundReply),
-    /// PROG_UNAVAIL: another program.
+    /// PROG_UNAVAIL: the call is for another program.
     ProgUnavail,
-    /// PROG_MISMATCH: another version of the program.
+    /// PROG_MISMATCH: the call is for another version of the program.
     ProgMismatch,
-    /// PROC_UNAVAIL: no such procedure.
+    /// PROC_UNAVAIL: there is no such procedure.
     ProcUnavail,
     /// GARBAGE_ARGS: the arguments can't be read.
     GarbageArgs,
-    /// SYSTEM_ERR: memory was refused.
+    /// SYSTEM_ERR: memory ran out.
     SystemError,
-    /// RPC_MISMATCH: another version of RPC.
+    /// RPC_MISMATCH: the call uses another version of RPC.
     RpcMismatch,
-    /// AUTH_ERROR: the credential isn't served or can't be read.
+    /// AUTH_ERROR: the credential isn't accepted or can't be read.
     AuthError,
 }
 
-/// Writes the reply to the call of this xid at the end, or nothing. TooLong only where a length in it is above what four
-/// bytes can say.
+/// Writes the reply to the call with this xid at the end, or nothing. TooLong only if a length in it is more than four
+/// bytes can hold.
 pub fn write_reply(out: &mut Vec<u8>, xid: u32, reply: &Reply) -> Result<(), WireError>
     ensures { Writes out.old out.new result
         (written_reply xid reply.now) (IsWritable xid reply.now) }
@@ -130,7 +130,7 @@ fn write_prog_mismatch(out: &mut Vec<u8>, xid: u32) -> Result<(), WireError>
     }
 }
 
-// A denied reply, and what comes with its state.
+// Writes a denied reply, and the data that depends on its state.
 fn write_denied<A: Wire>(
     out: &mut Vec<u8>,
     xid: u32,
@@ -152,7 +152,7 @@ fn write_denied<A: Wire>(
     }
 }
 
-// An accepted reply up to what comes with its state. Its verifier is of AUTH_NONE and has no body.
+// Writes an accepted reply up to the data that depends on its state. Its verifier has the flavor AUTH_NONE and no body.
 #[tactic(auto, unfolding(xdr::specs::Writing::written_opaque, xdr::specs::Writing::written_number))]
 fn write_accepted(out: &mut Vec<u8>, xid: u32, state: u32) -> Result<(), WireError>
     ensures { Writes out.old out.new result

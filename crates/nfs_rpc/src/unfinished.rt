@@ -7,19 +7,19 @@ use std::alloc::{AllocError, Global};
 use std::collections::VecDeque;
 use std::mem;
 
-/// How far a record is there that is not whole.
+/// How much has come of a record that isn't whole yet.
 #[derive(Clone, Copy)]
 pub(crate) struct Unfinished {
-    /// Behind the bytes that came of it.
+    /// The place after the bytes that came of it.
     pub(crate) place: Place,
-    /// How many these are, headers included.
+    /// How many bytes of it came, headers included.
     pub(crate) count: usize,
-    /// Whether a header brings it above `RECORD_LIMIT`.
+    /// Whether a header brings the record above `RECORD_LIMIT`.
     pub(crate) is_too_long: bool,
 }
 
 impl Unfinished {
-    /// A record of which nothing came.
+    /// A record of which no bytes have come.
     pub(crate) const NONE: Unfinished = Unfinished {
         place: Place::START,
         count: 0,
@@ -27,8 +27,8 @@ impl Unfinished {
     };
 }
 
-/// Goes on to the next fragment where one is whole. Behind the last the record is whole, and is moved to those that are
-/// found.
+/// Goes on to the next fragment if one is whole. After the last fragment the record is whole, and is moved to the
+/// records that were found.
 fn end_fragment(
     alloc: Global,
     found: &mut VecDeque<Vec<u8>>,
@@ -67,8 +67,8 @@ fn end_fragment(
     }
 }
 
-/// Puts a piece behind an unfinished record, and finds the records that are whole now. An `Err` may have put a part of it
-/// behind, and moved the record to those that are found.
+/// Adds a piece to an unfinished record, and finds the records that are whole now. If it fails, it may have added a
+/// part of the piece, and moved the record to those that were found.
 fn take_all(
     alloc: Global,
     found: &mut VecDeque<Vec<u8>>,
@@ -104,8 +104,8 @@ fn take_all(
     Ok(first)
 }
 
-/// Puts a piece behind an unfinished record, and moves all records that are whole now to those that are ready. An `Err`
-/// leaves these as they were.
+/// Adds a piece to an unfinished record, and moves all records that are whole now to those that are ready. If it fails,
+/// the ready records are as before.
 fn add_all(
     alloc: Global,
     ready: &mut VecDeque<Vec<u8>>,
@@ -133,7 +133,7 @@ fn add_all(
     Ok(first)
 }
 
-/// Gives back the first `len` bytes of the bodies, which may have been moved to a record that was found.
+/// Restores the first `len` bytes of the bodies, which may have been moved to a record that was found.
 fn give_back(mut found: VecDeque<Vec<u8>>, bodies: &mut Vec<u8>, len: usize)
     ensures { bodies.new.items ≡ take len (first_or (messages_of found.items) bodies.old.items) }
 {
@@ -143,7 +143,8 @@ fn give_back(mut found: VecDeque<Vec<u8>>, bodies: &mut Vec<u8>, len: usize)
     bodies.truncate(len);
 }
 
-/// The same, and an `Err` leaves the bodies too as they were.
+/// Adds a piece to an unfinished record, and moves all records that are whole now to those that are ready. If it fails,
+/// both the ready records and the bodies are as before.
 pub(crate) fn take_piece(
     alloc: Global,
     ready: &mut VecDeque<Vec<u8>>,

@@ -1,4 +1,4 @@
--- What follows of every course.
+-- What follows from every course of a connection.
 use Rattle.std.proofs.Common.{◌≡◌, ℕ, List, [], ◌∷◌, ◌++◌, Option, Result, Ok, Err, inl, inr, refl, sym, ap, subst, ◌∙◌, append_assoc, length, arith}
 use Rattle.std.specs.List.{flat_map}
 use Rattle.std.specs.Io.KnownBytes.{Appends, Consumes}
@@ -17,7 +17,7 @@ use Rattle.nfs_server.specs.Exchange.{Exchange, Rules, AreExchanged, messages_of
 use Rattle.nfs_server.proofs.Serving.{exchanged_then, messages-append, written-append}
 use Rattle.nfs_xdr.specs.declared.op_result.OpResult.{OpResult}
 
--- turns behind a text whose rest they begin with
+-- turns that begin with the rest of a text that was split: the whole text is split into the records of both
 texts_go_on : {D S C : Type 0} (goes_on : SplitGoesOn) (device : Device D) (rules : Rules S C) (before after : Scene D S C) (text : List ℕ) (messages : List (List ℕ)) (carried : List ℕ) (turns : List Turn)
     → Splits text messages carried → AreTurns device rules before carried turns after
     → Splits (text ++ text_of turns) (messages ++ messages_of (exchanges_of turns)) (rest_after carried turns)
@@ -36,7 +36,7 @@ texts_go_on goes_on device rules before after text messages carried (turn ∷ tu
     subst (λ (t : List ℕ). Splits t (messages ++ messages_of (exchanges_of (turn ∷ turns))) (rest_after turn.rest turns)) texts
     (subst (λ (m : List (List ℕ)). Splits ((text ++ piece) ++ text_of turns) m (rest_after turn.rest turns)) found others)
 
--- no record begins where there are no bytes
+-- no record is at the front of an empty text
 none_begins : IsRest []
 none_begins message front back whole is within =
     let last = is.6 in
@@ -48,7 +48,7 @@ is_one_text goes_on device rules before after turns are =
     let all = texts_go_on goes_on device rules before after [] [] [] turns none are in
     (all, λ piece found rest more. goes_on (text_of turns) piece (messages_of (exchanges_of turns)) found (rest_after [] turns) rest all more)
 
--- what turns asked of the service, one exchange after the other
+-- the exchanges of turns follow one another, and lead the service and the clock from the first turn to the last
 turns_exchanged : {D S C : Type 0} (device : Device D) (rules : Rules S C) (before after : Scene D S C) (carried : List ℕ) (turns : List Turn)
     → AreTurns device rules before carried turns after → AreExchanged rules before.service before.clock (exchanges_of turns) after.service after.clock
 turns_exchanged {D = D} {S = S} {C = C} device rules before after carried [] are = (ap (λ (s : Scene D S C). s.service) are, ap (λ (s : Scene D S C). s.clock) are)
@@ -84,7 +84,7 @@ asks_then gives a b c (question ∷ questions) more (answer ∷ answers) others 
 asks_then gives a b c [] more (answer ∷ answers) others first second = absurd first
 asks_then gives a b c (question ∷ questions) more [] others first second = absurd first
 
--- exchanges one after the other are questions one after the other
+-- exchanges that follow one another ask the service their questions one after the other
 pub exchanges_ask : {S C : Type 0} (rules : Rules S C) (s new : S) (c after : C) (es : List Exchange) → AreExchanged rules s c es new after
     → Asks rules.gives s (flat_map (questions_of rules.tree) es) (flat_map (λ (e : Exchange). e.answers) es) new
 exchanges_ask rules s new c after [] are = are.0
@@ -93,7 +93,7 @@ exchanges_ask {S = S} rules s new c after (e ∷ es) are =
     subst (λ (q : List Question). Asks rules.gives s q (flat_map (λ (x : Exchange). x.answers) (e ∷ es)) new) (sym (flat_map-cons (questions_of rules.tree) e es))
     (subst (λ (a : List OpResult). Asks rules.gives s (questions_of rules.tree e ++ flat_map (questions_of rules.tree) es) a new) (sym (flat_map-cons (λ (x : Exchange). x.answers) e es)) here)
 
--- what the device tells, call by call
+-- which bytes are in the device after writes took these parts
 taken_bytes : {D : Type 0} (device : Device D) (remaining contents : D → Option (List ℕ)) (tells : TellsBytes device remaining contents) (a b : D) (parts : List (List ℕ)) → AreTaken device a parts b
     → Appends (contents a) (contents b) (flat_map (λ part. part) parts) × (remaining b ≡ remaining a)
 taken_bytes {D = D} device remaining contents tells a b [] taken =
@@ -111,7 +111,7 @@ written_bytes device remaining contents tells a b bytes written =
     let taken = taken_bytes device remaining contents tells a b written.0 written.2 in
     (subst (λ (w : List ℕ). Appends (contents a) (contents b) w) (sym written.1) taken.0, taken.1)
 
--- a turn, whose replies went out so far
+-- which bytes a turn read and wrote, given those of its replies that were written
 turn_bytes : {D S C : Type 0} (device : Device D) (rules : Rules S C) (remaining contents : D → Option (List ℕ)) (tells : TellsBytes device remaining contents) (out : Device D → D → List ℕ → D → Type 0) (before : Scene D S C) (carried : List ℕ) (turn : Turn) (after : Scene D S C) (written : List ℕ)
     → (t : IsTurn device rules out before carried turn after) → Appends (contents t.mid) (contents after.device) written × (remaining after.device ≡ remaining t.mid)
     → Consumes (remaining before.device) (remaining after.device) turn.piece × Appends (contents before.device) (contents after.device) written
@@ -140,18 +140,18 @@ turns_bytes device rules remaining contents tells before carried (turn ∷ turns
       subst (λ (x : List ℕ). Appends (contents before.device) (contents after.device) x) all (Appends-trans (contents before.device) (contents mid.device) (contents after.device) written others one.1 more.1),
     )
 
--- a last turn whose replies all went out
+-- which bytes a last turn read and wrote whose replies were all written
 last_bytes : {D S C : Type 0} (device : Device D) (rules : Rules S C) (remaining contents : D → Option (List ℕ)) (tells : TellsBytes device remaining contents) (before : Scene D S C) (carried : List ℕ) (last : Turn) (after : Scene D S C)
     → IsTurn device rules IsWritten before carried last after
     → Consumes (remaining before.device) (remaining after.device) last.piece × Appends (contents before.device) (contents after.device) (written_for_all rules.tree last.exchanges)
 last_bytes device rules remaining contents tells before carried last after t =
     turn_bytes device rules remaining contents tells IsWritten before carried last after (written_for_all rules.tree last.exchanges) t (written_bytes device remaining contents tells t.mid after.device (written_for_all rules.tree last.exchanges) t.written)
 
--- nothing was written behind the turns
+-- a last turn without exchanges wrote nothing
 silent_bytes : (tree : Files) (es : List Exchange) (a b : Option (List ℕ)) → es ≡ [] → b ≡ a → Appends a b (written_for_all tree es)
 silent_bytes tree es a b none same = rw (none, same) (Appends-nil a)
 
--- the turns, and what came behind them, all of which was written
+-- which bytes the turns and the last turn read and wrote together, if all replies were written
 joined_bytes : {D S C : Type 0} (device : Device D) (rules : Rules S C) (remaining contents : D → Option (List ℕ)) (tells : TellsBytes device remaining contents) (before mid after : Scene D S C) (course : Course)
     → AreTurns device rules before [] course.turns mid
     → Consumes (remaining mid.device) (remaining after.device) course.last.piece × Appends (contents mid.device) (contents after.device) (written_for_all rules.tree course.last.exchanges)

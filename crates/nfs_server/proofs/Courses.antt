@@ -1,4 +1,4 @@
--- The course of a connection, as far as it has come.
+-- The course of a connection up to the present.
 use Rattle.std.proofs.Common.{◌≡◌, ◌≢◌, ℕ, ◌+◌, ◌^◌, ◌<◌, ◌≤◌, ◌⊎◌, inl, inr, true, false, List, [], ◌∷◌, ◌++◌, length, take, Result, Ok, Err, refl, sym, ap, subst, ◌∙◌, arith}
 use Rattle.std.specs.List.{AllByRecursion}
 use Rattle.std.specs.Prelude.{◌↔◌, IsErrOf}
@@ -15,7 +15,7 @@ use Rattle.nfs_server.specs.Exchange.{Rules, messages_of}
 use Rattle.nfs_server.specs.Serving.{GoesOut, IsServed}
 use Rattle.nfs_server.proofs.Serving.{errs, error_is}
 
--- one turn more
+-- turns with one more turn after them
 turns_more : {D S C : Type 0} (device : Device D) (rules : Rules S C) (a b c : Scene D S C) (carried : List ℕ) (turns : List Turn) (turn : Turn)
     → AreTurns device rules a carried turns b → IsTurn device rules IsWritten b (rest_after carried turns) turn c → turn.unanswered ≡ [] → (IsTooLong turn.rest → ⊥)
     → AreTurns device rules a carried (turns ++ turn ∷ []) c
@@ -32,7 +32,7 @@ text_more : (turns : List Turn) (turn : Turn) → text_of (turns ++ turn ∷ [])
 text_more turns turn =
     flat_map-append (λ (t : Turn). t.piece) turns (turn ∷ []) ∙ ap (λ (x : List ℕ). text_of turns ++ x) (flat_map-cons (λ (t : Turn). t.piece) turn [] ∙ append-nil turn.piece)
 
--- All turns so far are over, and the stream keeps what they left.
+-- All turns so far are complete, and the stream keeps the bytes that they left.
 pub record IsUnderWay {D S C : Type 0} (device : Device D) (rules : Rules S C) (before : Scene D S C) (stream : Stream) (now : Scene D S C) : Type 0 where
   pub turns : List Turn
   pub are : AreTurns device rules before [] turns now
@@ -43,11 +43,11 @@ pub record IsUnderWay {D S C : Type 0} (device : Device D) (rules : Rules S C) (
 pub starts : {D S C : Type 0} (device : Device D) (rules : Rules S C) (before : Scene D S C) (stream : Stream) → IsNew stream → IsUnderWay device rules before stream before
 starts device rules before stream new = record { turns = []; are = refl; keeps = new.keeps; idle = new.idle; fed = new.fed }
 
--- a read of which nothing comes
+-- a last read after which no record was answered
 abbrev pub idle : List ℕ → Turn
 idle piece = record { piece = piece; exchanges = []; unanswered = []; rest = [] }
 
--- The connection ends with a read of which nothing comes.
+-- The connection ends with a read after which no record was answered.
 pub ends_idle : {D S C : Type 0} (device : Device D) (rules : Rules S C) (before now : Scene D S C) (stream : Stream) (piece : List ℕ) (result : Result ℕ ServeError) (d : D)
     → (u : IsUnderWay device rules before stream now) → IsStream stream
     → EndsWith device rules now (record { turns = u.turns; last = idle piece }) result (scene d now.service now.clock)
@@ -55,7 +55,7 @@ pub ends_idle : {D S C : Type 0} (device : Device D) (rules : Rules S C) (before
 ends_idle device rules before now stream piece result d u sound ends =
     (record { turns = u.turns; last = idle piece }, (now, u.are, omega (arith, u.fed, sound.bounded), ends))
 
--- memory is refused before anything is read
+-- memory ran out before anything was read
 pub ends_unread : {D S C : Type 0} (device : Device D) (rules : Rules S C) (before : Scene D S C) → HasCourse device rules before (Err errors.Memory) before
 ends_unread device rules before = (record { turns = []; last = idle [] }, (before, refl, omega arith, inl (refl, refl, refl, refl)))
 
@@ -64,7 +64,7 @@ within_limit : (found : List (List ℕ)) (front : List ℕ) → AreRecords found
 within_limit [] front are = tt
 within_limit (message ∷ found) front are = (are.4, within_limit found are.1 are.5)
 
--- the records that a piece makes whole are those that are ready
+-- the records that a piece completes are the ready ones
 found_ready : (old new : Stream) (piece : List ℕ) → old.ready ≡ [] → (takes : TakesPiece old new piece) → new.ready ≡ takes.found
 found_ready old new piece none takes = takes.ready ∙ ap (λ (r : List (List ℕ)). r ++ takes.found) none
 
@@ -80,7 +80,7 @@ write_or_memory : (error : ServeError) → (errs error ≡ errs errors.Write) �
 write_or_memory error (inl write) = inl (error_is error errors.Write write)
 write_or_memory error (inr memory) = inr (error_is error errors.Memory memory)
 
--- A piece was read and taken, and records that it made whole were answered.
+-- A piece was read and added to the stream, and records that it completed were answered.
 pub record IsPart {D S C T : Type 0} (device : Device D) (rules : Rules S C) (before now : Scene D S C) (old new : Stream) (piece : List ℕ) (result : Result T ServeError) (after : Scene D S C) : Type 0 where
   pub mid : D
   pub under_way : IsUnderWay device rules before old now
@@ -93,7 +93,7 @@ pub record IsPart {D S C T : Type 0} (device : Device D) (rules : Rules S C) (be
 abbrev rest_of : {D S C T : Type 0} (device : Device D) (rules : Rules S C) (before now : Scene D S C) (old new : Stream) (piece : List ℕ) (result : Result T ServeError) (after : Scene D S C) → IsPart device rules before now old new piece result after → List ℕ
 rest_of device rules before now old new piece result after p = (p.takes.split (rest_after [] p.under_way.turns) p.under_way.keeps).0
 
--- the turn that came of it
+-- the turn that consists of reading the piece and answering its records
 abbrev turn_of : {D S C T : Type 0} (device : Device D) (rules : Rules S C) (before now : Scene D S C) (old new : Stream) (piece : List ℕ) (result : Result T ServeError) (after : Scene D S C) → IsPart device rules before now old new piece result after → Turn
 turn_of device rules before now old new piece result after p = record {
   piece = piece;
@@ -137,7 +137,7 @@ pub ends_failed : {D S C T : Type 0} (device : Device D) (rules : Rules S C) (be
 ends_failed {T = T} device rules before now old new piece error result after failed which sound p =
     rw failed (ends_part {T = T} device rules before now old new piece error after (write_or_memory error which) sound p)
 
--- it ends with a record that is too long
+-- the connection ends with a record that is too long
 pub ends_too_long : {D S C T : Type 0} (device : Device D) (rules : Rules S C) (before now : Scene D S C) (old new last : Stream) (piece : List ℕ) (x : T) (after : Scene D S C)
     → IsStream old → IsPart {T = T} device rules before now old new piece (Ok x) after
     → last ≡ record new { ready = [] } → last.is_too_long ≡ true
@@ -147,7 +147,7 @@ ends_too_long {T = T} device rules before now old new last piece x after sound p
     let long : new.is_too_long ≡ true = sym (ap (λ (s : Stream). s.is_too_long) same) ∙ told in
     (record { turns = p.under_way.turns; last = turn_of {T = T} device rules before now old new piece (Ok x) after p }, (now, p.under_way.are, omega (arith, p.under_way.fed, sound.bounded), (is_turn {T = T} device rules before now old new piece (Ok x) after p, omega (arith, p.within, p.under_way.fed), p.served.none_left, w.2.too_long.0 long)))
 
--- a turn is over
+-- a turn is complete, and the connection goes on
 pub more_served : {D S C T : Type 0} (device : Device D) (rules : Rules S C) (before now : Scene D S C) (old new last : Stream) (piece : List ℕ) (x : T) (after : Scene D S C)
     → IsPart {T = T} device rules before now old new piece (Ok x) after
     → last ≡ record new { ready = [] } → last.is_too_long ≡ false
@@ -172,20 +172,20 @@ not_read : (error : ServeError) → (error ≡ errors.Write) ⊎ (error ≡ erro
 not_read error (inl write) read = let clash : errors.Write ≡ errors.Read = sym write ∙ read in cc
 not_read error (inr memory) read = let clash : errors.Memory ≡ errors.Read = sym memory ∙ read in cc
 
--- no read failed where records were answered
+-- no read failed while records were answered
 pub no_read_failed : {T : Type 0} (result : Result T ServeError) (error : ServeError) (old mid new : ℕ) → result ≡ Err error → (errs error ≡ errs errors.Write) ⊎ (errs error ≡ errs errors.Memory) → new ≡ mid → mid ≡ old → IsErrOf result errors.Read ↔ old < new
 no_read_failed result error old mid new failed which same same' =
     (λ read. absurd (not_read error (write_or_memory error which) (same_error result error errors.Read failed read)), λ less. absurd (omega (arith, less, same, same')))
 
--- a write failed just where that is told
+-- the result is Write exactly if a write failed
 pub write_failed : {T : Type 0} (result : Result T ServeError) (error : ServeError) (old mid new : ℕ) → result ≡ Err error → (errs error ≡ errs errors.Write ↔ mid < new) → mid ≡ old → IsErrOf result errors.Write ↔ old < new
 write_failed result error old mid new failed told same =
     (λ write. omega (arith, told.0 (ap errs (same_error result error errors.Write failed write)), same), λ less. failed ∙ ap (λ (e : ServeError). Err e) (error_is error errors.Write (told.1 (omega (arith, less, same)))))
 
--- a read that gives some bytes gives a piece that isn't empty
+-- a read that gives at least one byte gives a piece that isn't empty
 pub some_piece : (buffer : List ℕ) (count : ℕ) → count ≤ length buffer → (count ≡ 0 → ⊥) → take count buffer ≢ []
 some_piece buffer count within some none = some (omega (arith, length-take count buffer, ap length none, within))
 
--- nothing but the records that are ready changes, so what is so of every stream stays
+-- only the ready records change, so what holds for every stream still holds
 pub still_stream : (old new : Stream) → new ≡ record old { ready = [] } → IsStream old → IsStream new
 still_stream old new same sound = rw same (record { keeps = sound.keeps; few = sound.few; bounded = sound.bounded })

@@ -1,4 +1,4 @@
--- A record that is answered, as an exchange.
+-- A record that was answered, as an exchange.
 use Rattle.std.proofs.Common.{◌≡◌, ℕ, List, [], ◌++◌, map, refl, sym, ap, ◌∙◌}
 use Rattle.std.proofs.lemmas.List.{append-nil}
 use Rattle.nfs_rpc.specs.declared.call.Call.TheVariants as calls
@@ -14,7 +14,7 @@ use Rattle.nfs_xdr.specs.declared.compound.Compound.{Compound}
 use Rattle.nfs_xdr.specs.declared.op_result.OpResult.{OpResult}
 use Rattle.nfs_xdr.specs.declared.principal.Principal.{Principal}
 
--- the message is answered, and its reply stands behind what was written before
+-- the message was answered, and its reply was added after the bytes that were there before
 abbrev pub IsAnswered : {S C : Type 0} → Rules S C → S → C → List ℕ → List ℕ → List ℕ → S → C → Type 0
 IsAnswered rules service clock message before after service' clock' =
     (e : Exchange) × (e.message ≡ message) × IsExchanged rules service clock e service' clock'

@@ -1,4 +1,4 @@
--- Answering operations in turn, and what is asked and replied given the answers.
+-- Answering operations one after the other, and which questions and results follow from the service's answers.
 use Rattle.std.proofs.Common.{◌≡◌, ℕ, suc, ◌+◌, ◌<◌, ◌≤◌, Bool, true, false, List, [], ◌∷◌, ◌++◌, length, get_or, drop, refl, sym, ap, subst, ◌∙◌, append_assoc, arith}
 use Rattle.std.specs.Prelude.{MatchBool}
 use Rattle.std.specs.List.{flat_map}
@@ -14,17 +14,17 @@ use Rattle.nfs_xdr.specs.declared.arg_op.ArgOp.{ArgOp}
 use Rattle.nfs_xdr.specs.declared.op_result.OpResult.{OpResult}
 use Rattle.nfs_xdr.specs.OpResult.{op_result, status_of}
 
--- what comes behind an answer: the rest of the operations where it is NFS4_OK, and else nothing
+-- what follows an answer: the results of the remaining operations if the answer is NFS4_OK, and otherwise nothing
 abbrev Follows : {S : Type 0} → Asker S → Place S → Bool → List ArgOp → List OpResult → S → Type 0
 Follows asker place ok ops results new =
     MatchBool ok (IsDetermined asker place ops results new) ((results ≡ []) × (new ≡ place.service))
 
--- one more result
+-- lists of results that are equal are still equal with one more result in front
 with_result : {results more : List OpResult} (answer : OpResult) → results ≡ more
     → ◌≡◌ {A = List OpResult} (answer ∷ results) (answer ∷ more)
 with_result answer same = ap (λ (r : List OpResult). answer ∷ r) same
 
--- an operation that is dispatched so, and what follows its answer
+-- an operation with this dispatch, and what follows its answer
 determined_by : {S : Type 0} (asker : Asker S) (old : Place S) (op : ArgOp) (ops : List ArgOp)
     (effect : Effect) (results : List OpResult) (service new : S) (ok : Bool) (how : Dispatch)
     → dispatch asker.tree old.handles old.size op ≡ how → is_ok (status_of effect.answer) ≡ ok
@@ -56,14 +56,15 @@ determined_by asker old op ops effect results service new false (Ask asked) by e
   rw (by, ends, outcome_of) (with_result effect.answer rest.0),
 )
 
--- Whatever is determined from now on is, behind the results so far, determined from the first on.
+-- Results that are determined from the present place on, put after the results so far, are determined from the first
+-- operation on.
 abbrev pub Completes : {S : Type 0} → Asker S → Place S → List ArgOp → Place S → List ArgOp
     → List OpResult → Type 0
 Completes {S = S} asker first ops now rest so_far =
     (results : List OpResult) (new : S) → IsDetermined asker now rest results new
     → IsDetermined asker first ops (so_far ++ results) new
 
--- the next of the operations has this effect, and what follows its answer is this
+-- the next operation has this effect, and these results follow its answer
 completes : {S : Type 0} (asker : Asker S) (first now : Place S) (ops : List ArgOp)
     (so_far : List OpResult) (i : ℕ) (op : ArgOp) (effect : Effect) (service : S)
     (results : List OpResult) (new : S) (ok : Bool)
@@ -81,7 +82,7 @@ completes asker first now ops so_far i op effect service results new ok lt is ha
     let Left : List ArgOp → Type 0 = λ o. IsDetermined asker now o (effect.answer ∷ results) new in
     more (effect.answer ∷ results) new (subst Left (sym left) all)
 
--- others follow
+-- the next operation is answered NFS4_OK, so more operations follow
 pub completes_more : {S : Type 0} (asker : Asker S) (first now : Place S) (ops : List ArgOp)
     (so_far : List OpResult) (i : ℕ) (op : ArgOp) (effect : Effect) (service : S)
     → i < length ops → op ≡ get_or ops i op → IsAnswered asker now op effect service
@@ -95,7 +96,7 @@ completes_more asker first now ops so_far i op effect service lt is has goes mor
     (completes asker first now ops so_far i op effect service results new true lt is has goes more
     more_rest)
 
--- it is the last
+-- the next operation isn't answered NFS4_OK, so it is the last one
 pub completes_last : {S : Type 0} (asker : Asker S) (first now : Place S) (ops : List ArgOp)
     (so_far : List OpResult) (i : ℕ) (op : ArgOp) (effect : Effect) (service : S)
     → i < length ops → op ≡ get_or ops i op → IsAnswered asker now op effect service
@@ -121,7 +122,7 @@ completes_none asker first now ops so_far i le more =
 abbrev bytes_of : List OpResult → List ℕ
 bytes_of results = flat_map op_result.spelling results
 
--- the length of the results with one more
+-- the length of results with one more at the end
 pub length_with : (results : List OpResult) (answer : OpResult)
     → length (flat_map op_result.spelling (results ++ answer ∷ []))
     ≡ length (flat_map op_result.spelling results) + length (op_result.spelling answer)

@@ -1,4 +1,4 @@
--- What a lent core's journal gains by the questions that it is asked.
+-- The entries that the journal of a core gains when the core is asked questions as a service.
 use Rattle.std.proofs.Common.{◌≡◌, ◌≢◌, ℕ, Option, Some, None, List, [], ◌∷◌, ◌++◌, refl, sym, ap, ◌∙◌, inl, inr, append_assoc}
 use Rattle.std.proofs.lemmas.List.{append-nil}
 use Rattle.nfs_core.specs.declared.entry.Call.{Call}
@@ -13,12 +13,12 @@ use Rattle.nfs_server.specs.Entries.{AreEntries, QuestionsAreEntries}
 use Rattle.nfs_server.specs.declared.service.Lent.{Lent}
 use Rattle.nfs_xdr.specs.declared.op_result.OpResult.{OpResult}
 
--- an entry's answer is not NFS4ERR_RESOURCE
+-- the answer in an entry is not NFS4ERR_RESOURCE
 follows_not_resource : (decided : _) (journal : History) (old : State) (call : Call) (new : State) → Follows decided journal old call new → call.answer ≢ resource call.request.op
 follows_not_resource None journal old call new follows = absurd follows
 follows_not_resource (Some decision) journal old call new follows = follows.1
 
--- after one question the entries of the others, and before them its own, unless it was answered NFS4ERR_RESOURCE
+-- the entries of one question and the following ones: its own entry comes first, unless its answer was NFS4ERR_RESOURCE
 gains_first : (old mid new : Server) (question : Question) (questions : List Question) (answer : OpResult) (answers : List OpResult) (number : Option ℕ)
     → Applies old mid question answer number
     → (entries : List Entry) × AreEntries questions answers entries × (new.journal ≡ record mid.journal { entries = mid.journal.entries ++ entries })

@@ -1,4 +1,4 @@
--- Results that fit the reply are few, and a status has a form.
+-- Results that fit in a reply are few enough to be counted in four bytes, and a status fits its form.
 use Rattle.std.proofs.Common.{ℕ, ◌≤◌, ◌<◌, ◌^◌, List, [], ◌∷◌, length, arith}
 use Rattle.std.specs.List.{All, flat_map}
 use Rattle.std.proofs.lemmas.List.Concat.{flat_map-cons}
@@ -15,7 +15,7 @@ use Rattle.nfs_xdr.specs.Status.{status}
 use Rattle.nfs_rpc.specs.declared.records.TheConstants.{RECORD_LIMIT}
 use Rattle.xdr.specs.Writing.{written_number, written_u32}
 
--- a number stands before every result
+-- every result takes at least one byte, since it begins with a number
 some_byte : (answer : OpResult) → 1 ≤ length (op_result.spelling answer)
 unfolding op_result opnum written_number
 some_byte answer =

@@ -21,12 +21,12 @@ length_accepted xid state = refl
 abbrev result_of : CompoundReply → List ℕ
 result_of reply = compound_result.spelling (reply.status, (reply.tag, reply.results))
 
--- the reply's record is its head and the results
+-- the length of the reply's record is that of its head and the results
 pub reply_len : (reply : CompoundReply) → ACCEPTED_LEN + length (result_of reply) ≡ head_size reply.tag + length (flat_map op_result.spelling reply.results)
 unfolding status written_number
 reply_len reply = omega (arith, length-append (written_opaque reply.tag) (written_u32 (length reply.results) ++ flat_map op_result.spelling reply.results))
 
--- the reply to a COMPOUND has room
+-- the reply to a COMPOUND is within the limit of a record
 pub reply_fits : (xid : ℕ) (reply : CompoundReply) → ACCEPTED_LEN + length (result_of reply) ≤ RECORD_LIMIT → length (written_reply xid (replies.Compound reply)) ≤ RECORD_LIMIT
 reply_fits xid reply fits = omega (arith, length-append (written_accepted xid ACCEPTED_SUCCESS) (result_of reply), length_accepted xid ACCEPTED_SUCCESS)
 

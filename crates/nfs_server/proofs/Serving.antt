@@ -1,4 +1,4 @@
--- Records answered one after the other, with replies that wait.
+-- Answering records one after the other, while their replies wait to be written.
 use Rattle.std.proofs.Common.{◌≡◌, ℕ, List, [], ◌∷◌, ◌++◌, Result, Ok, Err, refl, sym, ap, subst, ◌∙◌, append_assoc}
 use Rattle.std.specs.Prelude.{◌≢◌, OnOk, OnErr, IsErrOf}
 use Rattle.std.proofs.lemmas.List.{append-nil}
@@ -41,7 +41,7 @@ written-append tree es fs = flat_map-append (written_for tree) es fs
 written-more : (tree : Files) (es : List Exchange) (e : Exchange) → written_for_all tree (es ++ e ∷ []) ≡ written_for_all tree es ++ written_for tree e
 written-more tree es e = written-append tree es (e ∷ []) ∙ ap (λ (x : List ℕ). written_for_all tree es ++ x) (flat_map-cons (written_for tree) e [] ∙ append-nil (written_for tree e))
 
--- Of the messages all but those that are left were answered; of their replies some bytes went out, and the others wait.
+-- All messages except those that are left were answered; some bytes of the replies were written, and the others wait.
 pub record HasServed {D S C : Type 0} (device : Device D) (rules : Rules S C) (before : Scene D S C) (messages left : List (List ℕ)) (waiting : List ℕ) (after : Scene D S C) : Type 0 where
   pub exchanges : List Exchange
   pub out : List ℕ
@@ -60,7 +60,7 @@ serves_none device rules before messages waiting none = record {
   written = written_nothing device before.device;
 }
 
--- one record more was answered
+-- one more record was answered
 pub serves_one : {D S C : Type 0} (device : Device D) (rules : Rules S C) (before mid after : Scene D S C) (messages left : List (List ℕ)) (message waiting more : List ℕ)
     → HasServed device rules before messages (message ∷ left) waiting mid → IsAnswered rules mid.service mid.clock message waiting more after.service after.clock → after.device ≡ mid.device
     → HasServed device rules before messages left more after
@@ -75,7 +75,7 @@ serves_one {D = D} device rules before mid after messages left message waiting m
       written = subst (λ (d : D). IsWritten device before.device s.out d) (sym same) s.written;
     }
 
--- the replies that waited went out
+-- the replies that waited were written
 pub serves_sent : {D S C : Type 0} (device : Device D) (rules : Rules S C) (before mid : Scene D S C) (messages left : List (List ℕ)) (waiting none : List ℕ) (d : D)
     → HasServed device rules before messages left waiting mid → IsWritten device mid.device waiting d → none ≡ []
     → HasServed device rules before messages left none (scene d mid.service mid.clock)
@@ -94,7 +94,7 @@ write_is_not_memory same = cc
 ok_is_no_error : {T : Type 0} {x : T} {e : ServeError} → IsErrOf {T = T} (Ok x) e → ⊥
 ok_is_no_error same = cc
 
--- serving is over: a write failed in the replies that waited
+-- serving ends because a write failed within the replies that waited
 pub ends_cut : {D S C T : Type 0} (device : Device D) (rules : Rules S C) (before mid : Scene D S C) (messages left : List (List ℕ)) (waiting : List ℕ) (d : D)
     → HasServed device rules before messages left waiting mid → IsCut device mid.device waiting d
     → IsServed {T = T} device rules before messages (Err errors.Write) (scene d mid.service mid.clock)
@@ -108,7 +108,7 @@ ends_cut {D = D} device rules before mid messages left waiting d s cut = record 
   written = subst (λ (w : List ℕ). IsCut device before.device w d) (sym s.all) (cut_after device before.device mid.device d s.out waiting s.written cut);
 }
 
--- serving is over: memory was refused for a reply, and those that waited went out
+-- serving ends because memory ran out for a reply, after the replies that waited were written
 pub ends_refused : {D S C T : Type 0} (device : Device D) (rules : Rules S C) (before mid : Scene D S C) (messages left : List (List ℕ)) (waiting : List ℕ) (d : D)
     → HasServed device rules before messages left waiting mid → left ≢ [] → IsWritten device mid.device waiting d
     → IsServed {T = T} device rules before messages (Err errors.Memory) (scene d mid.service mid.clock)
@@ -122,7 +122,7 @@ ends_refused device rules before mid messages left waiting d s some sent = recor
   written = subst (λ (w : List ℕ). IsWritten device before.device w d) (sym s.all) (written_then device before.device mid.device d s.out waiting s.written sent);
 }
 
--- serving is over: no record is left, and the replies that waited went out, or a write failed in them
+-- serving ends because no record is left: the replies that waited were written, or a write failed within them
 pub ends_all : {D S C T : Type 0} (device : Device D) (rules : Rules S C) (before mid : Scene D S C) (messages left : List (List ℕ)) (waiting : List ℕ) (d : D) (result : Result T ServeError)
     → HasServed device rules before messages left waiting mid → left ≡ []
     → OnOk result (IsWritten device mid.device waiting d) → OnErr result (IsCut device mid.device waiting d) → OnErr result (result ≡ Err errors.Write)
@@ -145,7 +145,7 @@ errs e = Err e
 pub error_is : (e f : ServeError) → errs e ≡ errs f → e ≡ f
 error_is e f same = cc
 
--- serving is over, and its error is passed on
+-- serving ends, and its error is returned
 pub ends_so : {D S C T U : Type 0} (device : Device D) (rules : Rules S C) (before after : Scene D S C) (messages : List (List ℕ)) (result : Result T ServeError) (error : ServeError)
     → result ≡ Err error → error ≡ errors.Write → IsServed {T = U} device rules before messages (Err errors.Write) after → IsServed {T = T} device rules before messages result after
 ends_so {T = T} device rules before after messages result error failed is_write s = rw (failed, is_write) (record {
@@ -158,16 +158,16 @@ ends_so {T = T} device rules before after messages result error failed is_write 
   written = s.written;
 })
 
--- nothing more was answered, and what waits stayed the same
+-- nothing more was answered, and the waiting replies are the same
 pub serves_same : {D S C : Type 0} (device : Device D) (rules : Rules S C) (before mid : Scene D S C) (messages left : List (List ℕ)) (waiting same : List ℕ) (service : S) (clock : C)
     → HasServed device rules before messages left waiting mid → same ≡ waiting → service ≡ mid.service → clock ≡ mid.clock
     → HasServed device rules before messages left same (scene mid.device service clock)
 serves_same device rules before mid messages left waiting same service clock s is_same same_service same_clock = rw (is_same, same_service, same_clock) s
 
--- a list that begins with something isn't empty
+-- a list with a first element isn't empty
 pub some_more : {A : Type 0} {xs ys : List A} {x : A} → xs ≡ x ∷ ys → xs ≢ []
 some_more begins none = cc
 
--- a record is taken from a stream
+-- taking a record from a stream changes only the stream's ready records
 pub same_more : (old now next : Stream) (message : List ℕ) → now ≡ record old { ready = now.ready } → now ≡ record next { ready = message ∷ next.ready } → next ≡ record old { ready = next.ready }
 same_more old now next message same taken = ap (λ (s : Stream). record s { ready = next.ready }) (sym taken ∙ same)

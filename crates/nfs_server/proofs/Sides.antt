@@ -1,4 +1,4 @@
--- A course over a pair that borrows a source and a sink is a course over the two.
+-- A course over a pair that borrows a source and a sink is a course over the source and the sink.
 use Rattle.std.proofs.Common.{◌≡◌, ℕ, List, [], ◌∷◌, Result, Ok, Err, inl, inr, refl, ap, subst, sym, ◌∙◌}
 use Rattle.nfs_server.specs.declared.serve_error.ServeError.{ServeError}
 use Rattle.nfs_server.specs.declared.serve_error.ServeError.TheVariants as errors
@@ -9,7 +9,8 @@ use Rattle.nfs_server.specs.Exchange.{Rules}
 use Rattle.nfs_server.specs.Pair.{BorrowsTheSame, device_of_pair, sides_of}
 use Rattle.nfs_server.specs.declared.duplex.Pair.{Pair}
 
--- Each call of one device, made where it is bound, is that call of another, and leaves it bound.
+-- In a state in which `IsBound` holds, each call of the device `from` is a call of the device `to`, seen through
+-- `view`, and `IsBound` still holds after it.
 pub record Is {D E : Type 0} (from : Device D) (to : Device E) (view : D → E) (IsBound : D → Type 0) : Type 0 where
   pub gives : (a b : D) (piece : List ℕ) → IsBound a → from.gives a piece b → to.gives (view a) piece (view b) × IsBound b
   pub fails_to_read : (a b : D) → IsBound a → from.fails_to_read a b → to.fails_to_read (view a) (view b) × IsBound b
@@ -37,7 +38,7 @@ cut_as from to view IsBound is a b bytes bound cut =
     let failed = is.fails_to_write cut.2 b written.1 cut.6 in
     ((cut.0, cut.1, view cut.2, cut.3, cut.4, written.0, failed.0), failed.1)
 
--- `goes_out` is either of the two
+-- a turn over the one device is a turn over the other; `out` is `IsWritten` or `IsCut`
 turn_as : {D E S C : Type 0} (from : Device D) (to : Device E) (view : D → E) (IsBound : D → Type 0) (is : Is from to view IsBound) (rules : Rules S C) (out : Device D → D → List ℕ → D → Type 0) (out' : Device E → E → List ℕ → E → Type 0)
     → ((a b : D) (bytes : List ℕ) → IsBound a → out from a bytes b → out' to (view a) bytes (view b) × IsBound b)
     → (before : Scene D S C) (carried : List ℕ) (turn : Turn) (after : Scene D S C) → IsBound before.device → IsTurn from rules out before carried turn after
@@ -100,7 +101,7 @@ course_as from to view IsBound is rules before result after bound has =
     let end = end_as from to view IsBound is rules has.1.0 course result after turns.1 has.1.3 in
     ((course, (scene_as view has.1.0, turns.0, has.1.2, end.0)), end.1)
 
--- a pair is its ends, as long as it borrows them
+-- a pair behaves like the source and the sink that it borrows, as long as it borrows the same ones
 pub pair_is_sides : {R W : Type 0} (gives : R → List ℕ → R → Type 0) (fails : R → R → Type 0) (takes : W → List ℕ → W → Type 0) (fails' : W → W → Type 0) (start : Pair R W)
     → Is (device_of_pair gives fails takes fails') (device_of gives fails takes fails') sides_of (λ p. BorrowsTheSame start p)
 pair_is_sides gives fails takes fails' start = record {
@@ -110,14 +111,15 @@ pair_is_sides gives fails takes fails' start = record {
   fails_to_write = λ a b bound did. (did.1, (did.0.0 ∙ bound.0, did.0.1 ∙ bound.1));
 }
 
--- a course over a pair that borrows a source and a sink is one over these, and the pair still borrows them
+-- a course over a pair that borrows a source and a sink is a course over these, and the pair still borrows the same
+-- ones
 pub course_of_sides : {R W S C : Type 0} (gives : R → List ℕ → R → Type 0) (fails : R → R → Type 0) (takes : W → List ℕ → W → Type 0) (fails' : W → W → Type 0) (rules : Rules S C) (before : Scene (Pair R W) S C) (result : Result ℕ ServeError) (after : Scene (Pair R W) S C)
     → HasCourse (device_of_pair gives fails takes fails') rules before result after
     → HasCourse (device_of gives fails takes fails') rules (scene_as sides_of before) result (scene_as sides_of after) × BorrowsTheSame before.device after.device
 course_of_sides gives fails takes fails' rules before result after has =
     course_as (device_of_pair gives fails takes fails') (device_of gives fails takes fails') sides_of (λ p. BorrowsTheSame before.device p) (pair_is_sides gives fails takes fails' before.device) rules before result after (refl, refl) has
 
--- the ends are told by other names
+-- the source and the sink at the end of a course may be replaced by equal ones
 pub course_to : {R W S C : Type 0} (device : Device (Sides R W)) (rules : Rules S C) (before : Scene (Sides R W) S C) (result : Result ℕ ServeError) (source source' : R) (sink sink' : W) (service : S) (clock : C)
     → source' ≡ source → sink' ≡ sink
     → HasCourse device rules before result (scene (sides source sink) service clock)

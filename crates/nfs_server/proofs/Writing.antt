@@ -1,4 +1,4 @@
--- Writes that follow one another.
+-- Writes that follow each other.
 use Rattle.std.proofs.Common.{◌≡◌, ℕ, List, [], ◌∷◌, ◌++◌, take, drop, refl, sym, ap, subst, ◌∙◌, append_assoc}
 use Rattle.std.specs.List.{flat_map}
 use Rattle.std.proofs.lemmas.List.{append-nil, take-append-drop}
@@ -20,13 +20,13 @@ written_then device a b c bytes more first second = (
   taken_then device a b c first.0 second.0 first.2 second.2,
 )
 
--- one write more
+-- one more write at the end
 pub written_more : {D : Type 0} (device : Device D) (a b c : D) (bytes part : List ℕ) → IsWritten device a bytes b → device.takes b part c → IsWritten device a (bytes ++ part) c
 written_more device a b c bytes part first takes =
     let one : IsWritten device b part c = (part ∷ [], sym (append-nil part) ∙ ap (λ (x : List ℕ). part ++ x) refl ∙ sym (flat_map-cons (λ (p : List ℕ). p) part []), (c, takes, refl)) in
     written_then device a b c bytes part first one
 
--- bytes went out, and then a write failed in others
+-- bytes were written, and then a write failed within more bytes
 pub cut_after : {D : Type 0} (device : Device D) (a b c : D) (bytes more : List ℕ) → IsWritten device a bytes b → IsCut device b more c → IsCut device a (bytes ++ more) c
 cut_after device a b c bytes more first cut = (
   bytes ++ cut.0,
@@ -38,7 +38,7 @@ cut_after device a b c bytes more first cut = (
   cut.6,
 )
 
--- what has gone out of the bytes, after one write more
+-- which of the bytes were written after one more write
 pub goes_out : {D : Type 0} (device : Device D) (a b c : D) (bytes rest : List ℕ) (n : ℕ)
     → (front : List ℕ) × (bytes ≡ front ++ rest) × IsWritten device a front b → device.takes b (take n rest) c
     → (front : List ℕ) × (bytes ≡ front ++ drop n rest) × IsWritten device a front c

@@ -1,4 +1,4 @@
--- A COMPOUND (RFC 7530, section 15.2): a fold over its operations, given what the service answers.
+-- A COMPOUND (RFC 7530, section 15.2): a fold over its operations, given the service's answers.
 use Rattle.std.specs.Prelude.{ℕ, ◌+◌, ◌-◌, slice_get, Bool, true, false, not, nat_le, List, [], ◌∷◌, length, Option, Some, None, if◌then◌else◌}
 use Rattle.nfs_rpc.specs.declared.call.Call.{Call}
 use Rattle.nfs_rpc.specs.declared.call.Call.TheVariants as calls
@@ -33,41 +33,41 @@ abbrev pub is_ok : Status → Bool
 is_ok status.Ok = true
 is_ok s = false
 
--- an operation that the service is asked, and the node of the current filehandle then
+-- an operation that the service is asked to answer, and the node of the current filehandle at that time
 pub record Asked : Type 0 where
   pub op : Op
   pub filehandle : Option ℕ
 
--- What a COMPOUND asks the service, and the results that the reply gives.
+-- What a COMPOUND asks the service, and the results in the reply.
 pub record Outcome : Type 0 where
   pub asked : List Asked
   pub results : List OpResult
 
--- An answer other than NFS4_OK is the last.
+-- The results end with the first answer other than NFS4_OK.
 abbrev pub goes_on : OpResult → Outcome → Outcome
 goes_on answer more =
     if is_ok (status_of answer) then record { asked = more.asked; results = answer ∷ more.results }
     else record { asked = []; results = answer ∷ [] }
 
--- the service is asked
+-- the service is asked a question, and the first of its remaining answers is the answer to it
 abbrev pub asks : Asked → List OpResult → (OpResult → List OpResult → Outcome) → Outcome
 asks question [] more = record { asked = question ∷ []; results = [] }
 asks question (answer ∷ answers) more =
     let rest = goes_on answer (more answer answers) in
     record { asked = question ∷ rest.asked; results = rest.results }
 
--- Who answers an operation: it is told its effect, or the service is asked.
+-- How an operation is answered: by a known effect, or by asking the service.
 pub data Dispatch : Type 0 where
   Told : Effect → Dispatch
   Ask : Asked → Dispatch
 
--- An operation on the tree is answered by its effect, and the service is asked any other.
+-- An operation that needs only the tree is answered by its effect; for any other the service is asked.
 abbrev pub by_effect : Option Effect → Asked → Dispatch
 by_effect (Some effect) question = Told effect
 by_effect None question = Ask question
 
--- What ends the list isn't run. An operation is run only where there is room for any answer to it,
--- behind the `size` bytes of the reply's record so far.
+-- An entry that ends the list isn't run. An operation is run only if there is room for any answer to it after the first
+-- `size` bytes of the reply's record.
 abbrev pub dispatch : Files → Filehandles → ℕ → ArgOp → Dispatch
 dispatch tree handles size (BadArgs o) = Told (stays handles (refusal_of o refusals.BadXdr))
 dispatch tree handles size (Unsupported o) =
@@ -79,7 +79,7 @@ dispatch tree handles size (Run op) =
     then Told (stays handles (resource op))
     else by_effect (effect_of tree handles op) (record { op = op; filehandle = handles.current })
 
--- The operations in turn, behind `size` bytes of the reply's record.
+-- The questions and the results of the operations, whose results follow the first `size` bytes of the reply's record.
 unfoldable pub outcome_of : Files → Filehandles → ℕ → List ArgOp → List OpResult → Outcome
 outcome_of tree handles size [] answers = record { asked = []; results = [] }
 outcome_of tree handles size (op ∷ ops) answers =
@@ -93,7 +93,7 @@ outcome_of tree handles size (op ∷ ops) answers =
           (λ answer others. outcome_of tree handles (size_with answer) ops others)
     ]
 
--- the reply's status is that of the last result
+-- the reply's status is that of the last result, or NFS4_OK if there are no results
 abbrev pub status_or_ok : Option OpResult → Status
 status_or_ok None = status.Ok
 status_or_ok (Some answer) = status_of answer
@@ -101,11 +101,11 @@ status_or_ok (Some answer) = status_of answer
 abbrev pub last_status : List OpResult → Status
 last_status results = status_or_ok (slice_get results (length results - 1))
 
--- the reply's record before the first result: RPC's part, the status, the tag and the count
+-- the length of the reply's record before the first result: RPC's part, the status, the tag and the count
 abbrev pub head_size : List ℕ → ℕ
 head_size tag = ACCEPTED_LEN + (4 + (length (written_opaque tag) + 4))
 
--- the operations that are answered in turn: none where the whole COMPOUND is refused
+-- the operations that are answered one after the other: none if the whole COMPOUND is refused
 abbrev pub operations_of : Request → List ArgOp
 operations_of (MinorVersion minor) = []
 operations_of (TooMany count) = []
@@ -125,12 +125,12 @@ compound_reply tree c answers =
     let results = (compound_outcome tree c answers).results in
     record { status = request_status results c.request; tag = c.tag; results = results }
 
--- the operations that the service is asked for a call, given its answers
+-- the operations that the service is asked to answer for a call, given its answers
 abbrev pub asked : Files → Call → List OpResult → List Asked
 asked tree (calls.Compound xid principal c) answers = (compound_outcome tree c answers).asked
 asked tree call answers = []
 
--- the reply to a call, given the answers of the service, if there is one
+-- the reply to a call, if there is one, given the service's answers
 abbrev pub reply : Files → Call → List OpResult → Option (List ℕ)
 reply tree calls.Silent answers = None
 reply tree (calls.Null xid) answers = Some (written_reply xid replies.Null)

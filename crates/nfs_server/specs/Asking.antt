@@ -1,4 +1,4 @@
--- What a service is asked, and what it answers.
+-- The questions that a service is asked, and its answers.
 use Rattle.std.specs.Prelude.{◌≡◌, ℕ, List, [], ◌∷◌, Option}
 use Rattle.nfs_xdr.specs.declared.principal.Principal.{Principal}
 use Rattle.nfs_server.specs.Answering.{Asked}
@@ -7,16 +7,16 @@ use Rattle.nfs_core.specs.Server.{Server, Applies}
 use Rattle.nfs_core.specs.Step.{request_of}
 use Rattle.nfs_xdr.specs.declared.op_result.OpResult.{OpResult}
 
--- a service is asked for an operation
+-- a question to a service: the request for an operation
 abbrev pub Question : Type 0
 Question = Request
 
--- what is asked of a COMPOUND, as a question
+-- an operation of a COMPOUND that the service is asked to answer, as a question
 abbrev pub question_of : ℕ → Principal → Asked → Question
 question_of moment principal asked = request_of moment principal asked.op asked.filehandle
 
--- From old, the service may answer these questions so, one after the other, and go on to new.
--- `gives` is one question.
+-- Starting in the state old, the service may answer these questions in this way, one after the other, and be in the
+-- state new after them. `gives` says this for one question.
 abbrev pub Asks : {S : Type 0} → (S → Question → OpResult → S → Type 0)
     → S → List Question → List OpResult → S → Type 0
 Asks gives old [] [] new = new ≡ old
@@ -25,8 +25,8 @@ Asks {S = S} gives old (question ∷ questions) (answer ∷ answers) new =
 Asks gives old [] (answer ∷ answers) new = ⊥
 Asks gives old (question ∷ questions) [] new = ⊥
 
--- A core answers a question: it is the journal's next entry, or the answer is NFS4ERR_RESOURCE and
--- nothing changes.
+-- How a core answers a question: the answered question becomes the journal's next entry, or the answer is
+-- NFS4ERR_RESOURCE and nothing changes.
 abbrev pub GivenByCore : Server → Question → OpResult → Server → Type 0
 GivenByCore old question answer new =
     (number : Option ℕ) × Applies old new question answer number

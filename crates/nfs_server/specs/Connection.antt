@@ -1,4 +1,4 @@
--- A connection: turn by turn what was read, asked, answered and written, and how it ends.
+-- A connection: what was read, asked, answered and written in each turn, and how the connection ends.
 use Rattle.std.specs.Prelude.{◌≡◌, ◌≢◌, ℕ, ◌+◌, ◌^◌, ◌≤◌, List, [], ◌∷◌, ◌++◌, ◌⊎◌, length, Result, Ok, Err}
 use Rattle.std.specs.List.{flat_map}
 use Rattle.nfs_rpc.specs.Records.{IsTooLong, Splits}
@@ -7,7 +7,7 @@ use Rattle.nfs_server.specs.declared.serve_error.ServeError.TheVariants as error
 use Rattle.nfs_server.specs.Device.{Device, IsCut, IsWritten}
 use Rattle.nfs_server.specs.Exchange.{Exchange, Rules, AreExchanged, messages_of, written_for_all}
 
--- where a connection is: the states of its device, its service and its clock
+-- a moment of a connection: the states of its device, its service and its clock
 pub record Scene (D S C : Type 0) : Type 0 where
   pub device : D
   pub service : S
@@ -16,18 +16,17 @@ pub record Scene (D S C : Type 0) : Type 0 where
 abbrev pub scene : {D S C : Type 0} → D → S → C → Scene D S C
 scene device service clock = record { device = device; service = service; clock = clock }
 
--- What one read gave, and what came of it: of the records that are whole now those that were answered
--- and those that weren't, and the bytes behind them, of no whole record. Where nothing came of the
--- read, the last two mean nothing.
+-- What one read gave, and what followed from it: of the records that it completed those that were answered and those
+-- that weren't, and the bytes after these records. If the read led to nothing, the last two have no meaning.
 pub record Turn : Type 0 where
   pub piece : List ℕ
   pub exchanges : List Exchange
   pub unanswered : List (List ℕ)
   pub rest : List ℕ
 
--- A turn. `carried` are the bytes of no whole record that earlier reads gave. A read gives a piece;
--- records that are whole now are answered in their order; and their replies go out, all of them or,
--- where a write fails, in part.
+-- A turn. `carried` are the bytes from earlier reads that are no whole record yet. A read gives a piece; the records
+-- that are whole now are answered in their order; and their replies are written, completely, or partly if a write
+-- fails.
 pub record IsTurn {D S C : Type 0} (device : Device D) (rules : Rules S C) (goes_out : Device D → D → List ℕ → D → Type 0) (before : Scene D S C) (carried : List ℕ) (turn : Turn) (after : Scene D S C) : Type 0 where
   pub mid : D
   pub some : turn.piece ≢ []
@@ -36,8 +35,8 @@ pub record IsTurn {D S C : Type 0} (device : Device D) (rules : Rules S C) (goes
   pub exchanged : AreExchanged rules before.service before.clock turn.exchanges after.service after.clock
   pub written : goes_out device mid (written_for_all rules.tree turn.exchanges) after.device
 
--- Turns one after the other: each is over, every record answered and every reply out, before the next
--- read, and no record is too long so far.
+-- Turns one after the other. In each of them every record is answered and every reply is written before the next read,
+-- and no record is too long.
 abbrev pub AreTurns : {D S C : Type 0} → Device D → Rules S C → Scene D S C → List ℕ → List Turn → Scene D S C → Type 0
 AreTurns device rules before carried [] after = after ≡ before
 AreTurns {D = D} {S = S} {C = C} device rules before carried (turn ∷ turns) after =
@@ -49,37 +48,37 @@ AreTurns {D = D} {S = S} {C = C} device rules before carried (turn ∷ turns) af
 abbrev pub text_of : List Turn → List ℕ
 text_of turns = flat_map (λ turn. turn.piece) turns
 
--- those of them that are of no whole record
+-- those of the bytes that are no whole record yet after these turns
 abbrev pub rest_after : List ℕ → List Turn → List ℕ
 rest_after carried [] = carried
 rest_after carried (turn ∷ turns) = rest_after turn.rest turns
 
--- What came of a connection: its turns, and the last read with what came of that.
+-- The course of a connection: its turns, and its last read with what followed from it.
 pub record Course : Type 0 where
   pub turns : List Turn
   pub last : Turn
 
--- all that it read is within what a connection may carry
+-- the connection read no more bytes than a connection may carry
 abbrev pub IsWithin : Course → Type 0
 IsWithin course = length (text_of course.turns) + length course.last.piece ≤ 2 ^ 40
 
--- the records that were answered
+-- the records that were answered in turns
 abbrev pub exchanges_of : List Turn → List Exchange
 exchanges_of turns = flat_map (λ turn. turn.exchanges) turns
 
 abbrev pub all_exchanges : Course → List Exchange
 all_exchanges course = exchanges_of course.turns ++ course.last.exchanges
 
--- The last read gave its piece, perhaps none, and nothing came of it.
+-- The last read gave its piece, which may be empty, and nothing followed from it.
 abbrev pub IsIdle : {D S C : Type 0} → Device D → Rules S C → Scene D S C → Turn → Scene D S C → Type 0
 IsIdle device rules before last after =
     (last.exchanges ≡ [])
     × (after ≡ record before { device = after.device })
     × device.gives before.device last.piece after.device
 
--- How a connection ends, from where its turns led.
+-- How a connection ends, starting at the end of its turns.
 abbrev pub EndsWith : {D S C : Type 0} → Device D → Rules S C → Scene D S C → Course → Result ℕ ServeError → Scene D S C → Type 0
--- at the end of the input: the number is that of the bytes of no whole record
+-- at the end of the input: the number of bytes after the last whole record is returned
 EndsWith device rules before course (Ok len) after =
     IsIdle device rules before course.last after × (course.last.piece ≡ [])
     × (len ≡ length (rest_after [] course.turns))
@@ -88,31 +87,31 @@ EndsWith device rules before course (Err errors.Read) after =
     (course.last.exchanges ≡ []) × (course.last.piece ≡ [])
     × (after ≡ record before { device = after.device })
     × device.fails_to_read before.device after.device
--- a write failed in the replies to the records of the last read
+-- a write failed within the replies to the records of the last read
 EndsWith device rules before course (Err errors.Write) after =
     IsTurn device rules IsCut before (rest_after [] course.turns) course.last after × IsWithin course
--- a header of the last read shows a record that is too long: those before it were answered
+-- a header in the last read announces a record that is too long: the records before it were answered
 EndsWith device rules before course (Err errors.TooLong) after =
     IsTurn device rules IsWritten before (rest_after [] course.turns) course.last after × IsWithin course
     × (course.last.unanswered ≡ []) × IsTooLong course.last.rest
--- Memory was refused: before anything was read; for what the last read gave, of which no record was
--- answered then; or for the reply to one of its records, where those to the records before it went out.
+-- Memory ran out: before anything was read; or for the bytes of the last read, of whose records none was answered then;
+-- or for the reply to one of its records, after the replies to the records before it were written.
 EndsWith device rules before course (Err errors.Memory) after =
     ((course.turns ≡ []) × (course.last.exchanges ≡ []) × (course.last.piece ≡ []) × (after ≡ before))
     ⊎ ((IsIdle device rules before course.last after × IsWithin course × (course.last.piece ≢ []))
     ⊎ (IsTurn device rules IsWritten before (rest_after [] course.turns) course.last after × IsWithin course
     × (course.last.unanswered ≢ [])))
--- more came than a connection may carry
+-- more bytes came than a connection may carry
 EndsWith device rules before course (Err errors.TooMuch) after =
     IsIdle device rules before course.last after × (IsWithin course → ⊥)
 
--- what is so of every course
+-- what holds for every course
 abbrev pub IsCourse : {D S C : Type 0} → Device D → Rules S C → Scene D S C → Course → Result ℕ ServeError → Scene D S C → Type 0
 IsCourse {D = D} {S = S} {C = C} device rules before course result after =
     (mid : Scene D S C) × AreTurns device rules before [] course.turns mid
     × (length (text_of course.turns) ≤ 2 ^ 40)
     × EndsWith device rules mid course result after
 
--- There is a course that leads from before to after and ends with the result.
+-- There is a course from the scene before to the scene after that ends with this result.
 abbrev pub HasCourse : {D S C : Type 0} → Device D → Rules S C → Scene D S C → Result ℕ ServeError → Scene D S C → Type 0
 HasCourse device rules before result after = (course : Course) × IsCourse device rules before course result after

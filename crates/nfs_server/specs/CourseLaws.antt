@@ -1,4 +1,5 @@
--- What follows of every course: of the whole text, of devices that tell their bytes, of the journal.
+-- What follows from every course: for the whole text that was read, for devices whose bytes are known, and for the
+-- journal.
 use Rattle.std.specs.Prelude.{◌≡◌, ◌≢◌, ℕ, List, [], ◌++◌, Option, Result, Err, OnOk}
 use Rattle.std.specs.List.{flat_map}
 use Rattle.std.specs.Io.KnownBytes.{Appends, Consumes, IsAtEnd, Keeps}
@@ -15,8 +16,8 @@ use Rattle.nfs_server.specs.Entries.{AreEntries}
 use Rattle.nfs_server.specs.Exchange.{Rules, messages_of, questions_of, rules, written_for_all}
 use Rattle.nfs_xdr.specs.declared.op_result.OpResult.{OpResult}
 
--- The records that were answered turn by turn are those of the whole text, in order; and so are those
--- of one read more behind them.
+-- The records that were answered in turns are those of the whole text that was read, in order, and the records of one
+-- more piece continue them.
 abbrev pub IsOneText : {D S C : Type 0} → Device D → Rules S C → Type 0
 IsOneText {D = D} {S = S} {C = C} device rules =
     (before after : Scene D S C) (turns : List Turn)
@@ -26,8 +27,8 @@ IsOneText {D = D} {S = S} {C = C} device rules =
     → Splits (rest_after [] turns ++ piece) found rest
     → Splits (text_of turns ++ piece) (messages_of (exchanges_of turns) ++ found) rest)
 
--- What a course wrote: the replies to all records that were answered, or, where a write failed, a
--- beginning of them that ends within those to the records of the last read.
+-- What was written in a course: the replies to all records that were answered, or, if a write failed, a beginning of
+-- these replies that ends within those to the records of the last read.
 abbrev pub IsWrittenBy : {T : Type 0} → Files → Course → Result T ServeError → List ℕ → Type 0
 IsWrittenBy tree course (Err errors.Write) written =
     (front : List ℕ) × (back : List ℕ)
@@ -35,7 +36,7 @@ IsWrittenBy tree course (Err errors.Write) written =
     × (written ≡ written_for_all tree (exchanges_of course.turns) ++ front)
 IsWrittenBy tree course result written = written ≡ written_for_all tree (all_exchanges course)
 
--- A device tells its bytes: those that reads will give, and those that were written.
+-- The bytes of a device are known: those that reads will give, and those that were written.
 pub record TellsBytes {D : Type 0} (device : Device D) (remaining contents : D → Option (List ℕ)) : Type 0 where
   pub gives : (a b : D) (piece : List ℕ) → device.gives a piece b
       → Consumes (remaining a) (remaining b) piece × (piece ≡ [] → IsAtEnd (remaining b)) × (contents b ≡ contents a)
@@ -43,8 +44,8 @@ pub record TellsBytes {D : Type 0} (device : Device D) (remaining contents : D �
   pub takes : (a b : D) (part : List ℕ) → device.takes a part b → Appends (contents a) (contents b) part × (remaining b ≡ remaining a)
   pub fails_to_write : (a b : D) → device.fails_to_write a b → Keeps (contents a) (contents b) × (remaining b ≡ remaining a)
 
--- What a course read is taken from the front of what the device had, up to its end where the course
--- ends well, and what it wrote stands behind what was written before.
+-- What is read in a course is taken from the front of the bytes that the device had, up to their end if the course ends
+-- without an error, and what is written is added after the bytes that were written before.
 abbrev pub HasBytes : {D S C : Type 0} → Device D → Rules S C → (remaining contents : D → Option (List ℕ)) → Type 0
 HasBytes {D = D} {S = S} {C = C} device rules remaining contents =
     (before after : Scene D S C) (course : Course) (result : Result ℕ ServeError)
@@ -54,7 +55,8 @@ HasBytes {D = D} {S = S} {C = C} device rules remaining contents =
     × ((written : List ℕ) × IsWrittenBy rules.tree course result written
     × Appends (contents before.device) (contents after.device) written)
 
--- Over a lent core the journal gains the entries of what a course asked, in order, and no others.
+-- If the service is a core, its journal gains the entries of the questions that were asked in a course, in order, and
+-- no others.
 abbrev pub GainsEntries : {D C : Type 0} → Device D → Files → (Lent → Question → OpResult → Lent → Type 0) → (C → ℕ → C → Type 0) → Type 0
 GainsEntries {D = D} {C = C} device tree gives tells =
     (before after : Scene D Lent C) (course : Course) (result : Result ℕ ServeError)

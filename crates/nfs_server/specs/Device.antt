@@ -1,9 +1,9 @@
--- Devices with two ends: reads and writes that stand in one order.
+-- Devices with two ends, whose reads and writes have one common order.
 use Rattle.std.specs.Prelude.{◌≡◌, ◌≢◌, ℕ, List, [], ◌∷◌, ◌++◌}
 use Rattle.std.specs.List.{flat_map}
 
--- What a call does. A read gives bytes, and none only at the end of the input, or it fails; a write
--- takes bytes, or it fails.
+-- What the calls of a device do. A read gives bytes, and none only at the end of the input, or it fails; a write takes
+-- bytes, or it fails.
 pub record Device (D : Type 0) : Type 1 where
   pub gives : D → List ℕ → D → Type 0
   pub fails_to_read : D → D → Type 0
@@ -16,12 +16,12 @@ AreTaken device old [] new = new ≡ old
 AreTaken {D = D} device old (part ∷ parts) new =
     (mid : D) × device.takes old part mid × AreTaken device mid parts new
 
--- the bytes went out, and no other
+-- exactly these bytes were written
 abbrev pub IsWritten : {D : Type 0} → Device D → D → List ℕ → D → Type 0
 IsWritten device old bytes new =
     (parts : List (List ℕ)) × (bytes ≡ flat_map (λ part. part) parts) × AreTaken device old parts new
 
--- a beginning of the bytes went out, not all of them: then a write failed
+-- a beginning of the bytes was written, but not all of them, because a write failed
 abbrev pub IsCut : {D : Type 0} → Device D → D → List ℕ → D → Type 0
 IsCut {D = D} device old bytes new =
     (front : List ℕ) × (back : List ℕ) × (mid : D)

@@ -1,4 +1,4 @@
--- What a lent core's journal gains by the questions that it is asked.
+-- The entries that the journal of a core gains when the core is asked questions as a service.
 use Rattle.std.specs.Prelude.{◌≡◌, ◌≢◌, ◌⊎◌, List, [], ◌∷◌, ◌++◌}
 use Rattle.nfs_core.specs.declared.entry.Entry.{Entry}
 use Rattle.nfs_core.specs.Step.{entry_of, resource}
@@ -6,7 +6,7 @@ use Rattle.nfs_server.specs.Asking.{Asks, GivenByCore, Question}
 use Rattle.nfs_server.specs.declared.service.Lent.{Lent}
 use Rattle.nfs_xdr.specs.declared.op_result.OpResult.{OpResult}
 
--- the entries are the questions with their answers, in order, without those that were answered NFS4ERR_RESOURCE
+-- the entries are the questions with their answers, in order, except those that were answered NFS4ERR_RESOURCE
 abbrev pub AreEntries : List Question → List OpResult → List Entry → Type 0
 AreEntries [] [] entries = entries ≡ []
 AreEntries (question ∷ questions) (answer ∷ answers) entries =
@@ -18,7 +18,7 @@ AreEntries (question ∷ questions) (answer ∷ answers) entries =
 AreEntries [] (answer ∷ answers) entries = ⊥
 AreEntries (question ∷ questions) [] entries = ⊥
 
--- By questions and their answers the journal gains their entries, and nothing else of it changes.
+-- By answering questions a core's journal gains their entries, and doesn't change otherwise.
 abbrev pub QuestionsAreEntries : Type 0
 QuestionsAreEntries =
     (old new : Lent) (questions : List Question) (answers : List OpResult)

@@ -1,4 +1,4 @@
--- A record and what comes of it: what is asked at which moment, and what is written.
+-- A record and how it is answered: what the service is asked, at which moment, and what is written.
 use Rattle.std.specs.Prelude.{◌≡◌, ℕ, List, [], ◌∷◌, map, Option, Some, None}
 use Rattle.std.specs.List.{flat_map}
 use Rattle.nfs_xdr.specs.declared.principal.Principal.{Principal}
@@ -12,14 +12,14 @@ use Rattle.nfs_server.specs.Answering.{asked, reply}
 use Rattle.nfs_server.specs.Asking.{Asks, Question, question_of}
 use Rattle.nfs_xdr.specs.declared.op_result.OpResult.{OpResult}
 
--- A record, the call that it is, the moment read for it, and the answers of the service.
+-- A record, the call in it, the moment that was read from the clock for it, and the service's answers.
 pub record Exchange : Type 0 where
   pub message : List ℕ
   pub call : Call
   pub moment : ℕ
   pub answers : List OpResult
 
--- What records are answered by: the tree, what the service may answer, and what the clock may tell.
+-- What the answers to records depend on: the tree, how the service may answer, and what the clock may show.
 pub record Rules (S C : Type 0) : Type 1 where
   pub tree : Files
   pub gives : S → Question → OpResult → S → Type 0
@@ -32,11 +32,11 @@ abbrev pub principal_of : Call → Principal
 principal_of (calls.Compound xid principal compound) = principal
 principal_of call = AuthNone
 
--- what the service is asked for it
+-- the questions that the service is asked for the record
 abbrev pub questions_of : Files → Exchange → List Question
 questions_of tree e = map (question_of e.moment (principal_of e.call)) (asked tree e.call e.answers)
 
--- what is written for it: the reply as one record of one fragment, or nothing
+-- what is written for the record: the reply as one record of one fragment, or nothing
 abbrev pub written_or_nothing : Option (List ℕ) → List ℕ
 written_or_nothing None = []
 written_or_nothing (Some message) = written_record message
@@ -44,13 +44,13 @@ written_or_nothing (Some message) = written_record message
 abbrev pub written_for : Files → Exchange → List ℕ
 written_for tree e = written_or_nothing (reply tree e.call e.answers)
 
--- The clock is read once for a COMPOUND, and for nothing else.
+-- The clock is read once for a COMPOUND, and not at all for other calls.
 abbrev pub ReadsClock : {C : Type 0} → (C → ℕ → C → Type 0) → C → Call → ℕ → C → Type 0
 ReadsClock tells old (calls.Compound xid principal compound) moment new = tells old moment new
 ReadsClock tells old call moment new = new ≡ old
 
--- One record was read as its call, and the service was asked what the call asks at that moment, given
--- the answers.
+-- A record was read as its call, and the service was asked the questions of the call at that moment, and gave the
+-- answers.
 abbrev pub IsExchanged : {S C : Type 0} → Rules S C → S → C → Exchange → S → C → Type 0
 IsExchanged rules service clock e service' clock' =
     IsCall e.message e.call

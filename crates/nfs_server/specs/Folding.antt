@@ -1,4 +1,4 @@
--- A COMPOUND's operations answered in turn, with the state of the service between them.
+-- The operations of a COMPOUND answered one after the other, with the state of the service between them.
 use Rattle.std.specs.Prelude.{◌≡◌, ℕ, ◌+◌, List, length, map}
 use Rattle.nfs_tree.specs.Effect.{Effect}
 use Rattle.nfs_tree.specs.declared.filehandles.Filehandles.{Filehandles}
@@ -12,7 +12,7 @@ use Rattle.nfs_xdr.specs.declared.op_result.OpResult.{OpResult}
 use Rattle.nfs_xdr.specs.declared.principal.Principal.{Principal}
 use Rattle.nfs_xdr.specs.OpResult.{op_result}
 
--- Who asks: what stays the same from one operation to the next, and what the service gives.
+-- What stays the same for all operations of a COMPOUND, and how the service may answer.
 pub record Asker (S : Type 0) : Type 1 where
   pub gives : S → Question → OpResult → S → Type 0
   pub tree : Files
@@ -27,8 +27,8 @@ asker_of gives context = record {
   principal = context.principal;
 }
 
--- What one operation hands on to the next: the service, the filehandles, the size of the reply's
--- record.
+-- What changes from one operation to the next: the service, the filehandles, and the length of the reply's record so
+-- far.
 pub record Place (S : Type 0) : Type 0 where
   pub service : S
   pub handles : Filehandles
@@ -38,7 +38,7 @@ pub record Place (S : Type 0) : Type 0 where
 abbrev pub start : {S : Type 0} → S → ℕ → Place S
 start service size = record { service = service; handles = no_filehandles; size = size }
 
--- behind an answer that leaves these filehandles and this service
+-- after an answer with this effect, which leaves the service in this state
 abbrev pub behind : {S : Type 0} → Place S → Effect → S → Place S
 behind old effect service = record {
   service = service;
@@ -46,24 +46,24 @@ behind old effect service = record {
   size = old.size + length (op_result.spelling effect.answer);
 }
 
--- A dispatched operation has this effect, and leaves this service.
+-- An operation that is dispatched in this way has this effect, and leaves the service in this state.
 abbrev pub HasEffect : {S : Type 0} → Asker S → Place S → Dispatch → Effect → S → Type 0
 HasEffect asker old (Told told) effect service = (effect ≡ told) × (service ≡ old.service)
 HasEffect asker old (Ask asked) effect service =
     asker.gives old.service (question_of asker.moment asker.principal asked) effect.answer service
     × (effect.after ≡ old.handles)
 
--- At this place the operation has this effect, and leaves this service.
+-- At this place the operation has this effect, and leaves the service in this state.
 abbrev pub IsAnswered : {S : Type 0} → Asker S → Place S → ArgOp → Effect → S → Type 0
 IsAnswered asker old op effect service =
     HasEffect asker old (dispatch asker.tree old.handles old.size op) effect service
 
--- what is asked and told from this place on, given the answers of the service
+-- the questions and the results from this place on, given the service's answers
 abbrev pub outcome_from : {S : Type 0} → Asker S → Place S → List ArgOp → List OpResult → Outcome
 outcome_from asker old ops answers = outcome_of asker.tree old.handles old.size ops answers
 
--- There are answers of the service by which its questions and the results from this place on are
--- determined.
+-- The results are those that follow, from this place on, from some answers of the service to the questions that it is
+-- asked.
 abbrev pub IsDetermined : {S : Type 0} → Asker S → Place S → List ArgOp → List OpResult → S → Type 0
 IsDetermined asker old ops results new =
     let asks : List Asked → List Question = map (question_of asker.moment asker.principal) in

@@ -1,4 +1,4 @@
--- Records that are whole, answered in their order: what the crate's own functions promise one another.
+-- Answering whole records in their order; used only in the contracts of this crate's own functions.
 use Rattle.std.specs.Prelude.{◌≡◌, ℕ, List, [], ◌++◌, Result, Err, OnOk, IsErrOf, ◌≢◌}
 use Rattle.nfs_server.specs.declared.serve_error.ServeError.{ServeError}
 use Rattle.nfs_server.specs.declared.serve_error.ServeError.TheVariants as errors
@@ -6,12 +6,12 @@ use Rattle.nfs_server.specs.Connection.{Scene}
 use Rattle.nfs_server.specs.Device.{Device, IsCut, IsWritten}
 use Rattle.nfs_server.specs.Exchange.{Exchange, Rules, AreExchanged, messages_of, written_for_all}
 
--- how the replies went out: all of them, or, where a write failed, in part
+-- how the replies were written: completely, or partly if a write failed
 abbrev pub GoesOut : {D T : Type 0} → Device D → Result T ServeError → D → List ℕ → D → Type 0
 GoesOut device (Err errors.Write) = IsCut device
 GoesOut device result = IsWritten device
 
--- Records were answered in their order, all of them unless there was an error.
+-- Records were answered in their order, and all of them if there was no error.
 pub record IsServed {D S C T : Type 0} (device : Device D) (rules : Rules S C) (before : Scene D S C) (messages : List (List ℕ)) (result : Result T ServeError) (after : Scene D S C) : Type 0 where
   pub exchanges : List Exchange
   pub left : List (List ℕ)

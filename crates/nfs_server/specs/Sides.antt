@@ -1,4 +1,4 @@
--- A source and a sink, apart from one another, as one device.
+-- A source and a sink that are separate from each other, as one device.
 use Rattle.std.specs.Prelude.{◌≡◌, ℕ, List}
 use Rattle.nfs_server.specs.Device.{Device}
 
@@ -6,7 +6,7 @@ pub record Sides (R W : Type 0) : Type 0 where
   pub source : R
   pub sink : W
 
--- A read leaves the sink as it was, and a write the source.
+-- A read doesn't change the sink, and a write doesn't change the source.
 abbrev pub device_of : {R W : Type 0} → (R → List ℕ → R → Type 0) → (R → R → Type 0) → (W → List ℕ → W → Type 0) → (W → W → Type 0) → Device (Sides R W)
 device_of gives fails_to_read takes fails_to_write = record {
   gives = λ old piece new. gives old.source piece new.source × (new.sink ≡ old.sink);

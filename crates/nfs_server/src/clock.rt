@@ -2,16 +2,16 @@ ghost use Rattle.std.specs.Prelude.{◌≡◌, ℕ};
 
 use nfs_core::Moment;
 
-/// What tells the moment.
+/// A clock, which gives the present moment.
 pub trait Clock {
-    /// From a state, the clock may tell this moment and go on to a state.
+    /// How the clock may be read: its state before, the moment that it shows, and its state after.
     ghost tells: { Self → ℕ → Self → Type 0 };
 
     fn now(&mut self) -> Moment
         ensures { tells self.old result self.new };
 }
 
-/// A clock that stands still.
+/// A clock that always shows the same moment.
 #[derive(Clone, Copy, Debug)]
 pub struct Stopped {
     moment: Moment,

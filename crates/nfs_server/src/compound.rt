@@ -19,9 +19,8 @@ use nfs_xdr::{
 use std::alloc::AllocError;
 use xdr::{Bytes, Measure, Sequence, padding_of};
 
-/// Answers a COMPOUND (RFC 7530, section 15.2), operation by operation, up to the first answer
-/// other than NFS4_OK. It takes no memory: `results` is empty, with room for as many results as
-/// there may be operations.
+/// Answers a COMPOUND (RFC 7530, section 15.2), operation by operation, up to the first answer other than NFS4_OK. It
+/// takes no memory: `results` has to be empty, with room for the results of as many operations as a COMPOUND may have.
 pub fn run_compound<S: Service>(
     service: &mut S,
     tree: &Tree,
@@ -34,18 +33,19 @@ pub fn run_compound<S: Service>(
     requires serves { S.serves service.old ≡ tree.now.nodes }
     requires empty { results.items ≡ [] }
     requires room { OPERATION_LIMIT ≤ vec_capacity results }
-    // The service was asked what the COMPOUND asks, given its answers, and the reply is theirs.
+    // The service was asked what the COMPOUND asks given its answers, and the reply is the one
+    // for these answers.
     ensures answers { (answers : List OpResult)
         × Asks S.gives service.old
         (map (question_of moment principal) (compound_outcome tree.now compound answers).asked)
         answers service.new
         × (result ≡ compound_reply tree.now compound answers) }
     ensures serves { S.serves service.new ≡ tree.now.nodes }
-    // The reply is a record that may be sent.
+    // The reply isn't too long for a record.
     ensures fits { ACCEPTED_LEN
         + length (compound_result.spelling (result.status, (result.tag, result.results)))
         ≤ RECORD_LIMIT }
-    // The reply has a form, and so do all of its results.
+    // The reply fits its form, and so do all of its results.
     ensures form { compound_result.Fits (result.status, (result.tag, result.results)) }
 {
     let context = Context {
@@ -63,8 +63,8 @@ pub fn run_compound<S: Service>(
     }
 }
 
-/// Makes room for the results of a COMPOUND. It takes no memory where there is room enough, as in the results
-/// of an earlier reply, which `Sequence::into_vec` gives back.
+/// Makes room for the results of a COMPOUND. It takes no memory if there is enough room already, as in the list of
+/// results of an earlier reply, which `Sequence::into_vec` returns.
 pub(crate) fn make_result_room(results: &mut Vec<OpResult>) -> Result<(), AllocError>
     ensures empty { results.new.items ≡ [] }
     ensures room { OnOk result (OPERATION_LIMIT ≤ vec_capacity results.new) }
@@ -75,7 +75,7 @@ pub(crate) fn make_result_room(results: &mut Vec<OpResult>) -> Result<(), AllocE
     results.reserve(OPERATION_LIMIT as usize)
 }
 
-// What stays the same from one operation to the next.
+// What stays the same for all operations of a COMPOUND.
 #[derive(Drop)]
 struct Context<'a> {
     tree: &'a Tree,
@@ -83,7 +83,7 @@ struct Context<'a> {
     principal: Principal,
 }
 
-// The operations that are answered in turn: none where the whole COMPOUND is refused.
+// The operations that are answered one after the other: none if the whole COMPOUND is refused.
 fn operations(request: &Request) -> &[ArgOp]
     requires few { HasFewOperations request.now }
     ensures operations { result.now ≡ operations_of request.now }
@@ -95,7 +95,7 @@ fn operations(request: &Request) -> &[ArgOp]
     }
 }
 
-// The bytes of the reply's record before the first result.
+// The length of the reply's record before the first result.
 #[tactic(auto, unfolding(xdr::specs::Writing::written_opaque, xdr::specs::Writing::written_number))]
 fn head_len(tag: &Bytes) -> usize
     requires { length tag.now < 2 ^ 32 }
@@ -106,7 +106,7 @@ fn head_len(tag: &Bytes) -> usize
     ACCEPTED_LEN + 4 + 4 + len + padding_of(len) + 4
 }
 
-// The status of the whole: that of the last result, where the operations were answered.
+// The status of the whole COMPOUND: that of the last result, if its operations were answered.
 fn reply_status(request: &Request, results: &[OpResult]) -> Status
     ensures { result ≡ request_status results.now request.now }
 {
@@ -120,7 +120,7 @@ fn reply_status(request: &Request, results: &[OpResult]) -> Status
     }
 }
 
-// Answers the operations in turn, behind `head` bytes of the reply's record.
+// Answers the operations one after the other. Their results follow the first `head` bytes of the reply's record.
 fn answer_operations<S: Service>(
     service: &mut S,
     context: &Context<'_>,
@@ -159,8 +159,8 @@ fn is_ok(answer: &OpResult) -> bool
     matches!(answer.status(), Status::Ok)
 }
 
-// Answers what stands in the list, behind `size` bytes of the reply's record. What ends the list
-// isn't run, nor is an operation whose answer the reply may have no room for.
+// Answers an entry of the list, whose result follows the first `size` bytes of the reply's record. An entry that ends
+// the list isn't run, nor is an operation for whose answer the reply may not have enough room.
 fn answer_one<S: Service>(
     service: &mut S,
     context: &Context<'_>,

@@ -14,17 +14,17 @@ use nfs_rpc::{RECORD_LIMIT, RecordError, Records};
 use nfs_tree::Tree;
 use std::alloc::{AllocError, Global};
 
-/// The most bytes that a connection may carry.
+/// The greatest number of bytes in the input of a connection.
 pub const STREAM_LIMIT: u64 = 1 << 40;
 
-// How many bytes are asked of a device at once.
+// The greatest number of bytes that one read asks a device for.
 const PIECE_LEN: usize = 65_536;
 
-// The most bytes of replies that wait while more records are answered.
+// Once more bytes of replies than this are waiting, they are written before the next record is answered.
 const GATHER_LIMIT: usize = 262_144;
 
-/// Serves a connection until its input ends, and gives the number of bytes behind the last whole record.
-/// What is read and written is that of `serve_duplex`, where the source is read and the sink written.
+/// Serves a connection until its input ends, and returns how many bytes came after the last whole record. It behaves
+/// like `serve_duplex`, and reads from the source and writes to the sink.
 pub fn serve_connection<R: Source, W: Sink, S: Service, C: Clock>(
     alloc: Global,
     source: &mut R,
@@ -47,15 +47,15 @@ pub fn serve_connection<R: Source, W: Sink, S: Service, C: Clock>(
     serve_duplex(alloc, &mut pair, service, tree, clock)
 }
 
-/// Serves a connection over one device until its input ends, and gives the number of bytes behind the
-/// last whole record.
+/// Serves a connection over one device until its input ends, and returns how many bytes came after the last whole
+/// record.
 ///
-/// The records that a read makes whole are answered in their order, and their replies go out before
-/// the next read. The service is asked what a record's call asks, at the moment that the clock tells
-/// for it. `Read` and `Write` come just where a read or a write failed, `TooLong` where a header shows
-/// a record above `RECORD_LIMIT`, `TooMuch` where more than `STREAM_LIMIT` bytes came, and `Memory`
-/// where memory was refused for what was read, or for a reply, of which nothing was run then. What
-/// was done before an error stands, and its replies went out, but for those of a write that failed.
+/// The records that a read completes are answered in their order, and their replies are written before the next read.
+/// The service is asked the questions of a record's call at the moment that the clock shows for it. The error is `Read`
+/// or `Write` exactly if a read or a write failed, `TooLong` if a header announces a record above `RECORD_LIMIT`,
+/// `TooMuch` if more than `STREAM_LIMIT` bytes came, and `Memory` if memory ran out for what was read, or for a reply;
+/// then nothing of that record's call was run. What was done before an error remains done, and its replies were
+/// written, except those in which a write failed.
 pub fn serve_duplex<D: Duplex, S: Service, C: Clock>(
     alloc: Global,
     device: &mut D,
@@ -95,7 +95,7 @@ pub fn serve_duplex<D: Duplex, S: Service, C: Clock>(
     }
 }
 
-// Room for what is read at once.
+// A buffer for the bytes of one read.
 fn room_for_a_piece(alloc: Global) -> Result<Vec<u8>, ServeError>
     ensures ok { IfOk result (λ room. length room.items ≡ PIECE_LEN) }
     ensures memory { OnErr result (result ≡ Err ServeError.Memory) }
@@ -103,7 +103,7 @@ fn room_for_a_piece(alloc: Global) -> Result<Vec<u8>, ServeError>
     vec![in alloc; 0; PIECE_LEN].map_err(|_| ServeError::Memory)
 }
 
-// Takes the next piece of the stream. Whether a record is too long now, the records tell.
+// Adds the next piece to the stream. If a record is too long now, `Records::is_too_long` says so afterwards.
 fn take_in(records: &mut Records, piece: &[u8]) -> Result<(), ServeError>
     requires room { records.old.fed + length piece.now ≤ 2 ^ 40 }
     requires goes { records.old.is_too_long ≡ false }
@@ -118,7 +118,7 @@ fn take_in(records: &mut Records, piece: &[u8]) -> Result<(), ServeError>
     }
 }
 
-// Answers the records that are whole, in their order, and writes their replies.
+// Answers the whole records in their order, and writes their replies.
 fn serve_ready<D: Duplex, S: Service, C: Clock>(
     records: &mut Records,
     replies: &mut Replies,
@@ -158,7 +158,7 @@ fn serve_ready<D: Duplex, S: Service, C: Clock>(
     send(device, replies)
 }
 
-// Writes the replies, and forgets them.
+// Writes the waiting replies, and removes them from the buffer.
 fn send<D: Duplex>(device: &mut D, replies: &mut Replies) -> Result<(), ServeError>
     requires room { D.write_failures device.old < 2 ^ 64 - 1 }
     ensures ok { OnOk result (IsWritten D.device device.old replies.old.gathered.items device.new) }

@@ -1,4 +1,4 @@
-//! Laws of every course of a connection.
+//! Laws that hold for every course of a connection.
 ghost use Rattle.std.specs.Prelude.{◌≡◌};
 ghost use Rattle.nfs_server.specs.CourseLaws.{GainsEntries, HasBytes, IsOneText};
 ghost use Rattle.nfs_server.specs.Sides.{device_of};
@@ -9,8 +9,8 @@ use crate::{Clock, Counted, Duplex, Lent, Service, Sink, Source};
 use nfs_rpc::split_goes_on;
 use std::io::{Read, Write};
 
-/// The law that the records of a connection, answered turn by turn, are those of the whole text, and
-/// that those of the last read go on from there.
+/// The law that the records of a connection, answered turn by turn, are those of the whole text that was read, and that
+/// the records of the last read continue them.
 pub fn turns_are_of_one_text<D: Duplex, R: Source, W: Sink, S: Service, C: Clock>()
     ensures together { (tree : Files) → IsOneText D.device (rules tree S.gives C.tells) }
     ensures apart { (tree : Files) → IsOneText (device_of R.gives R.fails W.takes W.fails)
@@ -19,8 +19,8 @@ pub fn turns_are_of_one_text<D: Duplex, R: Source, W: Sink, S: Service, C: Clock
     split_goes_on();
 }
 
-/// The law that a connection over std's devices takes what it read from the front of what the reader
-/// had, and puts what it wrote behind what the writer had, where these tell their bytes.
+/// The law that a connection over devices of std takes what it reads from the front of the bytes that the reader has,
+/// and adds what it writes after the bytes that the writer has, if these bytes are known.
 pub fn bytes_of_a_connection<R: Read, W: Write, S: Service, C: Clock>()
     ensures { (tree : Files) → HasBytes
         (device_of ⟦<Counted<R> as Source>⟧.gives ⟦<Counted<R> as Source>⟧.fails
@@ -29,8 +29,8 @@ pub fn bytes_of_a_connection<R: Read, W: Write, S: Service, C: Clock>()
         (λ sides. R.remaining sides.source.device) (λ sides. W.contents sides.sink.device) }
 {}
 
-/// The law that the journal of a lent core gains the entries of what a connection asked, in order, and
-/// no others.
+/// The law that, if the service is a core, its journal gains the entries of the questions that were asked in a
+/// connection, in order, and no others.
 pub fn journal_of_a_connection<D: Duplex, R: Source, W: Sink, C: Clock>()
     ensures together { (tree : Files) → GainsEntries D.device tree
         ⟦<Lent as Service>⟧.gives C.tells }

@@ -9,16 +9,17 @@ use thiserror::Error;
 #[error("a device failed")]
 pub struct DeviceFailed;
 
-/// Where bytes come from, with the number of its failed reads.
+/// Where bytes are read from. It counts its failed reads.
 pub trait Source {
-    /// From a state, a read may give these bytes and go on to a state; none only at the end.
+    /// How a read may succeed: the state before, the bytes that it gives, and the state after. It gives no bytes only
+    /// at the end of the input.
     ghost gives: { Self → List ℕ → Self → Type 0 };
-    /// From a state, a read may fail and go on to a state.
+    /// How a read may fail: the state before, and the state after.
     ghost fails: { Self → Self → Type 0 };
     /// How often a read has failed.
     ghost failures: { Self → ℕ };
 
-    /// Reads some bytes into the buffer, and gives their number: 0 only at the end.
+    /// Reads some bytes into the buffer, and returns how many: 0 only at the end of the input.
     fn read(&mut self, buffer: &mut [u8]) -> Result<usize, DeviceFailed>
         requires room { failures self.old < 2 ^ 64 - 1 }
         requires some { 0 < length buffer.old }
@@ -29,16 +30,16 @@ pub trait Source {
         ensures failed { OnErr result (failures self.new ≡ failures self.old + 1) };
 }
 
-/// Where bytes go, with the number of its failed writes.
+/// Where bytes are written to. It counts its failed writes.
 pub trait Sink {
-    /// From a state, a write may take these bytes and go on to a state.
+    /// How a write may succeed: the state before, the bytes that it takes, and the state after.
     ghost takes: { Self → List ℕ → Self → Type 0 };
-    /// From a state, a write may fail and go on to a state.
+    /// How a write may fail: the state before, and the state after.
     ghost fails: { Self → Self → Type 0 };
     /// How often a write has failed.
     ghost failures: { Self → ℕ };
 
-    /// Writes a beginning of the bytes, and gives its length, at least 1.
+    /// Writes one or more bytes from the front of these, and returns how many.
     fn write(&mut self, bytes: &[u8]) -> Result<usize, DeviceFailed>
         requires room { failures self.old < 2 ^ 64 - 1 }
         requires some { 0 < length bytes.now }
@@ -49,7 +50,7 @@ pub trait Sink {
         ensures failed { OnErr result (failures self.new ≡ failures self.old + 1) };
 }
 
-/// A device of std's, with the number of its failed calls.
+/// A device of std that counts its failed calls.
 #[derive(Debug, Drop)]
 pub struct Counted<D> {
     device: D,
@@ -57,7 +58,7 @@ pub struct Counted<D> {
 }
 
 impl<D> Counted<D> {
-    /// The device, none of whose calls has failed.
+    /// The device, with no failed calls yet.
     pub fn new(device: D) -> Counted<D>
         ensures device { result.device ≡ device }
         ensures none { result.failures ≡ 0 }
@@ -68,7 +69,7 @@ impl<D> Counted<D> {
         }
     }
 
-    /// The device, given back.
+    /// Returns the device.
     pub fn into_device(self) -> D
         ensures { result ≡ self.device }
     {
@@ -81,7 +82,7 @@ impl<D> Counted<D> {
 }
 
 impl<R: Read> Source for Counted<R> {
-    // Where the device tells its bytes, a read takes those that it gives from their front.
+    // If the device's bytes are known, a read takes the bytes that it gives from their front.
     ghost gives = { λ old piece new. Consumes (R.remaining old.device) (R.remaining new.device) piece
         × (piece ≡ [] → IsAtEnd (R.remaining new.device)) };
 
@@ -101,7 +102,7 @@ impl<R: Read> Source for Counted<R> {
 }
 
 impl<W: Write> Sink for Counted<W> {
-    // Where the device tells its bytes, a write puts those that it takes behind them.
+    // If the device's bytes are known, a write adds the bytes that it takes at their end.
     ghost takes = { λ old part new. Appends (W.contents old.device) (W.contents new.device) part };
 
     ghost fails = { λ old new. Keeps (W.contents old.device) (W.contents new.device) };

@@ -3,17 +3,17 @@ ghost use Rattle.nfs_server.specs.Device.{Device};
 
 use crate::{DeviceFailed, Sink, Source};
 
-/// Where a connection's bytes come from and go. That both are one value puts its reads and writes in
-/// one order.
+/// Where the bytes of a connection are read from and written to. It is one value, so that its reads and writes have one
+/// common order.
 pub trait Duplex {
-    /// What its calls do.
+    /// What the device's calls do.
     ghost device: { Device Self };
     /// How often a read has failed.
     ghost read_failures: { Self → ℕ };
     /// How often a write has failed.
     ghost write_failures: { Self → ℕ };
 
-    /// Reads some bytes into the buffer, and gives their number: 0 only at the end.
+    /// Reads some bytes into the buffer, and returns how many: 0 only at the end of the input.
     fn read(&mut self, buffer: &mut [u8]) -> Result<usize, DeviceFailed>
         requires room { read_failures self.old < 2 ^ 64 - 1 }
         requires some { 0 < length buffer.old }
@@ -24,7 +24,7 @@ pub trait Duplex {
         ensures failed { OnErr result (read_failures self.new ≡ read_failures self.old + 1) }
         ensures writes { write_failures self.new ≡ write_failures self.old };
 
-    /// Writes a beginning of the bytes, and gives its length, at least 1.
+    /// Writes one or more bytes from the front of these, and returns how many.
     fn write(&mut self, bytes: &[u8]) -> Result<usize, DeviceFailed>
         requires room { write_failures self.old < 2 ^ 64 - 1 }
         requires some { 0 < length bytes.now }
@@ -36,7 +36,7 @@ pub trait Duplex {
         ensures reads { read_failures self.new ≡ read_failures self.old };
 }
 
-/// A source and a sink as one.
+/// A borrowed source and a borrowed sink as one device.
 #[derive(Drop)]
 pub(crate) struct Pair<'a, R, W> {
     pub(crate) source: &'a mut R,

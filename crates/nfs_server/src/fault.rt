@@ -5,10 +5,10 @@ use crate::ServeError;
 use nfs_tree::TreeError;
 use thiserror::Error;
 
-/// Why a run of the program failed, as the line that it writes on standard error.
+/// Why a run of the program failed, displayed as the line that it writes on standard error.
 #[derive(Clone, Copy, Debug, PartialEq, Eq, Error)]
 pub enum Fault {
-    /// The tree's file says no tree, by the number of its refusal.
+    /// The tree's file doesn't describe a tree, with the number of the error.
     #[error("fault: tree refused ({0})")]
     TreeRefused(u32),
     /// The tree's file can't be read.
@@ -39,7 +39,7 @@ impl From<TreeError> for Fault {
 }
 
 impl Fault {
-    /// The fault of a connection that ended so, if there is one: an input that ends inside a record is one too.
+    /// The fault with which a connection ended, if there is one. An input that ends inside a record is also a fault.
     pub fn of(outcome: Result<usize, ServeError>) -> Option<Fault>
         ensures { result ≡ fault_of outcome }
     {

@@ -1,4 +1,4 @@
-//! From records of bytes to replies of bytes.
+//! From the bytes of calls to the bytes of their replies: COMPOUND, connections, and the run of the program.
 #![tactic(auto)]
 
 mod clock;

@@ -2,7 +2,7 @@ ghost use Rattle.std.specs.Prelude.{◌≡◌, ◌^◌};
 
 use crate::connection::STREAM_LIMIT;
 
-/// The limit that the rules of a connection name: the bytes that it may carry.
+/// The limit in the rules of a connection: how many bytes its input may have.
 pub fn limits_of_connections()
     ensures { STREAM_LIMIT ≡ 2 ^ 40 }
 {}

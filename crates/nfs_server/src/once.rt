@@ -13,8 +13,8 @@ use nfs_tree::Tree;
 use std::alloc::Global;
 use std::io::Write;
 
-/// Serves one input to its end, over a core that it is lent and the core's tree, at moment 0. It gives the program's status: 0, or 1 after a
-/// fault, whose line is written on `errors`.
+/// Serves one input to its end at moment 0, with this core, and the tree for which the core was made. Returns the
+/// program's exit status: 0, or 1 after a fault, which is reported by a line on `errors`.
 pub fn run_once<R: Source, W: Sink, E: Write>(
     alloc: Global,
     core: Core,
@@ -27,7 +27,8 @@ pub fn run_once<R: Source, W: Sink, E: Write>(
     requires writes { W.failures sink.old < 2 ^ 64 - 1 }
     requires tree { core.journal.nodes ≡ tree.now.nodes }
     requires policy { core.journal.policy ≡ tree.now.policy }
-    // The input was served as a connection from this core on, and the status says how that ended.
+    // The input was served as one connection, starting from this core, and the status says
+    // how it ended.
     ensures served { (lent : Lent) × (clock : Stopped) × (lent' : Lent) × (clock' : Stopped)
         × (outcome : Result ℕ ServeError)
         × (lent.core ≡ core) × (clock.moment ≡ 0)
@@ -45,7 +46,7 @@ pub fn run_once<R: Source, W: Sink, E: Write>(
     match Fault::of(outcome) {
         None => 0,
         Some(fault) => {
-            // There is nobody left to tell that this line isn't written either.
+            // If this line can't be written, there is no other place to report it.
             let _ = writeln!(errors, "{fault}");
             1
         }

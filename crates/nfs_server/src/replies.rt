@@ -14,10 +14,10 @@ use std::alloc::{AllocError, Global};
 use std::mem;
 use xdr::write_u32;
 
-/// Room for any reply, with its header.
+/// Room for any reply, including its header.
 const REPLY_ROOM: usize = RECORD_LIMIT + 64;
 
-/// Replies that wait to go out together, and a list for the results of the next COMPOUND.
+/// Replies that wait to be written together, and a list for the results of the next COMPOUND.
 #[derive(Debug, Drop)]
 pub(crate) struct Replies {
     alloc: Global,
@@ -26,7 +26,7 @@ pub(crate) struct Replies {
 }
 
 impl Replies {
-    /// No replies, with no room for any yet.
+    /// A buffer without replies, which takes no memory.
     pub(crate) fn new(alloc: Global) -> Replies
         ensures { result.gathered.items ≡ [] }
     {
@@ -37,22 +37,22 @@ impl Replies {
         }
     }
 
-    /// The bytes of the replies.
+    /// The bytes of the waiting replies.
     pub(crate) fn as_slice(&self) -> &[u8]
         ensures { result.now ≡ self.now.gathered.items }
     {
         self.gathered.as_slice()
     }
 
-    /// Forgets the replies.
+    /// Removes the waiting replies.
     pub(crate) fn clear(&mut self)
         ensures { self.new.gathered.items ≡ [] }
     {
         self.gathered.clear();
     }
 
-    /// Answers a record, and puts the reply behind the others, as a record of one fragment. All growths
-    /// are made before the service is asked: at an error it wasn't.
+    /// Answers a record, and adds the reply after the others, as a record of one fragment. All memory is taken before
+    /// the service is asked, so that after an error it wasn't asked.
     pub(crate) fn answer<S: Service, C: Clock>(
         &mut self,
         message: &[u8],
@@ -84,7 +84,7 @@ impl Replies {
         }
     }
 
-    // Puts the reply to a COMPOUND behind the others, and keeps the list of its results for the next.
+    // Adds the reply to a COMPOUND after the others, and keeps the list of its results for the next COMPOUND.
     fn put_compound(&mut self, xid: u32, reply: CompoundReply) -> Result<(), AllocError>
         requires short { length (written_reply xid (Reply.Compound reply)) < 2 ^ 31 }
         requires fits { IsWritable xid (Reply.Compound reply) }
@@ -103,7 +103,7 @@ impl Replies {
     }
 }
 
-// Puts a reply behind these bytes, as a record of one fragment (RFC 5531, section 11).
+// Adds a reply at the end of these bytes, as a record of one fragment (RFC 5531, section 11).
 #[tactic(auto, unfolding(xdr::specs::Writing::written_number))]
 fn put_record(out: &mut Vec<u8>, xid: u32, reply: &Reply) -> Result<(), AllocError>
     requires short { length (written_reply xid reply.now) < 2 ^ 31 }
@@ -114,7 +114,7 @@ fn put_record(out: &mut Vec<u8>, xid: u32, reply: &Reply) -> Result<(), AllocErr
         → IsOk result }
 {
     let start = out.len();
-    // The header's place, until the length is known.
+    // Space for the header, which is written once the length is known.
     write_u32(out, 0).map_err(|_| AllocError)?;
     write_reply(out, xid, reply).map_err(|_| AllocError)?;
     let len = (out.len() - start - HEADER_LEN) as u32;

@@ -6,13 +6,13 @@ pub enum ServeError {
     /// A read failed.
     #[error("input not read (1)")]
     Read = 1,
-    /// A write failed, or took nothing.
+    /// A write failed, or took no bytes.
     #[error("output not written (2)")]
     Write = 2,
     /// A record has more than 262,144 bytes.
     #[error("record too long (3)")]
     TooLong = 3,
-    /// Memory was refused.
+    /// Memory ran out.
     #[error("no memory (4)")]
     Memory = 4,
     /// More than 2^40 bytes came.

@@ -12,14 +12,14 @@ ghost use Rattle.nfs_xdr.specs.OpResult.{op_result};
 use nfs_core::{Core, Moment};
 use nfs_xdr::{Op, OpResult, Principal};
 
-/// What answers the operations that need the state.
+/// Answers the operations that need the state.
 pub trait Service {
-    /// From a state, the service may answer a question so and go on to a state.
+    /// How the service may answer a question: its state before, the question, the answer, and its state after.
     ghost gives: { Self → Question → OpResult → Self → Type 0 };
-    /// The nodes of its tree.
+    /// The nodes of the tree that the service serves.
     ghost serves: { Self → List Node };
 
-    /// Answers an operation that has an entry, under a filehandle of its tree.
+    /// Answers an operation that has an entry in the journal, with a current filehandle of the tree.
     fn call(
         &mut self,
         moment: Moment,
@@ -35,7 +35,7 @@ pub trait Service {
         ensures form { op_result.Fits result };
 }
 
-/// A core that is lent to one connection after another.
+/// A core that serves one connection after another.
 #[derive(Debug, Drop)]
 pub struct Lent {
     core: Core,
@@ -48,7 +48,7 @@ impl Lent {
         Lent { core }
     }
 
-    /// The core, given back.
+    /// Returns the core.
     pub fn into_core(self) -> Core
         ensures { result ≡ self.core }
     {
@@ -74,8 +74,8 @@ impl Service for Lent {
     }
 }
 
-/// The law that the questions to a lent core whose answer isn't `NFS4ERR_RESOURCE` are, with their
-/// answers and in order, the entries that its journal gained.
+/// The law that the entries that a core's journal gains are the questions that it was asked, with their answers and in
+/// order, except those that were answered `NFS4ERR_RESOURCE`.
 pub fn questions_are_entries()
     ensures { QuestionsAreEntries }
 {}

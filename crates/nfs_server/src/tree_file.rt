@@ -5,7 +5,8 @@ use nfs_tree::{Tree, TreeError};
 use std::alloc::Global;
 use std::str;
 
-/// The tree that a file's bytes say: `Syntax` where they aren't UTF-8, and else what `Tree::from_toml` gives.
+/// The tree that the bytes of a file describe: `Syntax` if they aren't UTF-8, and otherwise what `Tree::from_toml`
+/// returns.
 pub fn read_tree(alloc: Global, bytes: &[u8]) -> Result<Tree, TreeError>
     ensures text { IsUtf8 bytes.now → Makes result (tree_of bytes.now) }
     ensures other { ¬ IsUtf8 bytes.now → result ≡ Err TreeError.Syntax }

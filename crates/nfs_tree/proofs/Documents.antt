@@ -14,7 +14,7 @@ use Rattle.toml.proofs.Views.{items_view-drop}
 use Rattle.toml.specs.Data.{Data, Items, item, Members}
 use Rattle.toml.specs.Parse.{parse_document}
 
--- entries that were read, before those of the rest
+-- entries that were read already, followed by those of the rest
 abbrev pub with_front : List Entry → Option (List Entry) → Option (List Entry)
 with_front done rest = rest >>= λ entries. Some (done ++ entries)
 
@@ -22,14 +22,14 @@ with_front_more : (done : List Entry) (entry : Entry) (rest : Option (List Entry
 with_front_more done entry None = refl
 with_front_more done entry (Some entries) = ap (λ es. Some es) (append_assoc done (entry ∷ []) entries)
 
--- one entry more: it is read, or it isn't and then there are none
+-- one more value of the array: its entry is read, or it can't be read and then neither can the array
 item_read : (listing : Listing) (value : Data) (more : Items) (done : List Entry) (entry : Entry) → entry_of listing value ≡ Some entry → with_front (done ++ entry ∷ []) (entries_of listing more) ≡ with_front done (entries_of listing (item value more))
 item_read listing value more done entry read = rw read (with_front_more done entry (entries_of listing more))
 
 item_missing : (listing : Listing) (value : Data) (more : Items) (done : List Entry) → entry_of listing value ≡ None → with_front done (entries_of listing (item value more)) ≡ None
 item_missing listing value more done read = rw read refl
 
--- what fails to be read of a part fails of the whole
+-- if a part of a document can't be read, neither can the whole
 fails_whole : {A B : Type 0} (e : TreeError) (part : Option A) (whole : Option B) → FailsToRead e part → (part ≡ None → whole ≡ None) → FailsToRead e whole
 fails_whole errors.Syntax part whole fails none = none fails
 fails_whole errors.Memory part whole fails none = tt
@@ -41,7 +41,7 @@ pub with_front_none : (rest : Option (List Entry)) → with_front [] rest ≡ re
 with_front_none None = refl
 with_front_none (Some entries) = refl
 
--- the entries of an array from a place on
+-- the values of an array from a position on
 items_from : (array : List Value) (i : ℕ) (value : Value) → i < length array → value ≡ get_or array i value → items_view (drop i array) ≡ item (view value) (items_view (drop (i + 1) array))
 items_from array i value within is = items_view-drop array i value within ∙ ap (λ v. item (view v) (items_view (drop (i + 1) array))) (sym is)
 
@@ -62,7 +62,7 @@ with_front_done listing array i done past so_far =
     ∙ ap (λ vs. with_front done (entries_of listing (items_view vs))) (drop_of_length-le array past)
     ∙ ap (λ es. Some es) (append-nil done)
 
--- a text's document is that of its table
+-- the document of a text is that of the table that the text is parsed as
 document_from : (text : List ℕ) (o : Option Members) → parse_document text ≡ o → document_at text ≡ (o >>= document_of)
 unfolding document_at
 document_from text o parsed = ap (λ p. p >>= document_of) parsed

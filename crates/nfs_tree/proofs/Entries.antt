@@ -1,4 +1,4 @@
--- The entries that came into a tree are those that it has.
+-- The entries that were added to a tree are those that it has.
 use Rattle.std.proofs.Common.{◌≡◌, ℕ, suc, ◌+◌, ◌-◌, ◌<◌, ◌≤◌, ◌==◌, Bool, true, false, not, List, [], ◌∷◌, ◌++◌, length, get_or, take, drop, slice_get, Option, Some, None, Result, Ok, Err, refl, sym, ap, subst, ◌∙◌, append_assoc, arith, inl, inr, length-append}
 use Rattle.std.specs.Prelude.{◌&&◌, if◌then◌else◌}
 use Rattle.std.specs.List.{All, Any, list_all}
@@ -24,7 +24,7 @@ use Rattle.nfs_tree.proofs.Nodes.{decided, parents_of, ParentsWithin, directory_
 use Rattle.nfs_tree.proofs.Paths.{names_are_names, path_complete, path_sound}
 use Rattle.nfs_tree.proofs.Ways.{leads_stay, leads_on, chain_leads, way_leads, way_of, slice_get-behind, text_cases, text_before, chain_kinds, is_kind, kind_stays, one_way, not_both_kinds}
 
--- What an entry that comes into a tree finds there, and the nodes that it leaves.
+-- What is found in a tree when an entry is added, and which nodes the tree has after that.
 record Comes (nodes : List Node) (entry : Entry) (new : List Node) : Type 0 where
   names : List (List ℕ)
   found : List (List ℕ)
@@ -74,7 +74,7 @@ comes_named old new entry (Some names) are h =
 leads_to : (nodes : List Node) (entry : Entry) (names : List (List ℕ)) (n : ℕ) → IsPath names entry.path → Leads nodes 0 names n → LeadsTo nodes entry n
 leads_to nodes entry names n are_names leads = record { names = names; are_names = are_names; leads = leads }
 
--- what the nodes of a tree are once more of them come
+-- what holds for the nodes of a tree still holds once more nodes are added
 leads_to_stays : (nodes more : List Node) (entry : Entry) (n : ℕ) → LeadsTo nodes entry n → LeadsTo (nodes ++ more) entry n
 leads_to_stays nodes more entry n l = leads_to (nodes ++ more) entry l.names n l.are_names (leads_stay nodes more 0 l.names n l.leads)
 
@@ -97,7 +97,7 @@ any_stays P Q f xs y some =
     let at = Contains-append_left xs (y ∷ []) some.1 (some.0, some.2, some.3) in
     (at.0, some.1, at.1, at.2, f some.1 some.4)
 
--- The names of an entry that came lead to each node that it left.
+-- The names of an entry's path lead to each node that was added for the entry.
 comes_leads : (nodes new : List Node) (entry : Entry) (c : Comes nodes entry new) (count : ℕ) → IsTree nodes → count < length c.missing → Leads new 0 (take (length c.found + suc count) c.names) (length nodes + suc count)
 comes_leads nodes new entry c count tree some =
     let more = chain c.end (length nodes + 1) c.missing entry.kind in
@@ -109,7 +109,7 @@ comes_leads nodes new entry c count tree some =
     subst (λ (ns : List Node). Leads ns 0 (take (length c.found + suc count) c.names) (length nodes + suc count)) (sym c.is)
     (subst (λ (names : List (List ℕ)). Leads (nodes ++ more) 0 names (length nodes + suc count)) (sym first) all)
 
--- the kind of such a node
+-- the kind of a node that was added for the entry
 comes_kinds : (nodes new : List Node) (entry : Entry) (c : Comes nodes entry new) (count : ℕ) → count < length c.missing → (node : Node) × (slice_get new (length nodes + count) ≡ Some node) × (node.kind ≡ kind_before (drop (suc count) c.missing) entry.kind)
 comes_kinds nodes new entry c count some =
     let more = chain c.end (length nodes + 1) c.missing entry.kind in
@@ -125,7 +125,7 @@ comes_length nodes new entry c =
     let more = chain c.end (length nodes + 1) c.missing entry.kind in
     ap length c.is ∙ length-append nodes more ∙ ap (λ n. length nodes + n) (chain_length c.end (length nodes + 1) c.missing entry.kind)
 
--- the number of such a node, counted from the first
+-- the position of such a node among those that were added, given its number
 comes_count : (nodes new : List Node) (entry : Entry) (c : Comes nodes entry new) (n : ℕ) → length nodes < n → n ≤ length new → (count : ℕ) × (n ≡ length nodes + suc count) × (count < length c.missing)
 comes_count nodes new entry c n past within =
     let long = comes_length nodes new entry c in
@@ -144,7 +144,7 @@ comes_on_way nodes new entry c tree n past within =
 take_all : {A : Type 0} (count : ℕ) (xs : List A) → drop count xs ≡ [] → take count xs ≡ xs
 take_all count xs none = sym (append-nil (take count xs)) ∙ ap (λ ys. take count xs ++ ys) (sym none) ∙ take-append-drop count xs
 
--- where none of the names is behind them, the first names are all
+-- if no names of the path follow, the first names are the whole path
 comes_whole : (nodes new : List Node) (entry : Entry) (c : Comes nodes entry new) (count : ℕ) → drop (suc count) c.missing ≡ [] → take (length c.found + suc count) c.names ≡ c.names
 comes_whole nodes new entry c count none =
     ap (take (length c.found + suc count)) (sym c.parts)
@@ -158,7 +158,7 @@ last_kind [] (File own) text is = (refl, cc)
 last_kind (name ∷ names) kind text is =
     let none : None ≡ Some text = ap text_of_kind (sym (kind_of_next name names kind)) ∙ is in cc
 
--- a file among such nodes is that of the entry
+-- if a node that was added for the entry is a file, it is the file of the entry
 comes_file : (nodes new : List Node) (entry : Entry) → Comes nodes entry new → IsTree nodes → (n : ℕ) (text : List ℕ) → length nodes < n → text_of new n ≡ Some text → IsFileAt new n text entry
 comes_file nodes new entry c tree n text past is =
     let place = text_cases new n text is in
@@ -183,7 +183,7 @@ no_names : {A : Type 0} (xs : List A) → length xs ≡ 0 → xs ≡ []
 no_names [] none = refl
 no_names (x ∷ xs) none = absurd (omega arith)
 
--- an entry that left no node was there as a directory
+-- an entry for which no node was added is a directory, and was there as one
 comes_directory : (nodes new : List Node) (entry : Entry) (c : Comes nodes entry new) → length c.missing ≡ 0 → is_directory_kind entry.kind ≡ true
 comes_directory nodes new entry c none =
     let test : (length c.missing == 0) ≡ true = grind (arith, nat_tests) in
@@ -219,7 +219,7 @@ at_directory : (nodes : List Node) (n : ℕ) (kind : NodeKind) → IsOfKind node
 at_directory nodes n Directory kind directory = refl
 at_directory nodes n (File text) kind directory = absurd (not_both_kinds nodes n text kind directory)
 
--- an entry whose path was there is a directory, as the one before it
+-- if an entry's path was there already, both this entry and the earlier one are directories
 comes_again : (nodes new : List Node) (entry other : Entry) → Comes nodes entry new → IsThere nodes other → Agree other entry
 comes_again nodes new entry other c there path =
     let by = there.1 in
@@ -236,7 +236,7 @@ comes_tree nodes new entry c tree =
     let missing : list_all is_name c.missing ≡ true = ap (λ (w : Way). list_all is_name w.missing) (sym c.way_is) ∙ way_names nodes 0 c.names names in
     subst IsTree (sym c.is) (tree_grows nodes c.end c.missing entry.kind tree c.few c.directory c.fresh missing)
 
--- one entry more
+-- the tree of some entries, with one more entry added, is the tree of all of them
 comes_holds : (nodes new : List Node) (done : List Entry) (entry : Entry) → Comes nodes entry new → IsTree nodes → IsTreeOf done nodes → IsTreeOf (done ++ entry ∷ []) new
 comes_holds nodes new done entry c tree holds =
     let more = chain c.end (length nodes + 1) c.missing entry.kind in

@@ -1,4 +1,4 @@
--- A tree that an entry comes into is one again.
+-- Adding an entry to a tree gives a tree.
 use Rattle.std.proofs.Common.{◌≡◌, ℕ, ◌+◌, ◌≤◌, ◌==◌, Bool, true, false, List, [], ◌∷◌, ◌++◌, length, Some, None, refl, sym, ap, subst, ◌∙◌, arith, inl, inr, length-append}
 use Rattle.std.specs.List.{list_all}
 use Rattle.std.specs.Prelude.{◌||◌}
@@ -17,7 +17,7 @@ pub or_parts : (a b : Bool) → (a || b) ≡ false → (a ≡ false) × (b ≡ f
 or_parts true b h = cc
 or_parts false b h = (refl, h)
 
--- the first of the names isn't in the directory
+-- there is no child with the first of the names in the directory
 abbrev pub IsFresh : List Node → ℕ → List (List ℕ) → Type 0
 IsFresh nodes parent [] = Unit {0}
 IsFresh nodes parent (name ∷ names) = child nodes parent name ≡ None
@@ -66,7 +66,7 @@ chain_fits before parent (name ∷ next ∷ names) kind p directory fresh are_na
       subst (λ (n : ℕ). EachFits more (chain (length before + 1) (n + 1) (next ∷ names) kind)) long rest,
     )
 
--- how many directories and files a chain has
+-- how many directories and files there are in a chain
 chain_directories : (parent number : ℕ) (names : List (List ℕ)) (kind : NodeKind) → directories (chain parent number names kind) ≡ new_directories kind (length names)
 chain_directories parent number [] Directory = refl
 chain_directories parent number [] (File text) = refl
@@ -88,7 +88,7 @@ chain_files parent number (name ∷ []) (File text) = omega arith
 chain_files parent number (name ∷ next ∷ names) kind =
     rw (kind_of_next next names kind) (chain_files number (number + 1) (next ∷ names) kind)
 
--- there is room for a file
+-- there is room for one more node of this kind, and a file's text isn't too long
 room_for : (nodes : List Node) (kind : NodeKind) → files nodes ≤ FILE_LIMIT → is_file_too_many nodes kind ≡ false → (files nodes + new_files kind ≤ FILE_LIMIT) × HasTextWithin kind
 room_for nodes Directory few h = (omega arith, tt)
 room_for nodes (File text) few h = (grind (arith, nat_tests), grind (arith, nat_tests))
@@ -104,7 +104,7 @@ tree_grows nodes end missing kind tree few directory fresh are_names =
       few_files = omega (arith, files_append nodes (chain end (length nodes + 1) missing kind), chain_files end (length nodes + 1) missing kind, room.0);
     }
 
--- the tree that an entry leaves, from what was found on the way
+-- the tree after an entry was added, given which of the path's names were found
 pub entry_grows : (old : Files) (path : List ℕ) (names : List (List ℕ)) (end : ℕ) (missing : List (List ℕ)) (kind : NodeKind) (number : ℕ) (more new : List Node) → IsTree old.nodes → names_of path ≡ Some names → way old.nodes 0 names ≡ record { end = end; missing = missing } → is_too_many old.nodes kind (length missing) ≡ false → is_directory old.nodes end ≡ true → number ≡ length old.nodes + 1 → more ≡ chain end number missing kind → new ≡ old.nodes ++ more → IsTree new
 entry_grows old path names end missing kind number more new tree are w few directory next chained is =
     let way_end : (way old.nodes 0 names).end ≡ end = ap (λ (v : Way). v.end) w in

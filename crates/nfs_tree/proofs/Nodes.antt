@@ -1,4 +1,4 @@
--- Nodes of a list: which are directories, who has a child, and how many there are of each kind.
+-- The nodes in a list: which are directories, which have a child, and how many there are of each kind.
 use Rattle.std.proofs.Common.{◌≡◌, ℕ, zero, suc, ◌+◌, ◌-◌, ◌<◌, ◌≤◌, ◌==◌, ◌⊎◌, Bool, true, false, not, ltb, List, [], ◌∷◌, ◌++◌, length, get_or, filter, position, slice_get, Option, Some, None, option_map, refl, sym, ap, subst, ◌∙◌, append_assoc, arith, inl, inr, length-append}
 use Rattle.std.specs.Prelude.{◌&&◌}
 use Rattle.std.specs.List.{position_or_len}
@@ -12,7 +12,7 @@ use Rattle.nfs_tree.specs.declared.node.Node.{Node}
 use Rattle.nfs_tree.specs.declared.node.NodeKind.TheVariants.{Directory}
 use Rattle.nfs_tree.specs.Tree.{is_directory, is_directory_kind, is_directory_node, is_child, child, directories, files, EachFits, IsTree}
 
--- a test went one way or the other
+-- a boolean is true or false
 pub decided : (b : Bool) → (b ≡ true) ⊎ (b ≡ false)
 decided true = inl refl
 decided false = inr refl
@@ -25,7 +25,7 @@ pub option_cases : {A : Type 0} (o : Option A) → (o ≡ None) ⊎ ((x : A) × 
 option_cases None = inl refl
 option_cases (Some x) = inr (x, refl)
 
--- what stands at a place in front stays there, and what comes first behind stands at the length
+-- nodes keep their positions when others are added at the end, and the first one added gets the next position
 slice_get-front : {A : Type 0} (xs ys : List A) (i : ℕ) (x : A) → slice_get xs i ≡ Some x → slice_get (xs ++ ys) i ≡ Some x
 slice_get-front [] ys i x h = cc
 slice_get-front (y ∷ xs) ys zero x h = h
@@ -39,7 +39,7 @@ directory_some : (o : Option Node) → is_directory_node o ≡ true → (node : 
 directory_some None h = cc
 directory_some (Some node) h = (node, refl)
 
--- the node of a number beside the root's
+-- the node with a number other than the root's is a directory if the node at its position is one
 pub directory_at : (nodes : List Node) (n : ℕ) → is_directory nodes (n + 1) ≡ is_directory_node (slice_get nodes n)
 directory_at nodes n =
     let some : (n + 1 == 0) ≡ false = grind (arith, nat_tests) in
@@ -54,7 +54,7 @@ directory_cases nodes n h =
           inr (n - 1, above, sym (directory_at nodes (n - 1)) ∙ ap (is_directory nodes) (sym above) ∙ h)
     ]
 
--- a directory's number is at most that of the last node
+-- a directory's number is at most the number of nodes besides the root
 pub directory_within : (nodes : List Node) (n : ℕ) → is_directory nodes n ≡ true → n ≤ length nodes
 directory_within nodes n h =
     elim (directory_cases nodes n h) [
@@ -65,7 +65,7 @@ directory_within nodes n h =
           omega arith
     ]
 
--- a directory stays one
+-- a directory remains one when nodes are added
 pub directory_stays : (nodes more : List Node) (n : ℕ) → is_directory nodes n ≡ true → is_directory (nodes ++ more) n ≡ true
 directory_stays nodes more n h =
     elim (directory_cases nodes n h) [
@@ -74,11 +74,11 @@ directory_stays nodes more n h =
           ap (is_directory (nodes ++ more)) at.1 ∙ directory_at (nodes ++ more) at.0 ∙ ap is_directory_node (slice_get-front nodes more at.0 found.0 found.1) ∙ ap is_directory_node (sym found.1) ∙ at.2
     ]
 
--- the node that comes next has the next number
+-- the node that is added has the next number
 pub directory_next : (nodes : List Node) (node : Node) → is_directory (nodes ++ node ∷ []) (length nodes + 1) ≡ is_directory_kind node.kind
 directory_next nodes node = directory_at (nodes ++ node ∷ []) (length nodes) ∙ ap is_directory_node (slice_get-seam nodes node [])
 
--- the parents have numbers of at most k
+-- all parents have numbers of at most k
 abbrev pub ParentsWithin : ℕ → List Node → Type 0
 ParentsWithin k [] = Unit {0}
 ParentsWithin k (node ∷ nodes) = (node.parent ≤ k) × ParentsWithin k nodes
@@ -91,7 +91,7 @@ pub parents_more : (k m : ℕ) (xs : List Node) → k ≤ m → ParentsWithin k 
 parents_more k m [] le p = tt
 parents_more k m (x ∷ xs) le p = (let here = p.0 in omega arith, parents_more k m xs le p.1)
 
--- so a number above has no child
+-- a number above those of all parents has no child
 none_before : (k parent : ℕ) (name : List ℕ) (nodes : List Node) → k < parent → ParentsWithin k nodes → position_or_len (is_child parent name) nodes ≡ length nodes
 none_before k parent name [] above p = refl
 none_before k parent name (node ∷ nodes) above p =
@@ -107,7 +107,7 @@ no_position p xs all =
 pub no_child : (k parent : ℕ) (name : List ℕ) (nodes : List Node) → k < parent → ParentsWithin k nodes → child nodes parent name ≡ None
 no_child k parent name nodes above p = ap (option_map (λ place. place + 1)) (no_position (is_child parent name) nodes (none_before k parent name nodes above p))
 
--- the parents of nodes that fit each behind those before it
+-- the numbers of parents are at most the number of nodes, if each node fits after those before it
 pub parents_of : (before nodes : List Node) → ParentsWithin (length before) before → EachFits before nodes → ParentsWithin (length (before ++ nodes)) (before ++ nodes)
 parents_of before [] p fits = rw append-nil p
 parents_of before (node ∷ nodes) p fits =
@@ -117,13 +117,13 @@ parents_of before (node ∷ nodes) p fits =
     let at_node : ParentsWithin (length more) more = parents_append (length more) before (node ∷ []) (parents_more (length before) (length more) before (omega arith) p) (omega arith, tt) in
     subst (λ (ns : List Node). ParentsWithin (length ns) ns) (append_assoc before (node ∷ []) nodes) (parents_of more nodes at_node fits.1)
 
--- nodes that fit, and more that fit behind them
+-- nodes that fit, followed by more nodes that fit after them
 pub fits_append : (before xs ys : List Node) → EachFits before xs → EachFits (before ++ xs) ys → EachFits before (xs ++ ys)
 fits_append before [] ys p q = subst (λ (ns : List Node). EachFits ns ys) (append-nil before) q
 fits_append before (x ∷ xs) ys p q =
     (p.0, fits_append (before ++ x ∷ []) xs ys p.1 (subst (λ (ns : List Node). EachFits ns ys) (sym (append_assoc before (x ∷ []) xs)) q))
 
--- a node at a place is a child of a directory
+-- the parent of the node at a position is a directory
 parent_there : (before nodes : List Node) (i : ℕ) (node : Node) → EachFits before nodes → slice_get nodes i ≡ Some node → is_directory (before ++ nodes) node.parent ≡ true
 parent_there before [] i node fits h = cc
 parent_there before (x ∷ nodes) zero node fits h =
@@ -132,7 +132,7 @@ parent_there before (x ∷ nodes) zero node fits h =
 parent_there before (x ∷ nodes) (suc i) node fits h =
     subst (λ (ns : List Node). is_directory ns node.parent ≡ true) (append_assoc before (x ∷ []) nodes) (parent_there (before ++ x ∷ []) nodes i node fits.1 h)
 
--- how many there are of each kind
+-- each node is either a directory or a file
 pub both_counts : (nodes : List Node) → length nodes ≡ directories nodes + files nodes
 both_counts [] = refl
 both_counts (node ∷ nodes) =
@@ -154,7 +154,7 @@ files_append xs ys =
     ap length (filter-append (λ node. not (is_directory_kind node.kind)) xs ys)
     ∙ length-append (filter (λ node. not (is_directory_kind node.kind)) xs) (filter (λ node. not (is_directory_kind node.kind)) ys)
 
--- what a place that was found says of the tree
+-- if a child was found at a position, the position is in the list and the parent is a directory
 pub found_child : (nodes : List Node) (parent : ℕ) (name : List ℕ) (place : ℕ) → IsTree nodes → position (is_child parent name) nodes ≡ Some place → (place < length nodes) × (is_directory nodes parent ≡ true)
 found_child nodes parent name place tree found =
     let none : Node = record { parent = 0; name = []; kind = Directory } in

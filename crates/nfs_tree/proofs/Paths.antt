@@ -1,4 +1,4 @@
--- A path's names are those that are the path, joined by slashes.
+-- The names of a path are exactly those that give the path when they are joined by slashes.
 use Rattle.std.proofs.Common.{◌≡◌, ℕ, ◌+◌, ◌≤◌, ◌<◌, ◌==◌, Bool, true, false, not, cond, leb, List, [], ◌∷◌, ◌++◌, length, get_or, drop, Some, None, refl, sym, ap, subst, ◌∙◌, append_assoc, arith, inl, inr}
 use Rattle.std.specs.Prelude.{codes, ◌&&◌}
 use Rattle.std.specs.List.{list_all}
@@ -12,7 +12,7 @@ use Rattle.nfs_tree.specs.Building.{joined, IsPath, longer_first, pieces, names_
 use Rattle.nfs_tree.specs.Tree.{slash, is_name, is_name_byte}
 use Rattle.nfs_tree.proofs.Nodes.{decided, and_parts}
 
--- a path has a piece
+-- a path has at least one piece
 pieces_some : (bytes : List ℕ) → (first : List ℕ) × (rest : List (List ℕ)) × (pieces bytes ≡ first ∷ rest)
 pieces_some [] = ([], [], refl)
 pieces_some (b ∷ bytes) =
@@ -22,7 +22,7 @@ pieces_some (b ∷ bytes) =
       | inr other ↦ (b ∷ more.0, more.1, rw (other, more.2) refl)
     ]
 
--- pieces, the first with more in front of it
+-- the pieces with more bytes in front of the first
 abbrev pub extended : List ℕ → List (List ℕ) → List (List ℕ)
 extended piece [] = piece ∷ []
 extended piece (first ∷ rest) = (piece ++ first) ∷ rest
@@ -41,7 +41,7 @@ extended_other piece b bytes other =
     let is = pieces_some bytes in
     rw (test, is.2) (ap (λ p. p ∷ is.1) (sym (append_assoc piece (b ∷ []) is.0)))
 
--- the pieces joined are the path
+-- joining the pieces of a path by slashes gives the path
 joined_longer : (b : ℕ) (first : List ℕ) (rest : List (List ℕ)) → joined (longer_first b (first ∷ rest)) ≡ b ∷ joined (first ∷ rest)
 joined_longer b first [] = refl
 joined_longer b first (next ∷ rest) = refl
@@ -57,7 +57,7 @@ joined_pieces (b ∷ bytes) =
       | inr other ↦ rw (other, is.2) (joined_longer b is.0 is.1 ∙ ap (λ bs. b ∷ bs) more)
     ]
 
--- the pieces of names that are joined are the names
+-- the pieces of names that are joined by slashes are these names
 abbrev has_no_slash : List ℕ → Bool
 has_no_slash name = list_all is_name_byte name
 
@@ -121,7 +121,7 @@ path_complete path names is =
 pub paths_law : PathsAreJoinedNames
 paths_law = record { sound = path_sound; complete = path_complete }
 
--- One byte more of a path, with the pieces before it done.
+-- One more byte of a path is read, after the pieces in `done`.
 pub slash_turn : (path : List ℕ) (i : ℕ) (done : List (List ℕ)) (piece : List ℕ) → i < length path → get_or path i 0 ≡ slash → done ++ extended piece (pieces (drop i path)) ≡ pieces path → (done ++ piece ∷ []) ++ extended [] (pieces (drop (i + 1) path)) ≡ pieces path
 slash_turn path i done piece within is so_far =
     append_assoc done (piece ∷ []) (extended [] (pieces (drop (i + 1) path)))
@@ -138,6 +138,6 @@ pieces_done path i done piece past so_far =
     let none : drop i path ≡ [] = drop_of_length-le path past in
     ap (λ p. done ++ p ∷ []) (sym (append-nil piece)) ∙ ap (λ bs. done ++ extended piece (pieces bs)) (sym none) ∙ so_far
 
--- a path's names are names
+-- the names of a path are all valid names
 pub names_are_names : (path : List ℕ) (names : List (List ℕ)) → names_of path ≡ Some names → list_all is_name names ≡ true
 names_are_names path names found = (path_sound path names found).are_names

@@ -1,4 +1,5 @@
--- Names that lead through a tree lead on when nodes come behind, and a chain leads from its parent to each of its nodes.
+-- Names that lead through a tree still do so when nodes are added, and the names of a chain lead from its parent to
+-- each of its nodes.
 use Rattle.std.proofs.Common.{◌≡◌, ℕ, zero, suc, ◌+◌, ◌-◌, ◌<◌, ◌≤◌, ◌==◌, ◌⊎◌, Bool, true, false, not, ltb, List, [], ◌∷◌, ◌++◌, length, get_or, take, drop, position, slice_get, Some, None, option_map, option_and_then, refl, sym, ap, subst, ◌∙◌, append_assoc, arith, inl, inr, length-append}
 use Rattle.std.specs.List.{position_or_len}
 use Rattle.std.specs.Str.{bytes_eq}
@@ -18,13 +19,13 @@ use Rattle.nfs_tree.specs.Tree.{is_directory, is_directory_kind, is_directory_no
 use Rattle.nfs_tree.proofs.Nodes.{decided, and_parts, option_cases, directory_stays, directory_at, ParentsWithin, parents_append, parents_more, no_child}
 use Rattle.nfs_tree.proofs.Growing.{IsFresh}
 
--- the place of the first that passes stays, whatever comes behind
+-- the position of the first element that passes stays the same when elements are added at the end
 first_stays : {A : Type 0} (p : A → Bool) (xs ys : List A) → position_or_len p xs < length xs → position_or_len p (xs ++ ys) ≡ position_or_len p xs
 first_stays p xs ys within =
     let found : (position_or_len p xs == length xs) ≡ false = grind (arith, nat_tests) in
     prefix_len-append (λ x. not (p x)) xs ys ∙ rw found refl
 
--- where none passes, the next that does is the first
+-- if none passes, the next element that does is the first one
 first_next : {A : Type 0} (p : A → Bool) (xs : List A) (y : A) (ys : List A) → position_or_len p xs ≡ length xs → p y ≡ true → position_or_len p (xs ++ y ∷ ys) ≡ length xs
 first_next p xs y ys none is =
     let past : (position_or_len p xs == length xs) ≡ true = grind (arith, nat_tests) in
@@ -43,7 +44,7 @@ position_cases p xs =
           inl (rw past refl, grind (arith, nat_tests))
     ]
 
--- a child stays one
+-- a child remains one when nodes are added
 child_stays : (nodes more : List Node) (parent : ℕ) (name : List ℕ) (n : ℕ) → child nodes parent name ≡ Some n → child (nodes ++ more) parent name ≡ Some n
 child_stays nodes more parent name n found =
     elim (position_cases (is_child parent name) nodes) [
@@ -66,7 +67,7 @@ leads_on nodes from [] middle back to first second = subst (λ n. Leads nodes n 
 leads_on nodes from (name ∷ front) middle back to first second =
     (first.0, first.1, leads_on nodes first.0 front middle back to first.2 second)
 
--- a node that comes behind is a child where none of its name was
+-- an added node is the child with its name if there was none with this name
 child_next : (before : List Node) (node : Node) (more : List Node) → child before node.parent node.name ≡ None → child (before ++ node ∷ more) node.parent node.name ≡ Some (length before + 1)
 child_next before node more none =
     let same : (node.parent == node.parent) ≡ true = grind (arith, nat_tests) in
@@ -80,7 +81,8 @@ child_next before node more none =
       | inr some ↦ let not_none : None ≡ Some (position_or_len (is_child node.parent node.name) before + 1) = sym none ∙ ap (option_map (λ place. place + 1)) some.1 in cc
     ]
 
--- A chain leads from its parent: so many of its names to the node that is so many behind.
+-- The names of a chain lead from its parent to its nodes: the first `count + 1` names lead to the node at position
+-- `count`.
 pub chain_leads : (before : List Node) (parent : ℕ) (names : List (List ℕ)) (kind : NodeKind) (count : ℕ) → ParentsWithin (length before) before → parent ≤ length before → IsFresh before parent names → count < length names → Leads (before ++ chain parent (length before + 1) names kind) parent (take (suc count) names) (length before + suc count)
 chain_leads before parent [] kind count p within fresh some = absurd (omega arith)
 chain_leads before parent (name ∷ names) kind zero p within fresh some =
@@ -104,7 +106,7 @@ chain_leads before parent (name ∷ next ∷ names) kind (suc count) p within fr
           (subst (λ (ns : List Node). Leads ns (length before + 1) (take (suc count) (next ∷ names)) (length before + 1 + suc count)) (append_assoc before (node ∷ []) rest) at),
     )
 
--- the names that were found lead to where the way ends
+-- the names that were found lead to the node where the way ends
 pub way_leads : (nodes : List Node) (from : ℕ) (names : List (List ℕ)) → (found : List (List ℕ)) × (found ++ (way nodes from names).missing ≡ names) × Leads nodes from found (way nodes from names).end
 way_leads nodes from [] = ([], refl, refl)
 way_leads nodes from (name ∷ names) =
@@ -114,7 +116,7 @@ way_leads nodes from (name ∷ names) =
           rw some.1 (name ∷ more.0, ap (λ ns. name ∷ ns) more.1, (some.0, some.1, more.2))
     ]
 
--- what stands at a place in front stays there
+-- an element in the front list keeps its position when others are added at the end
 slice_get-stays : {A : Type 0} (xs ys : List A) (i : ℕ) → i < length xs → slice_get (xs ++ ys) i ≡ slice_get xs i
 slice_get-stays [] ys i within = absurd (omega arith)
 slice_get-stays (x ∷ xs) ys zero within = refl
@@ -132,7 +134,7 @@ text_at nodes n =
     let same : n + 1 - 1 ≡ n = omega arith in
     rw (some, same) refl
 
--- the nodes of a chain are directories, but the last has the kind
+-- the nodes of a chain are directories, except the last, which has the given kind
 pub chain_kinds : (parent number : ℕ) (names : List (List ℕ)) (kind : NodeKind) (count : ℕ) → count < length names → (node : Node) × (slice_get (chain parent number names kind) count ≡ Some node) × (node.kind ≡ kind_before (drop (suc count) names) kind)
 chain_kinds parent number [] kind count some = absurd (omega arith)
 chain_kinds parent number (name ∷ names) kind zero some = (record { parent = parent; name = name; kind = kind_before names kind }, refl, refl)
@@ -142,7 +144,7 @@ pub is_kind : (nodes : List Node) (n : ℕ) (kind : NodeKind) (node : Node) → 
 is_kind nodes n Directory node at is = directory_at nodes n ∙ ap is_directory_node at ∙ ap is_directory_kind is
 is_kind nodes n (File text) node at is = text_at nodes n ∙ ap (option_and_then (λ (node : Node). text_of_kind node.kind)) at ∙ ap text_of_kind is
 
--- a text is that of a node, and none of the root
+-- a text belongs to a node other than the root
 pub text_cases : (nodes : List Node) (n : ℕ) (text : List ℕ) → text_of nodes n ≡ Some text → (m : ℕ) × (n ≡ m + 1) × (m < length nodes) × (node : Node) × (slice_get nodes m ≡ Some node) × (text_of_kind node.kind ≡ Some text)
 text_cases nodes zero text is = cc
 text_cases nodes (suc m) text is =
@@ -153,7 +155,7 @@ text_cases nodes (suc m) text is =
       | inr some ↦ (m, next, slice_get_within nodes m some.0 some.1, some.0, some.1, ap (option_and_then (λ (node : Node). text_of_kind node.kind)) (sym some.1) ∙ at)
     ]
 
--- the text of a node in front is that of before
+-- a node keeps its text when others are added
 pub text_before : (nodes more : List Node) (n : ℕ) → n ≤ length nodes → text_of (nodes ++ more) n ≡ text_of nodes n
 text_before nodes more zero within = refl
 text_before nodes more (suc m) within =
@@ -168,7 +170,7 @@ kind_stays nodes more n (File text) is =
     let number = at.1 in
     text_before nodes more n (omega arith) ∙ is
 
--- A node is the child of one parent by one name, so one way leads to it.
+-- A node is the child of only one parent by only one name, so only one way leads to it.
 child_at : (nodes : List Node) (parent : ℕ) (name : List ℕ) (n : ℕ) → child nodes parent name ≡ Some n → (place : ℕ) × (n ≡ place + 1) × (node : Node) × (slice_get nodes place ≡ Some node) × (node.parent ≡ parent) × (node.name ≡ name)
 child_at nodes parent name n found =
     elim (option_cases (position (is_child parent name) nodes)) [
@@ -197,7 +199,7 @@ child_not_root nodes parent name found =
     let number = at.1 in
     absurd (omega arith)
 
--- the last of the names, and where those before it lead
+-- the last of the names, and where the names before it lead
 leads_last : (nodes : List Node) (from : ℕ) (name : List ℕ) (names : List (List ℕ)) (to : ℕ) → Leads nodes from (name ∷ names) to → (front : List (List ℕ)) × (last : List ℕ) × (parent : ℕ) × (name ∷ names ≡ front ++ last ∷ []) × (length front ≡ length names) × Leads nodes from front parent × (child nodes parent last ≡ Some to)
 leads_last nodes from name [] to leads = ([], name, from, refl, refl, refl, leads.1 ∙ ap (λ (n : ℕ). Some n) leads.2)
 leads_last nodes from name (next ∷ names) to leads =
@@ -224,12 +226,12 @@ one_way_of nodes (suc count) n (name ∷ names) (other ∷ others) long first se
 pub one_way : (nodes : List Node) (n : ℕ) (names others : List (List ℕ)) → Leads nodes 0 names n → Leads nodes 0 others n → names ≡ others
 one_way nodes n names others first second = one_way_of nodes (length names) n names others refl first second
 
--- names that lead all the way leave none missing
+-- if names lead all the way, none is missing
 pub way_of : (nodes : List Node) (from : ℕ) (names : List (List ℕ)) (to : ℕ) → Leads nodes from names to → way nodes from names ≡ record { end = to; missing = [] }
 way_of nodes from [] to leads = ap (λ n. record { end = n; missing = [] }) leads
 way_of nodes from (name ∷ names) to leads = rw leads.1 (way_of nodes leads.0 names to leads.2)
 
--- a node with a text is no directory
+-- a node with a text isn't a directory
 text_of_directory : (kind : NodeKind) (text : List ℕ) → text_of_kind kind ≡ Some text → is_directory_kind kind ≡ true → ⊥
 text_of_directory Directory text is directory = cc
 text_of_directory (File own) text is directory = cc

@@ -24,14 +24,14 @@ number_of attributes.RdattrError = 11
 number_of attributes.Filehandle = 19
 number_of attributes.Fileid = 20
 
--- all of them, in rising order of their numbers
+-- all supported attributes, in increasing order of their numbers
 abbrev pub all_attributes : List Attribute
 all_attributes =
     attributes.SupportedAttrs ∷ attributes.Type ∷ attributes.FhExpireType ∷ attributes.Change ∷ attributes.Size
     ∷ attributes.LinkSupport ∷ attributes.SymlinkSupport ∷ attributes.NamedAttr ∷ attributes.Fsid ∷ attributes.UniqueHandles
     ∷ attributes.LeaseTime ∷ attributes.RdattrError ∷ attributes.Filehandle ∷ attributes.Fileid ∷ []
 
--- the word whose bits are the numbers of these
+-- the word with the bits of these attributes
 abbrev pub word_of : List Attribute → ℕ
 word_of [] = 0
 word_of (attribute ∷ more) = 2 ^ number_of attribute + word_of more
@@ -39,7 +39,7 @@ word_of (attribute ∷ more) = 2 ^ number_of attribute + word_of more
 abbrev pub supported : ℕ
 supported = word_of all_attributes
 
--- an attribute's value in its form
+-- the bytes of an attribute's value
 abbrev pub value_of : Subject → Attribute → List ℕ
 value_of s attributes.SupportedAttrs = written_u32 1 ++ written_u32 supported
 value_of s attributes.Type = written_u32 (if s.is_directory then 2 else 1)
@@ -56,11 +56,11 @@ value_of s attributes.RdattrError = written_u32 0
 value_of s attributes.Filehandle = written_opaque (handle_of s.node)
 value_of s attributes.Fileid = written_u64 (s.node + 1)
 
--- the attribute's bit stands in the word
+-- the attribute's bit is set in the word
 abbrev pub has : ℕ → Attribute → Bool
 has word attribute = not (bit_and word (2 ^ number_of attribute) == 0)
 
--- the values of those attributes that the word asks for, one after the other
+-- the value of an attribute if the word asks for it, and otherwise no bytes
 abbrev pub value_asked : Subject → ℕ → Attribute → List ℕ
 value_asked s word attribute = if has word attribute then value_of s attribute else []
 
@@ -68,15 +68,15 @@ abbrev pub values_of : Subject → ℕ → List Attribute → List ℕ
 values_of s word [] = []
 values_of s word (attribute ∷ more) = value_asked s word attribute ++ values_of s word more
 
--- what a bitmap asks for among the attributes that there are: a bitmap's first word has their bits
+-- the supported attributes among those that a bitmap asks for, as a word: the first word of a bitmap has their bits
 abbrev pub asked : List ℕ → ℕ
 asked [] = 0
 asked (word ∷ words) = bit_and word supported
 
--- a bitmap of this one word, or of none where it is 0
+-- a bitmap of this one word, or an empty bitmap if the word is 0
 abbrev pub mask_of : ℕ → List ℕ
 mask_of word = if word == 0 then [] else word ∷ []
 
--- the attributes that a bitmap asks for
+-- the supported attributes among those that a bitmap asks for, with their values
 abbrev pub attributes_of : Subject → List ℕ → Fattr
 attributes_of s mask = record { mask = mask_of (asked mask); values = values_of s (asked mask) all_attributes }

@@ -1,4 +1,4 @@
--- The tree that a document says: its entries come into the tree one after the other.
+-- The tree that a document describes: its entries are added to the tree one after the other.
 use Rattle.std.specs.Prelude.{◌≡◌, ℕ, ◌+◌, ◌-◌, ◌≤◌, ◌==◌, nat_le, nat_lt, Bool, true, false, not, ◌&&◌, ◌||◌, if◌then◌else◌, List, [], ◌∷◌, ◌++◌, length, Option, Some, None, Result, Ok, Err}
 use Rattle.std.specs.List.{list_all}
 use Rattle.nfs_tree.specs.declared.document.Document.{Document}
@@ -27,14 +27,14 @@ joined [] = []
 joined (name ∷ []) = name
 joined (name ∷ next ∷ names) = name ++ slash ∷ joined (next ∷ names)
 
--- These 1 to 8 names, joined by slashes, are the path.
+-- These 1 to 8 names, joined by slashes, give the path.
 pub record IsPath (names : List (List ℕ)) (path : List ℕ) : Type 0 where
   pub is_joined : joined names ≡ path
   pub is_some : 1 ≤ length names
   pub is_few : length names ≤ PATH_LIMIT
   pub are_names : list_all is_name names ≡ true
 
--- what stands between the slashes
+-- the pieces of a path: the bytes between the slashes
 abbrev pub longer_first : ℕ → List (List ℕ) → List (List ℕ)
 longer_first b [] = (b ∷ []) ∷ []
 longer_first b (piece ∷ pieces) = (b ∷ piece) ∷ pieces
@@ -43,16 +43,16 @@ abbrev pub pieces : List ℕ → List (List ℕ)
 pieces [] = [] ∷ []
 pieces (b ∷ bytes) = if b == slash then [] ∷ pieces bytes else longer_first b (pieces bytes)
 
--- the names of a path, where it has them
+-- the names of a path, if it consists of valid names
 abbrev pub names_of : List ℕ → Option (List (List ℕ))
 names_of path = if nat_le (length (pieces path)) PATH_LIMIT && list_all is_name (pieces path) then Some (pieces path) else None
 
--- The names of a path are those that are the path, joined by slashes.
+-- The names of a path are exactly those that give the path when they are joined by slashes.
 pub record PathsAreJoinedNames : Type 0 where
   pub sound : (path : List ℕ) (names : List (List ℕ)) → names_of path ≡ Some names → IsPath names path
   pub complete : (path : List ℕ) (names : List (List ℕ)) → IsPath names path → names_of path ≡ Some names
 
--- Names lead from a node as far as they are there. The others are missing: the first of them isn't in `end`.
+-- How far names lead from a node, to `end`. The missing names are the others: the first of them isn't in `end`.
 pub record Way : Type 0 where
   pub end : ℕ
   pub missing : List (List ℕ)
@@ -65,12 +65,13 @@ abbrev pub way : List Node → ℕ → List (List ℕ) → Way
 way nodes from [] = record { end = from; missing = [] }
 way nodes from (name ∷ names) = next_on (child nodes from name) (record { end = from; missing = name ∷ names }) (λ node. way nodes node names)
 
--- How many directories an entry needs anew: one for each missing name, but for the last one of a file.
+-- How many directories have to be added for an entry: one for each missing name, except the last one if the entry is a
+-- file.
 abbrev pub new_directories : NodeKind → ℕ → ℕ
 new_directories Directory missing = missing
 new_directories (File text) missing = missing - 1
 
--- a file's text is too long, or there is no room for one more file
+-- a file's text is too long, or there is no room for another file
 abbrev pub is_file_too_many : List Node → NodeKind → Bool
 is_file_too_many nodes Directory = false
 is_file_too_many nodes (File text) = nat_lt TEXT_LIMIT (length text) || nat_le FILE_LIMIT (files nodes)
@@ -78,12 +79,12 @@ is_file_too_many nodes (File text) = nat_lt TEXT_LIMIT (length text) || nat_le F
 abbrev pub is_too_many : List Node → NodeKind → ℕ → Bool
 is_too_many nodes kind missing = is_file_too_many nodes kind || nat_lt DIRECTORY_LIMIT (directories nodes + new_directories kind missing)
 
--- The way ends at a file, or a file's whole path is there.
+-- The way ends at a file, or the entry is a file and its whole path is already there.
 abbrev pub is_taken : List Node → NodeKind → Way → Bool
 is_taken nodes kind w = not (is_directory nodes w.end) || ((length w.missing == 0) && not (is_directory_kind kind))
 
--- A node for each of the names, the first in this parent and each other in the one before it, numbered from `number` on. They
--- are directories, but that the last has the kind.
+-- A node for each of the names, the first in this parent and each other in the one before it, numbered from `number`
+-- on. All are directories, except that the last has the given kind.
 abbrev pub kind_before : List (List ℕ) → NodeKind → NodeKind
 kind_before names kind = if length names == 0 then kind else Directory
 
@@ -92,7 +93,7 @@ chain parent number [] kind = []
 chain parent number (name ∷ names) kind =
     record { parent = parent; name = name; kind = kind_before names kind } ∷ chain number (number + 1) names kind
 
--- the tree with an entry whose way is this, or why it doesn't come into the tree
+-- the tree with an entry added whose way is this, or why it can't be added
 abbrev pub added_on : Files → NodeKind → Way → Result Files TreeError
 added_on old kind w =
     if is_too_many old.nodes kind (length w.missing) then Err errors.TooMany
@@ -106,7 +107,7 @@ added_named old kind (Some names) = added_on old kind (way old.nodes 0 names)
 abbrev pub added : Files → Entry → Result Files TreeError
 added old entry = added_named old entry.kind (names_of entry.path)
 
--- the tree with all entries, or why the first refused one doesn't come into it
+-- the tree with all entries added, or why the first one that can't be added is refused
 infixl 10 ◌>>=◌
 abbrev pub ◌>>=◌ : {A B : Type 0} → Result A TreeError → (A → Result B TreeError) → Result B TreeError
 (Ok x) >>= f = f x
@@ -116,11 +117,11 @@ abbrev pub built : Files → List Entry → Result Files TreeError
 built old [] = Ok old
 built old (entry ∷ entries) = added old entry >>= λ new. built new entries
 
--- the tree of a document, built from the root alone
+-- the tree of a document, built from a tree that has only the root
 abbrev pub tree_of_document : Document → Result Files TreeError
 tree_of_document d = built (record { nodes = []; policy = d.policy }) d.entries
 
--- the tree of a text, or why it has none
+-- the tree of a text, or why the text describes none
 abbrev pub or_syntax : {A : Type 0} → Option A → Result A TreeError
 or_syntax None = Err errors.Syntax
 or_syntax (Some x) = Ok x
@@ -128,7 +129,7 @@ or_syntax (Some x) = Ok x
 abbrev pub tree_of : List ℕ → Result Files TreeError
 tree_of text = or_syntax (document_at text) >>= tree_of_document
 
--- What a function answered are the names of a path: Name where it has none.
+-- What a function returned are the names of a path, or Name if the path doesn't consist of valid names.
 abbrev pub FailsToName : TreeError → Option (List (List ℕ)) → Type 0
 FailsToName errors.Memory names = Unit {0}
 FailsToName errors.Name names = names ≡ None
@@ -138,7 +139,7 @@ abbrev pub Names : Result (List (List ℕ)) TreeError → Option (List (List ℕ
 Names (Ok x) names = names ≡ Some x
 Names (Err e) names = FailsToName e names
 
--- What a function answered is what was to be made, but that where memory is refused nothing is known.
+-- What a function returned is what was to be made, unless it ran out of memory.
 abbrev pub FailsToMake : {A : Type 0} → TreeError → Result A TreeError → Type 0
 FailsToMake errors.Memory made = Unit {0}
 FailsToMake e made = made ≡ Err e

@@ -1,4 +1,4 @@
--- A document of a tree: what a TOML document of its keys says.
+-- The description of a tree that a TOML document contains.
 use Rattle.std.specs.Prelude.{codes, ◌≡◌, ℕ, Bool, true, ◌&&◌, if◌then◌else◌, List, [], ◌∷◌, ◌++◌, Option, Some, None, Result, Ok, Err}
 use Rattle.std.specs.List.{list_any}
 use Rattle.std.specs.Str.{bytes_eq}
@@ -17,31 +17,31 @@ use Rattle.nfs_tree.specs.declared.policy.Policy.{Policy}
 use Rattle.nfs_tree.specs.declared.tree_error.TreeError.{TreeError}
 use Rattle.nfs_tree.specs.declared.tree_error.TreeError.TheVariants as errors
 
--- with the value, if there is one
+-- continues with the value if there is one, and otherwise gives `None`
 infixl 10 ◌>>=◌
 abbrev pub ◌>>=◌ : {A B : Type 0} → Option A → (A → Option B) → Option B
 None >>= f = None
 (Some x) >>= f = f x
 
--- a value that may be absent: this one then
+-- an optional value, with what is used if it is absent
 abbrev pub or_absent : {A : Type 0} → A → (Data → Option A) → Option Data → Option A
 or_absent absent read None = Some absent
 or_absent absent read (Some value) = read value
 
--- a value that may not be absent
+-- a required value
 abbrev pub or_missing : {A : Type 0} → (Data → Option A) → Option Data → Option A
 or_missing read value = value >>= read
 
--- a table has none but these keys
+-- a table has no keys other than these
 abbrev pub has_only : List (List ℕ) → Members → Bool
 has_only keys no_members = true
 has_only keys (member key value more) = list_any (bytes_eq key) keys && has_only keys more
 
--- the members of a table that has none but these keys
+-- the members of a table that has no keys other than these
 abbrev pub table_of : List (List ℕ) → Data → Option Members
 table_of keys value = as_table value >>= λ members. if has_only keys members then Some members else None
 
--- the array's tables are entries: of directories, which have a path, or of files, which may have a text beside it
+-- the entry that a table in an array describes: a directory, with a path, or a file, with a path and an optional text
 abbrev pub entry_of : Listing → Data → Option Entry
 entry_of listings.Directories value =
     table_of (codes "path" ∷ []) value >>= λ table.
@@ -60,7 +60,7 @@ entries_of listing (item value more) = entry_of listing value >>= λ entry. entr
 abbrev pub listed : Listing → Data → Option (List Entry)
 listed listing value = as_array value >>= entries_of listing
 
--- the words of a policy
+-- the words that a policy can contain
 abbrev pub delegations_of : Data → Option Delegations
 delegations_of value = as_str value >>= λ word.
     if bytes_eq word (codes "none") then Some delegations.None
@@ -84,7 +84,8 @@ policy_of value =
     or_absent callbacks.Probe callbacks_of (get_member (codes "callbacks") table) >>= λ callbacks.
     Some (record { delegations = delegations; callbacks = callbacks })
 
--- The document that a TOML document is, if it is one: its entries are those of directories, and then those of files.
+-- The description of a tree in a TOML document, if it contains one: the entries of directories, followed by those of
+-- files.
 abbrev pub document_of : Members → Option Document
 document_of members =
     (if has_only (codes "directory" ∷ codes "file" ∷ codes "policy" ∷ []) members then Some members else None) >>= λ members.
@@ -93,12 +94,12 @@ document_of members =
     or_absent default_policy policy_of (get_member (codes "policy") members) >>= λ policy.
     Some (record { entries = directories ++ files; policy = policy })
 
--- The document of a text, if it has one.
+-- The description of a tree in a text, if it contains one.
 unfoldable pub document_at : List ℕ → Option Document
 document_at text = parse_document text >>= document_of
 
--- What a function answered is what was to be read: Syntax where there is nothing to read. Where memory is refused, nothing is
--- known.
+-- What a function returned is what was to be read, or Syntax if it can't be read, unless the function ran out of
+-- memory.
 abbrev pub FailsToRead : {A : Type 0} → TreeError → Option A → Type 0
 FailsToRead errors.Memory read = Unit {0}
 FailsToRead errors.Syntax read = read ≡ None

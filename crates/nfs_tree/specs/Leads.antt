@@ -1,4 +1,4 @@
--- What the entries of a document are in its tree, and that there is nothing else in it.
+-- What the entries of a document are in its tree, and that the tree contains nothing else.
 use Rattle.std.specs.Prelude.{◌≡◌, ℕ, ◌<◌, ◌≤◌, true, List, [], ◌∷◌, take, Some, Ok}
 use Rattle.std.specs.List.{All, AllPairs, Any}
 use Rattle.nfs_tree.specs.declared.document.Document.{Document}
@@ -11,13 +11,13 @@ use Rattle.nfs_tree.specs.Building.{IsPath, tree_of}
 use Rattle.nfs_tree.specs.Document.{document_at}
 use Rattle.nfs_tree.specs.Tree.{Files, child, is_directory, node_count, text_of}
 
--- Names lead from one node to another, each to the child that has it.
+-- Names lead from one node to another: each name to the child that has it.
 abbrev pub Leads : List Node → ℕ → List (List ℕ) → ℕ → Type 0
 Leads nodes from [] to = from ≡ to
 Leads nodes from (name ∷ names) to =
     (next : ℕ) × (child nodes from name ≡ Some next) × Leads nodes next names to
 
--- The node is a directory, or a file of this text.
+-- The node is a directory, or a file with this text.
 abbrev pub IsOfKind : List Node → ℕ → NodeKind → Type 0
 IsOfKind nodes n Directory = is_directory nodes n ≡ true
 IsOfKind nodes n (File text) = text_of nodes n ≡ Some text
@@ -28,7 +28,7 @@ pub record LeadsTo (nodes : List Node) (entry : Entry) (n : ℕ) : Type 0 where
   pub are_names : IsPath names entry.path
   pub leads : Leads nodes ROOT names n
 
--- The first names of the entry's path, so many of them, lead from the root to the node.
+-- The first `count` names of the entry's path lead from the root to the node.
 pub record IsOnWay (nodes : List Node) (n : ℕ) (entry : Entry) : Type 0 where
   pub names : List (List ℕ)
   pub are_names : IsPath names entry.path
@@ -39,20 +39,20 @@ pub record IsOnWay (nodes : List Node) (n : ℕ) (entry : Entry) : Type 0 where
 abbrev pub IsThere : List Node → Entry → Type 0
 IsThere nodes entry = (n : ℕ) × LeadsTo nodes entry n × IsOfKind nodes n entry.kind
 
--- The entry is of a file of this text, and its path leads to the node.
+-- The entry is a file with this text, and its path leads to the node.
 abbrev pub IsFileAt : List Node → ℕ → List ℕ → Entry → Type 0
 IsFileAt nodes n text entry = LeadsTo nodes entry n × (entry.kind ≡ File text)
 
--- Two entries of one path are of directories.
+-- If two entries have the same path, both are directories.
 abbrev pub Agree : Entry → Entry → Type 0
 Agree one other = one.path ≡ other.path → (one.kind ≡ Directory) × (other.kind ≡ Directory)
 
--- No other names lead from the root to the node that these lead to.
+-- Only these names lead from the root to the node.
 abbrev pub IsOneWay : List Node → ℕ → List (List ℕ) → Type 0
 IsOneWay nodes n names = (others : List (List ℕ)) → Leads nodes ROOT others n → others ≡ names
 
--- The nodes are those of the entries: each entry is there, each node beside the root is on the way
--- of an entry, each file is that of an entry, and one way alone leads to a node.
+-- The nodes are those of the entries: each entry is in the tree, each node other than the root is on the way to an
+-- entry, each file is that of an entry, and only one way leads to each node.
 pub record IsTreeOf (entries : List Entry) (nodes : List Node) : Type 0 where
   pub each_entry : All (IsThere nodes) entries
   pub each_node : (n : ℕ) → 1 ≤ n → n < node_count nodes → Any (IsOnWay nodes n) entries
@@ -61,7 +61,7 @@ pub record IsTreeOf (entries : List Entry) (nodes : List Node) : Type 0 where
   pub agree : AllPairs Agree entries
   pub one_way : (n : ℕ) (names : List (List ℕ)) → Leads nodes ROOT names n → IsOneWay nodes n names
 
--- The tree of a text is that of its document: it has its policy, and the nodes of its entries.
+-- The tree of a text is that of the text's document: it has the document's policy, and the nodes of its entries.
 abbrev pub TreesAreTheirEntries : Type 0
 TreesAreTheirEntries =
     (text : List ℕ) (tree : Files) → tree_of text ≡ Ok tree

@@ -11,19 +11,19 @@ use Rattle.nfs_tree.specs.declared.policy.Policy.{Policy}
 use Rattle.nfs_tree.specs.declared.path.TheConstants.{NAME_LIMIT}
 use Rattle.nfs_tree.specs.declared.tree.TheConstants.{FILE_LIMIT, DIRECTORY_LIMIT, HANDLE_LEN, TEXT_LIMIT}
 
--- The nodes beside the root in order of their numbers, the first of them number 1. The root is number 0.
+-- The nodes other than the root in order of their numbers, starting with number 1. The root has number 0.
 pub record Files : Type 0 where
   pub nodes : List Node
   pub policy : Policy
 
--- the byte that parts the names of a path
+-- the byte that separates the names of a path
 abbrev pub slash : ℕ
 slash = 47
 
 abbrev pub is_name_byte : ℕ → Bool
 is_name_byte b = not (b == 0) && not (b == slash)
 
--- 1 to 255 bytes, none of them zero or a slash, and neither `.` nor `..`
+-- a valid name: 1 to 255 bytes, none of them zero or a slash, and neither `.` nor `..`
 abbrev pub is_name : List ℕ → Bool
 is_name name =
     not (length name == 0) && nat_le (length name) NAME_LIMIT
@@ -39,15 +39,15 @@ abbrev pub text_of_kind : NodeKind → Option (List ℕ)
 text_of_kind Directory = None
 text_of_kind (File text) = Some text
 
--- how many nodes there are, with the root
+-- how many nodes there are, including the root
 abbrev pub node_count : List Node → ℕ
 node_count nodes = length nodes + 1
 
--- the node of a number that isn't the root's, if it is there
+-- the node with a number other than the root's, if there is one
 abbrev pub node_at : List Node → ℕ → Option Node
 node_at nodes n = if n == 0 then None else slice_get nodes (n - 1)
 
--- the number is that of the root or of another directory
+-- the number is that of a directory, such as the root
 abbrev pub is_directory_node : Option Node → Bool
 is_directory_node None = false
 is_directory_node (Some node) = is_directory_kind node.kind
@@ -55,18 +55,18 @@ is_directory_node (Some node) = is_directory_kind node.kind
 abbrev pub is_directory : List Node → ℕ → Bool
 is_directory nodes n = if n == 0 then true else is_directory_node (node_at nodes n)
 
--- the text of the file of this number
+-- the text of the file with this number, if there is one
 abbrev pub text_of : List Node → ℕ → Option (List ℕ)
 text_of nodes n = option_and_then (λ node. text_of_kind node.kind) (node_at nodes n)
 
--- the number of the node of this name in the directory of this number
+-- the number of the node with this name in the directory with this number, if there is one
 abbrev pub is_child : ℕ → List ℕ → Node → Bool
 is_child parent name node = (node.parent == parent) && bytes_eq node.name name
 
 abbrev pub child : List Node → ℕ → List ℕ → Option ℕ
 child nodes parent name = option_map (λ place. place + 1) (position (is_child parent name) nodes)
 
--- how many directories there are beside the root, and how many files
+-- how many directories there are besides the root, and how many files
 abbrev pub directories : List Node → ℕ
 directories nodes = length (filter (λ node. is_directory_kind node.kind) nodes)
 
@@ -77,14 +77,15 @@ abbrev pub HasTextWithin : NodeKind → Type 0
 HasTextWithin Directory = Unit {0}
 HasTextWithin (File text) = length text ≤ TEXT_LIMIT
 
--- A node fits behind these: its parent is the root or a directory among them, in which its name isn't there yet.
+-- A node can be added after these nodes: its parent is the root or a directory among them that has no child with its
+-- name.
 pub record Fits (before : List Node) (node : Node) : Type 0 where
   pub parent : is_directory before node.parent ≡ true
   pub fresh : child before node.parent node.name ≡ None
   pub name : is_name node.name ≡ true
   pub text : HasTextWithin node.kind
 
--- each of the nodes fits behind those before it
+-- each of the nodes can be added after those before it
 abbrev pub EachFits : List Node → List Node → Type 0
 EachFits before [] = Unit {0}
 EachFits before (node ∷ nodes) = Fits before node × EachFits (before ++ node ∷ []) nodes
@@ -98,7 +99,7 @@ pub record IsTree (nodes : List Node) : Type 0 where
 abbrev pub handle_of : ℕ → List ℕ
 handle_of n = codes "nfh1" ++ written_u32 n
 
--- the node of a filehandle, if it is one of these nodes'
+-- the node of a filehandle, if it is the filehandle of one of these nodes
 abbrev pub node_numbered : List Node → List ℕ → ℕ → Option ℕ
 node_numbered nodes handle n = if nat_lt n (node_count nodes) && bytes_eq handle (handle_of n) then Some n else None
 

@@ -1,4 +1,4 @@
--- The operations that ask the tree and the filehandles alone.
+-- The operations that need only the tree and the filehandles.
 use Rattle.std.specs.Prelude.{Option, Some, None}
 use Rattle.nfs_tree.specs.declared.filehandles.Filehandles.{Filehandles}
 use Rattle.nfs_tree.specs.Effect.{Effect}
@@ -20,7 +20,7 @@ pub mod Putrootfh
 pub mod Restorefh
 pub mod Savefh
 
--- What an operation does that asks the tree and the filehandles alone. No other operation has an effect here.
+-- The effect of an operation that needs only the tree and the filehandles. Other operations have no effect here.
 abbrev pub effect_of : Files → Filehandles → Op → Option Effect
 effect_of tree old (ops.Access asked) = Some (access tree old asked)
 effect_of tree old ops.Getfh = Some (getfh old)

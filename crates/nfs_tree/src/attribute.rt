@@ -8,7 +8,7 @@ use nfs_xdr::{Bitmap, Fattr};
 use std::alloc::{AllocError, Global};
 use xdr::{Bytes, NO_LIMIT, WireError, write_flag, write_opaque, write_u32, write_u64};
 
-/// The attributes that the server answers (RFC 7530, section 5), each with its number.
+/// The attributes that the server supports (RFC 7530, section 5), each with its number.
 #[derive(Clone, Copy, Debug, PartialEq, Eq)]
 pub enum Attribute {
     SupportedAttrs = 0,
@@ -27,7 +27,7 @@ pub enum Attribute {
     Fileid = 20,
 }
 
-/// The attributes in rising order of their numbers.
+/// The supported attributes in increasing order of their numbers.
 pub const ATTRIBUTES: [Attribute; 14] = [
     Attribute::SupportedAttrs,
     Attribute::Type,
@@ -45,10 +45,10 @@ pub const ATTRIBUTES: [Attribute; 14] = [
     Attribute::Fileid,
 ];
 
-/// The word whose bits are the numbers of the attributes.
+/// The word with the bits of all supported attributes.
 const SUPPORTED: u32 = 0x0018_0fff;
 
-/// The bytes of the values of all attributes.
+/// How many bytes the values of all supported attributes take.
 const VALUES_LEN: usize = 92;
 
 /// The type of a file (NF4REG).
@@ -57,21 +57,21 @@ const REGULAR_FILE: u32 = 1;
 /// The type of a directory (NF4DIR).
 const DIRECTORY: u32 = 2;
 
-/// A node as its attributes tell it.
+/// What the attributes of a node are computed from.
 #[derive(Clone, Copy, Debug)]
 pub struct Subject {
     pub node: u32,
     pub is_directory: bool,
     /// How many writes changed the file.
     pub change: u64,
-    /// Its bytes.
+    /// How many bytes the file has.
     pub size: u64,
     /// The lease in seconds.
     pub lease: u32,
 }
 
 impl Attribute {
-    /// Its bit in the first word of a bitmap.
+    /// The attribute's bit in the first word of a bitmap.
     pub fn bit(self) -> u32
         ensures { result ≡ 2 ^ number_of self }
     {
@@ -80,8 +80,8 @@ impl Attribute {
 }
 
 impl Tree {
-    /// The attributes of a node that a bitmap asks for. `change` is the number of writes that changed the file and `size` is
-    /// its bytes, as they are now, and for a directory neither is looked at; `lease` is in seconds.
+    /// The supported attributes of a node among those that a bitmap asks for. `change` is how many writes changed the
+    /// file and `size` is how many bytes it has now; neither matters for a directory. `lease` is in seconds.
     pub fn attributes(
         &self,
         alloc: Global,
@@ -114,7 +114,7 @@ impl Tree {
     }
 }
 
-// What a bitmap asks for among the attributes that there are.
+// The supported attributes among those that a bitmap asks for, as a word.
 fn asked(mask: &[u32]) -> u32
     ensures { result ≡ asked mask.now }
 {
@@ -124,7 +124,7 @@ fn asked(mask: &[u32]) -> u32
     }
 }
 
-// A bitmap of this one word, or of none where it is 0.
+// A bitmap of this one word, or an empty bitmap if the word is 0.
 fn mask_of(alloc: Global, word: u32) -> Result<Bitmap, AllocError>
     ensures { IfOk result (λ b. b ≡ mask_of word) }
 {
@@ -134,7 +134,7 @@ fn mask_of(alloc: Global, word: u32) -> Result<Bitmap, AllocError>
     Bitmap::copy_of(alloc, &[word])
 }
 
-// The values of those among these attributes that the word asks for.
+// The values of those of these attributes that the word asks for.
 fn values_of(
     alloc: Global,
     subject: Subject,
@@ -195,7 +195,7 @@ fn write_value(out: &mut Vec<u8>, subject: Subject, attribute: Attribute) -> Res
     }
 }
 
-// Writes the attributes that there are, as a bitmap.
+// Writes the supported attributes, as a bitmap.
 fn write_supported(out: &mut Vec<u8>) -> Result<(), WireError>
     ensures { OnOk result (out.new.items ≡ out.old.items ++ (written_u32 1 ++ written_u32 supported)) }
 {
@@ -203,14 +203,14 @@ fn write_supported(out: &mut Vec<u8>) -> Result<(), WireError>
     write_u32(out, SUPPORTED)
 }
 
-// Writes a number of a file, which is 0 of a directory.
+// Writes a number that belongs to a file, or 0 for a directory.
 fn write_of_file(out: &mut Vec<u8>, subject: Subject, number: u64) -> Result<(), WireError>
     ensures { OnOk result (out.new.items ≡ out.old.items ++ written_u64 (if subject.is_directory then 0 else number)) }
 {
     write_u64(out, if subject.is_directory { 0 } else { number })
 }
 
-// Writes the number of the one file system, major and minor.
+// Writes the number of the only file system, major and minor.
 fn write_fsid(out: &mut Vec<u8>) -> Result<(), WireError>
     ensures { OnOk result (out.new.items ≡ out.old.items ++ (written_u64 1 ++ written_u64 0)) }
 {

@@ -12,7 +12,7 @@ use crate::{
 use std::alloc::{AllocError, Global};
 use xdr::Bytes;
 
-/// The document of the tree that a server has without one of its own.
+/// The document that describes the tree of a server that is given no other.
 pub const DEFAULT_TREE: &str = "[[file]]
 path = \"a\"
 text = \"hello\"
@@ -23,14 +23,14 @@ path = \"d/c\"
 ";
 
 impl Tree {
-    /// The tree of a TOML document. Its keys are `directory`, an array of tables with a `path`; `file`, an array of tables
-    /// with a `path` and, if wished, a `text`; and `policy`, a table with, if wished, `delegations` ("none", "read" or
-    /// "all", as where it is absent) and `callbacks` ("probe", as where it is absent, or "assume").
+    /// The tree of a TOML document. Its keys are `directory`, an array of tables with a `path`; `file`, an array of
+    /// tables with a `path` and an optional `text`; and `policy`, a table with the optional keys `delegations` ("none",
+    /// "read", or "all", the default) and `callbacks` ("probe", the default, or "assume").
     ///
-    /// Syntax where the text is no such document; else the first entry that is refused decides, those of directories
-    /// first: Name where its path isn't 1 to `PATH_LIMIT` names; TooMany where its text, the files or the directories
-    /// come above their limit; Duplicate where a file's path is there already, a directory's path is a file, or a file
-    /// is on the way.
+    /// Syntax if the text isn't such a document. Otherwise the first entry that can't be added decides, where
+    /// directories come before files: Name if its path isn't 1 to `PATH_LIMIT` names; TooMany if its text, the files or
+    /// the directories would exceed their limit; Duplicate if a file's path is already there, a directory's path is
+    /// that of a file, or a file is on the way.
     pub fn from_toml(alloc: Global, text: &str) -> Result<Tree, TreeError>
         ensures { Makes result (tree_of text.now) }
     {
@@ -45,7 +45,7 @@ impl Tree {
         Ok(tree)
     }
 
-    // Puts an entry into the tree.
+    // Adds an entry to the tree.
     fn add(&mut self, alloc: Global, entry: &Entry) -> Result<(), TreeError>
         ensures ok { OnOk result (added self.old entry.now ≡ Ok self.new) }
         ensures err { IfErr result (λ e. FailsToMake e (added self.old entry.now)) }
@@ -63,7 +63,7 @@ impl Tree {
         Ok(())
     }
 
-    // How far these names lead from the root, and which are missing.
+    // How far these names lead from the root, and which of them are missing.
     fn way<'a>(&self, names: &'a [Bytes]) -> (u32, &'a [Bytes])
         ensures way { way self.now.nodes 0 names.now ≡ record { end = result.0; missing = result.1.now } }
         ensures few { length result.1.now ≤ length names.now }
@@ -78,7 +78,7 @@ impl Tree {
         (end, &[])
     }
 
-    // Whether an entry of this kind, of whose path so many names are missing, comes above a limit.
+    // Whether a limit would be exceeded by an entry of this kind, if `missing` names of its path are missing.
     fn is_too_many(&self, kind: &NodeKind, missing: usize) -> bool
         requires { missing ≤ PATH_LIMIT }
         ensures { result ≡ is_too_many self.now.nodes kind.now missing }
@@ -113,7 +113,7 @@ fn files_among(nodes: &[Node]) -> usize
     nodes.iter().filter(|n| !n.kind.is_directory()).count()
 }
 
-// Nodes for these names, each in the one before it, numbered from `number` on.
+// A node for each of these names, numbered from `number` on: the first in `parent`, and each other in the one before.
 fn chain_of(
     alloc: Global,
     parent: u32,
@@ -139,7 +139,7 @@ fn chain_of(
     Ok(nodes)
 }
 
-// The kind of a node of a chain, by whether it is the last one.
+// The kind of a node in a chain, which depends on whether it is the last one.
 fn kind_at(kind: &NodeKind, is_last: bool) -> Result<NodeKind, AllocError>
     ensures { IfOk result (λ k. k ≡ (if is_last then kind.now else Directory)) }
 {
@@ -150,9 +150,9 @@ fn kind_at(kind: &NodeKind, is_last: bool) -> Result<NodeKind, AllocError>
     }
 }
 
-/// The law that the tree of a text is that of its document's entries: the names of each one's path lead from the root to a node
-/// of its kind, with its text; every other node is a directory on the way to one; one way alone leads to a node; and two
-/// entries of one path are of directories.
+/// The law that the tree of a text is that of the entries of its document: the names of each entry's path lead from the
+/// root to a node of the entry's kind, with its text; every other node is a directory on the way to one; only one way
+/// leads to each node; and two entries with the same path are both directories.
 pub fn trees_are_their_entries()
     ensures { TreesAreTheirEntries }
 {}

@@ -10,21 +10,21 @@ use std::alloc::Global;
 use toml::{Table, Value};
 use xdr::{Bytes, Sequence};
 
-/// An array of a document: that of its directories, or that of its files.
+/// An array in a document: that of the directories, or that of the files.
 #[derive(Clone, Copy, Debug)]
 pub enum Listing {
     Directories,
     Files,
 }
 
-/// What a document says: its entries, those of directories first, and its policy.
+/// What a document contains: its entries, first those of directories, and its policy.
 #[derive(Debug, Drop)]
 pub struct Document {
     pub entries: Sequence<Entry>,
     pub policy: Policy,
 }
 
-/// The document of a text; Syntax where it has none.
+/// Reads the document in a text; Syntax if there is none.
 pub(crate) fn read_document(alloc: Global, text: &str) -> Result<Document, TreeError>
     ensures { Reads result (document_at text.now) }
 {
@@ -35,7 +35,7 @@ pub(crate) fn read_document(alloc: Global, text: &str) -> Result<Document, TreeE
     }
 }
 
-// The document that a TOML document is.
+// Reads the document in a TOML table.
 fn document_of(alloc: Global, table: &Table) -> Result<Document, TreeError>
     ensures { Reads result (document_of (table_view table.now)) }
 {
@@ -56,7 +56,7 @@ fn document_of(alloc: Global, table: &Table) -> Result<Document, TreeError>
     })
 }
 
-// The entries of an array that may be absent.
+// Reads the entries of an optional array.
 fn read_listing(
     alloc: Global,
     listing: Listing,
@@ -169,7 +169,7 @@ fn read_callbacks(value: &Value) -> Result<Callbacks, TreeError>
     }
 }
 
-// The bytes of a string.
+// Reads a required string, as bytes.
 fn read_bytes(alloc: Global, value: Option<&Value>) -> Result<Bytes, TreeError>
     ensures { Reads result (or_missing as_str (option_map (λ v. view v.now) value.entry)) }
 {
@@ -179,7 +179,7 @@ fn read_bytes(alloc: Global, value: Option<&Value>) -> Result<Bytes, TreeError>
     }
 }
 
-// The table that a value is, if it has none but these keys.
+// The table that a value is, if it has no keys other than these.
 fn table_of<'a>(value: &'a Value, keys: &[&str]) -> Option<&'a Table>
     ensures { option_map (λ t. table_view t.now) result ≡ table_of (map (λ k. k.now) keys.now) (view value.now) }
 {
@@ -189,7 +189,7 @@ fn table_of<'a>(value: &'a Value, keys: &[&str]) -> Option<&'a Table>
     }
 }
 
-// Whether a table has none but these keys.
+// Whether a table has no keys other than these.
 fn has_only(table: &Table, keys: &[&str]) -> bool
     ensures { result ≡ has_only (map (λ k. k.now) keys.now) (table_view table.now) }
 {
@@ -212,7 +212,7 @@ fn is_among(keys: &[&str], key: &str) -> bool
     false
 }
 
-// What a table has at a key.
+// The value of a table at a key, if there is one.
 fn member<'a>(table: &'a Table, key: &str) -> Option<&'a Value>
     ensures { option_map (λ v. view v.now) result ≡ get_member key.now (table_view table.now) }
 {

@@ -1,10 +1,10 @@
 ghost use Rattle.std.specs.Prelude.{◌≡◌};
 ghost use Rattle.nfs_tree.specs.Filehandles.{no_filehandles};
 
-/// The most bytes of an answer to an operation on the tree in a reply.
+/// The greatest length of the answer to an operation on the tree, in bytes.
 pub const TREE_ANSWER_LIMIT: usize = 20;
 
-/// The nodes of the current and of the saved filehandle (RFC 7530, section 15.2), each absent until an operation of the
+/// The nodes of the current and the saved filehandle (RFC 7530, section 15.2). Each is absent until an operation of the
 /// COMPOUND sets it.
 #[derive(Clone, Copy, Debug)]
 pub struct Filehandles {
@@ -13,7 +13,7 @@ pub struct Filehandles {
 }
 
 impl Filehandles {
-    /// Both absent, as a COMPOUND begins.
+    /// Both filehandles absent, as at the beginning of a COMPOUND.
     pub fn new() -> Filehandles
         ensures { result ≡ no_filehandles }
     {

@@ -7,7 +7,7 @@ use crate::operations::{
 use crate::path::{NAME_LIMIT, PATH_LIMIT};
 use crate::tree::{DIRECTORY_LIMIT, FILE_LIMIT, HANDLE_LEN, ROOT, TEXT_LIMIT};
 
-/// The numbers that the rules of a tree name: its limits, its root, the bytes of its filehandles and of its answers, and the
+/// The numbers in the rules of a tree: its limits, its root, the lengths of its filehandles and of its answers, and the
 /// bits of ACCESS (RFC 7530, section 16.1).
 pub fn limits_of_trees()
     ensures names { (NAME_LIMIT ≡ 255) × (PATH_LIMIT ≡ 8) }

@@ -3,27 +3,27 @@ ghost use Rattle.nfs_tree.specs.Tree.{is_directory_kind};
 
 use xdr::Bytes;
 
-/// What a node is.
+/// Whether a node is a directory or a file.
 #[derive(Clone, Debug, Drop)]
 pub enum NodeKind {
     Directory,
-    /// A file, with the text that it holds when the server opens.
+    /// A file, with the text that it has when the server starts.
     File(Bytes),
 }
 
-/// A node beside the root.
+/// A node other than the root.
 #[derive(Clone, Debug, Drop)]
 pub struct Node {
-    /// The number of the directory that it is in; the root is number 0.
+    /// The number of the directory that contains it; the root has number 0.
     pub parent: u32,
     pub name: Bytes,
     pub kind: NodeKind,
 }
 
-/// What a document wants in the tree: a node of this kind at the end of this path.
+/// An entry of a document: the tree has a node of this kind at the end of this path.
 #[derive(Debug, Drop)]
 pub struct Entry {
-    /// Names from the root on, joined by `/`.
+    /// Names starting below the root, joined by `/`.
     pub path: Bytes,
     pub kind: NodeKind,
 }

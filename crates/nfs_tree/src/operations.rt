@@ -1,4 +1,4 @@
-// The operations that ask the tree and the filehandles alone, one file each.
+// The operations that need only the tree and the filehandles, one file each.
 ghost use Rattle.std.specs.Prelude.{◌≡◌, ◌≤◌, IsTrue, Some, length};
 ghost use Rattle.nfs_tree.specs.declared.filehandles.TheConstants.{TREE_ANSWER_LIMIT};
 ghost use Rattle.nfs_tree.specs.Filehandles.{AreNodes};
@@ -21,7 +21,8 @@ pub use access::{
 use nfs_xdr::{Op, OpResult};
 
 impl Filehandles {
-    /// Runs an operation on the tree and the filehandles alone (`Op::is_on_tree`), and gives its answer. It takes no memory.
+    /// Runs an operation that needs only the tree and the filehandles (`Op::is_on_tree`), and returns its answer. It
+    /// takes no memory.
     pub fn run(&mut self, tree: &Tree, op: &Op) -> OpResult
         requires on_tree { IsTrue (is_on_tree op.now) }
         requires nodes { AreNodes tree.now self.old }

@@ -7,13 +7,13 @@ use crate::TreeError;
 use std::alloc::{AllocError, Global};
 use xdr::{Bytes, Sequence};
 
-/// The most bytes of a name.
+/// The greatest length of a name in bytes.
 pub const NAME_LIMIT: usize = 255;
 
-/// The most names of a path.
+/// How many names a path can have.
 pub const PATH_LIMIT: usize = 8;
 
-/// The names of a path, 1 to `PATH_LIMIT` of them; Name where it isn't such names joined by `/`.
+/// The names of a path, 1 to `PATH_LIMIT` of them; Name if the path doesn't consist of such names, joined by `/`.
 pub(crate) fn names_of(alloc: Global, path: &[u8]) -> Result<Sequence<Bytes>, TreeError>
     ensures { Names result (names_of path.now) }
 {
@@ -25,7 +25,7 @@ pub(crate) fn names_of(alloc: Global, path: &[u8]) -> Result<Sequence<Bytes>, Tr
     }
 }
 
-// What stands between the slashes.
+// The pieces of a path: the bytes between the slashes.
 fn pieces_of(alloc: Global, path: &[u8]) -> Result<Sequence<Bytes>, AllocError>
     ensures { IfOk result (λ ps. ps ≡ pieces path.now) }
 {
@@ -49,7 +49,7 @@ fn are_names(pieces: &[Bytes]) -> bool
     pieces.iter().all(|p| is_name(p.as_slice()))
 }
 
-// Whether these bytes are a name.
+// Whether these bytes are a valid name.
 fn is_name(name: &[u8]) -> bool
     ensures { result ≡ is_name name.now }
 {
@@ -65,7 +65,7 @@ fn has_name_bytes(name: &[u8]) -> bool
     name.iter().all(|b| *b != 0 && *b != b'/')
 }
 
-/// The law that a path's names are those that are the path, joined by `/`.
+/// The law that the names of a path are exactly those that give the path when they are joined by `/`.
 pub fn paths_are_joined_names()
     ensures { PathsAreJoinedNames }
 {}

@@ -2,28 +2,28 @@
 #[derive(Clone, Copy, Debug, PartialEq, Eq)]
 pub enum Delegations {
     None,
-    /// Read delegations alone.
+    /// Only read delegations.
     Read,
     All,
 }
 
-/// What the server takes a client's callback path for before it has used it.
+/// What the server assumes about the path to a client's callbacks before it has used the path.
 #[derive(Clone, Copy, Debug, PartialEq, Eq)]
 pub enum Callbacks {
-    /// It asks the path first.
+    /// Nothing: it tests the path first.
     Probe,
-    /// It takes the path to be up.
+    /// It assumes that the path works.
     Assume,
 }
 
-/// The server's choices.
+/// The choices that a document makes for the server.
 #[derive(Clone, Copy, Debug, PartialEq, Eq)]
 pub struct Policy {
     pub delegations: Delegations,
     pub callbacks: Callbacks,
 }
 
-/// The policy of a document without one.
+/// The policy if a document doesn't contain one.
 pub const DEFAULT_POLICY: Policy = Policy {
     delegations: Delegations::All,
     callbacks: Callbacks::Probe,

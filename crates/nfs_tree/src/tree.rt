@@ -7,22 +7,22 @@ use byteorder::{BigEndian, ByteOrder};
 use std::alloc::AllocError;
 use std::marker::Model;
 
-/// The number of the root.
+/// The number of the root node.
 pub const ROOT: u32 = 0;
 
-/// The most files.
+/// How many files a tree can have.
 pub const FILE_LIMIT: usize = 64;
 
-/// The most directories beside the root.
+/// How many directories a tree can have, not counting the root.
 pub const DIRECTORY_LIMIT: usize = 64;
 
-/// The most bytes of a file's text.
+/// The greatest length of a file's text in bytes.
 pub const TEXT_LIMIT: usize = 65_536;
 
-/// The bytes of a filehandle.
+/// The length of a filehandle in bytes.
 pub const HANDLE_LEN: usize = 8;
 
-/// A tree of directories and files. Its root is node 0 and a directory; the other nodes have the numbers from 1 on.
+/// A tree of directories and files. Its root is a directory, with number 0; the other nodes are numbered from 1 on.
 #[derive(Debug, Drop)]
 pub struct Tree {
     pub(crate) nodes: Vec<Node>,
@@ -52,7 +52,7 @@ impl Clone for Tree {
 }
 
 impl Tree {
-    /// How many nodes there are, the root among them: each lower number is a node.
+    /// How many nodes there are, including the root: their numbers are exactly those below this one.
     pub fn len(&self) -> u32
         ensures count { result ≡ node_count self.now.nodes }
         ensures few { result ≤ FILE_LIMIT + DIRECTORY_LIMIT + 1 }
@@ -60,21 +60,21 @@ impl Tree {
         self.nodes.len() as u32 + 1
     }
 
-    /// The nodes beside the root in order of their numbers, the first of them number 1.
+    /// The nodes other than the root in order of their numbers, starting with number 1.
     pub fn nodes(&self) -> &[Node]
         ensures { result.now ≡ self.now.nodes }
     {
         &self.nodes
     }
 
-    /// The server's choices.
+    /// The choices that the tree's document makes for the server.
     pub fn policy(&self) -> Policy
         ensures { result ≡ self.now.policy }
     {
         self.policy
     }
 
-    // The node of a number, if it is one beside the root.
+    // The node with this number, if there is one other than the root.
     fn node(&self, node: u32) -> Option<&Node>
         ensures { option_copied result ≡ node_at self.now.nodes node }
     {
@@ -82,14 +82,14 @@ impl Tree {
         self.nodes.get(place as usize)
     }
 
-    /// Whether this is the root or another directory.
+    /// Whether the node is a directory, as the root is.
     pub fn is_directory(&self, node: u32) -> bool
         ensures { result ≡ is_directory self.now.nodes node }
     {
         node == 0 || self.node(node).is_some_and(|n| n.kind.is_directory())
     }
 
-    /// The text that a file holds when the server opens; none of a directory or of no node.
+    /// The text that a file has when the server starts; `None` for a directory or if there is no such node.
     pub fn text(&self, node: u32) -> Option<&[u8]>
         ensures { option_map (λ t. t.now) result ≡ text_of self.now.nodes node }
     {
@@ -99,7 +99,8 @@ impl Tree {
         }
     }
 
-    /// The node of this name in a directory. Names are compared as bytes; in a file and in no node there is none.
+    /// The node with this name in a directory. Names are compared as bytes. `None` in a file or if there is no such
+    /// node.
     pub fn lookup(&self, node: u32, name: &[u8]) -> Option<u32>
         ensures child { result ≡ child self.now.nodes node name.now }
         ensures within { IfSome result (λ n. n < node_count self.now.nodes) }
@@ -119,7 +120,7 @@ impl Tree {
         handle
     }
 
-    /// The node of a filehandle, if it is one of a node of this tree.
+    /// The node of a filehandle, if it is the filehandle of a node in this tree.
     #[tactic(auto, unfolding(xdr::specs::Writing::written_number))]
     pub fn node_of(&self, handle: &[u8]) -> Option<u32>
         ensures value { result ≡ node_of self.now.nodes handle.now }
@@ -134,7 +135,7 @@ impl Tree {
     }
 }
 
-// The place of the first node with this parent and name.
+// The position of the first node with this parent and name.
 fn place_of(nodes: &[Node], parent: u32, name: &[u8]) -> Option<usize>
     ensures { result ≡ position (is_child parent name.now) nodes.now }
 {

@@ -5,28 +5,28 @@ ghost use Rattle.nfs_tree.specs.declared.tree_error.TreeError.TheVariants as err
 use std::alloc::AllocError;
 use thiserror::Error;
 
-/// Why a text makes no tree.
+/// Why a text doesn't describe a tree.
 #[derive(Clone, Copy, Debug, PartialEq, Eq, Error)]
 pub enum TreeError {
-    /// It is no TOML, or no document of the tree's keys.
+    /// The text isn't TOML, or isn't a document with the keys of a tree.
     #[error("the text is no document of a tree (1)")]
     Syntax = 1,
-    /// A path isn't 1 to 8 names.
+    /// A path doesn't consist of 1 to 8 valid names.
     #[error("a path is not 1 to 8 names (2)")]
     Name = 2,
     /// A text is too long, or there are too many files or directories.
     #[error("a text, the files or the directories are above their limit (3)")]
     TooMany = 3,
-    /// A path is taken by another node, or a file is on its way.
+    /// A path belongs to another node already, or a file is on the way to it.
     #[error("a path is taken by another node (4)")]
     Duplicate = 4,
-    /// Memory was refused.
+    /// Memory ran out.
     #[error("no memory (5)")]
     Memory = 5,
 }
 
 impl TreeError {
-    /// Its number, from 1 to 5.
+    /// The error's number, from 1 to 5.
     pub fn number(&self) -> u32
         ensures { result ≡ number_of self.now }
     {

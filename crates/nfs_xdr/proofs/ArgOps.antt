@@ -1,4 +1,4 @@
--- What is read at the front of a COMPOUND's list stands there, and what stands there is what is read.
+-- What is read at the front of a COMPOUND's list is what these bytes encode, and what they encode is read.
 use Rattle.std.proofs.Common.{◌≡◌, ◌≢◌, ℕ, ◌<◌, eqb, ltb, List, length, drop, Option, Some, None, Result, Ok, Err, refl, sym, ap, subst, ◌∙◌, inl, inr}
 use Rattle.std.specs.Prelude.{IfOk}
 use Rattle.std.proofs.lemmas.Bool.{eqb-true, ltb-true, lt-ltb}
@@ -22,7 +22,7 @@ use Rattle.xdr.specs.Switch.{case_at}
 use Rattle.xdr.specs.laws.Enumerations.{passes}
 use Rattle.xdr.specs.laws.Reads.{decided, lacks, reads_number}
 
--- an operation that has arguments to read
+-- an operation that this server implements
 abbrev IsRuled : Opnum → Type 0
 IsRuled o = class_of o ≢ OnNothing
 
@@ -41,7 +41,7 @@ op_read : (bytes rest : List ℕ) (number : ℕ) (o : Opnum) → number_at 4 byt
 unfolding op
 op_read bytes rest number o read e = rw (opnum_read bytes rest number o read e) refl
 
--- what is read, as what stands there
+-- the bytes encode what is read: this operation, followed by these bytes
 abbrev Stands : List ℕ → ArgOp × List ℕ → Type 0
 Stands bytes x = StandsAt bytes x.0 x.1
 
@@ -76,7 +76,7 @@ pub stands_if_ok : {X E : Type 0} (view : X → ArgOp × List ℕ) (bytes : List
 stands_if_ok view bytes (Ok x) e = subst (Stands bytes) (sym e) (arg_op_stands bytes)
 stands_if_ok view bytes (Err d) e = tt
 
--- What stands at the front is what is read there.
+-- What the bytes at the front encode is what is read there.
 by_begins : (bytes rest : List ℕ) (number : ℕ) → Begins (U32 number) bytes rest → number_at 4 bytes ≡ Ok (number, rest)
 by_begins bytes rest number begins = ap (number_at 4) begins.1 ∙ (reads_number 4).complete number begins.0 rest begins.2
 

@@ -1,4 +1,4 @@
--- What is read as a COMPOUND stands in its layout, and where none is read, none stands there.
+-- What is read as a COMPOUND matches its layout, and if nothing can be read, no COMPOUND matches it.
 use Rattle.std.proofs.Common.{◌≡◌, ℕ, zero, suc, Bool, true, false, cond, leb, eqb, List, [], ◌∷◌, Result, Ok, Err, refl, sym, ap, subst, ◌∙◌, inl, inr, ◌⊎◌}
 use Rattle.std.specs.Prelude.{IfOk, OnErr, MatchBool}
 use Rattle.std.proofs.lemmas.Bool.{eqb-true, leb-true, le-leb}
@@ -46,7 +46,7 @@ compound_stands bytes compound e =
     let stands : IsCompound (compound_of h.0) bytes = (h.0.0.1.0, h.0.0.1.1, h.0.1, begins, request_held h.0.0.1.0 h.0.0.1.1 h.0.1) in
     subst (λ (c : Compound). IsCompound c bytes) (ok_is (compound_of h.0) compound h.2) stands
 
--- What stands there is what is read.
+-- Operations that the bytes encode are what is read.
 more_complete : (count : ℕ) (b : Bool) (op : ArgOp) (ops : List ArgOp) (rest : List ℕ) → (HoldOperations count rest ops → operations_at count rest ≡ ops) → MatchBool b (ops ≡ []) (HoldOperations count rest ops) → op ∷ cond b [] (operations_at count rest) ≡ op ∷ ops
 more_complete count true op ops rest each none = rw none refl
 more_complete count false op ops rest each more = rw (each more) refl

@@ -1,4 +1,4 @@
--- The operation of a number, by its place in the list of operations.
+-- The operation of a number, by its position in the list of operations.
 use Rattle.std.proofs.Common.{◌≡◌, ℕ, ◌-◌, eqb, true, Option, Some, None, refl, sym, ap, ◌∙◌, inl, inr}
 use Rattle.std.specs.Prelude.{min, slice_index_or}
 use Rattle.std.specs.Bool.{then_some}
@@ -11,11 +11,11 @@ use Rattle.nfs_xdr.specs.operations.{known, number_of, opnum_of}
 use Rattle.nfs_xdr.proofs.ArgOps.{numbered}
 use Rattle.xdr.specs.laws.Reads.{decided}
 
--- the operation at the place of a number
+-- the operation at the position that belongs to a number
 abbrev pub at_place : ℕ → Opnum
 at_place number = slice_index_or OPNUMS (min (number - 3) 37) op.Access
 
--- each operation stands at the place of its number
+-- each operation is at the position that belongs to its number
 placed : (o : Opnum) → at_place (number_of o) ≡ o
 placed op.Illegal = refl
 placed (op.Unsupported without.Close) = refl

@@ -1,4 +1,4 @@
--- The numbers of statuses and operations fit their forms, and refusals are short.
+-- The numbers of statuses and operations fit their forms, and the results of unsupported operations are short.
 use Rattle.std.proofs.Common.{◌<◌, ◌≤◌, ◌^◌, length, arith}
 use Rattle.nfs_xdr.specs.declared.op_result.OpResult.TheVariants as results
 use Rattle.nfs_xdr.specs.declared.operations.Unsupported.{Unsupported}

@@ -1,4 +1,4 @@
--- The length of a bitmap's words.
+-- How many bytes the words of a bitmap take.
 use Rattle.std.proofs.Common.{◌≡◌, ℕ, ◌*◌, List, [], ◌∷◌, length, refl, arith}
 use Rattle.std.specs.List.{flat_map}
 use Rattle.std.proofs.lemmas.List.{length-append}

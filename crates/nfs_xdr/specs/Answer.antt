@@ -1,4 +1,5 @@
--- The results of operations behind their number (RFC 7531, nfs_resop4): a status, and what it brings.
+-- The results of operations without the operation's number (RFC 7531, nfs_resop4): a status, and the data that comes
+-- with it.
 use Rattle.std.proofs.Common.{refl}
 use Rattle.nfs_xdr.specs.declared.answer.Answer.{Answer}
 use Rattle.nfs_xdr.specs.declared.answer.Answer.TheVariants.{Done, Denied, ClidInUse, Refused}
@@ -57,7 +58,7 @@ answer done denied in_use =
     (answer_case done denied in_use) status_of (answer_arm done denied in_use)
     (answer_agrees done denied in_use) (answer_is_read done denied in_use)
 
--- Most operations bring something with NFS4_OK alone.
+-- The answer of an operation that returns data only with NFS4_OK, as most do.
 abbrev pub PlainAnswer : Type 0 → Type 0
 PlainAnswer A = Answer A (Unit {0}) (Unit {0})
 

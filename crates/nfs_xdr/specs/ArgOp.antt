@@ -1,5 +1,5 @@
--- What stands in the list of a COMPOUND (RFC 7530, section 15.2; RFC 7531, nfs_argop4): an operation with its arguments, or what
--- ends the list in its place.
+-- The entries in the list of a COMPOUND (RFC 7530, section 15.2; RFC 7531, nfs_argop4): an operation with its
+-- arguments, or an entry that ends the list because it can't be run.
 use Rattle.std.specs.Prelude.{◌≡◌, ◌≢◌, ℕ, ◌<◌, ◌⊎◌, Bool, true, false, List, length, Option, Some, None, Ok, Err}
 use Rattle.nfs_xdr.specs.declared.arg_op.ArgOp.{ArgOp}
 use Rattle.nfs_xdr.specs.declared.arg_op.ArgOp.TheVariants.{Run, BadArgs, Unsupported, Illegal}
@@ -13,7 +13,7 @@ use Rattle.xdr.specs.Layout.{U32}
 use Rattle.xdr.specs.Reading.{Read, Begins, number_at}
 use Rattle.xdr.specs.Switch.{case_at}
 
--- it isn't run, and nothing behind it is read
+-- an entry that isn't run, and after which nothing is read
 abbrev pub ends_list : ArgOp → Bool
 ends_list (Run o) = false
 ends_list (BadArgs o) = true
@@ -24,8 +24,8 @@ ends_list (Illegal number) = true
 abbrev pub LacksOp : List ℕ → Type 0
 LacksOp bytes = (o : Op) (rest : List ℕ) → Begins (op.layout o) bytes rest → ⊥
 
--- What stands at the front of the bytes, and the bytes behind it: an operation with its arguments, or a number alone, or, where
--- even that is missing, nothing.
+-- Which entry is at the front of the bytes, and the bytes after it: an operation with its arguments, or only a number,
+-- or, if there are fewer than four bytes, nothing.
 abbrev pub StandsAt : List ℕ → ArgOp → List ℕ → Type 0
 StandsAt bytes (Run o) rest = Begins (op.layout o) bytes rest
 StandsAt bytes (BadArgs o) rest =
@@ -35,7 +35,7 @@ StandsAt bytes (Unsupported o) rest = Begins (U32 (number_of (opnums.Unsupported
 StandsAt bytes (Illegal number) rest =
     Begins (U32 number) bytes rest × ((o : Opnum) → number_of o ≡ number → o ≡ opnums.Illegal)
 
--- Reading.
+-- How an entry is read: the operation, or BadArgs if its arguments can't be read.
 abbrev pub or_bad_arguments : Opnum → List ℕ → Read Op → ArgOp × List ℕ
 or_bad_arguments o rest (Ok x) = (Run x.0, x.1)
 or_bad_arguments o rest (Err e) = (BadArgs o, rest)

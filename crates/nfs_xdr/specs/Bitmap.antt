@@ -1,4 +1,4 @@
--- bitmap4 (RFC 7531): words of four bytes. Bit b is bit b mod 32 of word b / 32.
+-- bitmap4 (RFC 7531): words of four bytes. Bit b is bit (b mod 32) of word (b / 32), rounded down.
 use Rattle.std.specs.Prelude.{ℕ, List}
 use Rattle.xdr.specs.Form.{Form, many, u32}
 use Rattle.xdr.specs.Layout.{NO_LIMIT}

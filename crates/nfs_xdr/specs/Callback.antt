@@ -1,4 +1,4 @@
--- Where and how a client is called back (RFC 7530, section 2.2; RFC 7531).
+-- How and at which address the server calls a client back (RFC 7530, section 2.2; RFC 7531).
 use Rattle.std.proofs.Common.{refl}
 use Rattle.nfs_xdr.specs.declared.callback.Address.{Address}
 use Rattle.nfs_xdr.specs.declared.callback.Callback.{Callback}
@@ -9,7 +9,7 @@ unfoldable pub address : Form Address
 address = of (λ p. record { netid = p.0; addr = p.1 }) (λ a. (a.netid, a.addr)) (λ p. refl) (λ a. refl)
     (bytes and bytes)
 
--- struct cb_client4 { unsigned int cb_program; clientaddr4 cb_location; }; and the uint32_t callback_ident behind it
+-- struct cb_client4 { unsigned int cb_program; clientaddr4 cb_location; }; followed by uint32_t callback_ident
 unfoldable pub callback : Form Callback
 callback = of (λ p. record { program = p.0; address = p.1.0; ident = p.1.1 }) (λ c. (c.program, (c.address, c.ident)))
     (λ p. refl) (λ c. refl) (u32 and address and u32)

@@ -1,5 +1,5 @@
--- clientid4 (RFC 7530, section 9.1.1) is the u64 epoch x 2^32 + number: its upper four bytes are the epoch, and its lower four
--- the number.
+-- clientid4 (RFC 7530, section 9.1.1) is the u64 epoch x 2^32 + number: its upper four bytes are the epoch, and its
+-- lower four the number.
 use Rattle.std.proofs.Common.{refl}
 use Rattle.nfs_xdr.specs.declared.client_id.ClientId.{ClientId}
 use Rattle.xdr.specs.Form.{Form, ◌and◌, of, u32}

@@ -19,15 +19,16 @@ use Rattle.xdr.specs.Reading.{Begins, ◌>>=◌}
 abbrev pub head : Form (List ℕ × (ℕ × ℕ))
 head = opaque_bytes and u32 and u32
 
--- So many operations stand at the front, one after the other, or fewer where one of them ends the list.
--- What is behind them is ignored.
+-- The first `count` operations at the front of the bytes, one after the other, or fewer if one of them ends the list.
+-- Bytes after them are ignored.
 abbrev pub HoldOperations : ℕ → List ℕ → List ArgOp → Type 0
 HoldOperations zero bytes ops = ops ≡ []
 HoldOperations (suc count) bytes [] = ⊥
 HoldOperations (suc count) bytes (op ∷ ops) =
     (rest : List ℕ) × StandsAt bytes op rest × MatchBool (ends_list op) (ops ≡ []) (HoldOperations count rest ops)
 
--- What a minor version and a count ask for. Only version 0 is served, and no more than the limit.
+-- What a minor version and a count of operations ask for. Only version 0 is served, and no more operations than the
+-- limit.
 abbrev pub IsRequest : ℕ → ℕ → List ℕ → Request → Type 0
 IsRequest minor count bytes (MinorVersion other) = (minor ≡ other) × IsFalse (minor == 0)
 IsRequest minor count bytes (TooMany many) = (minor ≡ 0) × (count ≡ many) × IsFalse (nat_le count OPERATION_LIMIT)
@@ -39,7 +40,7 @@ IsCompound compound bytes =
     (minor : ℕ) × (count : ℕ) × (rest : List ℕ)
     × Begins (head.layout (compound.tag, (minor, count))) bytes rest × IsRequest minor count rest compound.request
 
--- Reading.
+-- How the operations are read: one, followed by the others unless it ends the list.
 abbrev pub or_more : ArgOp × List ℕ → (List ℕ → List ArgOp) → List ArgOp
 or_more x more = x.0 ∷ (if ends_list x.0 then [] else more x.1)
 
@@ -60,7 +61,7 @@ compound_at bytes =
 abbrev pub compound_result : Form (Status × (List ℕ × List OpResult))
 compound_result = status and opaque_bytes and many NO_LIMIT op_result
 
--- What is read is what stands there, so no bytes stand for two requests.
+-- A COMPOUND is read exactly if the bytes encode it, so no bytes encode two requests.
 abbrev pub OneCompoundStands : Type 0
 OneCompoundStands = (bytes : List ℕ) (compound : Compound) → (compound_at bytes ≡ Ok compound) ↔ IsCompound compound bytes
 

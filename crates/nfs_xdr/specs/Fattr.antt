@@ -1,4 +1,4 @@
--- fattr4 (RFC 7531): which attributes there are, and their values as opaque bytes.
+-- fattr4 (RFC 7531): a bitmap of the attributes that are given, and their values as opaque bytes.
 use Rattle.std.proofs.Common.{refl}
 use Rattle.nfs_xdr.specs.declared.fattr.Fattr.{Fattr}
 use Rattle.nfs_xdr.specs.Bitmap.{bitmap}

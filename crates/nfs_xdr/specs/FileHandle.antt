@@ -1,4 +1,4 @@
--- nfs_fh4 (RFC 7531).
+-- nfs_fh4 (RFC 7531): a filehandle.
 use Rattle.std.specs.Prelude.{ℕ, List}
 use Rattle.nfs_xdr.specs.declared.file_handle.TheConstants.{FILE_HANDLE_LIMIT}
 use Rattle.xdr.specs.Form.{Form, opaque}

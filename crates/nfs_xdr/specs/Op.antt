@@ -26,7 +26,7 @@ op_case opnums.SetclientidConfirm = case of.SetclientidConfirm.arguments ops.Set
 op_case (opnums.Unsupported o) = no_case
 op_case opnums.Illegal = no_case
 
--- its row: its number, and how it is written behind that
+-- an operation's row: its number, and how its arguments are written after the number
 abbrev row : (o : Opnum) → Content (op_case o) → Opnum × Arm Op
 row o content = (o, arm_in (op_case o) content)
 
@@ -60,10 +60,10 @@ op_is_read o = record { is = refl; reads = λ bytes. refl }
 unfoldable pub op : Form Op
 op = switch opnum op_case opnum_of op_arm op_agrees op_is_read
 
--- each answer but NFS4ERR_RESOURCE is an entry of the journal
+-- every answer of the operation except NFS4ERR_RESOURCE is an entry of the journal
 abbrev pub has_entry : Op → Bool
 has_entry o = is_on_state (class_of (opnum_of o))
 
--- it asks the tree of files and the filehandles alone
+-- the operation needs only the tree of files and the filehandles
 abbrev pub is_on_tree : Op → Bool
 is_on_tree o = is_of_tree (class_of (opnum_of o))

@@ -19,12 +19,12 @@ use Rattle.xdr.specs.Form.{Form, ◌and◌, nothing, constant}
 use Rattle.xdr.specs.Switch.{Case, Content, case, Arm, arm_in, Agrees, IsRead}
 use Rattle.xdr.specs.Union.{switch}
 
--- An operation without a rule has one result, NFS4ERR_NOTSUPP. SETATTR's has a bitmap behind it: an empty one.
+-- An unsupported operation has one result, NFS4ERR_NOTSUPP. In SETATTR's result a bitmap follows it, which is empty.
 abbrev pub unsupported_answer : UnsupportedOp → Form (Unit {0} × Unit {0})
 unsupported_answer unsupported.Setattr = constant 10004 and constant 0
 unsupported_answer o = constant 10004 and nothing
 
--- What an operation answers: how its result is read, and which one refuses it.
+-- The results of an operation: how its result is read, and its result for a refusal.
 pub record Outcomes : Type 1 where
   pub read : Case OpResult
   pub refused : Refusal → OpResult
@@ -32,7 +32,7 @@ pub record Outcomes : Type 1 where
 abbrev outcomes : {A D C : Type 0} → Form (Answer A D C) → (Answer A D C → OpResult) → Outcomes
 outcomes form make = record { read = case form make; refused = λ r. make (Refused r) }
 
--- union nfs_resop4 switch (nfs_opnum4 resop). An operation without a rule has but one result.
+-- union nfs_resop4 switch (nfs_opnum4 resop). An unsupported operation has only one result.
 abbrev pub outcomes_of : Opnum → Outcomes
 outcomes_of opnums.Access = outcomes of.Access.result results.Access
 outcomes_of opnums.Getattr = outcomes of.Getattr.result results.Getattr
@@ -54,7 +54,7 @@ outcomes_of opnums.Illegal = outcomes (answer.plain_answer nothing) results.Ille
 abbrev pub result_case : Opnum → Case OpResult
 result_case o = (outcomes_of o).read
 
--- A result's row: whose it is, its status, and how it is written behind its number.
+-- A result's row: its operation, its status, and how it is written after the operation's number.
 pub record Row : Type 1 where
   pub opnum : Opnum
   pub status : Status
@@ -98,6 +98,6 @@ result_is_read r = record { is = refl; reads = λ bytes. refl }
 unfoldable pub op_result : Form OpResult
 op_result = switch opnum result_case opnum_of result_arm result_agrees result_is_read
 
--- The result of an operation that is refused with this status.
+-- The result of an operation that is refused with the given status.
 abbrev pub refusal_of : Opnum → Refusal → OpResult
 refusal_of o = (outcomes_of o).refused

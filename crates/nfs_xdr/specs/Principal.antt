@@ -3,7 +3,7 @@ use Rattle.std.specs.Prelude.{Bool, true, false, ◌==◌}
 use Rattle.nfs_xdr.specs.declared.principal.Principal.{Principal}
 use Rattle.nfs_xdr.specs.declared.principal.Principal.TheVariants.{AuthNone, AuthSys}
 
--- the two are one principal
+-- the two principals are the same
 abbrev pub is_same_principal : Principal → Principal → Bool
 is_same_principal AuthNone AuthNone = true
 is_same_principal AuthNone (AuthSys uid) = false

@@ -46,7 +46,7 @@ number_of Denied = 10010
 number_of ClidInUse = 10017
 number_of (Refused r) = number_of_refusal r
 
--- the status of a number, if it has one
+-- the status that has this number, if there is one
 abbrev pub status_of : ℕ → Option Status
 status_of number = find (λ s. number_of s == number) STATUSES
 

@@ -1,4 +1,4 @@
--- verifier4 (RFC 7531).
+-- verifier4 (RFC 7531): eight bytes.
 use Rattle.std.proofs.Common.{refl}
 use Rattle.nfs_xdr.specs.declared.verifier.Verifier.{Verifier}
 use Rattle.xdr.specs.Form.{Form, of, fixed}

@@ -1,5 +1,5 @@
--- The operations of NFSv4.0: the number of each, what it is asked of, and the room of its reply (RFC 7530, section 16; RFC 7531,
--- nfs_opnum4).
+-- The operations of NFSv4.0: the number of each, what it works on, and the room of its reply (RFC 7530, section 16; RFC
+-- 7531, nfs_opnum4).
 use Rattle.std.specs.Prelude.{◌≡◌, ℕ, Bool, true, false, Option, Some, ◌==◌}
 use Rattle.std.proofs.Common.{refl}
 use Rattle.std.specs.List.{find}
@@ -51,7 +51,7 @@ number_of_unsupported without.Verify = 37
 number_of_unsupported without.Write = 38
 number_of_unsupported without.ReleaseLockowner = 39
 
--- its row in the list: its number, and what it is asked of
+-- an operation's row in the list: its number, and what it works on
 abbrev pub row_of : Opnum → ℕ × Class
 row_of op.Access = (3, OnTree)
 row_of op.Getattr = (9, OnState)
@@ -82,11 +82,11 @@ is_of_tree OnTree = true
 is_of_tree OnState = false
 is_of_tree OnNothing = false
 
--- the room that its reply may take
+-- the room that has to be left in the reply for the operation's result
 abbrev pub room_of : Opnum → ℕ
 room_of o = 2_048
 
--- the operation of a number, if there is one
+-- the operation that has this number, if there is one
 abbrev pub opnum_of : ℕ → Option Opnum
 opnum_of number = find (λ o. number_of o == number) OPNUMS
 

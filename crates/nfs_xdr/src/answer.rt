@@ -5,7 +5,8 @@ use crate::{Refusal, Status};
 use std::alloc::Global;
 use xdr::{Measure, Wire, WireError, write_two};
 
-/// What an operation answers: a status, and what the operation brings with it. Most bring something with NFS4_OK alone.
+/// The answer of an operation: a status, and the data that comes with it. Most operations return data only with
+/// NFS4_OK.
 #[derive(Clone, Debug, PartialEq, Drop)]
 pub enum Answer<T, D = (), C = ()> {
     /// NFS4_OK.
@@ -14,7 +15,7 @@ pub enum Answer<T, D = (), C = ()> {
     Denied(D),
     /// NFS4ERR_CLID_INUSE.
     ClidInUse(C),
-    /// Any other status, which brings nothing.
+    /// Any other status, which comes without data.
     Refused(Refusal),
 }
 

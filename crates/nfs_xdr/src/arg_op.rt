@@ -8,20 +8,20 @@ use crate::{Op, Opnum, Unsupported};
 use std::alloc::{AllocError, Global};
 use xdr::{WireError, read_u32};
 
-/// What stands in the list of a COMPOUND: an operation to run, or what ends the list in its place.
+/// An entry in the list of a COMPOUND: an operation to run, or an entry that ends the list because it can't be run.
 #[derive(Clone, Debug, PartialEq, Drop)]
 pub enum ArgOp {
     Run(Op),
-    /// The arguments of this operation can't be read; `Opnum::Illegal` where its number can't.
+    /// The arguments of this operation can't be read. It is `Opnum::Illegal` if even the operation's number can't.
     BadArgs(Opnum),
-    /// This server has no rule for the operation.
+    /// This server doesn't implement the operation.
     Unsupported(Unsupported),
-    /// A number of no operation.
+    /// A number that no operation has.
     Illegal(u32),
 }
 
 impl ArgOp {
-    /// Whether it ends the list: it isn't run, and nothing behind it is read.
+    /// Whether the entry ends the list: it isn't run, and nothing after it is read.
     pub fn ends_list(&self) -> bool
         ensures { result ≡ arg_ops.ends_list self.now }
     {
@@ -32,7 +32,8 @@ impl ArgOp {
     }
 }
 
-/// What stands at the front of the list, and the bytes behind it. Only memory can be refused: what can't be read ends the list.
+/// The entry at the front of the list, and the bytes after it. Fails only if memory runs out: an entry that can't be
+/// read ends the list instead.
 pub fn read_op(alloc: Global, bytes: &[u8]) -> Result<(ArgOp, &[u8]), AllocError>
     ensures stands { IfOk result (λ x. StandsAt bytes.now x.0 x.1.now) }
     ensures reads { IfOk result (λ x. (x.0, x.1.now) ≡ arg_op_at bytes.now) }

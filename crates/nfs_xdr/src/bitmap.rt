@@ -6,8 +6,8 @@ use std::alloc::{AllocError, Global};
 use std::marker::Model;
 use xdr::{Measure, NO_LIMIT, Sequence, Wire, WireError, write_many};
 
-/// A set of attributes (bitmap4): bit b is bit b mod 32 of word b / 32. Contracts see the list of the words, so that
-/// other zero words at the end are another value.
+/// A set of attributes (bitmap4): bit b is bit (b mod 32) of word (b / 32), rounded down. Contracts see the list of the
+/// words, so bitmaps that differ only in the number of zero words at the end are different values.
 #[derive(Debug, Drop)]
 pub struct Bitmap {
     words: SmallVec<u32, 2>,
@@ -22,7 +22,7 @@ impl Model for Bitmap {
 }
 
 impl Bitmap {
-    /// These words, taking no memory.
+    /// A bitmap of these words, taking no memory.
     pub fn new(words: Vec<u32>) -> Bitmap
         ensures { result ≡ words.items }
     {

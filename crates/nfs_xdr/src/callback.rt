@@ -3,22 +3,22 @@ ghost use Rattle.nfs_xdr.specs.Callback as forms;
 use std::alloc::Global;
 use xdr::{Bytes, Measure, Wire, WireError, write_three, write_two};
 
-/// Where a client takes callbacks: a transport and an address on it (clientaddr4; RFC 7530, section 2.2).
+/// Where a client receives callbacks: a transport and an address on it (clientaddr4; RFC 7530, section 2.2).
 #[derive(Clone, Debug, PartialEq, Drop)]
 pub struct Address {
-    /// The transport's name, r_netid, as `tcp`.
+    /// The transport's name, r_netid, such as `tcp`.
     pub netid: Bytes,
-    /// The universal address, r_addr, as `127.0.0.1.8.1`.
+    /// The universal address, r_addr, such as `127.0.0.1.8.1`.
     pub addr: Bytes,
 }
 
-/// How a client is called back (cb_client4 and the callback_ident beside it).
+/// How the server calls a client back (cb_client4, and the callback_ident that follows it).
 #[derive(Clone, Debug, PartialEq, Drop)]
 pub struct Callback {
     /// The RPC program of the callbacks.
     pub program: u32,
     pub address: Address,
-    /// The number that each callback carries.
+    /// The callback_ident, which the server sends in each callback.
     pub ident: u32,
 }
 

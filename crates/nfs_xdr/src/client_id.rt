@@ -4,10 +4,10 @@ ghost use Rattle.xdr.specs.Reading.{Answers};
 use std::alloc::Global;
 use xdr::{Measure, Wire, WireError, write_two};
 
-/// A clientid (clientid4; RFC 7530, section 9.1.1): on the wire the number epoch x 2^32 + number.
+/// A clientid (clientid4; RFC 7530, section 9.1.1), written as the number epoch x 2^32 + number.
 #[derive(Clone, Copy, Debug, PartialEq, Eq)]
 pub struct ClientId {
-    /// The server's run.
+    /// The number of the server's run.
     pub epoch: u32,
     /// The client's number in that run, from 1.
     pub number: u32,

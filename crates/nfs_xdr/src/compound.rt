@@ -9,7 +9,7 @@ use crate::{ArgOp, OpResult, Status};
 use std::alloc::{AllocError, Global};
 use xdr::{Bytes, NO_LIMIT, Sequence, WireError, read_opaque, read_u32, write_three};
 
-/// The most operations of a COMPOUND.
+/// The greatest number of operations in a COMPOUND.
 pub const OPERATION_LIMIT: u32 = 64;
 
 /// The arguments of a COMPOUND (RFC 7530, section 15.2).
@@ -25,21 +25,21 @@ pub struct Compound {
 pub enum Request {
     /// A minor version other than 0.
     MinorVersion(u32),
-    /// More operations than the limit of 64: this count.
+    /// More operations than the limit of 64; this is their count.
     TooMany(u32),
-    /// The operations, up to the first that ends the list.
+    /// The operations, up to the first one that ends the list.
     Operations(Sequence<ArgOp>),
 }
 
 /// Reads the arguments of a COMPOUND; bytes after them are ignored. Short where the tag, the minor version or
 /// the count can't be read; a tag has no limit, so TooLong never comes.
 pub fn read_compound(alloc: Global, bytes: &[u8]) -> Result<Compound, WireError>
-    // What is read stands in the layout. Where nothing is, nothing there does, or memory was refused.
+    // What is read matches the layout. On an error no COMPOUND matches it, or memory ran out.
     ensures stands { IfOk result (λ compound. IsCompound compound bytes.now) }
     ensures none { OnErr result
         ((result ≡ Err WireError.Memory) ⊎ ((compound : Compound) → IsCompound compound bytes.now → ⊥)) }
     ensures reads { Gives (λ compound. compound) result (compound_at bytes.now) }
-    // Memory is wanted only where the tag, the minor version and the count are there.
+    // Memory is reported only if the tag, the minor version and the count are there.
     ensures memory { IsErrOf result WireError.Memory → IsOk (head.at bytes.now) }
 {
     compound_from(alloc, bytes)
@@ -56,7 +56,7 @@ fn compound_from(alloc: Global, bytes: &[u8]) -> Result<Compound, WireError>
     Ok(Compound { tag, request })
 }
 
-// The tag, lent, the minor version and the count.
+// The tag, borrowed, the minor version and the count of operations, and the bytes after them.
 fn read_head(bytes: &[u8]) -> Result<((&[u8], (u32, u32)), &[u8]), WireError>
     ensures { Answers (λ x. ((x.0.0.now, x.0.1), x.1.now)) result (head.at bytes.now) }
 {
@@ -78,11 +78,11 @@ fn read_request(alloc: Global, minor: u32, count: u32, bytes: &[u8]) -> Result<R
     Ok(Request::Operations(read_operations(alloc, count, bytes)?))
 }
 
-// The operations at the front, up to the count or to one that ends the list.
+// The operations at the front, as many as the count says, or up to the first one that ends the list.
 fn read_operations(alloc: Global, count: u32, bytes: &[u8]) -> Result<Sequence<ArgOp>, AllocError>
     ensures { IfOk result (λ ops. ops ≡ operations_at count bytes.now) }
 {
-    // Each begins with a number of four bytes, so that a false count takes little memory.
+    // Each operation takes at least four bytes, so a false count doesn't take much memory.
     let most = (count as usize).min(bytes.len() / 4);
     let mut ops = Vec::with_capacity(alloc, most)?;
     let mut rest = bytes;
@@ -112,7 +112,8 @@ pub fn write_results(
     write_three(out, &status, tag, results)
 }
 
-/// What stands in the list of a COMPOUND, and the request that the arguments of one are, is what is read there.
+/// An entry in the list of a COMPOUND, and the arguments of a COMPOUND, are read as a value exactly if the bytes encode
+/// that value.
 pub fn one_request_stands()
     ensures operation { OneOperationStands }
     ensures compound { OneCompoundStands }

@@ -4,8 +4,8 @@ use crate::Bitmap;
 use std::alloc::Global;
 use xdr::{Bytes, Measure, Wire, WireError, write_two};
 
-/// Attributes of a file (fattr4; RFC 7530, section 5): which there are, and their values, each in its own form, one
-/// after the other in rising order of their numbers.
+/// Attributes of a file (fattr4; RFC 7530, section 5): which ones are given, and their values, each in its own form,
+/// one after the other in increasing order of the attributes' numbers.
 #[derive(Clone, Debug, PartialEq, Drop)]
 pub struct Fattr {
     pub mask: Bitmap,

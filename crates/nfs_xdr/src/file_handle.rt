@@ -6,10 +6,11 @@ use std::alloc::{AllocError, Global};
 use std::marker::Model;
 use xdr::{Measure, Wire, WireError, padding_of, read_opaque, write_opaque};
 
-/// The most bytes of a filehandle (NFS4_FHSIZE).
+/// The greatest length of a filehandle in bytes (NFS4_FHSIZE).
 pub const FILE_HANDLE_LIMIT: usize = 128;
 
-/// A filehandle (nfs_fh4): up to 128 bytes that only the server reads. It takes no memory. Contracts see the bytes.
+/// A filehandle (nfs_fh4): up to 128 bytes that only the server interprets. It takes no memory. Contracts see the
+/// bytes.
 #[derive(Debug, Drop)]
 pub struct FileHandle {
     bytes: [u8; FILE_HANDLE_LIMIT],
@@ -28,7 +29,7 @@ impl Model for FileHandle {
 }
 
 impl FileHandle {
-    /// These bytes, or none where they are more than 128.
+    /// A filehandle of these bytes, or `None` if there are more than 128.
     pub fn new(items: &[u8]) -> Option<FileHandle>
         ensures some { IfSome result (λ h. h ≡ items.now) }
         ensures none { IfNone result (FILE_HANDLE_LIMIT < length items.now) }

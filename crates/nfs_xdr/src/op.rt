@@ -49,7 +49,7 @@ macro_rules! write_op_of {
     };
 }
 
-/// An operation of a COMPOUND that this server has a rule for, with its arguments (nfs_argop4).
+/// An operation of a COMPOUND that this server implements, with its arguments (nfs_argop4).
 #[derive(Clone, Debug, PartialEq, Drop)]
 pub enum Op {
     Access(of::access::Arguments),
@@ -71,21 +71,22 @@ impl Op {
         each_operation!(opnum_of_op self)
     }
 
-    /// Whether it is answered by a rule over the state, so that each answer but NFS4ERR_RESOURCE is an entry of the journal.
+    /// Whether the operation works on the state, so that every answer except NFS4ERR_RESOURCE is an entry of the
+    /// journal.
     pub fn has_entry(&self) -> bool
         ensures { result ≡ ops.has_entry self.now }
     {
         self.opnum().class() == Class::OnState
     }
 
-    /// Whether it is asked of the tree of files and the filehandles alone.
+    /// Whether the operation needs only the tree of files and the filehandles.
     pub fn is_on_tree(&self) -> bool
         ensures { result ≡ ops.is_on_tree self.now }
     {
         self.opnum().class() == Class::OnTree
     }
 
-    /// The operation of a number by its arguments at the front, and the bytes behind them.
+    /// Reads the arguments of an operation, and returns the operation and the bytes after it.
     pub fn read_arguments(
         alloc: Global,
         opnum: Opnum,

@@ -13,7 +13,7 @@ use crate::{Answer, Opnum, Refusal, Status, Unsupported, operations as of};
 use std::alloc::Global;
 use xdr::{Measure, Wire, WireError, read_constant, write_three, write_two};
 
-// What is so of the answer within the result.
+// Matches a result, and evaluates an expression over the answer inside it.
 macro_rules! of_answer {
     (
         [$($X:ident = $n:literal $c:ident,)*]
@@ -97,14 +97,14 @@ pub enum OpResult {
     Savefh(of::savefh::Outcome),
     Setclientid(of::setclientid::Outcome),
     SetclientidConfirm(of::setclientid_confirm::Outcome),
-    /// NFS4ERR_NOTSUPP of an operation without a rule.
+    /// NFS4ERR_NOTSUPP, the result of an operation that this server doesn't implement.
     Unsupported(Unsupported),
-    /// The status of an operation that doesn't exist.
+    /// The result for an operation that doesn't exist.
     Illegal(Answer<()>),
 }
 
 impl OpResult {
-    /// The operation whose result it is.
+    /// The operation that this is a result of.
     pub fn opnum(&self) -> Opnum
         ensures { result ≡ opnum_of self.now }
     {
@@ -121,7 +121,7 @@ impl OpResult {
         )
     }
 
-    // The result of an operation by what follows its number.
+    // Reads what follows the operation's number in a result.
     fn read_answer(
         alloc: Global,
         opnum: Opnum,
@@ -134,7 +134,7 @@ impl OpResult {
 }
 
 impl Opnum {
-    /// The result of the operation where it is refused with this status. One without a rule has but one result.
+    /// The result of the operation if it is refused with this status. An unsupported operation has only one result.
     #[tactic(auto, using(crate::proofs::Refusals::unsupported_fits, crate::proofs::Refusals::unsupported_len, crate::proofs::Refusals::refusal_fits), unfolding(crate::specs::OpResult::op_result, crate::specs::operations::opnum, crate::specs::Answer::answer, crate::specs::Status::status, xdr::specs::Writing::written_number))]
     pub fn refusal(self, refusal: Refusal) -> OpResult
         ensures value { result ≡ refusal_of self refusal }

@@ -1,5 +1,5 @@
-//! The list of operations: their numbers, what they are asked of, and the room of their replies; and the arguments and results of
-//! each.
+//! The list of operations: their numbers, what they work on, and the room of their replies; and the arguments and
+//! results of each.
 
 ghost use Rattle.std.specs.Prelude.{◌≡◌};
 ghost use Rattle.nfs_xdr.specs.operations as opnums;
@@ -20,7 +20,8 @@ pub mod savefh;
 pub mod setclientid;
 pub mod setclientid_confirm;
 
-// The operations with a rule, a row each: the name, the number, and what it is asked of. Those with arguments come first.
+// The implemented operations, one row each: the name, the number, and what it works on. Those with arguments come
+// first.
 macro_rules! each_operation {
     ($then:ident $($given:tt)*) => {
         $then!(
@@ -45,7 +46,7 @@ macro_rules! each_operation {
 
 pub(crate) use each_operation;
 
-/// The operations of NFSv4.0 that this server has no rule for, by their numbers.
+/// The operations of NFSv4.0 that this server doesn't implement, with their numbers.
 #[derive(Clone, Copy, Debug, PartialEq, Eq)]
 pub enum Unsupported {
     Close = 4,
@@ -98,20 +99,20 @@ pub enum Opnum {
     Savefh,
     Setclientid,
     SetclientidConfirm,
-    /// An operation without a rule.
+    /// An operation that this server doesn't implement.
     Unsupported(Unsupported),
-    /// The number under which operations that don't exist are answered.
+    /// The operation whose number is written in the answer to an operation that doesn't exist.
     Illegal,
 }
 
-/// What an operation is asked of.
+/// What an operation works on.
 #[derive(Clone, Copy, Debug, PartialEq, Eq)]
 pub enum Class {
-    /// The tree of files and the filehandles alone.
+    /// Only the tree of files and the filehandles.
     OnTree,
-    /// The state, by a rule: each answer but NFS4ERR_RESOURCE is an entry of the journal.
+    /// The state: every answer except NFS4ERR_RESOURCE is an entry of the journal.
     OnState,
-    /// Nothing: it has no rule, and isn't run.
+    /// Nothing: this server doesn't implement it, and doesn't run it.
     OnNothing,
 }
 
@@ -136,10 +137,10 @@ macro_rules! class_of_opnum {
     };
 }
 
-// The least number of an operation.
+// The smallest number of an operation.
 const FIRST_NUMBER: u32 = 3;
 
-/// Every operation: those of the numbers from 3 to 39 in their order, and then `Illegal`.
+/// Every operation: those with the numbers from 3 to 39 in this order, and then `Illegal`.
 pub const OPNUMS: [Opnum; 38] = [
     Opnum::Access,
     Opnum::Unsupported(Unsupported::Close),
@@ -182,14 +183,14 @@ pub const OPNUMS: [Opnum; 38] = [
 ];
 
 impl Opnum {
-    /// Its number on the wire.
+    /// The operation's number on the wire.
     pub fn number(self) -> u32
         ensures { result ≡ number_of self }
     {
         each_operation!(number_of_opnum self)
     }
 
-    /// The operation of a number, if there is one.
+    /// The operation that has this number, if there is one.
     pub fn from_number(number: u32) -> Option<Opnum>
         ensures { result ≡ opnum_of number }
     {
@@ -198,14 +199,14 @@ impl Opnum {
         (opnum.number() == number).then_some(opnum)
     }
 
-    /// What it is asked of.
+    /// What the operation works on.
     pub fn class(self) -> Class
         ensures { result ≡ class_of self }
     {
         each_operation!(class_of_opnum self)
     }
 
-    /// The room in the reply that it is run only with.
+    /// The room that has to be left in the reply for the operation to be run.
     pub fn room(self) -> usize
         ensures { result ≡ room_of self }
     {

@@ -12,7 +12,7 @@ pub enum Principal {
 impl Principal {
     ghost use Rattle.nfs_xdr.specs.Principal.{is_same_principal};
 
-    /// Whether the two are one principal.
+    /// Whether the two principals are the same.
     pub fn is(self, other: Principal) -> bool
         ensures { result ≡ is_same_principal self other }
     {

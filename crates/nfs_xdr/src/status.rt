@@ -6,7 +6,7 @@ ghost use Rattle.xdr.specs.Reading.{Answers};
 use std::alloc::Global;
 use xdr::{Wire, WireError, read_u32, write_u32};
 
-/// A status that brings nothing with it, whatever the operation (nfsstat4), with its number on the wire.
+/// A status without further data, whatever the operation (nfsstat4), with its number on the wire.
 #[derive(Clone, Copy, Debug, PartialEq, Eq)]
 pub enum Refusal {
     NoEnt = 2,
@@ -47,15 +47,15 @@ impl Refusal {
     }
 }
 
-/// The status of an operation or of a COMPOUND (nfsstat4). Those that bring something with them, of some operation, are apart
-/// from refusals, so that no refusal can say them.
+/// The status of an operation or of a COMPOUND (nfsstat4). Statuses with which some operation returns data are separate
+/// from refusals, so that a refusal can't be one of them.
 #[derive(Clone, Copy, Debug, PartialEq, Eq)]
 pub enum Status {
     /// NFS4_OK.
     Ok,
-    /// NFS4ERR_DENIED: LOCK's and LOCKT's results tell which lock is in the way.
+    /// NFS4ERR_DENIED: the results of LOCK and LOCKT give the conflicting lock.
     Denied,
-    /// NFS4ERR_CLID_INUSE: SETCLIENTID's result tells where the client with the id is called back.
+    /// NFS4ERR_CLID_INUSE: the result of SETCLIENTID gives the address at which the client with the id is called back.
     ClidInUse,
     Refused(Refusal),
 }
@@ -96,7 +96,7 @@ pub const STATUSES: [Status; 31] = [
 ];
 
 impl Status {
-    /// Its number on the wire.
+    /// The status's number on the wire.
     pub fn number(self) -> u32
         ensures { result ≡ number_of self }
     {
@@ -108,7 +108,7 @@ impl Status {
         }
     }
 
-    /// The status of a number, if it has one.
+    /// The status that has this number, if there is one.
     pub fn from_number(number: u32) -> Option<Status>
         ensures { result ≡ status_of number }
     {

@@ -4,7 +4,7 @@ ghost use Rattle.xdr.specs.Reading.{Answers};
 use std::alloc::Global;
 use xdr::{Wire, WireError, read_fixed};
 
-/// Eight bytes that tell one start of a client from another (verifier4).
+/// Eight bytes that distinguish one start of a client from another (verifier4).
 #[derive(Clone, Copy, Debug, PartialEq, Eq)]
 pub struct Verifier(pub [u8; 8]);
 

@@ -5,11 +5,11 @@ use Rattle.xdr.specs.declared.wire_error.WireError.{WireError}
 use Rattle.xdr.specs.declared.wire_error.WireError.TheVariants as errors
 use Rattle.xdr.specs.Reading.{Read, Fails, ◌>>=◌, each_at}
 
--- the values of the one list, and then those that are read
+-- the values of a list, followed by those that are read
 abbrev pub and_then : {A : Type 0} → List A → Read (List A) → Read (List A)
 and_then front r = r >>= λ values. Ok (front ++ values.0, values.1)
 
--- a value before those that are read
+-- one value, followed by those that are read
 abbrev one_and : {A : Type 0} → A → Read (List A) → Read (A × List A)
 one_and value r = r >>= λ b. Ok ((value, b.0), b.1)
 

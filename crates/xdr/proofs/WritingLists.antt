@@ -8,7 +8,7 @@ use Rattle.std.proofs.lemmas.List.Folds.{length-flat_map-take}
 use Rattle.xdr.specs.declared.wire_error.WireError.{WireError}
 use Rattle.xdr.specs.Writing.{Writes}
 
--- Writing fails at one of the values, and what was written before is taken back.
+-- Writing fails at one of the values, and what was written before it is removed again.
 pub fails_at : {A : Type 0} (spelling : A → List ℕ) (Fits : A → Type 0) (old mid new back : Vec ℕ) (values : List A) (i : ℕ) (value : A) (e : WireError) → i < length values → value ≡ get_or values i value
     → mid.items ≡ old.items ++ flat_map spelling (take i values) → vec_capacity old ≤ vec_capacity mid → back.items ≡ take (vec_len old) new.items → vec_capacity back ≡ vec_capacity new
     → Writes {T = Unit {0}} mid new (Err e) (spelling value) (Fits value) → Writes {T = Unit {0}} old back (Err e) (flat_map spelling values) (All Fits values)

@@ -1,5 +1,5 @@
--- The form of a type on the wire (RFC 4506): all that there is to say of its bytes, in one record. Forms are put together
--- from those below, so that the form of a record reads as its declaration in XDR.
+-- The form of a type on the wire (RFC 4506): everything there is to say about its bytes, in one record. Larger forms
+-- are built from the ones below, so that the form of a record reads like its declaration in XDR.
 use Rattle.std.specs.Prelude.{◌≡◌, ℕ, ◌^◌, ◌<◌, ◌≤◌, ◌==◌, Bool, Some, List, [], ◌++◌, length, Ok}
 use Rattle.std.specs.List.{All, find}
 use Rattle.xdr.specs.Layout.{◌⨾◌, Nothing, Number, U32, Flag, Fixed, Opaque, Many, NO_LIMIT}
@@ -11,17 +11,17 @@ use Rattle.xdr.specs.laws.Enumerations.{reads_value}
 use Rattle.xdr.specs.laws.Lists.{reads_many, many_stand}
 
 pub record Form (A : Type 0) : Type 1 where
-  -- which bytes stand for a value, with any padding
+  -- which bytes encode a value, with any padding
   pub layout : A → List ℕ → Type 0
-  -- the value at the front of bytes, and the bytes behind it
+  -- the value at the front of the bytes, and the bytes after it
   pub at : List ℕ → Read A
   -- the bytes that are written for a value, with zero padding
   pub spelling : A → List ℕ
-  -- the value can be written: its numbers and lengths are within what the form can say
+  -- the value can be written: its numbers and lengths are within what the form can express
   pub Fits : A → Type 0
-  -- what is read stands in the layout, and what stands in it is read, whatever follows
+  -- what is read matches the layout, and whatever matches the layout is read, no matter which bytes follow
   pub reads : Reads layout at
-  -- what is written stands in the layout
+  -- what is written matches the layout
   pub stands : (value : A) → Fits value → layout value (spelling value)
 
 -- void
@@ -35,7 +35,7 @@ nothing = record {
   stands = nothing_stands;
 }
 
--- a number of so many bytes
+-- a number of `count` bytes, high byte first
 abbrev pub number : ℕ → Form ℕ
 number count = record {
   layout = Number count;
@@ -65,7 +65,7 @@ flag = record {
   stands = λ b fits. flag_stands b;
 }
 
--- opaque value[count], of a count that is a multiple of four, so that no padding follows
+-- opaque value[count], where count is a multiple of four, so that no padding follows
 abbrev pub fixed : ℕ → Form (List ℕ)
 fixed count = record {
   layout = Fixed count;
@@ -102,7 +102,7 @@ many limit f = record {
   stands = λ values fits. many_stand limit f.layout f.spelling f.Fits f.stands values fits.0 fits.1 fits.2;
 }
 
--- the one, and then the other
+-- a value of the first form, and then one of the second
 infixr 5 ◌and◌
 abbrev pub ◌and◌ : {A B : Type 0} → Form A → Form B → Form (A × B)
 f and g = record {
@@ -114,7 +114,7 @@ f and g = record {
   stands = both_stand f.layout g.layout f.spelling g.spelling f.Fits g.Fits f.stands g.stands;
 }
 
--- a record of the fields that have this form: `make` and `fields` undo one another
+-- a record whose fields have this form: `make` and `fields` are each other's inverse
 abbrev pub of : {A B : Type 0} → (make : A → B) (fields : B → A) → ((a : A) → fields (make a) ≡ a) → ((b : B) → make (fields b) ≡ b) → Form A → Form B
 of make fields back again f = record {
   layout = λ b. f.layout (fields b);
@@ -125,7 +125,7 @@ of make fields back again f = record {
   stands = λ b fits. f.stands (fields b) fits;
 }
 
--- enum: the values, each of which is found by its number
+-- enum: these values, each of which is found by its number
 abbrev pub enumeration : {A : Type 0} → (number_of : A → ℕ) (values : List A) → ((value : A) → find (λ v. number_of v == number_of value) values ≡ Some value) → Form A
 enumeration number_of values known = record {
   layout = λ value. U32 (number_of value);
@@ -136,7 +136,7 @@ enumeration number_of values known = record {
   stands = λ value fits. number_stands 4 (number_of value) fits;
 }
 
--- a number that is always this one
+-- a number that always has this value
 abbrev pub constant : ℕ → Form (Unit {0})
 constant n = record {
   layout = λ v. U32 n;

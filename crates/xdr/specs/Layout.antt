@@ -1,8 +1,8 @@
--- Which bytes stand for a value (RFC 4506). Numbers are big-endian.
+-- Which bytes encode a value (RFC 4506). Numbers are big-endian.
 use Rattle.std.specs.Prelude.{◌≡◌, ℕ, ◌-◌, ◌^◌, ◌%◌, ◌≤◌, Bool, List, [], ◌∷◌, ◌++◌, length, if◌then◌else◌}
 use Rattle.byteorder.specs.Endian.{big_number}
 
--- the front of the bytes stands in the one layout, and the back in the other
+-- the front of the bytes matches the first layout, and the back matches the second
 infixr 5 ◌⨾◌
 abbrev pub ◌⨾◌ : (List ℕ → Type 0) → (List ℕ → Type 0) → List ℕ → Type 0
 (P ⨾ Q) bytes = (front : List ℕ) × (back : List ℕ) × (bytes ≡ front ++ back) × P front × Q back
@@ -11,7 +11,7 @@ abbrev pub ◌⨾◌ : (List ℕ → Type 0) → (List ℕ → Type 0) → List 
 abbrev pub Nothing : List ℕ → Type 0
 Nothing bytes = bytes ≡ []
 
--- a number of so many bytes
+-- a number of `count` bytes, high byte first
 abbrev pub Number : ℕ → ℕ → List ℕ → Type 0
 Number count n bytes = (length bytes ≡ count) × (big_number count bytes ≡ n)
 
@@ -21,11 +21,11 @@ U32 = Number 4
 abbrev pub U64 : ℕ → List ℕ → Type 0
 U64 = Number 8
 
--- 1 or 0
+-- a bool, as the number 1 or 0
 abbrev pub Flag : Bool → List ℕ → Type 0
 Flag b = U32 (if b then 1 else 0)
 
--- so many bytes as they are
+-- `count` bytes as they are
 abbrev pub Fixed : ℕ → List ℕ → List ℕ → Type 0
 Fixed count value bytes = (length value ≡ count) × (bytes ≡ value)
 
@@ -33,15 +33,15 @@ Fixed count value bytes = (length value ≡ count) × (bytes ≡ value)
 abbrev pub padding_of : ℕ → ℕ
 padding_of n = (4 - n % 4) % 4
 
--- any bytes, so many
+-- any bytes, `count` of them
 abbrev pub Any : ℕ → List ℕ → Type 0
 Any count bytes = length bytes ≡ count
 
--- the greatest length that the form can say
+-- the greatest length that four bytes can hold
 abbrev pub NO_LIMIT : ℕ
 NO_LIMIT = 2 ^ 32 - 1
 
--- a length of at most the limit, as many bytes, and padding of any bytes
+-- a length of at most the limit, that many bytes, and padding of any bytes
 abbrev pub Opaque : ℕ → List ℕ → List ℕ → Type 0
 Opaque limit value = λ bytes. (length value ≤ limit) × (U32 (length value) ⨾ Fixed (length value) value ⨾ Any (padding_of (length value))) bytes
 
@@ -50,6 +50,6 @@ abbrev pub Each : {A : Type 0} → (A → List ℕ → Type 0) → List A → Li
 Each P [] = Nothing
 Each P (value ∷ values) = P value ⨾ Each P values
 
--- a count of at most the limit, and as many values
+-- a count of at most the limit, and that many values
 abbrev pub Many : {A : Type 0} → ℕ → (A → List ℕ → Type 0) → List A → List ℕ → Type 0
 Many limit P values = λ bytes. (length values ≤ limit) × (U32 (length values) ⨾ Each P values) bytes

@@ -1,4 +1,4 @@
--- The form of a union: that of its tag, and behind it what the tag calls for.
+-- The form of a union: that of its tag, followed by what the tag calls for.
 use Rattle.std.specs.Prelude.{◌++◌}
 use Rattle.xdr.specs.Layout.{◌⨾◌}
 use Rattle.xdr.specs.Reading.{◌>>=◌}

@@ -1,4 +1,4 @@
--- The one spelling of a value: that with zero padding.
+-- The one spelling of a value, in which all padding is zero.
 use Rattle.std.specs.Prelude.{◌≡◌, ℕ, ◌+◌, ◌<◌, ◌≤◌, List, [], ◌∷◌, ◌++◌, Bool, length, take, if◌then◌else◌, Result, vec_len, vec_capacity, OnOk, OnErr, IsErrOf}
 use Rattle.std.specs.Global.{Vec}
 use Rattle.std.specs.List.{flat_map}
@@ -7,7 +7,7 @@ use Rattle.xdr.specs.declared.wire_error.WireError.TheVariants as errors
 use Rattle.byteorder.specs.Endian.{big_bytes}
 use Rattle.xdr.specs.Layout.{padding_of}
 
--- a number in so many bytes
+-- a number in `count` bytes, high byte first
 unfoldable pub written_number : ℕ → ℕ → List ℕ
 written_number count n = big_bytes count n
 
@@ -26,12 +26,13 @@ zeros n = take n (0 ∷ 0 ∷ 0 ∷ 0 ∷ [])
 unfoldable pub written_opaque : List ℕ → List ℕ
 written_opaque bytes = written_u32 (length bytes) ++ (bytes ++ zeros (padding_of (length bytes)))
 
--- a count, and as many values
+-- a count, and that many values
 abbrev pub written_many : {A : Type 0} → (A → List ℕ) → List A → List ℕ
 written_many f values = written_u32 (length values) ++ flat_map f values
 
--- What a writer did to the bytes so far. At Ok the spelling follows them, and the value fits its form. TooLong comes only
--- where it doesn't, and Memory only where there was no room for the spelling. After an error the bytes are as before.
+-- What a writer did to the bytes written so far. At Ok the spelling follows them, and the value fits its form. TooLong
+-- is returned only if the value doesn't fit, and Memory only if there was no room for the spelling. After an error the
+-- bytes are as before.
 abbrev pub Writes : {T : Type 0} → Vec ℕ → Vec ℕ → Result T WireError → List ℕ → Type 0 → Type 0
 Writes old new result spelling Fits =
     OnOk result ((new.items ≡ old.items ++ spelling) × Fits)

@@ -3,16 +3,17 @@ ghost use Rattle.std.specs.Prelude.{◌≡◌, ◌==◌, IfOk};
 use std::alloc::{AllocError, Global};
 use std::marker::Model;
 
-/// The greatest length that can be said before bytes.
+/// The greatest length of bytes that can be written: it has to fit in four bytes.
 pub const NO_LIMIT: u32 = u32::MAX;
 
-/// Bytes that a value owns, of which at most `LIMIT` can be written (opaque<LIMIT>). Contracts see the list of them.
+/// Owned bytes, which can be written if there are at most `LIMIT` of them (opaque<LIMIT>). Contracts see the list of
+/// them.
 #[derive(Debug, Drop)]
 pub struct Opaque<const LIMIT: u32> {
     items: Vec<u8>,
 }
 
-/// Bytes of any length that can be said.
+/// Owned bytes of any length that can be written.
 pub type Bytes = Opaque<NO_LIMIT>;
 
 impl<const LIMIT: u32> Model for Opaque<LIMIT> {
@@ -24,7 +25,7 @@ impl<const LIMIT: u32> Model for Opaque<LIMIT> {
 }
 
 impl<const LIMIT: u32> Opaque<LIMIT> {
-    /// These bytes, taking no memory.
+    /// A value that owns these bytes, taking no memory.
     pub fn new(items: Vec<u8>) -> Opaque<LIMIT>
         ensures { result ≡ items.items }
     {

@@ -1,4 +1,4 @@
-//! Values one after the other, as the fields of a record: all of them are written, or none.
+//! Values one after the other, like the fields of a record: all of them are written, or none.
 
 ghost use Rattle.std.specs.Prelude.{◌≡◌, ◌++◌};
 ghost use Rattle.xdr.specs.Form.{◌and◌};

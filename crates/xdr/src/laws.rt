@@ -1,12 +1,12 @@
-//! What is so of each form, as functions that do nothing and whose contracts say it.
+//! What holds for each form, as functions that do nothing and whose contracts state it.
 
 ghost use Rattle.std.specs.Prelude.{◌≡◌, ◌↔◌, ◌++◌, ℕ, List, Ok};
 ghost use Rattle.xdr.specs.Reading.{Begins};
 
 use crate::Wire;
 
-/// What is written of a value is read again, whatever follows. What is read at the front of bytes is what stands there, so no
-/// bytes stand for two values.
+/// A value that was written is read again, whatever follows it. The value read at the front of bytes is the one that
+/// these bytes encode, so no bytes encode two values.
 pub fn written_is_read_again<T: Wire>()
     ensures again { (value : T) (rest : List ℕ) → T.form.Fits value
         → T.form.at (T.form.spelling value ++ rest) ≡ Ok (value, rest) }

@@ -1,4 +1,4 @@
-//! A count, and as many values.
+//! A count, and that many values.
 
 ghost use Rattle.std.specs.Prelude.{◌≡◌, ◌≤◌, ◌<◌, ◌^◌, length};
 ghost use Rattle.std.specs.List.{All, flat_map};
@@ -10,8 +10,8 @@ use crate::basic::{read_u32, write_u32};
 use crate::{Sequence, Wire, WireError};
 use std::alloc::Global;
 
-/// The values of a count that stands before them, and the bytes behind them. TooLong where the count is above `limit`, Short where
-/// values are missing; both also as the values' own form says. Memory is taken value by value.
+/// The values that follow their count at the front, and the bytes after them. TooLong if the count is above `limit`,
+/// Short if values are missing; both also as the form of the values says. Memory is taken value by value.
 #[tactic(auto, unfolding(crate::specs::Reading::many_at))]
 pub fn read_many<T: Wire>(
     alloc: Global,
@@ -27,7 +27,7 @@ pub fn read_many<T: Wire>(
     read_each(alloc, count, rest)
 }
 
-// So many values.
+// Reads `count` values.
 fn read_each<T: Wire>(
     alloc: Global,
     count: u32,
@@ -47,7 +47,8 @@ fn read_each<T: Wire>(
     Ok((Sequence::new(values), rest))
 }
 
-/// Writes the count and the values at the end, or nothing. TooLong where they are more than `limit`, or one doesn't fit its form.
+/// Writes the count and the values at the end, or nothing. TooLong if there are more than `limit`, or one doesn't fit
+/// its form.
 pub fn write_many<T: Wire>(out: &mut Vec<u8>, values: &[T], limit: u32) -> Result<(), WireError>
     ensures { Writes out.old out.new result
         ((forms.many limit T.form).spelling values.now) ((forms.many limit T.form).Fits values.now) }

@@ -4,7 +4,7 @@ ghost use Rattle.xdr.specs.Form.{Form};
 use crate::basic::padding_of;
 use crate::{Opaque, Wire};
 
-/// A type whose values tell how many bytes they are written in.
+/// A type whose values know how many bytes they take when written.
 pub trait Measure: Wire {
     /// How many bytes the value takes when it is written.
     fn written_len(&self) -> usize

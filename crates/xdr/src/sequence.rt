@@ -2,7 +2,7 @@ ghost use Rattle.std.specs.Prelude.{◌≡◌};
 
 use std::marker::Model;
 
-/// Values in order, as a field of a type. Contracts see the list of them.
+/// Owned values in order, such as a field of a type can have. Contracts see the list of them.
 #[derive(Debug, Drop)]
 pub struct Sequence<T> {
     items: Vec<T>,
@@ -17,7 +17,7 @@ impl<T> Model for Sequence<T> {
 }
 
 impl<T> Sequence<T> {
-    /// These values, taking no memory.
+    /// A sequence of these values, taking no memory.
     pub fn new(items: Vec<T>) -> Sequence<T>
         ensures { result ≡ items.items }
     {
@@ -31,7 +31,7 @@ impl<T> Sequence<T> {
         self.items.as_slice()
     }
 
-    /// The values, taking no memory.
+    /// Returns the values in a `Vec`, taking no memory.
     pub fn into_vec(self) -> Vec<T>
         ensures { result.items ≡ self }
     {

@@ -14,16 +14,16 @@ use crate::many::{read_many, write_many};
 use crate::{Opaque, Sequence, WireError};
 use std::alloc::Global;
 
-/// A type that has a form on the wire: it is read and written by it.
+/// A type that has a form on the wire, by which it is read and written.
 pub trait Wire: Drop {
     ghost form: { Form Self };
 
-    /// The value at the front of the bytes, and the bytes behind it. Short where bytes are missing, or where a number is none
-    /// of the form's; TooLong where a length is above its limit; Memory where memory was refused.
+    /// The value at the front of the bytes, and the bytes after it. Short if bytes are missing, or if a number is not
+    /// one that the form allows; TooLong if a length is above its limit; Memory if memory ran out.
     fn read(alloc: Global, bytes: &[u8]) -> Result<(Self, &[u8]), WireError>
         ensures { Gives (λ x. (x.0, x.1.now)) result (form.at bytes.now) };
 
-    /// Writes the value at the end. TooLong where it doesn't fit its form. After an error the bytes are as before.
+    /// Writes the value at the end. TooLong if it doesn't fit its form. After an error the bytes are as before.
     fn write(&self, out: &mut Vec<u8>) -> Result<(), WireError>
         ensures { Writes out.old out.new result (form.spelling self.now) (form.Fits self.now) };
 }

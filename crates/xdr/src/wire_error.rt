@@ -13,7 +13,7 @@ pub enum WireError {
     /// A length is above what the form allows.
     #[error("a length is above its limit (2)")]
     TooLong = 2,
-    /// Memory was refused.
+    /// Memory ran out.
     #[error("no memory (3)")]
     Memory = 3,
 }

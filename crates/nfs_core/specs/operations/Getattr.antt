@@ -1,4 +1,4 @@
--- GETATTR (RFC 7530, section 16.7): the current filehandle's attributes, and nothing changes.
+-- GETATTR (RFC 7530, section 16.7): the attributes of the current filehandle; the state doesn't change.
 use Rattle.std.specs.Prelude.{ℕ, List, Option, Some, None}
 use Rattle.nfs_core.specs.declared.change.Change.TheVariants.{Nothing}
 use Rattle.nfs_core.specs.declared.decision.Decision.{Decision}
@@ -12,7 +12,7 @@ use Rattle.nfs_xdr.specs.declared.op_result.OpResult.TheVariants as results
 use Rattle.nfs_xdr.specs.declared.status.Refusal.TheVariants.{NoFileHandle}
 use Rattle.nfs_xdr.specs.Answer.{PlainAnswer}
 
--- the node as it is now
+-- the node with the size and the change number that its file has now
 abbrev pub subject_of : History → State → ℕ → Subject
 subject_of journal state node =
     let file = file_of state.files node in
@@ -30,7 +30,7 @@ attributes journal state None mask = Refused NoFileHandle
 attributes journal state (Some node) mask =
     Done (attributes_of (subject_of journal state node) mask)
 
--- the rule
+-- the rule of GETATTR
 abbrev pub rule : History → State → Option ℕ → List ℕ → Option Decision
 rule journal state filehandle mask =
     let answer = results.Getattr (attributes journal state filehandle mask) in

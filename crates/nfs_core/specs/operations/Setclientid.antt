@@ -1,4 +1,4 @@
--- SETCLIENTID (RFC 7530, section 16.33.5).
+-- SETCLIENTID (RFC 7530, section 16.33.5): its answer, and its change of the clients' records.
 use Rattle.std.specs.Prelude.{Option, option_map}
 use Rattle.nfs_core.specs.declared.change.Change.TheVariants.{Clients}
 use Rattle.nfs_core.specs.declared.clients.client_change.ClientChange.{ClientChange}
@@ -14,7 +14,7 @@ use Rattle.nfs_xdr.specs.declared.operations.setclientid.Setclientid.{Setclienti
 abbrev pub decision_of : Outcome × ClientChange → Decision
 decision_of told = record { answer = results.Setclientid told.0; change = Clients told.1 }
 
--- The rule. Whether the client of the id's confirmed record has state is read off the state.
+-- The rule of SETCLIENTID. It depends on whether the client of the confirmed record with the id has state.
 abbrev pub rule : History → State → Request → Setclientid → Option Decision
 rule journal state request args =
     let has_state = record_has_state state (confirmed_of state.clients args.id) in

@@ -1,4 +1,4 @@
--- SETCLIENTID_CONFIRM (RFC 7530, section 16.34.5).
+-- SETCLIENTID_CONFIRM (RFC 7530, section 16.34.5): its answer, and its change of the clients' records.
 use Rattle.std.specs.Prelude.{Option, Some}
 use Rattle.nfs_core.specs.declared.change.Change.TheVariants.{Clients}
 use Rattle.nfs_core.specs.declared.client_record.PathMark.{PathMark}
@@ -14,7 +14,7 @@ use Rattle.nfs_tree.specs.declared.policy.Callbacks.TheVariants.{Probe, Assume}
 use Rattle.nfs_xdr.specs.declared.op_result.OpResult.TheVariants as results
 use Rattle.nfs_xdr.specs.declared.operations.setclientid_confirm.SetclientidConfirm.{SetclientidConfirm}
 
--- what the policy takes of the path of a client that is confirmed now
+-- the mark that the policy gives the path of a client that is confirmed by this call
 abbrev pub path_of : Callbacks → PathMark
 path_of Probe = Unknown
 path_of Assume = Up
@@ -23,7 +23,7 @@ path_of Assume = Up
 abbrev pub decision_of : Outcome × ClientChange → Decision
 decision_of told = record { answer = results.SetclientidConfirm told.0; change = Clients told.1 }
 
--- The rule. Whether the client whose place would be taken has state is read off the state.
+-- The rule of SETCLIENTID_CONFIRM. It depends on whether the client that would be replaced has state.
 abbrev pub rule : History → State → Request → SetclientidConfirm → Option Decision
 rule journal state request args =
     let path = path_of journal.policy.callbacks in

@@ -5,12 +5,12 @@ use nfs_xdr::ClientId;
 #[derive(Debug, Drop)]
 pub(crate) enum ClientChange {
     Nothing,
-    /// This unconfirmed record comes, with the next client number and the next confirm value.
+    /// Adds this unconfirmed record, with the next client number and the next confirm value.
     Arrives(ClientRecord),
-    /// This unconfirmed record comes, with its client's number and the next confirm value.
+    /// Adds this unconfirmed record, with the number that its client has and the next confirm value.
     Updates(ClientRecord),
-    /// This confirmed record comes, the only one of its id.
+    /// Adds this confirmed record, as the only one with its id.
     Confirms(ClientRecord),
-    /// This confirmed record comes, the only one of its id, and the client of this clientid leaves.
+    /// Adds this confirmed record, as the only one with its id, and removes the client with this clientid.
     Replaces(ClientRecord, ClientId),
 }

@@ -12,9 +12,9 @@ use nfs_xdr::{Principal, Refusal};
 use std::alloc::AllocError;
 
 impl Clients {
-    /// What SETCLIENTID_CONFIRM (RFC 7530, section 16.34.5) answers and changes; `has_state` is whether
-    /// the client of the confirmed record of the same id has state, and `path` the mark of the path of
-    /// a client that is confirmed now.
+    /// The answer of SETCLIENTID_CONFIRM (RFC 7530, section 16.34.5), and its change of the clients' records.
+    /// `has_state` is whether the client of the confirmed record with the same id has state, and `path` is the mark for
+    /// the path of a client that is confirmed by this call.
     pub(crate) fn confirm(
         &self,
         principal: Principal,
@@ -38,7 +38,7 @@ impl Clients {
         }
     }
 
-    // Decides where an unconfirmed record is named, by the confirmed one of its id.
+    // Decides a call that names an unconfirmed record, given the confirmed record with the same id.
     fn confirm_unconfirmed(
         &self,
         candidate: &ClientRecord,
@@ -62,7 +62,7 @@ impl Clients {
         Ok((Outcome::Done(()), change))
     }
 
-    // Answers where no unconfirmed record is named.
+    // Answers a call that names no unconfirmed record.
     fn answer_confirmed(&self, principal: Principal, args: &SetclientidConfirm) -> Outcome
         ensures { (path : PathMark) → (result, ClientChange.Nothing) ≡ confirmation_by
             (confirmation_before (confirmed_named_by args.now self.now.registry) principal) path }
@@ -84,7 +84,7 @@ impl Clients {
     }
 }
 
-// The record, confirmed, and its path has this mark.
+// The record, now confirmed, with this mark for its path.
 fn confirmed_record(path: PathMark, candidate: &ClientRecord) -> Result<ClientRecord, AllocError>
     ensures { IfOk result (λ r. r ≡ confirmed_record path candidate.now) }
 {
@@ -94,7 +94,7 @@ fn confirmed_record(path: PathMark, candidate: &ClientRecord) -> Result<ClientRe
     Ok(new)
 }
 
-// The confirmed record with verifier, callback and value of the unconfirmed one.
+// The confirmed record with the verifier, the callback and the confirm value of the unconfirmed one.
 fn updated_record(
     path: PathMark,
     old: &ClientRecord,

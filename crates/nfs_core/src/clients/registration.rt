@@ -12,9 +12,9 @@ use nfs_xdr::{Address, ClientId, Principal};
 use std::alloc::AllocError;
 
 impl Clients {
-    /// What SETCLIENTID (RFC 7530, section 16.33.5) answers and changes in the server's run `epoch`;
-    /// `has_state` is whether the client of the id's confirmed record has state. Full where a limit
-    /// would be passed.
+    /// The answer of SETCLIENTID (RFC 7530, section 16.33.5) in the server's run `epoch`, and its change of the
+    /// clients' records. `has_state` is whether the client of the confirmed record with the id has state. Full if a
+    /// limit would be exceeded.
     #[tactic(auto, unfolding(nfs_xdr::specs::Answer::answer, nfs_xdr::specs::Status::status, nfs_xdr::specs::operations::SetclientidConfirm::arguments, nfs_xdr::specs::ClientId::client_id))]
     pub(crate) fn set(
         &self,
@@ -47,7 +47,7 @@ impl Clients {
         }
     }
 
-    // A client updates its callback: it keeps its clientid.
+    // A client updates its callback, and keeps its clientid.
     #[tactic(auto, unfolding(nfs_xdr::specs::Answer::answer, nfs_xdr::specs::Status::status, nfs_xdr::specs::operations::SetclientidConfirm::arguments, nfs_xdr::specs::ClientId::client_id))]
     fn set_update(
         &self,
@@ -72,7 +72,7 @@ impl Clients {
         Ok((Outcome::Done(answer), ClientChange::Updates(record)))
     }
 
-    // A client that gets a number.
+    // A client gets a new client number.
     #[tactic(auto, unfolding(nfs_xdr::specs::Answer::answer, nfs_xdr::specs::Status::status, nfs_xdr::specs::operations::SetclientidConfirm::arguments, nfs_xdr::specs::ClientId::client_id))]
     fn set_arrival(
         &self,
@@ -102,7 +102,7 @@ impl Clients {
     }
 }
 
-// The record that SETCLIENTID makes of a clientid and a confirm value, to be confirmed.
+// The record that SETCLIENTID adds for a clientid and a confirm value, not yet confirmed.
 fn unconfirmed_record(
     principal: Principal,
     args: &Setclientid,

@@ -14,7 +14,7 @@ use crate::{Journal, Request};
 use nfs_xdr::{Answer, Bitmap, Fattr, Op, OpResult, Refusal};
 use std::alloc::{AllocError, Global};
 
-/// Decides GETATTR.
+/// Decides a GETATTR: its answer, and that it changes nothing.
 #[tactic(auto, unfolding(nfs_xdr::specs::OpResult::op_result, nfs_xdr::specs::operations::opnum, xdr::specs::Writing::written_number))]
 pub(super) fn decide(
     alloc: Global,

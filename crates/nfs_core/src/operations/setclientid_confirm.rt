@@ -12,7 +12,7 @@ use nfs_tree::Callbacks;
 use nfs_xdr::operations::setclientid_confirm::SetclientidConfirm;
 use nfs_xdr::{Op, OpResult};
 
-/// Decides SETCLIENTID_CONFIRM.
+/// Decides a SETCLIENTID_CONFIRM: its answer and its change.
 #[tactic(auto, unfolding(nfs_xdr::specs::OpResult::op_result, nfs_xdr::specs::operations::opnum, nfs_xdr::specs::Status::status, xdr::specs::Writing::written_number, nfs_xdr::specs::Answer::answer, nfs_xdr::specs::operations::SetclientidConfirm::arguments, nfs_xdr::specs::ClientId::client_id))]
 pub(super) fn decide(
     tables: &Tables,
@@ -34,7 +34,7 @@ pub(super) fn decide(
     })
 }
 
-// The mark of a client that is confirmed now.
+// The mark for the path of a client that is confirmed by this call.
 fn path_of(callbacks: Callbacks) -> PathMark
     ensures { result ≡ path_of callbacks }
 {

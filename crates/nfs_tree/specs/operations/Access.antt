@@ -1,4 +1,5 @@
--- ACCESS (RFC 7530, section 16.1): which of the accesses asked for are there to the object of the current filehandle.
+-- ACCESS (RFC 7530, section 16.1): which of the requested access rights the client has on the object of the current
+-- filehandle.
 use Rattle.std.specs.Prelude.{ℕ, ◌+◌, Bool, Option, Some, None, bit_and, if◌then◌else◌}
 use Rattle.nfs_tree.specs.declared.filehandles.Filehandles.{Filehandles}
 use Rattle.nfs_tree.specs.declared.operations.access.TheConstants.{ACCESS_READ, ACCESS_LOOKUP, ACCESS_MODIFY, ACCESS_EXTEND, ACCESS_DELETE, ACCESS_EXECUTE}
@@ -10,7 +11,7 @@ use Rattle.nfs_xdr.specs.declared.op_result.OpResult.TheVariants as results
 use Rattle.nfs_xdr.specs.declared.status.Refusal.TheVariants as refusals
 use Rattle.nfs_xdr.specs.Answer.{PlainAnswer}
 
--- the accesses that there are
+-- all access rights that there are
 abbrev pub all_access : ℕ
 all_access =
     ACCESS_READ + ACCESS_LOOKUP + ACCESS_MODIFY + ACCESS_EXTEND + ACCESS_DELETE + ACCESS_EXECUTE
@@ -21,18 +22,18 @@ allowed_access is_directory =
     if is_directory then ACCESS_READ + ACCESS_LOOKUP
     else ACCESS_READ + ACCESS_MODIFY + ACCESS_EXTEND
 
--- of the accesses asked for, those that the server can tell of, and those that are there
+-- of the requested access rights, those that the server can check, and those that the client has
 abbrev pub access_of : Bool → ℕ → AccessBits
 access_of is_directory asked = record {
   supported = bit_and asked all_access;
   access = bit_and asked (allowed_access is_directory);
 }
 
--- NFS4ERR_NOFILEHANDLE where there is no current filehandle
+-- NFS4ERR_NOFILEHANDLE if there is no current filehandle
 abbrev pub access_to : Files → Option ℕ → ℕ → PlainAnswer AccessBits
 access_to tree None asked = Refused refusals.NoFileHandle
 access_to tree (Some node) asked = Done (access_of (is_directory tree.nodes node) asked)
 
--- both filehandles stay
+-- neither filehandle changes
 abbrev pub access : Files → Filehandles → ℕ → Effect
 access tree old asked = stays old (results.Access (access_to tree old.current asked))

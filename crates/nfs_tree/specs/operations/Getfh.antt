@@ -1,4 +1,4 @@
--- GETFH (RFC 7530, section 16.8): the current filehandle is told.
+-- GETFH (RFC 7530, section 16.8): returns the current filehandle.
 use Rattle.std.specs.Prelude.{ℕ, List, Option, Some, None}
 use Rattle.nfs_tree.specs.declared.filehandles.Filehandles.{Filehandles}
 use Rattle.nfs_tree.specs.Effect.{Effect, stays}
@@ -8,11 +8,11 @@ use Rattle.nfs_xdr.specs.declared.op_result.OpResult.TheVariants as results
 use Rattle.nfs_xdr.specs.declared.status.Refusal.TheVariants as refusals
 use Rattle.nfs_xdr.specs.Answer.{PlainAnswer}
 
--- NFS4ERR_NOFILEHANDLE where there is no current filehandle
+-- NFS4ERR_NOFILEHANDLE if there is no current filehandle
 abbrev pub filehandle_of : Option ℕ → PlainAnswer (List ℕ)
 filehandle_of None = Refused refusals.NoFileHandle
 filehandle_of (Some node) = Done (handle_of node)
 
--- both filehandles stay
+-- neither filehandle changes
 abbrev pub getfh : Filehandles → Effect
 getfh old = stays old (results.Getfh (filehandle_of old.current))

@@ -6,7 +6,7 @@ use Rattle.nfs_xdr.specs.declared.answer.Answer.TheVariants.{Done, Refused}
 use Rattle.nfs_xdr.specs.declared.op_result.OpResult.TheVariants as results
 use Rattle.nfs_xdr.specs.declared.status.Refusal.TheVariants as refusals
 
--- NFS4ERR_RESTOREFH where no filehandle is saved
+-- NFS4ERR_RESTOREFH if no filehandle is saved
 abbrev pub restorefh_of : Filehandles → Option ℕ → Effect
 restorefh_of old None = stays old (results.Restorefh (Refused refusals.RestoreFh))
 restorefh_of old (Some node) = moves_to old node (results.Restorefh (Done tt))

@@ -8,7 +8,7 @@ use crate::{Filehandles, Tree};
 use nfs_xdr::operations::access::AccessBits;
 use nfs_xdr::{Answer, OpResult, Refusal};
 
-/// The bits of ACCESS (RFC 7530, section 16.1.2).
+/// The access rights of ACCESS, as bits (RFC 7530, section 16.1.2).
 pub const ACCESS_READ: u32 = 1;
 
 pub const ACCESS_LOOKUP: u32 = 2;
@@ -33,7 +33,7 @@ const DIRECTORY_ACCESS: u32 = ACCESS_READ | ACCESS_LOOKUP;
 const FILE_ACCESS: u32 = ACCESS_READ | ACCESS_MODIFY | ACCESS_EXTEND;
 
 impl Tree {
-    /// What ACCESS answers of a node: the bits that it knows among these, and those that it allows.
+    /// What ACCESS answers for a node: those of the requested bits that the server knows, and those that it allows.
     pub fn access(&self, node: u32, bits: u32) -> AccessBits
         ensures { result ≡ access_of (is_directory self.now.nodes node) bits }
     {
@@ -50,7 +50,8 @@ impl Tree {
 }
 
 impl Filehandles {
-    /// ACCESS (RFC 7530, section 16.1): tells which of the accesses asked for there are to the current object.
+    /// ACCESS (RFC 7530, section 16.1): returns which of the requested access rights the client has on the current
+    /// object.
     #[tactic(auto, unfolding(nfs_xdr::specs::OpResult::op_result, nfs_xdr::specs::operations::opnum, nfs_xdr::specs::Answer::answer, nfs_xdr::specs::operations::Access::access_bits, nfs_xdr::specs::Status::status, xdr::specs::Writing::written_number))]
     pub(crate) fn access(&self, tree: &Tree, asked: u32) -> OpResult
         ensures effect { record { answer = result; after = self.now }

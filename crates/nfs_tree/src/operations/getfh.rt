@@ -7,7 +7,7 @@ use crate::{Filehandles, Tree};
 use nfs_xdr::{Answer, FileHandle, OpResult, Refusal};
 
 impl Filehandles {
-    /// GETFH (RFC 7530, section 16.8): tells the current filehandle.
+    /// GETFH (RFC 7530, section 16.8): returns the current filehandle.
     #[tactic(auto, unfolding(nfs_xdr::specs::OpResult::op_result, nfs_xdr::specs::operations::opnum, nfs_xdr::specs::Answer::answer, nfs_xdr::specs::Status::status, xdr::specs::Writing::written_opaque, xdr::specs::Writing::written_number))]
     pub(crate) fn getfh(&self) -> OpResult
         ensures effect { record { answer = result; after = self.now } ≡ getfh self.now }

@@ -8,7 +8,8 @@ use crate::{Filehandles, NAME_LIMIT, Tree};
 use nfs_xdr::{Answer, OpResult, Refusal};
 
 impl Filehandles {
-    /// LOOKUP (RFC 7530, section 16.13): looks a name up in the current directory, and what it finds becomes current.
+    /// LOOKUP (RFC 7530, section 16.13): looks up a name in the current directory. The object that it finds becomes the
+    /// current one.
     #[tactic(auto, unfolding(nfs_xdr::specs::OpResult::op_result, nfs_xdr::specs::operations::opnum, nfs_xdr::specs::Answer::answer, nfs_xdr::specs::Status::status, xdr::specs::Writing::written_number))]
     pub(crate) fn lookup(&mut self, tree: &Tree, name: &[u8]) -> OpResult
         requires nodes { AreNodes tree.now self.old }
@@ -24,7 +25,7 @@ impl Filehandles {
         }
     }
 
-    // Looks a name up in a node, and refuses one that is no directory and names that can't be.
+    // Looks up a name in a node. Fails if the node isn't a directory, or if the name is empty, too long or not found.
     #[tactic(auto, unfolding(nfs_xdr::specs::OpResult::op_result, nfs_xdr::specs::operations::opnum, nfs_xdr::specs::Answer::answer, nfs_xdr::specs::Status::status, xdr::specs::Writing::written_number))]
     fn lookup_in(&mut self, tree: &Tree, node: u32, name: &[u8]) -> OpResult
         requires nodes { AreNodes tree.now self.old }

@@ -8,7 +8,7 @@ use crate::{Filehandles, Tree};
 use nfs_xdr::{Answer, OpResult, Refusal};
 
 impl Filehandles {
-    /// RESTOREFH (RFC 7530, section 16.29): the saved filehandle becomes current.
+    /// RESTOREFH (RFC 7530, section 16.29): the saved filehandle becomes the current one.
     #[tactic(auto, unfolding(nfs_xdr::specs::OpResult::op_result, nfs_xdr::specs::operations::opnum, nfs_xdr::specs::Answer::answer, nfs_xdr::specs::Status::status, xdr::specs::Writing::written_number))]
     pub(crate) fn restorefh(&mut self, tree: &Tree) -> OpResult
         requires nodes { AreNodes tree.now self.old }

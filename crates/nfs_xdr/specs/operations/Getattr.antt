@@ -1,4 +1,4 @@
--- GETATTR (RFC 7530, section 16.7): its argument is a bitmap, and its result attributes.
+-- GETATTR (RFC 7530, section 16.7): its argument is a bitmap of attributes, and its result is their values.
 use Rattle.std.specs.Prelude.{ℕ, List}
 use Rattle.nfs_xdr.specs.declared.fattr.Fattr.{Fattr}
 use Rattle.nfs_xdr.specs.Answer.{PlainAnswer, plain_answer}

@@ -1,4 +1,4 @@
--- SETCLIENTID (RFC 7530, section 16.33).
+-- SETCLIENTID (RFC 7530, section 16.33): its arguments introduce a client, and its result has to be confirmed.
 use Rattle.std.proofs.Common.{refl}
 use Rattle.nfs_xdr.specs.declared.answer.Answer.{Answer}
 use Rattle.nfs_xdr.specs.declared.callback.Address.{Address}

@@ -1,4 +1,5 @@
--- SETCLIENTID_CONFIRM (RFC 7530, section 16.34): its arguments are those of which SETCLIENTID told, and its result is a status.
+-- SETCLIENTID_CONFIRM (RFC 7530, section 16.34): its arguments are the values that SETCLIENTID returned, and its result
+-- is a status.
 use Rattle.std.proofs.Common.{refl}
 use Rattle.nfs_xdr.specs.declared.operations.setclientid_confirm.SetclientidConfirm.{SetclientidConfirm}
 use Rattle.nfs_xdr.specs.Answer.{PlainAnswer, plain_answer}

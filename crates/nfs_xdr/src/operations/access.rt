@@ -5,17 +5,17 @@ use crate::Answer;
 use std::alloc::Global;
 use xdr::{Measure, Wire, WireError, write_two};
 
-/// The bits that are asked (RFC 7530, section 16.1).
+/// The access rights that the client asks about (RFC 7530, section 16.1).
 pub type Arguments = u32;
 
 pub type Outcome = Answer<AccessBits>;
 
-/// What ACCESS tells of the bits that were asked.
+/// What ACCESS answers about the access rights that the client asked about.
 #[derive(Clone, Copy, Debug, PartialEq, Eq)]
 pub struct AccessBits {
-    /// The bits that the server can tell of.
+    /// The rights that the server can check.
     pub supported: u32,
-    /// Those that are allowed.
+    /// The rights that the client has.
     pub access: u32,
 }
 

@@ -1,7 +1,7 @@
 use crate::{Answer, FileHandle};
 
-/// GETFH has none (RFC 7530, section 16.8).
+/// GETFH has no arguments (RFC 7530, section 16.8).
 pub type Arguments = ();
 
-/// With NFS4_OK the current filehandle.
+/// With NFS4_OK, the current filehandle.
 pub type Outcome = Answer<FileHandle>;

@@ -1,7 +1,7 @@
 use crate::{Answer, FileHandle};
 
-/// The filehandle that is to be the current one (RFC 7530, section 16.20).
+/// The filehandle that becomes the current one (RFC 7530, section 16.20).
 pub type Arguments = FileHandle;
 
-/// A status alone.
+/// A status without further data.
 pub type Outcome = Answer<()>;

@@ -1,7 +1,7 @@
 use crate::Answer;
 
-/// PUTROOTFH has none (RFC 7530, section 16.22).
+/// PUTROOTFH has no arguments (RFC 7530, section 16.22).
 pub type Arguments = ();
 
-/// A status alone.
+/// A status without further data.
 pub type Outcome = Answer<()>;

@@ -1,7 +1,7 @@
 use crate::Answer;
 
-/// RESTOREFH has none (RFC 7530, section 16.29).
+/// RESTOREFH has no arguments (RFC 7530, section 16.29).
 pub type Arguments = ();
 
-/// A status alone.
+/// A status without further data.
 pub type Outcome = Answer<()>;

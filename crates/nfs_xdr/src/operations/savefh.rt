@@ -1,7 +1,7 @@
 use crate::Answer;
 
-/// SAVEFH has none (RFC 7530, section 16.30).
+/// SAVEFH has no arguments (RFC 7530, section 16.30).
 pub type Arguments = ();
 
-/// A status alone.
+/// A status without further data.
 pub type Outcome = Answer<()>;

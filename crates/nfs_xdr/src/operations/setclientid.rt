@@ -5,23 +5,24 @@ use crate::{Address, Answer, Callback, Verifier};
 use std::alloc::Global;
 use xdr::{Opaque, Wire, WireError, write_three};
 
-/// The most bytes of a client's id (NFS4_OPAQUE_LIMIT).
+/// The greatest length of a client's id in bytes (NFS4_OPAQUE_LIMIT).
 pub const ID_LIMIT: u32 = 1024;
 
-/// The client that comes, and where it is called back (RFC 7530, section 16.33).
+/// The client that introduces itself, and where it is called back (RFC 7530, section 16.33).
 pub type Arguments = Setclientid;
 
 /// The arguments of SETCLIENTID.
 #[derive(Clone, Debug, PartialEq, Drop)]
 pub struct Setclientid {
-    /// The client's start.
+    /// Identifies one start of the client: it changes when the client restarts.
     pub verifier: Verifier,
-    /// The client's name for itself.
+    /// The name that the client gave itself.
     pub id: Opaque<ID_LIMIT>,
     pub callback: Callback,
 }
 
-/// With NFS4_OK what is to be confirmed, and with NFS4ERR_CLID_INUSE where the client that has the id is called back.
+/// With NFS4_OK, the values that the client has to confirm; with NFS4ERR_CLID_INUSE, where the client that has the id
+/// is called back.
 pub type Outcome = Answer<SetclientidConfirm, (), Address>;
 
 impl Wire for Setclientid {

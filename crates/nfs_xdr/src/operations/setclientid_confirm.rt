@@ -5,18 +5,18 @@ use crate::{Answer, ClientId};
 use std::alloc::Global;
 use xdr::{Measure, Wire, WireError, write_two};
 
-/// What SETCLIENTID told (RFC 7530, section 16.34).
+/// The values that SETCLIENTID returned (RFC 7530, section 16.34).
 pub type Arguments = SetclientidConfirm;
 
-/// The arguments of SETCLIENTID_CONFIRM, as SETCLIENTID tells them.
+/// The arguments of SETCLIENTID_CONFIRM, which SETCLIENTID also returns.
 #[derive(Clone, Copy, Debug, PartialEq, Eq)]
 pub struct SetclientidConfirm {
     pub client: ClientId,
-    /// The value that confirms it.
+    /// The value by which the client confirms the clientid.
     pub confirm: u64,
 }
 
-/// A status alone.
+/// A status without further data.
 pub type Outcome = Answer<()>;
 
 impl Wire for SetclientidConfirm {

@@ -1,4 +1,4 @@
--- What is read of an enumeration is the value of the number there.
+-- Reading an enumeration gives the value whose number is at the front.
 use Rattle.std.proofs.Common.{◌≡◌, ℕ, true, eqb, List, [], ◌∷◌, ◌++◌, Bool, Option, Some, None, Ok, refl, sym, ap, subst, ◌∙◌, inl, inr}
 use Rattle.std.proofs.lemmas.Bool.{eqb-true}
 use Rattle.std.specs.List.{find}
@@ -6,7 +6,7 @@ use Rattle.xdr.specs.Layout.{U32}
 use Rattle.xdr.specs.Reading.{Reads, number_at, or_short, value_at}
 use Rattle.xdr.specs.laws.Reads.{decided, bind_ok, ok_is, reads_number}
 
--- what is found passes the test
+-- whatever `find` finds passes the test
 pub passes : {A : Type 0} (p : A → Bool) (values : List A) (found : A) → find p values ≡ Some found → p found ≡ true
 passes p [] found e = absurd cc
 passes {A = A} p (value ∷ values) found e =

@@ -9,7 +9,7 @@ use Rattle.xdr.specs.Writing.{written_u32, written_many}
 use Rattle.xdr.specs.laws.Reads.{bind_ok, guard_ok, ok_is, Begins-then, reads_then, as_value_gives, reads_number}
 use Rattle.xdr.specs.laws.Spells.{number_stands}
 
--- so many values
+-- `count` values, one after the other
 abbrev HoldEach : {A : Type 0} → (A → List ℕ → Type 0) → ℕ → List A → List ℕ → Type 0
 HoldEach P count values = λ bytes. (length values ≡ count) × Each P values bytes
 

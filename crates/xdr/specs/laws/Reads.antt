@@ -1,4 +1,4 @@
--- What the reading functions of the basic forms read stands in their layouts, and what stands in them is read.
+-- What the reading functions of the basic forms read matches their layouts, and what matches these layouts is read.
 use Rattle.std.proofs.Common.{◌≡◌, ℕ, ◌+◌, ◌≤◌, Bool, true, false, cond, ltb, eqb, List, [], ◌++◌, length, take, drop, Result, Ok, Err, refl, sym, ap, subst, ◌∙◌, append_assoc, arith, inl, inr, ◌⊎◌}
 use Rattle.std.proofs.lemmas.Bool.{ltb-false, le-ltb, eqb-true, eq-eqb}
 use Rattle.std.proofs.lemmas.List.{take_at, drop_at, take-append-drop, length-append, length-take, length-drop, drop-drop}
@@ -9,12 +9,12 @@ use Rattle.xdr.specs.declared.wire_error.WireError.TheVariants as errors
 use Rattle.xdr.specs.Layout.{◌⨾◌, Nothing, Number, U32, Flag, Fixed, Opaque, Any, padding_of}
 use Rattle.xdr.specs.Reading.{Read, Reads, Begins, ◌>>=◌, ◌then◌, as_value, number_at, flag_of, flag_at, fixed_at, padded_at, opaque_at, constant_at}
 
--- a test went one way or the other
+-- a boolean is true or false
 pub decided : (b : Bool) → (b ≡ true) ⊎ (b ≡ false)
 decided true = inl refl
 decided false = inr refl
 
--- the value of a step that did not fail
+-- if two steps in a row succeed, the first one gave a value with which the second one succeeded
 pub bind_ok : {A B : Type 0} (r : Result A WireError) (f : A → Result B WireError) (y : B) → (r >>= f) ≡ Ok y → (x : A) × (r ≡ Ok x) × (f x ≡ Ok y)
 bind_ok (Ok x) f y e = (x, refl, e)
 bind_ok (Err d) f y e = absurd cc
@@ -25,12 +25,12 @@ done x = Ok x
 pub ok_is : {A : Type 0} (x y : A) → done x ≡ done y → x ≡ y
 ok_is x y e = cc
 
--- a test that did not fail
+-- if `cond b (Err d) r` succeeds, the test `b` was false and `r` succeeded
 pub guard_ok : {A : Type 0} (b : Bool) (d : WireError) (r : Result A WireError) (y : A) → cond b (Err d) r ≡ Ok y → (b ≡ false) × (r ≡ Ok y)
 guard_ok true d r y e = absurd cc
 guard_ok false d r y e = (refl, e)
 
--- a test that was to be met
+-- if `cond b r (Err d)` succeeds, the test `b` was true and `r` succeeded
 pub wanted_ok : {A : Type 0} (b : Bool) (d : WireError) (r : Result A WireError) (y : A) → cond b r (Err d) ≡ Ok y → (b ≡ true) × (r ≡ Ok y)
 wanted_ok true d r y e = (refl, e)
 wanted_ok false d r y e = absurd cc
@@ -51,25 +51,25 @@ reads_then {A = A} {B = B} P Q f g p q = record {
       ap (f then g) regrouped ∙ rw (p.complete value.0 h.0 (h.1 ++ rest) h.3, q.complete value.1 h.1 rest h.4) refl;
 }
 
--- the first of two is read, and the second is left
+-- of two layouts in a row the first is read, and the second is left
 pub reads_first : {A : Type 0} (P : A → List ℕ → Type 0) (f : List ℕ → Read A) → Reads P f → (value : A) (Q : List ℕ → Type 0) (bytes rest : List ℕ) (h : (P value ⨾ Q) bytes) → f (bytes ++ rest) ≡ Ok (value, h.1 ++ rest)
 reads_first P f p value Q bytes rest h =
     ap f (ap (λ (x : List ℕ). x ++ rest) h.2 ∙ append_assoc h.0 h.1 rest) ∙ p.complete value h.0 (h.1 ++ rest) h.3
 
--- what is made of what is read keeps what each value read gives it
+-- a property of each value that is read, once it is made into another, also holds for what `as_value` gives
 pub as_value_gives : {A B : Type 0} (f : List ℕ → Read A) (make : A → B) (M : B × List ℕ → Type 0) (bytes : List ℕ) → ((x : A × List ℕ) → f bytes ≡ Ok x → M (make x.0, x.1)) → (y : B × List ℕ) → as_value make f bytes ≡ Ok y → M y
 as_value_gives f make M bytes each y e =
     let a = bind_ok (f bytes) (λ a. Ok (make a.0, a.1)) y e in
     subst M (ok_is (make a.0.0, a.0.1) y a.2) (each a.0 a.1)
 
--- where reading fails, nothing at the front stands in the layout
+-- if reading fails, no beginning of the bytes matches the layout
 pub lacks : {A : Type 0} (layout : A → List ℕ → Type 0) (read : List ℕ → Read A) → Reads layout read → (bytes : List ℕ) (e : WireError) → read bytes ≡ Err e → (value : A) (rest : List ℕ) → Begins (layout value) bytes rest → ⊥
 lacks {A = A} layout read reads bytes e failed value rest found =
     let given : read bytes ≡ Ok (value, rest) = ap read found.1 ∙ reads.complete value found.0 rest found.2 in
     let clash : ◌≡◌ {A = Read A} (Err e) (Ok (value, rest)) = sym failed ∙ given in
     cc
 
--- a record's layout is that of its fields, where `make` and `fields` undo one another
+-- the layout of a record is that of its fields, if `make` and `fields` are each other's inverse
 pub reads_as : {A B : Type 0} (P : A → List ℕ → Type 0) (f : List ℕ → Read A) (make : A → B) (fields : B → A) → ((a : A) → fields (make a) ≡ a) → ((b : B) → make (fields b) ≡ b) → Reads P f → Reads (λ (b : B). P (fields b)) (as_value make f)
 reads_as {A = A} {B = B} P f make fields back again p = record {
   sound = λ bytes value rest e.
@@ -117,7 +117,7 @@ reads_fixed count = record {
       rw (long, take_at front rest count len, drop_at front rest count len) (ap (λ (v : List ℕ). Ok (v, rest)) h.1);
 }
 
--- the bytes of an opaque, and its padding
+-- the bytes of an opaque, followed by its padding
 padded_begins : (count : ℕ) (bytes : List ℕ) → count + padding_of count ≤ length bytes → Begins (Fixed count (take count bytes) ⨾ Any (padding_of count)) bytes (drop (count + padding_of count) bytes)
 padded_begins count bytes long =
     let first : Begins (Fixed count (take count bytes)) bytes (drop count bytes) =
@@ -203,7 +203,7 @@ reads_flag = record {
   complete = flag_complete;
 }
 
--- Reading takes no memory, and so never tells that memory ran out.
+-- Reading a list takes no memory, and so never runs out of it.
 abbrev pub NeverMemory : {A : Type 0} → (List ℕ → Read A) → Type 0
 NeverMemory f = (bytes : List ℕ) → f bytes ≡ Err errors.Memory → ⊥
 
@@ -222,7 +222,7 @@ padded_never_memory count bytes e =
       | inr long ↦ let clash : ◌≡◌ {A = Read (List ℕ)} (Ok (take count bytes, drop (count + padding_of count) bytes)) (Err errors.Memory) = rw long at e in cc
     ]
 
--- the form is missing or too long, and no other error is told
+-- reading an opaque fails only because the bytes end too soon or the length is above its limit
 pub opaque_never_memory : (limit : ℕ) → NeverMemory (opaque_at limit)
 unfolding opaque_at number_at
 opaque_never_memory limit bytes e =

@@ -1,4 +1,4 @@
--- The one spelling of a value stands in its layout.
+-- The one spelling of a value matches its layout.
 use Rattle.std.proofs.Common.{◌≡◌, ℕ, ◌^◌, ◌<◌, ◌≤◌, Bool, true, false, List, [], ◌∷◌, ◌++◌, length, refl, sym, ap, ◌∙◌, arith}
 use Rattle.std.proofs.lemmas.List.{append-nil, length-take}
 use Rattle.byteorder.specs.Endian.{big_number, big_bytes}

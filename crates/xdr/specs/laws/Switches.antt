@@ -1,4 +1,4 @@
--- What the cases of a union read stands in the layout of its value, and what stands there is read.
+-- What the cases of a union read matches the layout of its value, and what matches that layout is read.
 use Rattle.std.proofs.Common.{◌≡◌, ℕ, List, ◌++◌, Ok, refl, sym, ap, subst, ◌∙◌, append_assoc}
 use Rattle.xdr.specs.Layout.{◌⨾◌}
 use Rattle.xdr.specs.Reading.{Reads, Begins, ◌>>=◌}
@@ -6,7 +6,7 @@ use Rattle.xdr.specs.Form.{Form}
 use Rattle.xdr.specs.Switch.{Case, case, no_case, Arm, case_at, Agrees, IsRead}
 use Rattle.xdr.specs.laws.Reads.{bind_ok, Begins-then, as_value_gives}
 
--- the bytes begin as the arm of the value says, and its tag is this one
+-- the bytes begin with the content of the value's arm, and the value has this tag
 abbrev Found : {K V : Type 0} → (V → K) → (V → Arm V) → K → List ℕ → V × List ℕ → Type 0
 Found tag_of arm_of tag bytes y = (tag_of y.0 ≡ tag) × Begins (arm_of y.0).layout bytes y.1
 

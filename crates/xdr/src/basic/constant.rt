@@ -4,7 +4,8 @@ ghost use Rattle.xdr.specs.Reading.{Answers, constant_at};
 use crate::WireError;
 use crate::basic::read_u32;
 
-/// The bytes behind a number that is always this one. Short where another one is there, or none.
+/// Reads a number that always has this value, and returns the bytes after it. Short if there is another number, or
+/// none.
 #[tactic(auto, unfolding(crate::specs::Reading::constant_at))]
 pub fn read_constant(bytes: &[u8], number: u32) -> Result<((), &[u8]), WireError>
     ensures { Answers (λ x. (x.0, x.1.now)) result (constant_at number bytes.now) }

@@ -15,8 +15,8 @@ pub fn padding_of(len: usize) -> usize
     (4 - len % 4) % 4
 }
 
-/// The bytes of a length that stands before them, lent, and the bytes behind their padding. TooLong where
-/// the length is above `limit`, Short where bytes are missing, those of the padding too.
+/// The bytes that follow their length at the front, borrowed, and the bytes after their padding. TooLong if the length
+/// is above `limit`, Short if bytes are missing, even if only some of the padding.
 #[tactic(auto, unfolding(crate::specs::Reading::opaque_at))]
 pub fn read_opaque(bytes: &[u8], limit: u32) -> Result<(&[u8], &[u8]), WireError>
     ensures reads { Answers (λ x. (x.0.now, x.1.now)) result (opaque_at limit bytes.now) }
@@ -34,21 +34,21 @@ pub fn read_opaque(bytes: &[u8], limit: u32) -> Result<(&[u8], &[u8]), WireError
     Ok((&rest[..len], &rest[padded..]))
 }
 
-/// The bytes of a length that stands before them, as a value of their own, and the bytes behind their padding. TooLong and Short
-/// as for `read_opaque`.
+/// The bytes that follow their length at the front, as an owned value, and the bytes after their padding. TooLong if
+/// the length is above `LIMIT`, Short if bytes are missing, even if only some of the padding.
 pub fn read_opaque_bytes<const LIMIT: u32>(
     alloc: Global,
     bytes: &[u8],
 ) -> Result<(Opaque<LIMIT>, &[u8]), WireError>
     ensures reads { Gives (λ x. (x.0, x.1.now)) result (opaque_at LIMIT bytes.now) }
-    // Memory is told only of bytes that are there.
+    // Memory is reported only if all the bytes are there.
     ensures memory { IsErrOf result WireError.Memory → IsOk (opaque_at LIMIT bytes.now) }
 {
     let (value, rest) = read_opaque(bytes, LIMIT)?;
     Ok((Opaque::copy_of(alloc, value)?, rest))
 }
 
-/// Writes the length, the bytes and zeros to a multiple of 4 at the end. TooLong above `limit` bytes.
+/// Writes the length, the bytes, and zeros up to a multiple of 4 at the end. TooLong above `limit` bytes.
 #[tactic(auto, unfolding(crate::specs::Writing::written_opaque, crate::specs::Writing::written_number))]
 pub fn write_opaque(out: &mut Vec<u8>, bytes: &[u8], limit: u32) -> Result<(), WireError>
     ensures writes { Writes out.old out.new result (written_opaque bytes.now) (length bytes.now ≤ limit) }

@@ -3,7 +3,7 @@ use Rattle.nfs_rpc.specs.Keeping.{Stands, Begins, first_or, messages_of}
 use Rattle.nfs_rpc.proofs.Finding.{AreFoundSoFar}
 use Rattle.nfs_rpc.proofs.unfinished.take_all.Given as goal
 
--- All but the rest of the piece is taken.
+-- The piece up to `rest` has been taken.
 abbrev pub invariant-loop-rest : goal.invariant-loop-rest
 invariant-loop-rest l = record {
   stands : Stands l.bodies.items l.first.place;

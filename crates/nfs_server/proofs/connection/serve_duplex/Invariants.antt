@@ -6,7 +6,7 @@ use Rattle.nfs_server.specs.Exchange.{rules}
 use Rattle.nfs_server.proofs.Courses.{IsUnderWay}
 use Rattle.nfs_server.proofs.connection.serve_duplex.Given as goal
 
--- every turn so far is over
+-- all turns so far are complete
 abbrev pub invariant-loop-records : goal.invariant-loop-records
 invariant-loop-records g l = record {
   under_way : IsUnderWay g.D.Duplex.device (rules l.fn.tree g.S.Service.gives g.C.Clock.tells) (scene l.fn.device l.fn.service l.fn.clock) l.records (scene l.device l.service l.clock);

@@ -21,7 +21,7 @@ loop-message-init g c = record {
   writes = refl;
 }
 
--- a record is left where its reply was refused, and none of the replies before it is lost
+-- the record for whose reply memory ran out remains unanswered, and no reply before it is lost
 pub returns-in_err-send-in-Err-clause-served : goal.returns-in_err-send-in-Err-clause-served
 returns-in_err-send-in-Err-clause-served g c =
     let p = err_from_is_err_and c.from_residual.result c.from_residual.ensures.1 in

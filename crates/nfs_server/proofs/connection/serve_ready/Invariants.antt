@@ -6,7 +6,7 @@ use Rattle.nfs_server.specs.Exchange.{rules}
 use Rattle.nfs_server.proofs.Serving.{HasServed}
 use Rattle.nfs_server.proofs.connection.serve_ready.Given as goal
 
--- the records so far were answered, and those that are left are the others
+-- the records so far were answered, and the remaining ones are still ready
 abbrev pub invariant-loop-message : goal.invariant-loop-message
 invariant-loop-message g l = record {
   served : HasServed g.D.Duplex.device (rules l.fn.tree g.S.Service.gives g.C.Clock.tells) (scene l.fn.device l.fn.service l.fn.clock) l.fn.records.ready l.records.ready l.replies.gathered.items (scene l.device l.service l.clock);

@@ -2,7 +2,7 @@ use Rattle.std.proofs.Common.{◌≡◌, ℕ, List, ◌++◌, length}
 use Rattle.nfs_server.specs.Device.{IsWritten}
 use Rattle.nfs_server.proofs.connection.write_all.Given as goal
 
--- a beginning of the bytes went out
+-- the bytes before `rest` were written
 abbrev pub invariant-loop-rest : goal.invariant-loop-rest
 invariant-loop-rest g l = record {
   out : (front : List ℕ) × (l.bytes ≡ front ++ l.rest) × IsWritten g.D.Duplex.device l.fn.device front l.device;

@@ -2,6 +2,6 @@ use Rattle.std.proofs.Common.{◌≡◌, ◌-◌, ◌++◌}
 use Rattle.nfs_xdr.specs.Compound.{operations_at}
 use Rattle.nfs_xdr.proofs.compound.read_operations.Given as goal
 
--- the operations so far and those of what is left are all of them
+-- the operations read so far, followed by those read from the remaining bytes, are all the operations
 abbrev pub invariant-loop : goal.invariant-loop
 invariant-loop l = l.ops.items ++ operations_at (l.count - l.counter) l.rest ≡ operations_at l.count l.bytes

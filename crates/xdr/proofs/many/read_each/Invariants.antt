@@ -3,6 +3,6 @@ use Rattle.xdr.specs.Reading.{each_at}
 use Rattle.xdr.proofs.ReadingLists.{and_then}
 use Rattle.xdr.proofs.many.read_each.Given as goal
 
--- the values so far and those of what is left are all of them
+-- the values read so far, followed by those read from the remaining bytes, are all the values
 abbrev pub invariant-loop : goal.invariant-loop
 invariant-loop g l = and_then l.values.items (each_at g.T.Wire.form.at (l.count - l.counter) l.rest) ≡ each_at g.T.Wire.form.at l.count l.bytes

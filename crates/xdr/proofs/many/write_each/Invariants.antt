@@ -3,7 +3,7 @@ use Rattle.std.specs.Prelude.{vec_capacity}
 use Rattle.std.specs.List.{flat_map}
 use Rattle.xdr.proofs.many.write_each.Given as goal
 
--- the values so far stand at the end, and they fit their form
+-- the values so far are written at the end of the output, and they fit their form
 abbrev pub invariant-loop-value : goal.invariant-loop-value
 invariant-loop-value g l =
     (l.out.items ≡ l.fn.out.items ++ flat_map g.T.Wire.form.spelling (take l.value-index l.values))

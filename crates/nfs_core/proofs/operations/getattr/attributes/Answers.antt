@@ -1,4 +1,4 @@
--- How long the attributes of a node are at most.
+-- The greatest length of the attributes of a node.
 use Rattle.std.proofs.Common.{◌≡◌, ℕ, zero, suc, ◌*◌, ◌<◌, ◌≤◌, ◌^◌, Bool, true, false, List, [], ◌∷◌, length, arith}
 use Rattle.std.specs.Prelude.{◌==◌, if◌then◌else◌}
 use Rattle.std.specs.List.{All, flat_map}
@@ -67,11 +67,11 @@ told_len f mask values =
     let pad : length (zeros (padding_of (length f.values))) ≤ 4 = omega (arith, length-take {A = ℕ} (padding_of (length f.values)) (0 ∷ 0 ∷ 0 ∷ 0 ∷ [])) in
     simp length-append (omega (arith, mask_written f.mask mask, values, pad))
 
--- the result of GETATTR
+-- the result of GETATTR has at most 2032 bytes
 attributes_len : (f : Fattr) (s : Subject) (words : List ℕ) → f ≡ attributes_of s words → length (getattr.result.spelling (Done f)) ≤ 2032
 attributes_len f s words is = rw is (told_len (attributes_of s words) (mask_len words) (all_len s (asked words)))
 
--- Each attribute that is answered has a form: the mask is a word of four bytes, and the values are few.
+-- The attributes in an answer fit their form: the mask is a word of four bytes, and the values are few.
 one_word : (word : ℕ) → word < 2 ^ 32 → All (λ w. w < 2 ^ 32) (word ∷ [])
 one_word word small zero d lt = small
 one_word word small (suc k) d lt = absurd (omega (arith, lt))

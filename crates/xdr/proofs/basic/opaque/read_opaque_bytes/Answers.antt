@@ -1,4 +1,4 @@
--- No error of the reading tells that memory ran out.
+-- The reading function on lists never reports that it is out of memory.
 use Rattle.std.proofs.lemmas.Result.{err_from_is_err_and}
 use Rattle.xdr.specs.laws.Reads.{opaque_tells}
 use Rattle.xdr.proofs.basic.opaque.read_opaque_bytes.Goals as goal
