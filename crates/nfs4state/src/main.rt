@@ -17,15 +17,15 @@ fn main(rt: HostRuntime) -> ExitCode {
     let words = match words(&rt) {
         Ok(words) => words,
         Err(error) if error.kind() == io::ErrorKind::OutOfMemory => {
-            return ExitCode::from(told(&rt, Fault::NoMemory));
+            return ExitCode::from(report(&rt, Fault::NoMemory));
         }
-        Err(_) => return refused(&rt, "error: a word isn't UTF-8\n"),
+        Err(_) => return print_usage(&rt, "error: a word isn't UTF-8\n"),
     };
     match options(rt.alloc(), words.as_slice()) {
         Ok(Subcommand::Once(options)) => ExitCode::from(once(&rt, &options)),
-        Err(Declined::Help(text)) => helped(&rt, text.as_str()),
-        Err(Declined::Usage(text)) => refused(&rt, text.as_str()),
-        Err(Declined::Memory) => ExitCode::from(told(&rt, Fault::NoMemory)),
+        Err(Declined::Help(text)) => print_help(&rt, text.as_str()),
+        Err(Declined::Usage(text)) => print_usage(&rt, text.as_str()),
+        Err(Declined::Memory) => ExitCode::from(report(&rt, Fault::NoMemory)),
     }
 }
 
@@ -39,10 +39,10 @@ fn once(rt: &HostRuntime, options: &OnceOptions<'_>) -> u8
 {
     let tree = match tree(rt, options.tree) {
         Ok(tree) => tree,
-        Err(fault) => return told(rt, fault),
+        Err(fault) => return report(rt, fault),
     };
     let Ok(core) = core_of(rt.alloc(), options, &tree) else {
-        return told(rt, Fault::NoMemory);
+        return report(rt, Fault::NoMemory);
     };
     let mut source = Counted::new(rt.stdin());
     let mut sink = Counted::new(rt.stdout());
@@ -78,17 +78,17 @@ fn tree(rt: &HostRuntime, path: Option<&str>) -> Result<Tree, Fault> {
 
 // The functions below ignore an error in writing, since there is no other place to report it.
 
-fn helped(rt: &HostRuntime, text: &str) -> ExitCode {
+fn print_help(rt: &HostRuntime, text: &str) -> ExitCode {
     let _ = rt.print(text);
     ExitCode::from(0)
 }
 
-fn refused(rt: &HostRuntime, text: &str) -> ExitCode {
+fn print_usage(rt: &HostRuntime, text: &str) -> ExitCode {
     let _ = rt.eprint(text);
     ExitCode::from(2)
 }
 
-fn told(rt: &HostRuntime, fault: Fault) -> u8 {
+fn report(rt: &HostRuntime, fault: Fault) -> u8 {
     let _ = rt.eprintln(fault);
     1
 }

@@ -9,7 +9,7 @@ use Rattle.xdr.specs.laws.Reads.{decided, ok_is, lacks}
 use Rattle.nfs_xdr.specs.declared.compound.Compound.{Compound as CompoundArgs}
 use Rattle.nfs_xdr.specs.declared.principal.Principal.{Principal}
 use Rattle.nfs_xdr.specs.declared.principal.Principal.TheVariants as principals
-use Rattle.nfs_xdr.specs.Compound.{OneCompoundStands, compound_at, head, request_at}
+use Rattle.nfs_xdr.specs.Compound.{OneCompoundIsEncoded, compound_at, head, request_at}
 use Rattle.nfs_rpc.specs.declared.call.Call.{Call}
 use Rattle.nfs_rpc.specs.declared.call.Call.TheVariants.{Silent, Null, Compound, Answer}
 use Rattle.nfs_rpc.specs.declared.call.Start.{Start}
@@ -18,7 +18,7 @@ use Rattle.nfs_rpc.specs.declared.credential.TheConstants.{AUTH_NONE, AUTH_SYS}
 use Rattle.nfs_rpc.specs.declared.reply.Reply.TheVariants.{RpcMismatch, AuthError, ProcUnavail, SystemError}
 use Rattle.nfs_rpc.specs.AuthSys.{AuthSys, auth_sys}
 use Rattle.nfs_rpc.specs.Credential.{IsOf, OpaqueAuth, principal_of, user_of}
-use Rattle.nfs_rpc.specs.Call.{Body, CallHeader, CallsFor, First, HasAnotherProcedure, HasAnotherProgram, HasAnotherRpc, HasAnotherVersion, HasCompound, HasGarbage, HasHeader, HasNoHeader, HasNoPrincipal, HasNull, IsCall, OneCall, OrRefused, body, header, start}
+use Rattle.nfs_rpc.specs.Call.{Body, CallHeader, CallsFor, First, HasAnotherProcedure, HasAnotherProgram, HasAnotherRpc, HasAnotherVersion, HasCompound, HasGarbage, HasHeader, HasNoHeader, HasNoPrincipal, HasNull, IsCall, OneCall, OrSystemError, body, header, start}
 use Rattle.nfs_rpc.specs.ReadingCalls.{call_of, compound_or_garbage, header_call, header_of, procedure_call, read_or, some_or, start_call}
 
 -- what the bytes encode is read
@@ -85,7 +85,7 @@ record IsRead (message : List ℕ) (s : Start) (b : Body) (behind : List ℕ) (p
   read : header.at message ≡ Ok ((s, b), behind)
   principal_is : IsOf b.credential principal
 
-arguments_case : OneCompoundStands → (message : List ℕ) (s : Start) (b : Body) (behind : List ℕ) (principal : Principal) → IsRead message s b behind principal
+arguments_case : OneCompoundIsEncoded → (message : List ℕ) (s : Start) (b : Body) (behind : List ℕ) (principal : Principal) → IsRead message s b behind principal
     → (r : Result CompoundArgs WireError) → compound_at behind ≡ r → First (HasCompound message ∷ HasGarbage message ∷ []) (compound_or_garbage s.xid principal r)
 arguments_case law message s b behind principal is (Ok compound) e =
     inl ((s, b), behind, header.reads.sound message (s, b) behind is.read, (principal, compound, is.principal_is, (law behind compound).0 e, refl))
@@ -97,7 +97,7 @@ arguments_case law message s b behind principal is (Err error) e =
       inl ((s, b), behind, header.reads.sound message (s, b) behind is.read, refl),
     )
 
-procedure_case : OneCompoundStands → (message : List ℕ) (s : Start) (b : Body) (behind : List ℕ) (principal : Principal) → IsRead message s b behind principal
+procedure_case : OneCompoundIsEncoded → (message : List ℕ) (s : Start) (b : Body) (behind : List ℕ) (principal : Principal) → IsRead message s b behind principal
     → First (ProcedureRules message) (cond (eqb b.procedure PROC_NULL) (Null s.xid) (cond (not (eqb b.procedure PROC_COMPOUND)) (Answer s.xid ProcUnavail) (compound_or_garbage s.xid principal (compound_at behind))))
 procedure_case law message s b behind principal is =
     let found = header.reads.sound message (s, b) behind is.read in
@@ -118,7 +118,7 @@ procedure_case law message s b behind principal is =
       ]
     ]
 
-program_case : OneCompoundStands → (message : List ℕ) (s : Start) (b : Body) (behind : List ℕ) (principal : Principal) → IsRead message s b behind principal
+program_case : OneCompoundIsEncoded → (message : List ℕ) (s : Start) (b : Body) (behind : List ℕ) (principal : Principal) → IsRead message s b behind principal
     → First (ProgramRules message) (procedure_call s.xid (header_of b) behind principal)
 program_case law message s b behind principal is =
     let found = header.reads.sound message (s, b) behind is.read in
@@ -139,7 +139,7 @@ program_case law message s b behind principal is =
       | inr other ↦ rw other (inl ((s, b), behind, found, (eqb-false _ _ other, refl)))
     ]
 
-principal_case : OneCompoundStands → (message : List ℕ) (s : Start) (b : Body) (behind : List ℕ) → header.at message ≡ Ok ((s, b), behind) → (r : Option Principal) → principal_of b.credential ≡ r
+principal_case : OneCompoundIsEncoded → (message : List ℕ) (s : Start) (b : Body) (behind : List ℕ) → header.at message ≡ Ok ((s, b), behind) → (r : Option Principal) → principal_of b.credential ≡ r
     → First (HasNoPrincipal message ∷ ProgramRules message) (some_or (Answer s.xid AuthError) r (procedure_call s.xid (header_of b) behind))
 principal_case law message s b behind read None e =
     inl ((s, b), behind, header.reads.sound message (s, b) behind read, (no_principal b.credential e, refl))
@@ -150,7 +150,7 @@ principal_case law message s b behind read (Some principal) e =
       program_case law message s b behind principal (record { read = read; principal_is = is }),
     )
 
-body_case : OneCompoundStands → (message : List ℕ) (s : Start) (rest : List ℕ) → start.at message ≡ Ok (s, rest) → (r : Read Body) → body.at rest ≡ r
+body_case : OneCompoundIsEncoded → (message : List ℕ) (s : Start) (rest : List ℕ) → start.at message ≡ Ok (s, rest) → (r : Read Body) → body.at rest ≡ r
     → First (HasNoHeader message ∷ HasNoPrincipal message ∷ ProgramRules message) (read_or Silent (r >>= λ a. Ok (header_of a.0, a.1)) (header_call s.xid))
 body_case law message s rest first (Err error) e =
     let failed : header.at message ≡ Err error = rw (first, e) refl in
@@ -162,7 +162,7 @@ body_case law message s rest first (Ok b) e =
       principal_case law message s b.0 b.1 read (principal_of b.0.credential) refl,
     )
 
-start_case : OneCompoundStands → (message : List ℕ) (r : Read Start) → start.at message ≡ r → CallsFor message (read_or Silent r start_call)
+start_case : OneCompoundIsEncoded → (message : List ℕ) (r : Read Start) → start.at message ≡ r → CallsFor message (read_or Silent r start_call)
 start_case law message (Err error) e =
     let failed : header.at message ≡ Err error = rw e refl in
     inr (
@@ -180,11 +180,11 @@ start_case law message (Ok s) e =
       | inr other ↦ rw other (inl (s.0, s.1, start.reads.sound message s.0 s.1 e, eqb-false _ _ other, refl))
     ]
 
-pub calls_for : OneCompoundStands → (message : List ℕ) → CallsFor message (call_of message)
+pub calls_for : OneCompoundIsEncoded → (message : List ℕ) → CallsFor message (call_of message)
 calls_for law message = start_case law message (start.at message) refl
 
 -- A call that was read is the call of the record, also where SYSTEM_ERR answers a COMPOUND for which memory ran out.
-pub call_stands : OneCompoundStands → (message : List ℕ) (call : Call) → OrRefused (λ c. c ≡ call_of message) call → IsCall message call
+pub call_stands : OneCompoundIsEncoded → (message : List ℕ) (call : Call) → OrSystemError (λ c. c ≡ call_of message) call → IsCall message call
 call_stands law message call (inl e) = inl (subst (CallsFor message) (sym e) (calls_for law message))
 call_stands law message call (inr refused) =
     inr (refused.0, refused.1, refused.2, subst (CallsFor message) (sym refused.3) (calls_for law message), refused.4)
@@ -198,7 +198,7 @@ pub compound_there : (bytes : List ℕ) → IsOk (head.at bytes) → (compound :
 unfolding compound_at
 compound_there bytes ok = request_there (head.at bytes) ok
 
-pub refused_compound : (xid : ℕ) (principal : Principal) (bytes : List ℕ) → IsOk (head.at bytes) → OrRefused (λ c. c ≡ compound_or_garbage xid principal (compound_at bytes)) (Answer xid SystemError)
+pub refused_compound : (xid : ℕ) (principal : Principal) (bytes : List ℕ) → IsOk (head.at bytes) → OrSystemError (λ c. c ≡ compound_or_garbage xid principal (compound_at bytes)) (Answer xid SystemError)
 refused_compound xid principal bytes ok =
     let found = compound_there bytes ok in
     inr (xid, principal, found.0, ap (compound_or_garbage xid principal) (sym found.1), refl)
@@ -227,7 +227,7 @@ single_header : (message : List ℕ) (Is : Call → CallHeader → List ℕ → 
 single_header message Is single a b x y =
     single x.0 x.1 a b x.3 (the_header (Is b) message x.0 x.1 (reads_there header message x.0 x.1 x.2) y)
 
-single_compound : OneCompoundStands → (message : List ℕ) → Single (HasCompound message)
+single_compound : OneCompoundIsEncoded → (message : List ℕ) → Single (HasCompound message)
 single_compound law message =
     single_header message _ (λ h rest a b x y.
     let same : ◌≡◌ {A = Result CompoundArgs WireError} (Ok x.1) (Ok y.1) = sym ((law rest x.1).1 x.3) ∙ (law rest y.1).1 y.3 in
@@ -235,7 +235,7 @@ single_compound law message =
     let principal = one_principal h.1.credential x.0 y.0 x.2 y.2 in
     x.4 ∙ ap (λ p. Compound h.0.xid p x.1) principal ∙ ap (Compound h.0.xid y.0) compound ∙ sym y.4)
 
-all_single : OneCompoundStands → (message : List ℕ) → AllSingle (HasAnotherRpc message ∷ HasNoHeader message ∷ HasNoPrincipal message ∷ ProgramRules message)
+all_single : OneCompoundIsEncoded → (message : List ℕ) → AllSingle (HasAnotherRpc message ∷ HasNoHeader message ∷ HasNoPrincipal message ∷ ProgramRules message)
 all_single law message = (
   single_start message,
   (
@@ -262,7 +262,7 @@ all_single law message = (
   ),
 )
 
-pub one_call : OneCompoundStands → OneCall
+pub one_call : OneCompoundIsEncoded → OneCall
 one_call law message = (
   call_of message,
   calls_for law message,

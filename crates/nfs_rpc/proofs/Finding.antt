@@ -7,12 +7,12 @@ use Rattle.nfs_rpc.specs.declared.place.Place.{Place}
 use Rattle.nfs_rpc.specs.declared.place.Place.TheVariants.{InHeader, InBody}
 use Rattle.nfs_rpc.specs.declared.unfinished.Unfinished.{Unfinished}
 use Rattle.nfs_rpc.specs.Records.{IsAt}
-use Rattle.nfs_rpc.specs.Keeping.{IsPlace, Fits, Stands, Begins, first_or, AreFound, AreAllFound}
+use Rattle.nfs_rpc.specs.Keeping.{IsPlace, Fits, TakesMore, Begins, first_or, AreFound, AreAllFound}
 use Rattle.nfs_rpc.proofs.Fragments.{AreRecords-push}
 use Rattle.nfs_rpc.proofs.Standing.{at_start, at_open, at_last, at_rest, at_within, at_long, at_long_rest}
 
 pub found_none : (text bodies : List ℕ) (first : Unfinished) → IsAt text bodies first.place → first.count ≡ length text → AreFound text [] bodies first
-found_none text bodies first a count = record { front = []; rest = text; whole = refl; records = refl; stands = a; count = count }
+found_none text bodies first a count = record { front = []; rest = text; whole = refl; records = refl; at_place = a; count = count }
 
 -- more bytes at the end of the text
 pub found_more : (text more : List ℕ) (messages : List (List ℕ)) (bodies longer : List ℕ) (first : Unfinished) (place : Place) (long : Bool) (count : ℕ)
@@ -23,7 +23,7 @@ found_more text more messages bodies longer first place long count behind is f =
   rest = f.rest ++ more;
   whole = ap (λ (l : List ℕ). l ++ more) f.whole ∙ append_assoc f.front f.rest more;
   records = f.records;
-  stands = behind f.rest f.stands;
+  at_place = behind f.rest f.at_place;
   count = omega (arith, f.count, length-append f.rest more);
 }
 
@@ -35,7 +35,7 @@ found_open text bytes messages bodies first is f = record {
   rest = f.rest;
   whole = f.whole;
   records = f.records;
-  stands = at_open f.rest bodies bytes (subst (λ (p : Place). IsAt f.rest bodies p) is f.stands);
+  at_place = at_open f.rest bodies bytes (subst (λ (p : Place). IsAt f.rest bodies p) is f.at_place);
   count = f.count;
 }
 
@@ -48,25 +48,25 @@ found_last text bytes messages bodies first is fits f =
       front = f.front ++ f.rest;
       rest = [];
       whole = f.whole ∙ sym (append-nil (f.front ++ f.rest));
-      records = AreRecords-push messages f.front bodies f.rest f.records (at_last f.rest bodies (subst (λ (p : Place). IsAt f.rest bodies p) is f.stands)) (omega arith);
-      stands = at_start bytes;
+      records = AreRecords-push messages f.front bodies f.rest f.records (at_last f.rest bodies (subst (λ (p : Place). IsAt f.rest bodies p) is f.at_place)) (omega arith);
+      at_place = at_start bytes;
       count = refl;
     }
 
 -- as long as more bytes can be added to what is kept, all whole records of the text are found
-pub all_found : (text : List ℕ) (messages : List (List ℕ)) (bodies : List ℕ) (first : Unfinished) → Stands bodies first.place → first.is_too_long ≡ false
+pub all_found : (text : List ℕ) (messages : List (List ℕ)) (bodies : List ℕ) (first : Unfinished) → TakesMore bodies first.place → first.is_too_long ≡ false
     → AreFound text messages bodies first → AreAllFound text messages bodies first
 all_found text messages bodies first s goes f =
-    let none = at_rest f.rest bodies first.place f.stands s.more in (
+    let none = at_rest f.rest bodies first.place f.at_place s.more in (
       f.rest,
       record { front = f.front; whole = f.whole; records = f.records; none_left = none },
       record {
         none_left = none;
         too_long = (
           (λ told. let clash : true ≡ false = sym told ∙ goes in cc),
-          (λ long. absurd (at_within f.rest bodies first.place f.stands s.more s.fits long)),
+          (λ long. absurd (at_within f.rest bodies first.place f.at_place s.more s.fits long)),
         );
-        stands = λ _. f.stands;
+        at_place = λ _. f.at_place;
         count = f.count;
       },
     )
@@ -82,7 +82,7 @@ pub all_found_long : (text behind : List ℕ) (messages : List (List ℕ)) (bodi
     → AreAllFound (text ++ behind) messages bodies (record { place = first.place; count = first.count + count; is_too_long = true })
 all_found_long text behind messages bodies first count is few above counts f =
     let w = above_at bodies first.place is few above in
-    let a = subst (λ (p : Place). IsAt f.rest bodies p) w.2 f.stands in
+    let a = subst (λ (p : Place). IsAt f.rest bodies p) w.2 f.at_place in
     let none = at_long_rest f.rest bodies behind w.0 w.1 a w.3 in (
       f.rest ++ behind,
       record {
@@ -94,7 +94,7 @@ all_found_long text behind messages bodies first count is few above counts f =
       record {
         none_left = none;
         too_long = ((λ _. at_long f.rest bodies behind w.0 w.1 a w.3), (λ _. refl));
-        stands = (λ no. let clash : true ≡ false = no in cc);
+        at_place = (λ no. let clash : true ≡ false = no in cc);
         count = omega (arith, f.count, length-append f.rest behind);
       },
     )
@@ -132,12 +132,12 @@ module _ (start : List ℕ) (from : Unfinished) (piece : List ℕ) where
       → AreFoundSoFar start from piece rest messages bodies first → AreFoundSoFar start from piece rest others kept next
   so_far_same rest messages others bodies kept first next goes f = (f.0, f.1, λ text a count. goes (text ++ f.0) (f.2 text a count))
 
-  pub so_far_all : (rest : List ℕ) (messages : List (List ℕ)) (bodies : List ℕ) (first : Unfinished) → rest ≡ [] → Stands bodies first.place → first.is_too_long ≡ false
+  pub so_far_all : (rest : List ℕ) (messages : List (List ℕ)) (bodies : List ℕ) (first : Unfinished) → rest ≡ [] → TakesMore bodies first.place → first.is_too_long ≡ false
       → AreFoundSoFar start from piece rest messages bodies first
       → (text : List ℕ) → IsAt text start from.place → from.count ≡ length text → AreAllFound (text ++ piece) messages bodies first
-  so_far_all rest messages bodies first none stands goes f text a count =
+  so_far_all rest messages bodies first none at_place goes f text a count =
       let whole : f.0 ≡ piece = sym (append-nil f.0) ∙ ap (λ (l : List ℕ). f.0 ++ l) (sym none) ∙ sym f.1 in
-      subst (λ (l : List ℕ). AreAllFound (text ++ l) messages bodies first) whole (all_found (text ++ f.0) messages bodies first stands goes (f.2 text a count))
+      subst (λ (l : List ℕ). AreAllFound (text ++ l) messages bodies first) whole (all_found (text ++ f.0) messages bodies first at_place goes (f.2 text a count))
 
   pub so_far_long : (rest : List ℕ) (messages : List (List ℕ)) (bodies : List ℕ) (first : Unfinished) (count : ℕ) → IsPlace first.place → length bodies ≤ RECORD_LIMIT
       → (Fits (length bodies) first.place → ⊥) → count ≡ length rest → AreFoundSoFar start from piece rest messages bodies first

@@ -7,7 +7,7 @@ use Rattle.nfs_rpc.specs.declared.records.TheConstants.{RECORD_LIMIT}
 use Rattle.nfs_rpc.specs.declared.place.Place.{Place}
 use Rattle.nfs_rpc.specs.declared.place.Place.TheVariants.{InHeader, InBody}
 use Rattle.nfs_rpc.specs.Records.{IsHeader, IsFragment, AreOpen, IsRecord, IsRest, IsTooLong, IsAt}
-use Rattle.nfs_rpc.specs.Keeping.{WantsMore, Fits}
+use Rattle.nfs_rpc.specs.Keeping.{IsIncomplete, Fits}
 use Rattle.nfs_rpc.proofs.Fragments.{append_same, IsHeader-same, IsFragment-header, length-fragment, IsRecord-head, IsRecord-behind, AreOpen-header, AreOpen-push}
 
 pub at_start : (bytes : List ℕ) → IsAt [] [] (InHeader bytes 0)
@@ -155,11 +155,11 @@ length-body : (bodies : List (List ℕ)) (kept body : List ℕ) (wanted : ℕ) �
 length-body bodies kept body wanted is = let sizes : length kept ≡ length (concat bodies) + length body = ap length is ∙ length-append (concat bodies) body in omega arith
 
 -- At a place inside a header or a body, no whole record within the limit is at the front of the text.
-pub at_rest : (text bodies : List ℕ) (place : Place) → IsAt text bodies place → WantsMore place → IsRest text
+pub at_rest : (text bodies : List ℕ) (place : Place) → IsAt text bodies place → IsIncomplete place → IsRest text
 at_rest text bodies (InHeader bytes len) a more = short_rest text a.1 (take len bytes) a.0 a.2 a.3 (let short : len < 4 = a.5 in omega (arith, length-take len bytes))
 at_rest text bodies (InBody wanted last) a more = part_rest text a.1 (a.2 ++ a.3) a.0 a.4 a.5 a.2 a.3 last (length a.3 + wanted) refl a.6 (omega arith)
 
-pub at_within : (text bodies : List ℕ) (place : Place) → IsAt text bodies place → WantsMore place → Fits (length bodies) place → IsTooLong text → ⊥
+pub at_within : (text bodies : List ℕ) (place : Place) → IsAt text bodies place → IsIncomplete place → Fits (length bodies) place → IsTooLong text → ⊥
 at_within text bodies (InHeader bytes len) a more fits =
     short_within text a.1 (take len bytes) a.0 a.2 a.3 (let short : len < 4 = a.5 in omega (arith, length-take len bytes)) (let n : length bodies ≡ length (concat a.0) = ap length a.4 in omega arith)
 at_within text bodies (InBody wanted last) a more fits =

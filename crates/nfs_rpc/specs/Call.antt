@@ -136,15 +136,15 @@ OneCall =
     × ((other : Call) → CallsFor message other → other ≡ call)
 
 -- The call itself, or SYSTEM_ERR in place of a COMPOUND for which memory ran out.
-abbrev pub OrRefused : (Call → Type 0) → Call → Type 0
-OrRefused Is call =
+abbrev pub OrSystemError : (Call → Type 0) → Call → Type 0
+OrSystemError Is call =
     Is call
     ⊎ ((xid : ℕ) × (principal : Principal) × (compound : CompoundArgs)
     × Is (Compound xid principal compound) × (call ≡ Answer xid SystemError))
 
 -- The call that is read. SYSTEM_ERR is answered only to a COMPOUND, and garbage is always answered GARBAGE_ARGS.
 abbrev pub IsCall : List ℕ → Call → Type 0
-IsCall message = OrRefused (CallsFor message)
+IsCall message = OrSystemError (CallsFor message)
 
 -- there are no more operations than a COMPOUND may have
 abbrev pub HasFewOperations : Request → Type 0

@@ -13,9 +13,9 @@ IsPlace (InHeader bytes len) = len < 4
 IsPlace (InBody wanted last) = Unit {0}
 
 -- a place inside a body is before its end
-abbrev pub WantsMore : Place → Type 0
-WantsMore (InHeader bytes len) = Unit {0}
-WantsMore (InBody wanted last) = 0 < wanted
+abbrev pub IsIncomplete : Place → Type 0
+IsIncomplete (InHeader bytes len) = Unit {0}
+IsIncomplete (InBody wanted last) = 0 < wanted
 
 -- with this many bytes of bodies the record is within the limit, as far as its headers up to now say
 abbrev pub Fits : ℕ → Place → Type 0
@@ -23,15 +23,15 @@ Fits gathered (InHeader bytes len) = gathered ≤ RECORD_LIMIT
 Fits gathered (InBody wanted last) = gathered + wanted ≤ RECORD_LIMIT
 
 -- more bytes can be added to what is kept
-pub record Stands (bodies : List ℕ) (place : Place) : Type 0 where
+pub record TakesMore (bodies : List ℕ) (place : Place) : Type 0 where
   pub header : IsPlace place
-  pub more : WantsMore place
+  pub more : IsIncomplete place
   pub fits : Fits (length bodies) place
 
 -- what holds for each unfinished record
 pub record IsSound (bodies : List ℕ) (first : Unfinished) : Type 0 where
   pub keeps : (rest : List ℕ) × IsUnfinished rest bodies first
-  pub stands : first.is_too_long ≡ false → Stands bodies first.place
+  pub at_place : first.is_too_long ≡ false → TakesMore bodies first.place
   pub few : length bodies ≤ RECORD_LIMIT
 
 abbrev pub messages_of : List (Vec ℕ) → List (List ℕ)
@@ -51,7 +51,7 @@ pub record AreFound (text : List ℕ) (messages : List (List ℕ)) (bodies : Lis
   pub rest : List ℕ
   pub whole : text ≡ front ++ rest
   pub records : AreRecords messages front
-  pub stands : IsAt rest bodies first.place
+  pub at_place : IsAt rest bodies first.place
   pub count : first.count ≡ length rest
 
 -- all whole records of a text, and what is kept of the bytes after them

@@ -84,7 +84,7 @@ IsAt text kept (InBody wanted last) =
 pub record IsUnfinished (rest bodies : List ℕ) (first : Unfinished) : Type 0 where
   pub none_left : IsRest rest
   pub too_long : IsTrue first.is_too_long ↔ IsTooLong rest
-  pub stands : first.is_too_long ≡ false → IsAt rest bodies first.place
+  pub at_place : first.is_too_long ≡ false → IsAt rest bodies first.place
   pub count : first.count ≡ length rest
 
 -- A stream as its readers see it: the whole records that were not yet taken; of the bytes after them the bodies, the

@@ -1,12 +1,12 @@
 ghost use Rattle.std.specs.Prelude.{◌≡◌, ◌+◌, ◌≤◌, IfOk, length};
-ghost use Rattle.nfs_rpc.specs.Call.{IsCall, IsCallWithinLimits, OneCall, OrRefused, start};
+ghost use Rattle.nfs_rpc.specs.Call.{IsCall, IsCallWithinLimits, OneCall, OrSystemError, start};
 ghost use Rattle.nfs_rpc.specs.ReadingCalls.{call_of, compound_or_garbage, header_at};
 ghost use Rattle.nfs_xdr.specs.Compound.{compound_at};
 ghost use Rattle.xdr.specs.Reading.{Answers};
 
 use crate::Reply;
 use crate::credential::{read_credential, read_opaque_auth};
-use nfs_xdr::{Compound, Principal, one_request_stands, read_compound};
+use nfs_xdr::{Compound, Principal, one_request_is_encoded, read_compound};
 use std::alloc::Global;
 use xdr::{WireError, read_constant, read_u32};
 
@@ -65,12 +65,12 @@ pub fn read_call(alloc: Global, message: &[u8]) -> Call
     ensures call { IsCall message.now result }
     ensures limits { IsCallWithinLimits (length message.now) result }
 {
-    one_request_stands();
+    one_request_is_encoded();
     call_from(alloc, message)
 }
 
 fn call_from(alloc: Global, message: &[u8]) -> Call
-    ensures call { OrRefused (λ call. call ≡ call_of message.now) result }
+    ensures call { OrSystemError (λ call. call ≡ call_of message.now) result }
     ensures limits { IsCallWithinLimits (length message.now) result }
 {
     let Ok((start, rest)) = read_start(message) else {
@@ -100,7 +100,7 @@ fn call_from(alloc: Global, message: &[u8]) -> Call
 
 // The call of COMPOUND with these arguments, which follow a header of at least 40 bytes.
 fn compound_call(alloc: Global, xid: u32, principal: Principal, bytes: &[u8]) -> Call
-    ensures call { OrRefused
+    ensures call { OrSystemError
         (λ call. call ≡ compound_or_garbage xid principal (compound_at bytes.now)) result }
     ensures limits { IsCallWithinLimits (40 + length bytes.now) result }
 {
@@ -157,5 +157,5 @@ fn header_from(bytes: &[u8]) -> Result<(Header, &[u8]), WireError>
 pub fn one_call()
     ensures { OneCall }
 {
-    one_request_stands();
+    one_request_is_encoded();
 }

@@ -1,6 +1,6 @@
 ghost use Rattle.std.specs.Prelude.{◌+◌, ◌<◌, ◌≤◌, ◌↔◌, ◌++◌, List, ℕ, length, take, IfOk, IsTrue};
 ghost use Rattle.nfs_rpc.specs.Records.{IsHeader, IsAt};
-ghost use Rattle.nfs_rpc.specs.Keeping.{IsPlace, WantsMore, Fits, Begins};
+ghost use Rattle.nfs_rpc.specs.Keeping.{IsPlace, IsIncomplete, Fits, Begins};
 
 use crate::records::{HEADER_LEN, LAST_FRAGMENT, RECORD_LIMIT};
 use byteorder::{BigEndian, ByteOrder};
@@ -44,7 +44,7 @@ fn header_at(text: &[u8]) -> Header
 }
 
 /// The place after more bytes of a header.
-fn behind_part(bytes: [u8; HEADER_LEN], len: usize, part: &[u8]) -> Place
+fn after_part(bytes: [u8; HEADER_LEN], len: usize, part: &[u8]) -> Place
     requires { len + length part.now ≤ 4 }
     ensures place { IsPlace result }
     ensures behind { (text bodies : List ℕ) → IsAt text bodies (Place.InHeader bytes len)
@@ -75,7 +75,7 @@ pub(crate) fn take_front(
 ) -> Result<(Place, usize), AllocError>
     requires place { IsPlace place }
     requires some { 0 < length piece.now }
-    requires more { WantsMore place }
+    requires more { IsIncomplete place }
     ensures place { IfOk result (λ r. IsPlace r.0) }
     ensures count { IfOk result (λ r. (0 < r.1) × (r.1 ≤ length piece.now)) }
     ensures behind { IfOk result (λ r. (text : List ℕ) → IsAt text bodies.old.items place
@@ -87,7 +87,7 @@ pub(crate) fn take_front(
     match place {
         Place::InHeader { bytes, len } => {
             let count = (HEADER_LEN - len).min(piece.len());
-            Ok((behind_part(bytes, len, &piece[..count]), count))
+            Ok((after_part(bytes, len, &piece[..count]), count))
         }
         Place::InBody { wanted, is_last } => {
             let count = wanted.min(piece.len());

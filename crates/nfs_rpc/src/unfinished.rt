@@ -1,5 +1,5 @@
 ghost use Rattle.std.specs.Prelude.{◌≡◌, ◌+◌, ◌^◌, ◌≤◌, ◌++◌, List, ℕ, [], false, length, take, IfOk, OnErr};
-ghost use Rattle.nfs_rpc.specs.Keeping.{IsPlace, Fits, Stands, Begins, AreFound, Finds, first_or, messages_of};
+ghost use Rattle.nfs_rpc.specs.Keeping.{IsPlace, Fits, TakesMore, Begins, AreFound, Finds, first_or, messages_of};
 
 use crate::place::{Place, fits, take_front};
 use crate::records::RECORD_LIMIT;
@@ -38,7 +38,7 @@ fn end_fragment(
     requires place { IsPlace first.place }
     requires fits { Fits (length bodies.old.items) first.place }
     requires goes { first.is_too_long ≡ false }
-    ensures stands { IfOk result (λ next. Stands bodies.new.items next.place) }
+    ensures at_place { IfOk result (λ next. TakesMore bodies.new.items next.place) }
     ensures goes { IfOk result (λ next. next.is_too_long ≡ false) }
     ensures count { IfOk result (λ next. next.count ≤ first.count) }
     ensures found { IfOk result (λ next.
@@ -77,13 +77,13 @@ fn take_all(
     piece: &[u8],
 ) -> Result<Unfinished, AllocError>
     requires none { found.old.items ≡ [] }
-    requires stands { Stands bodies.old.items from.place }
+    requires at_place { TakesMore bodies.old.items from.place }
     requires goes { from.is_too_long ≡ false }
     requires room { from.count + length piece.now ≤ 2 ^ 40 }
     ensures ok { IfOk result (λ first.
         Finds bodies.old.items from piece.now (messages_of found.new.items) bodies.new.items first) }
-    ensures stands { IfOk result (λ first.
-        first.is_too_long ≡ false → Stands bodies.new.items first.place) }
+    ensures at_place { IfOk result (λ first.
+        first.is_too_long ≡ false → TakesMore bodies.new.items first.place) }
     ensures few { IfOk result (λ first. length bodies.new.items ≤ RECORD_LIMIT) }
     ensures begins { Begins bodies.old.items (first_or (messages_of found.new.items) bodies.new.items) }
 {
@@ -115,14 +115,14 @@ fn add_all(
     piece: &[u8],
 ) -> Result<Unfinished, AllocError>
     requires none { found.old.items ≡ [] }
-    requires stands { Stands bodies.old.items from.place }
+    requires at_place { TakesMore bodies.old.items from.place }
     requires goes { from.is_too_long ≡ false }
     requires room { from.count + length piece.now ≤ 2 ^ 40 }
     ensures ok { IfOk result (λ first. (messages : List (List ℕ))
         × Finds bodies.old.items from piece.now messages bodies.new.items first
         × (messages_of ready.new.items ≡ messages_of ready.old.items ++ messages)) }
-    ensures stands { IfOk result (λ first.
-        first.is_too_long ≡ false → Stands bodies.new.items first.place) }
+    ensures at_place { IfOk result (λ first.
+        first.is_too_long ≡ false → TakesMore bodies.new.items first.place) }
     ensures few { IfOk result (λ first. length bodies.new.items ≤ RECORD_LIMIT) }
     ensures err { OnErr result (ready.new.items ≡ ready.old.items) }
     ensures begins { OnErr result
@@ -152,14 +152,14 @@ pub(crate) fn take_piece(
     from: Unfinished,
     piece: &[u8],
 ) -> Result<Unfinished, AllocError>
-    requires stands { Stands bodies.old.items from.place }
+    requires at_place { TakesMore bodies.old.items from.place }
     requires goes { from.is_too_long ≡ false }
     requires room { from.count + length piece.now ≤ 2 ^ 40 }
     ensures ok { IfOk result (λ first. (messages : List (List ℕ))
         × Finds bodies.old.items from piece.now messages bodies.new.items first
         × (messages_of ready.new.items ≡ messages_of ready.old.items ++ messages)) }
-    ensures stands { IfOk result (λ first.
-        first.is_too_long ≡ false → Stands bodies.new.items first.place) }
+    ensures at_place { IfOk result (λ first.
+        first.is_too_long ≡ false → TakesMore bodies.new.items first.place) }
     ensures few { IfOk result (λ first. length bodies.new.items ≤ RECORD_LIMIT) }
     ensures err { OnErr result
         ((ready.new.items ≡ ready.old.items) × (bodies.new.items ≡ bodies.old.items)) }

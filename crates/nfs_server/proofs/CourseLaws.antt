@@ -18,17 +18,17 @@ use Rattle.nfs_server.proofs.Serving.{exchanged_then, messages-append, written-a
 use Rattle.nfs_xdr.specs.declared.op_result.OpResult.{OpResult}
 
 -- turns that begin with the rest of a text that was split: the whole text is split into the records of both
-texts_go_on : {D S C : Type 0} (goes_on : SplitGoesOn) (device : Device D) (rules : Rules S C) (before after : Scene D S C) (text : List ℕ) (messages : List (List ℕ)) (carried : List ℕ) (turns : List Turn)
+texts_go_on : {D S C : Type 0} (continues : SplitGoesOn) (device : Device D) (rules : Rules S C) (before after : Scene D S C) (text : List ℕ) (messages : List (List ℕ)) (carried : List ℕ) (turns : List Turn)
     → Splits text messages carried → AreTurns device rules before carried turns after
     → Splits (text ++ text_of turns) (messages ++ messages_of (exchanges_of turns)) (rest_after carried turns)
-texts_go_on goes_on device rules before after text messages carried [] split are =
+texts_go_on continues device rules before after text messages carried [] split are =
     subst (λ (t : List ℕ). Splits t (messages ++ []) carried) (sym (append-nil text)) (subst (λ (m : List (List ℕ)). Splits text m carried) (sym (append-nil messages)) split)
-texts_go_on goes_on device rules before after text messages carried (turn ∷ turns) split are =
+texts_go_on continues device rules before after text messages carried (turn ∷ turns) split are =
     let piece = turn.piece in
     let here = messages_of turn.exchanges in
     let all : here ++ turn.unanswered ≡ here = ap (λ (m : List (List ℕ)). here ++ m) are.2 ∙ append-nil here in
-    let more = goes_on text piece messages here carried turn.rest split (subst (λ (m : List (List ℕ)). Splits (carried ++ piece) m turn.rest) all are.1.split) in
-    let others = texts_go_on goes_on device rules are.0 after (text ++ piece) (messages ++ here) turn.rest turns more are.4 in
+    let more = continues text piece messages here carried turn.rest split (subst (λ (m : List (List ℕ)). Splits (carried ++ piece) m turn.rest) all are.1.split) in
+    let others = texts_go_on continues device rules are.0 after (text ++ piece) (messages ++ here) turn.rest turns more are.4 in
     let texts : (text ++ piece) ++ text_of turns ≡ text ++ text_of (turn ∷ turns) =
     append_assoc text piece (text_of turns) ∙ ap (λ (t : List ℕ). text ++ t) (sym (flat_map-cons (λ (t : Turn). t.piece) turn turns)) in
     let found : (messages ++ here) ++ messages_of (exchanges_of turns) ≡ messages ++ messages_of (exchanges_of (turn ∷ turns)) =
@@ -42,11 +42,11 @@ none_begins message front back whole is within =
     let last = is.6 in
     omega (arith, ap length whole, length-append front back, ap length is.4, length-append is.2 is.3, ap length last.2, length-append last.0 is.1, last.1.four)
 
-pub is_one_text : {D S C : Type 0} (goes_on : SplitGoesOn) (device : Device D) (rules : Rules S C) → IsOneText device rules
-is_one_text goes_on device rules before after turns are =
+pub is_one_text : {D S C : Type 0} (continues : SplitGoesOn) (device : Device D) (rules : Rules S C) → IsOneText device rules
+is_one_text continues device rules before after turns are =
     let none : Splits [] [] [] = record { front = []; whole = refl; records = refl; none_left = none_begins } in
-    let all = texts_go_on goes_on device rules before after [] [] [] turns none are in
-    (all, λ piece found rest more. goes_on (text_of turns) piece (messages_of (exchanges_of turns)) found (rest_after [] turns) rest all more)
+    let all = texts_go_on continues device rules before after [] [] [] turns none are in
+    (all, λ piece found rest more. continues (text_of turns) piece (messages_of (exchanges_of turns)) found (rest_after [] turns) rest all more)
 
 -- the exchanges of turns follow one another, and lead the service and the clock from the first turn to the last
 turns_exchanged : {D S C : Type 0} (device : Device D) (rules : Rules S C) (before after : Scene D S C) (carried : List ℕ) (turns : List Turn)

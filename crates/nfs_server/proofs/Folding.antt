@@ -8,7 +8,7 @@ use Rattle.std.proofs.lemmas.Grind.{flat_map-append}
 use Rattle.std.proofs.Math.Seq.{drop-cons}
 use Rattle.std.proofs.Math.ListN.{drop_of_length-le}
 use Rattle.nfs_tree.specs.Effect.{Effect}
-use Rattle.nfs_server.specs.Answering.{Dispatch, Told, Ask, dispatch, is_ok, outcome_of}
+use Rattle.nfs_server.specs.Answering.{Dispatch, Known, Ask, dispatch, is_ok, outcome_of}
 use Rattle.nfs_server.specs.Folding.{Asker, Place, HasEffect, IsAnswered, IsDetermined, behind}
 use Rattle.nfs_xdr.specs.declared.arg_op.ArgOp.{ArgOp}
 use Rattle.nfs_xdr.specs.declared.op_result.OpResult.{OpResult}
@@ -32,14 +32,14 @@ determined_by : {S : Type 0} (asker : Asker S) (old : Place S) (op : ArgOp) (ops
     → Follows asker (behind old effect service) ok ops results new
     → IsDetermined asker old (op ∷ ops) (effect.answer ∷ results) new
 unfolding outcome_of
-determined_by asker old op ops effect results service new true (Told told) by goes is rest =
-    let here = by ∙ ap (λ e. Told e) (sym is.0) in (
+determined_by asker old op ops effect results service new true (Known told) by goes is rest =
+    let here = by ∙ ap (λ e. Known e) (sym is.0) in (
       rest.0,
       rw (here, goes, outcome_of) (rw (← is.1) rest.1),
       rw (here, goes, outcome_of) (with_result effect.answer rest.2),
     )
-determined_by asker old op ops effect results service new false (Told told) by ends is rest =
-    let here = by ∙ ap (λ e. Told e) (sym is.0) in (
+determined_by asker old op ops effect results service new false (Known told) by ends is rest =
+    let here = by ∙ ap (λ e. Known e) (sym is.0) in (
       [],
       rw (here, ends, outcome_of) (rest.1 ∙ is.1),
       rw (here, ends, outcome_of) (with_result effect.answer rest.0),

@@ -44,8 +44,8 @@ pub record Outcome : Type 0 where
   pub results : List OpResult
 
 -- The results end with the first answer other than NFS4_OK.
-abbrev pub goes_on : OpResult → Outcome → Outcome
-goes_on answer more =
+abbrev pub continues : OpResult → Outcome → Outcome
+continues answer more =
     if is_ok (status_of answer) then record { asked = more.asked; results = answer ∷ more.results }
     else record { asked = []; results = answer ∷ [] }
 
@@ -53,30 +53,30 @@ goes_on answer more =
 abbrev pub asks : Asked → List OpResult → (OpResult → List OpResult → Outcome) → Outcome
 asks question [] more = record { asked = question ∷ []; results = [] }
 asks question (answer ∷ answers) more =
-    let rest = goes_on answer (more answer answers) in
+    let rest = continues answer (more answer answers) in
     record { asked = question ∷ rest.asked; results = rest.results }
 
 -- How an operation is answered: by a known effect, or by asking the service.
 pub data Dispatch : Type 0 where
-  Told : Effect → Dispatch
+  Known : Effect → Dispatch
   Ask : Asked → Dispatch
 
 -- An operation that needs only the tree is answered by its effect; for any other the service is asked.
 abbrev pub by_effect : Option Effect → Asked → Dispatch
-by_effect (Some effect) question = Told effect
+by_effect (Some effect) question = Known effect
 by_effect None question = Ask question
 
 -- An entry that ends the list isn't run. An operation is run only if there is room for any answer to it after the first
 -- `size` bytes of the reply's record.
 abbrev pub dispatch : Files → Filehandles → ℕ → ArgOp → Dispatch
-dispatch tree handles size (BadArgs o) = Told (stays handles (refusal_of o refusals.BadXdr))
+dispatch tree handles size (BadArgs o) = Known (stays handles (refusal_of o refusals.BadXdr))
 dispatch tree handles size (Unsupported o) =
-    Told (stays handles (refusal_of (opnums.Unsupported o) refusals.NotSupp))
+    Known (stays handles (refusal_of (opnums.Unsupported o) refusals.NotSupp))
 dispatch tree handles size (Illegal number) =
-    Told (stays handles (refusal_of opnums.Illegal refusals.OpIllegal))
+    Known (stays handles (refusal_of opnums.Illegal refusals.OpIllegal))
 dispatch tree handles size (Run op) =
     if not (nat_le (size + room_of (opnum_of op)) RECORD_LIMIT)
-    then Told (stays handles (resource op))
+    then Known (stays handles (resource op))
     else by_effect (effect_of tree handles op) (record { op = op; filehandle = handles.current })
 
 -- The questions and the results of the operations, whose results follow the first `size` bytes of the reply's record.
@@ -85,8 +85,8 @@ outcome_of tree handles size [] answers = record { asked = []; results = [] }
 outcome_of tree handles size (op ∷ ops) answers =
     let size_with : OpResult → ℕ = λ answer. size + length (op_result.spelling answer) in
     elim (dispatch tree handles size op) [
-      | Told effect ↦
-          goes_on effect.answer
+      | Known effect ↦
+          continues effect.answer
           (outcome_of tree effect.after (size_with effect.answer) ops answers)
       | Ask question ↦
           asks question answers

@@ -4,7 +4,7 @@ use Rattle.nfs_tree.specs.Effect.{Effect}
 use Rattle.nfs_tree.specs.declared.filehandles.Filehandles.{Filehandles}
 use Rattle.nfs_tree.specs.Filehandles.{no_filehandles}
 use Rattle.nfs_tree.specs.Tree.{Files}
-use Rattle.nfs_server.specs.Answering.{Asked, Dispatch, Told, Ask, Outcome, dispatch, outcome_of}
+use Rattle.nfs_server.specs.Answering.{Asked, Dispatch, Known, Ask, Outcome, dispatch, outcome_of}
 use Rattle.nfs_server.specs.Asking.{Asks, Question, question_of}
 use Rattle.nfs_server.specs.declared.compound.Context.{Context}
 use Rattle.nfs_xdr.specs.declared.arg_op.ArgOp.{ArgOp}
@@ -48,7 +48,7 @@ behind old effect service = record {
 
 -- An operation that is dispatched in this way has this effect, and leaves the service in this state.
 abbrev pub HasEffect : {S : Type 0} → Asker S → Place S → Dispatch → Effect → S → Type 0
-HasEffect asker old (Told told) effect service = (effect ≡ told) × (service ≡ old.service)
+HasEffect asker old (Known told) effect service = (effect ≡ told) × (service ≡ old.service)
 HasEffect asker old (Ask asked) effect service =
     asker.gives old.service (question_of asker.moment asker.principal asked) effect.answer service
     × (effect.after ≡ old.handles)

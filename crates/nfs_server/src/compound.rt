@@ -144,9 +144,9 @@ fn answer_operations<S: Service>(
     for op in ops {
         let answer = answer_one(service, context, &mut handles, op, size);
         size += answer.written_len();
-        let goes_on = is_ok(&answer);
+        let continues = is_ok(&answer);
         results.push_reserved(answer);
-        if !goes_on {
+        if !continues {
             return;
         }
     }
@@ -179,7 +179,7 @@ fn answer_one<S: Service>(
     ensures form { op_result.Fits result }
     ensures last { is_ok (status_of result) ≡ false
         → size + length (op_result.spelling result) ≤ max (size + 12) (RECORD_LIMIT - 12) }
-    ensures goes_on { is_ok (status_of result) ≡ true
+    ensures continues { is_ok (status_of result) ≡ true
         → size + length (op_result.spelling result) ≤ RECORD_LIMIT - 12 }
 {
     let op = match op {

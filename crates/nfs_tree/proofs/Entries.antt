@@ -15,7 +15,7 @@ use Rattle.nfs_tree.specs.declared.node.NodeKind.{NodeKind}
 use Rattle.nfs_tree.specs.declared.node.NodeKind.TheVariants.{Directory, File}
 use Rattle.nfs_tree.specs.declared.tree_error.TreeError.{TreeError}
 use Rattle.nfs_tree.specs.declared.tree_error.TreeError.TheVariants as errors
-use Rattle.nfs_tree.specs.Building.{◌>>=◌, IsPath, Way, way, names_of, chain, kind_before, is_too_many, is_taken, added, added_named, built, or_syntax, tree_of_document}
+use Rattle.nfs_tree.specs.Building.{◌>>=◌, IsPath, Way, way, names_of, chain, kind_before, is_too_many, is_taken, add_entry, add_named, add_entries, or_syntax, tree_of_document}
 use Rattle.nfs_tree.specs.Document.{document_at}
 use Rattle.nfs_tree.specs.Leads.{Leads, IsOfKind, Agree, LeadsTo, IsThere, IsOnWay, IsFileAt, IsTreeOf, TreesAreTheirEntries}
 use Rattle.nfs_tree.specs.Tree.{Files, is_name, is_directory, is_directory_kind, text_of, text_of_kind, IsTree}
@@ -45,7 +45,7 @@ passes true taken left new h = cc
 passes false true left new h = cc
 passes false false left new h = (refl, refl, cc)
 
-comes_named : (old new : Files) (entry : Entry) (o : Option (List (List ℕ))) → names_of entry.path ≡ o → added_named old entry.kind o ≡ Ok new → (new.policy ≡ old.policy) × Comes old.nodes entry new.nodes
+comes_named : (old new : Files) (entry : Entry) (o : Option (List (List ℕ))) → names_of entry.path ≡ o → add_named old entry.kind o ≡ Ok new → (new.policy ≡ old.policy) × Comes old.nodes entry new.nodes
 comes_named old new entry None are h = cc
 comes_named old new entry (Some names) are h =
     let w = way old.nodes 0 names in
@@ -266,12 +266,12 @@ bind_ok : {A B : Type 0} (r : Result A TreeError) (f : A → Result B TreeError)
 bind_ok (Ok a) f b h = (a, refl, h)
 bind_ok (Err e) f b h = cc
 
-built_holds : (old new : Files) (done rest : List Entry) → IsTree old.nodes → IsTreeOf done old.nodes → built old rest ≡ Ok new → (new.policy ≡ old.policy) × IsTreeOf (done ++ rest) new.nodes
+built_holds : (old new : Files) (done rest : List Entry) → IsTree old.nodes → IsTreeOf done old.nodes → add_entries old rest ≡ Ok new → (new.policy ≡ old.policy) × IsTreeOf (done ++ rest) new.nodes
 built_holds old new done [] tree holds is =
     let same : old ≡ new = cc in
     (ap (λ (f : Files). f.policy) (sym same), rw append-nil (subst (λ (f : Files). IsTreeOf done f.nodes) same holds))
 built_holds old new done (entry ∷ rest) tree holds is =
-    let first = bind_ok (added old entry) (λ middle. built middle rest) new is in
+    let first = bind_ok (add_entry old entry) (λ middle. add_entries middle rest) new is in
     let comes = comes_named old first.0 entry (names_of entry.path) refl first.1 in
     let after = built_holds first.0 new (done ++ entry ∷ []) rest (comes_tree old.nodes first.0.nodes entry comes.1 tree) (comes_holds old.nodes first.0.nodes done entry comes.1 tree holds) first.2 in
     (after.0 ∙ comes.0, subst (λ (entries : List Entry). IsTreeOf entries new.nodes) (append_assoc done (entry ∷ []) rest) after.1)

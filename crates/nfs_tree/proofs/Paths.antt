@@ -8,7 +8,7 @@ use Rattle.std.proofs.lemmas.Bool.Decides.{nat_tests}
 use Rattle.std.proofs.lemmas.List.{append-nil, drop_more}
 use Rattle.std.proofs.Math.ListN.{drop_of_length-le}
 use Rattle.nfs_tree.specs.declared.path.TheConstants.{NAME_LIMIT, PATH_LIMIT}
-use Rattle.nfs_tree.specs.Building.{joined, IsPath, longer_first, pieces, names_of, PathsAreJoinedNames}
+use Rattle.nfs_tree.specs.Building.{join_names, IsPath, longer_first, pieces, names_of, PathsAreJoinedNames}
 use Rattle.nfs_tree.specs.Tree.{slash, is_name, is_name_byte}
 use Rattle.nfs_tree.proofs.Nodes.{decided, and_parts}
 
@@ -42,15 +42,15 @@ extended_other piece b bytes other =
     rw (test, is.2) (ap (λ p. p ∷ is.1) (sym (append_assoc piece (b ∷ []) is.0)))
 
 -- joining the pieces of a path by slashes gives the path
-joined_longer : (b : ℕ) (first : List ℕ) (rest : List (List ℕ)) → joined (longer_first b (first ∷ rest)) ≡ b ∷ joined (first ∷ rest)
+joined_longer : (b : ℕ) (first : List ℕ) (rest : List (List ℕ)) → join_names (longer_first b (first ∷ rest)) ≡ b ∷ join_names (first ∷ rest)
 joined_longer b first [] = refl
 joined_longer b first (next ∷ rest) = refl
 
-joined_pieces : (bytes : List ℕ) → joined (pieces bytes) ≡ bytes
+joined_pieces : (bytes : List ℕ) → join_names (pieces bytes) ≡ bytes
 joined_pieces [] = refl
 joined_pieces (b ∷ bytes) =
     let is = pieces_some bytes in
-    let more : joined (is.0 ∷ is.1) ≡ bytes = ap joined (sym is.2) ∙ joined_pieces bytes in
+    let more : join_names (is.0 ∷ is.1) ≡ bytes = ap join_names (sym is.2) ∙ joined_pieces bytes in
     elim (decided (b == slash)) [
       | inl slashed ↦ let same : b ≡ slash = eqb-true b slash slashed in
           rw (slashed, is.2) (ap (λ bs. slash ∷ bs) more ∙ ap (λ c. c ∷ bytes) (sym same))
@@ -85,11 +85,11 @@ name_has_no_slash name h =
     let dot = and_parts (not (length name == 0) && leb (length name) NAME_LIMIT && has_no_slash name) (not (bytes_eq name (codes "."))) dots.0 in
     (and_parts (not (length name == 0) && leb (length name) NAME_LIMIT) (has_no_slash name) dot.0).1
 
-pieces_joined : (name : List ℕ) (names : List (List ℕ)) → list_all is_name (name ∷ names) ≡ true → pieces (joined (name ∷ names)) ≡ name ∷ names
+pieces_joined : (name : List ℕ) (names : List (List ℕ)) → list_all is_name (name ∷ names) ≡ true → pieces (join_names (name ∷ names)) ≡ name ∷ names
 pieces_joined name [] h = pieces_last name (name_has_no_slash name (and_parts (is_name name) true h).0)
 pieces_joined name (next ∷ names) h =
     let both = and_parts (is_name name) (list_all is_name (next ∷ names)) h in
-    pieces_before name (joined (next ∷ names)) (name_has_no_slash name both.0) ∙ ap (λ ps. name ∷ ps) (pieces_joined next names both.1)
+    pieces_before name (join_names (next ∷ names)) (name_has_no_slash name both.0) ∙ ap (λ ps. name ∷ ps) (pieces_joined next names both.1)
 
 names_ok : (b : Bool) (ps names : List (List ℕ)) → cond b (Some ps) None ≡ Some names → (b ≡ true) × (ps ≡ names)
 names_ok true ps names h = (refl, cc)
@@ -108,7 +108,7 @@ path_sound path names h =
       are_names = tests.1;
     })
 
-pieces_of_names : (names : List (List ℕ)) → 1 ≤ length names → list_all is_name names ≡ true → pieces (joined names) ≡ names
+pieces_of_names : (names : List (List ℕ)) → 1 ≤ length names → list_all is_name names ≡ true → pieces (join_names names) ≡ names
 pieces_of_names [] some h = absurd (omega arith)
 pieces_of_names (name ∷ names) some h = pieces_joined name names h
 

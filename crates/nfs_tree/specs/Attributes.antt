@@ -61,17 +61,17 @@ abbrev pub has : ℕ → Attribute → Bool
 has word attribute = not (bit_and word (2 ^ number_of attribute) == 0)
 
 -- the value of an attribute if the word asks for it, and otherwise no bytes
-abbrev pub value_asked : Subject → ℕ → Attribute → List ℕ
-value_asked s word attribute = if has word attribute then value_of s attribute else []
+abbrev pub value_requested : Subject → ℕ → Attribute → List ℕ
+value_requested s word attribute = if has word attribute then value_of s attribute else []
 
 abbrev pub values_of : Subject → ℕ → List Attribute → List ℕ
 values_of s word [] = []
-values_of s word (attribute ∷ more) = value_asked s word attribute ++ values_of s word more
+values_of s word (attribute ∷ more) = value_requested s word attribute ++ values_of s word more
 
 -- the supported attributes among those that a bitmap asks for, as a word: the first word of a bitmap has their bits
-abbrev pub asked : List ℕ → ℕ
-asked [] = 0
-asked (word ∷ words) = bit_and word supported
+abbrev pub requested : List ℕ → ℕ
+requested [] = 0
+requested (word ∷ words) = bit_and word supported
 
 -- a bitmap of this one word, or an empty bitmap if the word is 0
 abbrev pub mask_of : ℕ → List ℕ
@@ -79,4 +79,4 @@ mask_of word = if word == 0 then [] else word ∷ []
 
 -- the supported attributes among those that a bitmap asks for, with their values
 abbrev pub attributes_of : Subject → List ℕ → Fattr
-attributes_of s mask = record { mask = mask_of (asked mask); values = values_of s (asked mask) all_attributes }
+attributes_of s mask = record { mask = mask_of (requested mask); values = values_of s (requested mask) all_attributes }

@@ -22,14 +22,14 @@ number_of errors.Duplicate = 4
 number_of errors.Memory = 5
 
 -- names joined by slashes
-abbrev pub joined : List (List ℕ) → List ℕ
-joined [] = []
-joined (name ∷ []) = name
-joined (name ∷ next ∷ names) = name ++ slash ∷ joined (next ∷ names)
+abbrev pub join_names : List (List ℕ) → List ℕ
+join_names [] = []
+join_names (name ∷ []) = name
+join_names (name ∷ next ∷ names) = name ++ slash ∷ join_names (next ∷ names)
 
 -- These 1 to 8 names, joined by slashes, give the path.
 pub record IsPath (names : List (List ℕ)) (path : List ℕ) : Type 0 where
-  pub is_joined : joined names ≡ path
+  pub is_joined : join_names names ≡ path
   pub is_some : 1 ≤ length names
   pub is_few : length names ≤ PATH_LIMIT
   pub are_names : list_all is_name names ≡ true
@@ -94,18 +94,18 @@ chain parent number (name ∷ names) kind =
     record { parent = parent; name = name; kind = kind_before names kind } ∷ chain number (number + 1) names kind
 
 -- the tree with an entry added whose way is this, or why it can't be added
-abbrev pub added_on : Files → NodeKind → Way → Result Files TreeError
-added_on old kind w =
+abbrev pub add_on : Files → NodeKind → Way → Result Files TreeError
+add_on old kind w =
     if is_too_many old.nodes kind (length w.missing) then Err errors.TooMany
     else if is_taken old.nodes kind w then Err errors.Duplicate
     else Ok (record old { nodes = old.nodes ++ chain w.end (length old.nodes + 1) w.missing kind })
 
-abbrev pub added_named : Files → NodeKind → Option (List (List ℕ)) → Result Files TreeError
-added_named old kind None = Err errors.Name
-added_named old kind (Some names) = added_on old kind (way old.nodes 0 names)
+abbrev pub add_named : Files → NodeKind → Option (List (List ℕ)) → Result Files TreeError
+add_named old kind None = Err errors.Name
+add_named old kind (Some names) = add_on old kind (way old.nodes 0 names)
 
-abbrev pub added : Files → Entry → Result Files TreeError
-added old entry = added_named old entry.kind (names_of entry.path)
+abbrev pub add_entry : Files → Entry → Result Files TreeError
+add_entry old entry = add_named old entry.kind (names_of entry.path)
 
 -- the tree with all entries added, or why the first one that can't be added is refused
 infixl 10 ◌>>=◌
@@ -113,13 +113,13 @@ abbrev pub ◌>>=◌ : {A B : Type 0} → Result A TreeError → (A → Result B
 (Ok x) >>= f = f x
 (Err e) >>= f = Err e
 
-abbrev pub built : Files → List Entry → Result Files TreeError
-built old [] = Ok old
-built old (entry ∷ entries) = added old entry >>= λ new. built new entries
+abbrev pub add_entries : Files → List Entry → Result Files TreeError
+add_entries old [] = Ok old
+add_entries old (entry ∷ entries) = add_entry old entry >>= λ new. add_entries new entries
 
 -- the tree of a document, built from a tree that has only the root
 abbrev pub tree_of_document : Document → Result Files TreeError
-tree_of_document d = built (record { nodes = []; policy = d.policy }) d.entries
+tree_of_document d = add_entries (record { nodes = []; policy = d.policy }) d.entries
 
 -- the tree of a text, or why the text describes none
 abbrev pub or_syntax : {A : Type 0} → Option A → Result A TreeError

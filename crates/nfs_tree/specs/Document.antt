@@ -57,8 +57,8 @@ abbrev pub entries_of : Listing → Items → Option (List Entry)
 entries_of listing no_items = Some []
 entries_of listing (item value more) = entry_of listing value >>= λ entry. entries_of listing more >>= λ entries. Some (entry ∷ entries)
 
-abbrev pub listed : Listing → Data → Option (List Entry)
-listed listing value = as_array value >>= entries_of listing
+abbrev pub entries_in : Listing → Data → Option (List Entry)
+entries_in listing value = as_array value >>= entries_of listing
 
 -- the words that a policy can contain
 abbrev pub delegations_of : Data → Option Delegations
@@ -89,8 +89,8 @@ policy_of value =
 abbrev pub document_of : Members → Option Document
 document_of members =
     (if has_only (codes "directory" ∷ codes "file" ∷ codes "policy" ∷ []) members then Some members else None) >>= λ members.
-    or_absent [] (listed listings.Directories) (get_member (codes "directory") members) >>= λ directories.
-    or_absent [] (listed listings.Files) (get_member (codes "file") members) >>= λ files.
+    or_absent [] (entries_in listings.Directories) (get_member (codes "directory") members) >>= λ directories.
+    or_absent [] (entries_in listings.Files) (get_member (codes "file") members) >>= λ files.
     or_absent default_policy policy_of (get_member (codes "policy") members) >>= λ policy.
     Some (record { entries = directories ++ files; policy = policy })
 

@@ -22,7 +22,7 @@ pub mod Savefh
 
 -- The effect of an operation that needs only the tree and the filehandles. Other operations have no effect here.
 abbrev pub effect_of : Files → Filehandles → Op → Option Effect
-effect_of tree old (ops.Access asked) = Some (access tree old asked)
+effect_of tree old (ops.Access requested) = Some (access tree old requested)
 effect_of tree old ops.Getfh = Some (getfh old)
 effect_of tree old (ops.Lookup name) = Some (lookup tree old name)
 effect_of tree old (ops.Putfh handle) = Some (putfh tree old handle)

@@ -1,5 +1,5 @@
 ghost use Rattle.std.specs.Prelude.{◌≡◌, ◌<◌, ◌^◌, ◌++◌, IfOk, OnOk, if◌then◌else◌};
-ghost use Rattle.nfs_tree.specs.Attributes.{asked, attributes_of, mask_of, number_of, supported, value_asked, value_of, values_of};
+ghost use Rattle.nfs_tree.specs.Attributes.{requested, attributes_of, mask_of, number_of, supported, value_requested, value_of, values_of};
 ghost use Rattle.nfs_tree.specs.Tree.{is_directory};
 ghost use Rattle.xdr.specs.Writing.{written_u32, written_u64};
 
@@ -106,7 +106,7 @@ impl Tree {
             size,
             lease,
         };
-        let word = asked(mask);
+        let word = requested(mask);
         Ok(Fattr {
             mask: mask_of(alloc, word)?,
             values: Bytes::new(values_of(alloc, subject, word, &ATTRIBUTES)?),
@@ -115,8 +115,8 @@ impl Tree {
 }
 
 // The supported attributes among those that a bitmap asks for, as a word.
-fn asked(mask: &[u32]) -> u32
-    ensures { result ≡ asked mask.now }
+fn requested(mask: &[u32]) -> u32
+    ensures { result ≡ requested mask.now }
 {
     match mask.first() {
         Some(word) => *word & SUPPORTED,
@@ -145,7 +145,7 @@ fn values_of(
 {
     let mut values = Vec::with_capacity(alloc, VALUES_LEN)?;
     for attribute in attributes {
-        if write_asked(&mut values, subject, word, *attribute).is_err() {
+        if write_if_requested(&mut values, subject, word, *attribute).is_err() {
             return Err(AllocError);
         }
     }
@@ -153,13 +153,13 @@ fn values_of(
 }
 
 // Writes an attribute's value at the end, if the word asks for it.
-fn write_asked(
+fn write_if_requested(
     out: &mut Vec<u8>,
     subject: Subject,
     word: u32,
     attribute: Attribute,
 ) -> Result<(), WireError>
-    ensures { OnOk result (out.new.items ≡ out.old.items ++ value_asked subject word attribute) }
+    ensures { OnOk result (out.new.items ≡ out.old.items ++ value_requested subject word attribute) }
 {
     if word & attribute.bit() == 0 {
         return Ok(());

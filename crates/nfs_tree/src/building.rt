@@ -1,6 +1,6 @@
 ghost use Rattle.std.specs.Prelude.{◌≡◌, ◌≤◌, ◌<◌, ◌+◌, ◌^◌, IfErr, IfOk, OnOk, Ok, if◌then◌else◌, length};
 ghost use Rattle.nfs_tree.specs.declared.node.NodeKind.TheVariants.{Directory};
-ghost use Rattle.nfs_tree.specs.Building.{FailsToMake, Makes, added, chain, is_too_many, tree_of, way};
+ghost use Rattle.nfs_tree.specs.Building.{FailsToMake, Makes, add_entry, chain, is_too_many, tree_of, way};
 ghost use Rattle.nfs_tree.specs.Leads.{TreesAreTheirEntries};
 ghost use Rattle.nfs_tree.specs.Tree.{directories, files};
 
@@ -47,8 +47,8 @@ impl Tree {
 
     // Adds an entry to the tree.
     fn add(&mut self, alloc: Global, entry: &Entry) -> Result<(), TreeError>
-        ensures ok { OnOk result (added self.old entry.now ≡ Ok self.new) }
-        ensures err { IfErr result (λ e. FailsToMake e (added self.old entry.now)) }
+        ensures ok { OnOk result (add_entry self.old entry.now ≡ Ok self.new) }
+        ensures err { IfErr result (λ e. FailsToMake e (add_entry self.old entry.now)) }
     {
         let names = names_of(alloc, entry.path.as_slice())?;
         let (end, missing) = self.way(names.as_slice());

@@ -1,7 +1,7 @@
 ghost use Rattle.std.specs.Prelude.{◌≡◌, ◌∷◌, [], codes, map, option_map};
 ghost use Rattle.std.specs.List.{list_any};
 ghost use Rattle.std.specs.Str.{bytes_eq};
-ghost use Rattle.nfs_tree.specs.Document.{Reads, callbacks_of, delegations_of, document_at, document_of, entries_of, entry_of, has_only, listed, or_absent, or_missing, policy_of, table_of};
+ghost use Rattle.nfs_tree.specs.Document.{Reads, callbacks_of, delegations_of, document_at, document_of, entries_of, entry_of, has_only, entries_in, or_absent, or_missing, policy_of, table_of};
 ghost use Rattle.toml.specs.Data.{as_str, get_member};
 ghost use Rattle.toml.specs.View.{items_view, table_view, view};
 
@@ -62,7 +62,7 @@ fn read_listing(
     listing: Listing,
     value: Option<&Value>,
 ) -> Result<Sequence<Entry>, TreeError>
-    ensures { Reads result (or_absent [] (listed listing) (option_map (λ v. view v.now) value.entry)) }
+    ensures { Reads result (or_absent [] (entries_in listing) (option_map (λ v. view v.now) value.entry)) }
 {
     let Some(value) = value else {
         return Ok(Sequence::new(Vec::new(alloc)));

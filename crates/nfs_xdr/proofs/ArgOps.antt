@@ -10,8 +10,8 @@ use Rattle.nfs_xdr.specs.declared.operations.Class.TheVariants.{OnNothing}
 use Rattle.nfs_xdr.specs.declared.operations.Opnum.{Opnum}
 use Rattle.nfs_xdr.specs.declared.operations.Opnum.TheVariants as opnums
 use Rattle.nfs_xdr.specs.declared.operations.TheConstants.{OPNUMS}
-use Rattle.nfs_xdr.specs.ArgOp.{LacksOp, StandsAt, or_bad_arguments, by_opnum, arg_op_of, by_number, arg_op_at}
-use Rattle.nfs_xdr.specs.Compound.{OneOperationStands}
+use Rattle.nfs_xdr.specs.ArgOp.{LacksOp, IsEncodedAt, or_bad_arguments, by_opnum, arg_op_of, by_number, arg_op_at}
+use Rattle.nfs_xdr.specs.Compound.{OneOperationIsEncoded}
 use Rattle.nfs_xdr.specs.Op.{op, op_case}
 use Rattle.nfs_xdr.specs.operations.{class_of, known, number_of, opnum, opnum_of}
 use Rattle.xdr.specs.declared.wire_error.WireError.{WireError}
@@ -43,7 +43,7 @@ op_read bytes rest number o read e = rw (opnum_read bytes rest number o read e) 
 
 -- the bytes encode what is read: this operation, followed by these bytes
 abbrev Stands : List ℕ → ArgOp × List ℕ → Type 0
-Stands bytes x = StandsAt bytes x.0 x.1
+Stands bytes x = IsEncodedAt bytes x.0 x.1
 
 ruled_stands : (bytes rest : List ℕ) (o : Opnum) (r : Read Op) → IsRuled o → Begins (U32 (number_of o)) bytes rest → op.at bytes ≡ r → Stands bytes (or_bad_arguments o rest r)
 ruled_stands bytes rest o (Ok x) ruled begins read = op.reads.sound bytes x.0 x.1 read
@@ -65,16 +65,16 @@ too_short bytes e failed =
       | inr long ↦ let clash : ◌≡◌ {A = Read ℕ} (Ok (big_number 4 bytes, drop 4 bytes)) (Err e) = rw long at failed in absurd cc
     ]
 
-number_stands : (bytes : List ℕ) (r : Read ℕ) → number_at 4 bytes ≡ r → Stands bytes (by_number bytes r)
-number_stands bytes (Ok n) e = found_stands bytes n.1 n.0 (opnum_of n.0) refl e ((reads_number 4).sound bytes n.0 n.1 e)
-number_stands bytes (Err d) e = inl (too_short bytes d e, refl, refl)
+number_is_encoded : (bytes : List ℕ) (r : Read ℕ) → number_at 4 bytes ≡ r → Stands bytes (by_number bytes r)
+number_is_encoded bytes (Ok n) e = found_stands bytes n.1 n.0 (opnum_of n.0) refl e ((reads_number 4).sound bytes n.0 n.1 e)
+number_is_encoded bytes (Err d) e = inl (too_short bytes d e, refl, refl)
 
 pub arg_op_stands : (bytes : List ℕ) → Stands bytes (arg_op_at bytes)
-arg_op_stands bytes = number_stands bytes (number_at 4 bytes) refl
+arg_op_stands bytes = number_is_encoded bytes (number_at 4 bytes) refl
 
-pub stands_if_ok : {X E : Type 0} (view : X → ArgOp × List ℕ) (bytes : List ℕ) (r : Result X E) → IfOk r (λ x. view x ≡ arg_op_at bytes) → IfOk r (λ x. Stands bytes (view x))
-stands_if_ok view bytes (Ok x) e = subst (Stands bytes) (sym e) (arg_op_stands bytes)
-stands_if_ok view bytes (Err d) e = tt
+pub encoded_if_ok : {X E : Type 0} (view : X → ArgOp × List ℕ) (bytes : List ℕ) (r : Result X E) → IfOk r (λ x. view x ≡ arg_op_at bytes) → IfOk r (λ x. Stands bytes (view x))
+encoded_if_ok view bytes (Ok x) e = subst (Stands bytes) (sym e) (arg_op_stands bytes)
+encoded_if_ok view bytes (Err d) e = tt
 
 -- What the bytes at the front encode is what is read there.
 by_begins : (bytes rest : List ℕ) (number : ℕ) → Begins (U32 number) bytes rest → number_at 4 bytes ≡ Ok (number, rest)
@@ -114,7 +114,7 @@ unfolding number_at
 none_there bytes (Ok n) e short = let clash : ◌≡◌ {A = Read ℕ} (Err errors.Short) (Ok n) = rw (lt-ltb _ _ short) at e in absurd cc
 none_there bytes (Err d) e short = refl
 
-pub arg_op_complete : (bytes : List ℕ) (x : ArgOp) (rest : List ℕ) → StandsAt bytes x rest → arg_op_at bytes ≡ (x, rest)
+pub arg_op_complete : (bytes : List ℕ) (x : ArgOp) (rest : List ℕ) → IsEncodedAt bytes x rest → arg_op_at bytes ≡ (x, rest)
 arg_op_complete bytes (Run o) rest h = run_read bytes rest o (number_at 4 bytes) refl (ap op.at h.1 ∙ op.reads.complete o h.0 rest h.2)
 arg_op_complete bytes (BadArgs o) rest h =
     elim h [
@@ -124,6 +124,6 @@ arg_op_complete bytes (BadArgs o) rest h =
 arg_op_complete bytes (Unsupported o) rest h = ap (by_number bytes) (by_begins bytes rest (number_of (opnums.Unsupported o)) h) ∙ rw (known (opnums.Unsupported o)) refl
 arg_op_complete bytes (Illegal number) rest h = ap (by_number bytes) (by_begins bytes rest number h.0) ∙ illegal_read number rest (opnum_of number) refl h.1
 
-pub one_operation : OneOperationStands
+pub one_operation : OneOperationIsEncoded
 one_operation bytes x rest =
     ((λ e. subst (Stands bytes) e (arg_op_stands bytes)), arg_op_complete bytes x rest)

@@ -10,7 +10,7 @@ use Rattle.nfs_xdr.specs.declared.arg_op.ArgOp.{ArgOp}
 use Rattle.xdr.specs.declared.wire_error.WireError.{WireError}
 use Rattle.xdr.specs.declared.wire_error.WireError.TheVariants as errors
 use Rattle.nfs_xdr.specs.ArgOp.{arg_op_at, ends_list}
-use Rattle.nfs_xdr.specs.Compound.{HoldOperations, IsRequest, IsCompound, OneCompoundStands, or_more, operations_at, request_at, head, compound_at}
+use Rattle.nfs_xdr.specs.Compound.{HoldOperations, IsRequest, IsCompound, OneCompoundIsEncoded, or_more, operations_at, request_at, head, compound_at}
 use Rattle.xdr.specs.Layout.{NO_LIMIT}
 use Rattle.xdr.specs.Reading.{Read, Gives, ◌>>=◌, ◌then◌, number_at, opaque_at}
 use Rattle.xdr.specs.laws.Reads.{NeverMemory, decided, bind_ok, ok_is, number_never_memory, opaque_never_memory, then_never_memory}
@@ -43,8 +43,8 @@ unfolding compound_at
 compound_stands bytes compound e =
     let h = bind_ok (head.at bytes) (λ h. Ok (compound_of h)) compound e in
     let begins = head.reads.sound bytes h.0.0 h.0.1 h.1 in
-    let stands : IsCompound (compound_of h.0) bytes = (h.0.0.1.0, h.0.0.1.1, h.0.1, begins, request_held h.0.0.1.0 h.0.0.1.1 h.0.1) in
-    subst (λ (c : Compound). IsCompound c bytes) (ok_is (compound_of h.0) compound h.2) stands
+    let encoded : IsCompound (compound_of h.0) bytes = (h.0.0.1.0, h.0.0.1.1, h.0.1, begins, request_held h.0.0.1.0 h.0.0.1.1 h.0.1) in
+    subst (λ (c : Compound). IsCompound c bytes) (ok_is (compound_of h.0) compound h.2) encoded
 
 -- Operations that the bytes encode are what is read.
 more_complete : (count : ℕ) (b : Bool) (op : ArgOp) (ops : List ArgOp) (rest : List ℕ) → (HoldOperations count rest ops → operations_at count rest ≡ ops) → MatchBool b (ops ≡ []) (HoldOperations count rest ops) → op ∷ cond b [] (operations_at count rest) ≡ op ∷ ops
@@ -66,21 +66,21 @@ request_complete minor count bytes (Operations ops) h = rw (h.0, le-leb _ _ h.1)
 
 pub compound_complete : (bytes : List ℕ) (compound : Compound) → IsCompound compound bytes → compound_at bytes ≡ Ok compound
 unfolding compound_at
-compound_complete bytes compound stands =
-    let value : List ℕ × (ℕ × ℕ) = (compound.tag, (stands.0, stands.1)) in
-    let given : head.at bytes ≡ Ok (value, stands.2) = ap head.at stands.3.1 ∙ head.reads.complete value stands.3.0 stands.2 stands.3.2 in
+compound_complete bytes compound encoded =
+    let value : List ℕ × (ℕ × ℕ) = (compound.tag, (encoded.0, encoded.1)) in
+    let given : head.at bytes ≡ Ok (value, encoded.2) = ap head.at encoded.3.1 ∙ head.reads.complete value encoded.3.0 encoded.2 encoded.3.2 in
     ap (λ (r : Read (List ℕ × (ℕ × ℕ))). r >>= λ h. Ok (compound_of h)) given
-    ∙ ap (λ (r : Request). Ok (record { tag = compound.tag; request = r })) (request_complete stands.0 stands.1 stands.2 compound.request stands.4)
+    ∙ ap (λ (r : Request). Ok (record { tag = compound.tag; request = r })) (request_complete encoded.0 encoded.1 encoded.2 compound.request encoded.4)
 
 pub no_compound : (bytes : List ℕ) (error : WireError) → compound_at bytes ≡ Err error → (compound : Compound) → IsCompound compound bytes → ⊥
-no_compound bytes error failed compound stands = let clash : Err error ≡ Ok compound = sym failed ∙ compound_complete bytes compound stands in cc
+no_compound bytes error failed compound encoded = let clash : Err error ≡ Ok compound = sym failed ∙ compound_complete bytes compound encoded in cc
 
 abbrev same : Compound → Compound
 same compound = compound
 
-pub stands_if_ok : (bytes : List ℕ) (r : Result Compound WireError) → Gives same r (compound_at bytes) → IfOk r (λ compound. IsCompound compound bytes)
-stands_if_ok bytes (Ok compound) given = compound_stands bytes compound given
-stands_if_ok bytes (Err e) given = tt
+pub encoded_if_ok : (bytes : List ℕ) (r : Result Compound WireError) → Gives same r (compound_at bytes) → IfOk r (λ compound. IsCompound compound bytes)
+encoded_if_ok bytes (Ok compound) given = compound_stands bytes compound given
+encoded_if_ok bytes (Err e) given = tt
 
 pub none_if_err : (bytes : List ℕ) (r : Result Compound WireError) → Gives same r (compound_at bytes) → OnErr r ((r ≡ Err errors.Memory) ⊎ ((compound : Compound) → IsCompound compound bytes → ⊥))
 none_if_err bytes (Ok compound) given = tt
@@ -88,7 +88,7 @@ none_if_err bytes (Err errors.Memory) given = inl refl
 none_if_err bytes (Err errors.Short) given = inr (no_compound bytes errors.Short given)
 none_if_err bytes (Err errors.TooLong) given = inr (no_compound bytes errors.TooLong given)
 
-pub one_compound : OneCompoundStands
+pub one_compound : OneCompoundIsEncoded
 one_compound bytes compound = (compound_stands bytes compound, compound_complete bytes compound)
 
 head_never_memory : NeverMemory head.at
@@ -97,4 +97,4 @@ head_never_memory =
     (then_never_memory (number_at 4) (number_at 4) (number_never_memory 4) (number_never_memory 4))
 
 pub head_tells : {X : Type 0} (bytes : List ℕ) (r : Result X WireError) (e : WireError) → r ≡ Err e → head.at bytes ≡ Err e → r ≡ Err errors.Memory → ⊥
-head_tells bytes r e is told memory = let same : e ≡ errors.Memory = cc in head_never_memory bytes (rw same at told)
+head_tells bytes r e is value memory = let same : e ≡ errors.Memory = cc in head_never_memory bytes (rw same at value)

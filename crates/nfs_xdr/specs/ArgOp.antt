@@ -26,13 +26,13 @@ LacksOp bytes = (o : Op) (rest : List ℕ) → Begins (op.layout o) bytes rest �
 
 -- Which entry is at the front of the bytes, and the bytes after it: an operation with its arguments, or only a number,
 -- or, if there are fewer than four bytes, nothing.
-abbrev pub StandsAt : List ℕ → ArgOp → List ℕ → Type 0
-StandsAt bytes (Run o) rest = Begins (op.layout o) bytes rest
-StandsAt bytes (BadArgs o) rest =
+abbrev pub IsEncodedAt : List ℕ → ArgOp → List ℕ → Type 0
+IsEncodedAt bytes (Run o) rest = Begins (op.layout o) bytes rest
+IsEncodedAt bytes (BadArgs o) rest =
     ((length bytes < 4) × (o ≡ opnums.Illegal) × (rest ≡ bytes))
     ⊎ ((class_of o ≢ OnNothing) × Begins (U32 (number_of o)) bytes rest × LacksOp bytes)
-StandsAt bytes (Unsupported o) rest = Begins (U32 (number_of (opnums.Unsupported o))) bytes rest
-StandsAt bytes (Illegal number) rest =
+IsEncodedAt bytes (Unsupported o) rest = Begins (U32 (number_of (opnums.Unsupported o))) bytes rest
+IsEncodedAt bytes (Illegal number) rest =
     Begins (U32 number) bytes rest × ((o : Opnum) → number_of o ≡ number → o ≡ opnums.Illegal)
 
 -- How an entry is read: the operation, or BadArgs if its arguments can't be read.

@@ -7,7 +7,7 @@ use Rattle.nfs_xdr.specs.declared.compound.Request.TheVariants.{MinorVersion, To
 use Rattle.nfs_xdr.specs.declared.compound.TheConstants.{OPERATION_LIMIT}
 use Rattle.nfs_xdr.specs.declared.op_result.OpResult.{OpResult}
 use Rattle.nfs_xdr.specs.declared.status.Status.{Status}
-use Rattle.nfs_xdr.specs.ArgOp.{StandsAt, arg_op_at, ends_list}
+use Rattle.nfs_xdr.specs.ArgOp.{IsEncodedAt, arg_op_at, ends_list}
 use Rattle.nfs_xdr.specs.OpResult.{op_result}
 use Rattle.nfs_xdr.specs.Status.{status}
 use Rattle.xdr.specs.declared.wire_error.WireError.{WireError}
@@ -25,7 +25,7 @@ abbrev pub HoldOperations : ℕ → List ℕ → List ArgOp → Type 0
 HoldOperations zero bytes ops = ops ≡ []
 HoldOperations (suc count) bytes [] = ⊥
 HoldOperations (suc count) bytes (op ∷ ops) =
-    (rest : List ℕ) × StandsAt bytes op rest × MatchBool (ends_list op) (ops ≡ []) (HoldOperations count rest ops)
+    (rest : List ℕ) × IsEncodedAt bytes op rest × MatchBool (ends_list op) (ops ≡ []) (HoldOperations count rest ops)
 
 -- What a minor version and a count of operations ask for. Only version 0 is served, and no more operations than the
 -- limit.
@@ -62,8 +62,8 @@ abbrev pub compound_result : Form (Status × (List ℕ × List OpResult))
 compound_result = status and opaque_bytes and many NO_LIMIT op_result
 
 -- A COMPOUND is read exactly if the bytes encode it, so no bytes encode two requests.
-abbrev pub OneCompoundStands : Type 0
-OneCompoundStands = (bytes : List ℕ) (compound : Compound) → (compound_at bytes ≡ Ok compound) ↔ IsCompound compound bytes
+abbrev pub OneCompoundIsEncoded : Type 0
+OneCompoundIsEncoded = (bytes : List ℕ) (compound : Compound) → (compound_at bytes ≡ Ok compound) ↔ IsCompound compound bytes
 
-abbrev pub OneOperationStands : Type 0
-OneOperationStands = (bytes : List ℕ) (op : ArgOp) (rest : List ℕ) → (arg_op_at bytes ≡ (op, rest)) ↔ StandsAt bytes op rest
+abbrev pub OneOperationIsEncoded : Type 0
+OneOperationIsEncoded = (bytes : List ℕ) (op : ArgOp) (rest : List ℕ) → (arg_op_at bytes ≡ (op, rest)) ↔ IsEncodedAt bytes op rest

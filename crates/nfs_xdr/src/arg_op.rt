@@ -1,6 +1,6 @@
 ghost use Rattle.std.specs.Prelude.{◌≡◌, IfOk};
 ghost use Rattle.nfs_xdr.specs.ArgOp as arg_ops;
-ghost use Rattle.nfs_xdr.specs.ArgOp.{StandsAt, arg_op_at, arg_op_of, or_bad_arguments};
+ghost use Rattle.nfs_xdr.specs.ArgOp.{IsEncodedAt, arg_op_at, arg_op_of, or_bad_arguments};
 ghost use Rattle.nfs_xdr.specs.Op.{op_case};
 ghost use Rattle.xdr.specs.Switch.{case_at};
 
@@ -35,7 +35,7 @@ impl ArgOp {
 /// The entry at the front of the list, and the bytes after it. Fails only if memory runs out: an entry that can't be
 /// read ends the list instead.
 pub fn read_op(alloc: Global, bytes: &[u8]) -> Result<(ArgOp, &[u8]), AllocError>
-    ensures stands { IfOk result (λ x. StandsAt bytes.now x.0 x.1.now) }
+    ensures encoded { IfOk result (λ x. IsEncodedAt bytes.now x.0 x.1.now) }
     ensures reads { IfOk result (λ x. (x.0, x.1.now) ≡ arg_op_at bytes.now) }
 {
     op_from(alloc, bytes)

@@ -1,6 +1,6 @@
 ghost use Rattle.std.specs.Prelude.{◌≡◌, ◌⊎◌, IfOk, OnErr, IsErrOf, IsOk};
 ghost use Rattle.nfs_xdr.specs.declared.compound.Compound.{Compound};
-ghost use Rattle.nfs_xdr.specs.Compound.{IsCompound, OneCompoundStands, OneOperationStands, compound_at, compound_result, head, operations_at, request_at};
+ghost use Rattle.nfs_xdr.specs.Compound.{IsCompound, OneCompoundIsEncoded, OneOperationIsEncoded, compound_at, compound_result, head, operations_at, request_at};
 ghost use Rattle.xdr.specs.Reading.{Answers, Gives};
 ghost use Rattle.xdr.specs.Writing.{Writes};
 
@@ -35,7 +35,7 @@ pub enum Request {
 /// the count can't be read; a tag has no limit, so TooLong never comes.
 pub fn read_compound(alloc: Global, bytes: &[u8]) -> Result<Compound, WireError>
     // What is read matches the layout. On an error no COMPOUND matches it, or memory ran out.
-    ensures stands { IfOk result (λ compound. IsCompound compound bytes.now) }
+    ensures encoded { IfOk result (λ compound. IsCompound compound bytes.now) }
     ensures none { OnErr result
         ((result ≡ Err WireError.Memory) ⊎ ((compound : Compound) → IsCompound compound bytes.now → ⊥)) }
     ensures reads { Gives (λ compound. compound) result (compound_at bytes.now) }
@@ -114,7 +114,7 @@ pub fn write_results(
 
 /// An entry in the list of a COMPOUND, and the arguments of a COMPOUND, are read as a value exactly if the bytes encode
 /// that value.
-pub fn one_request_stands()
-    ensures operation { OneOperationStands }
-    ensures compound { OneCompoundStands }
+pub fn one_request_is_encoded()
+    ensures operation { OneOperationIsEncoded }
+    ensures compound { OneCompoundIsEncoded }
 {}

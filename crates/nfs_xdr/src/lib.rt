@@ -23,7 +23,7 @@ pub use bitmap::Bitmap;
 pub use callback::{Address, Callback};
 pub use client_id::ClientId;
 pub use compound::{
-    Compound, OPERATION_LIMIT, Request, one_request_stands, read_compound, write_results,
+    Compound, OPERATION_LIMIT, Request, one_request_is_encoded, read_compound, write_results,
 };
 pub use fattr::Fattr;
 pub use file_handle::{FILE_HANDLE_LIMIT, FileHandle};

@@ -18,11 +18,11 @@ macro_rules! of_answer {
     (
         [$($X:ident = $n:literal $c:ident,)*]
         [$($Y:ident = $m:literal $d:ident,)*]
-        $result:expr, $answer:ident => $told:expr; $($rest:tt)*
+        $result:expr, $answer:ident => $value:expr; $($rest:tt)*
     ) => {
         match $result {
-            $(OpResult::$X($answer) => $told,)*
-            $(OpResult::$Y($answer) => $told,)*
+            $(OpResult::$X($answer) => $value,)*
+            $(OpResult::$Y($answer) => $value,)*
             $($rest)*
         }
     };

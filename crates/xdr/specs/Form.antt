@@ -6,9 +6,9 @@ use Rattle.xdr.specs.Layout.{◌⨾◌, Nothing, Number, U32, Flag, Fixed, Opaqu
 use Rattle.xdr.specs.Reading.{Read, Reads, ◌then◌, as_value, number_at, flag_at, fixed_at, opaque_at, many_at, value_at, constant_at}
 use Rattle.xdr.specs.Writing.{written_number, written_u32, written_flag, written_opaque, written_many}
 use Rattle.xdr.specs.laws.Reads.{reads_nothing, reads_number, reads_constant, reads_flag, reads_fixed, reads_opaque, reads_then, reads_as}
-use Rattle.xdr.specs.laws.Spells.{nothing_stands, number_stands, flag_stands, fixed_stands, opaque_stands, both_stand}
+use Rattle.xdr.specs.laws.Spells.{nothing_is_encoded, number_is_encoded, flag_is_encoded, fixed_is_encoded, opaque_is_encoded, both_are_encoded}
 use Rattle.xdr.specs.laws.Enumerations.{reads_value}
-use Rattle.xdr.specs.laws.Lists.{reads_many, many_stand}
+use Rattle.xdr.specs.laws.Lists.{reads_many, many_are_encoded}
 
 pub record Form (A : Type 0) : Type 1 where
   -- which bytes encode a value, with any padding
@@ -22,7 +22,7 @@ pub record Form (A : Type 0) : Type 1 where
   -- what is read matches the layout, and whatever matches the layout is read, no matter which bytes follow
   pub reads : Reads layout at
   -- what is written matches the layout
-  pub stands : (value : A) → Fits value → layout value (spelling value)
+  pub encodes : (value : A) → Fits value → layout value (spelling value)
 
 -- void
 abbrev pub nothing : Form (Unit {0})
@@ -32,7 +32,7 @@ nothing = record {
   spelling = λ v. [];
   Fits = λ v. Unit {0};
   reads = reads_nothing;
-  stands = nothing_stands;
+  encodes = nothing_is_encoded;
 }
 
 -- a number of `count` bytes, high byte first
@@ -43,7 +43,7 @@ number count = record {
   spelling = written_number count;
   Fits = λ n. n < 256 ^ count;
   reads = reads_number count;
-  stands = number_stands count;
+  encodes = number_is_encoded count;
 }
 
 -- unsigned int
@@ -62,7 +62,7 @@ flag = record {
   spelling = written_flag;
   Fits = λ b. Unit {0};
   reads = reads_flag;
-  stands = λ b fits. flag_stands b;
+  encodes = λ b fits. flag_is_encoded b;
 }
 
 -- opaque value[count], where count is a multiple of four, so that no padding follows
@@ -73,7 +73,7 @@ fixed count = record {
   spelling = λ bytes. bytes;
   Fits = λ bytes. length bytes ≡ count;
   reads = reads_fixed count;
-  stands = fixed_stands count;
+  encodes = fixed_is_encoded count;
 }
 
 -- opaque value<limit>
@@ -84,7 +84,7 @@ opaque limit = record {
   spelling = written_opaque;
   Fits = λ bytes. (length bytes ≤ limit) × (length bytes < 2 ^ 32);
   reads = reads_opaque limit;
-  stands = λ bytes fits. opaque_stands limit bytes fits.0 fits.1;
+  encodes = λ bytes fits. opaque_is_encoded limit bytes fits.0 fits.1;
 }
 
 -- opaque value<>
@@ -99,7 +99,7 @@ many limit f = record {
   spelling = written_many f.spelling;
   Fits = λ values. (length values ≤ limit) × (length values < 2 ^ 32) × All f.Fits values;
   reads = reads_many limit f.layout f.at f.reads;
-  stands = λ values fits. many_stand limit f.layout f.spelling f.Fits f.stands values fits.0 fits.1 fits.2;
+  encodes = λ values fits. many_are_encoded limit f.layout f.spelling f.Fits f.encodes values fits.0 fits.1 fits.2;
 }
 
 -- a value of the first form, and then one of the second
@@ -111,7 +111,7 @@ f and g = record {
   spelling = λ p. f.spelling p.0 ++ g.spelling p.1;
   Fits = λ p. f.Fits p.0 × g.Fits p.1;
   reads = reads_then f.layout g.layout f.at g.at f.reads g.reads;
-  stands = both_stand f.layout g.layout f.spelling g.spelling f.Fits g.Fits f.stands g.stands;
+  encodes = both_are_encoded f.layout g.layout f.spelling g.spelling f.Fits g.Fits f.encodes g.encodes;
 }
 
 -- a record whose fields have this form: `make` and `fields` are each other's inverse
@@ -122,7 +122,7 @@ of make fields back again f = record {
   spelling = λ b. f.spelling (fields b);
   Fits = λ b. f.Fits (fields b);
   reads = reads_as f.layout f.at make fields back again f.reads;
-  stands = λ b fits. f.stands (fields b) fits;
+  encodes = λ b fits. f.encodes (fields b) fits;
 }
 
 -- enum: these values, each of which is found by its number
@@ -133,7 +133,7 @@ enumeration number_of values known = record {
   spelling = λ value. written_u32 (number_of value);
   Fits = λ value. number_of value < 2 ^ 32;
   reads = reads_value number_of values known;
-  stands = λ value fits. number_stands 4 (number_of value) fits;
+  encodes = λ value fits. number_is_encoded 4 (number_of value) fits;
 }
 
 -- a number that always has this value
@@ -144,5 +144,5 @@ constant n = record {
   spelling = λ v. written_u32 n;
   Fits = λ v. n < 2 ^ 32;
   reads = reads_constant n;
-  stands = λ v fits. number_stands 4 n fits;
+  encodes = λ v fits. number_is_encoded 4 n fits;
 }

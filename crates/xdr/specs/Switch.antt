@@ -24,7 +24,7 @@ pub record Arm (V : Type 0) : Type 1 where
   pub spelling : List ℕ
   pub Fits : Type 0
   pub complete : (front rest : List ℕ) → layout front → at (front ++ rest) ≡ Ok (value, rest)
-  pub stands : Fits → layout spelling
+  pub encodes : Fits → layout spelling
 
 abbrev pub arm : {A V : Type 0} → Form A → (A → V) → A → Arm V
 arm form make content = record {
@@ -34,7 +34,7 @@ arm form make content = record {
   spelling = form.spelling content;
   Fits = form.Fits content;
   complete = λ front rest h. rw (form.reads.complete content front rest h) refl;
-  stands = form.stands content;
+  encodes = form.encodes content;
 }
 
 -- The type of content that a case makes values from, and the arm of such a value.

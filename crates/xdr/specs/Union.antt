@@ -4,7 +4,7 @@ use Rattle.xdr.specs.Layout.{◌⨾◌}
 use Rattle.xdr.specs.Reading.{◌>>=◌}
 use Rattle.xdr.specs.Form.{Form}
 use Rattle.xdr.specs.Switch.{Case, Arm, Agrees, IsRead, case_at}
-use Rattle.xdr.specs.laws.Switches.{reads_switch, switch_stands}
+use Rattle.xdr.specs.laws.Switches.{reads_switch, switch_is_encoded}
 
 -- union switch (tag)
 abbrev pub switch : {K V : Type 0} → (tag : Form K) (cases : K → Case V) (tag_of : V → K) (arm_of : V → Arm V)
@@ -15,5 +15,5 @@ switch tag cases tag_of arm_of agree is_read = record {
   spelling = λ value. tag.spelling (tag_of value) ++ (arm_of value).spelling;
   Fits = λ value. tag.Fits (tag_of value) × (arm_of value).Fits;
   reads = reads_switch tag cases tag_of arm_of agree is_read;
-  stands = λ value fits. switch_stands tag tag_of arm_of value fits.0 fits.1;
+  encodes = λ value fits. switch_is_encoded tag tag_of arm_of value fits.0 fits.1;
 }

@@ -12,7 +12,7 @@ use Rattle.nfs_xdr.specs.declared.operations.setclientid.Setclientid.{Setclienti
 
 -- the answer and the change of the clients' records, as a decision
 abbrev pub decision_of : Outcome × ClientChange → Decision
-decision_of told = record { answer = results.Setclientid told.0; change = Clients told.1 }
+decision_of outcome = record { answer = results.Setclientid outcome.0; change = Clients outcome.1 }
 
 -- The rule of SETCLIENTID. It depends on whether the client of the confirmed record with the id has state.
 abbrev pub rule : History → State → Request → Setclientid → Option Decision

@@ -43,7 +43,7 @@ fn attributes(
     filehandle: Option<u32>,
 ) -> Result<Answer<Fattr>, AllocError>
     requires node { IsFilehandle journal.now filehandle }
-    ensures told { IfOk result (λ r.
+    ensures attributes { IfOk result (λ r.
         r ≡ attributes journal.now (state_of tables.now) filehandle mask.now) }
     ensures short { IfOk result (λ r. length (getattr.result.spelling r) ≤ ANSWER_LIMIT - 4) }
     ensures form { IfOk result (λ r. getattr.result.Fits r) }

@@ -24,16 +24,16 @@ allowed_access is_directory =
 
 -- of the requested access rights, those that the server can check, and those that the client has
 abbrev pub access_of : Bool → ℕ → AccessBits
-access_of is_directory asked = record {
-  supported = bit_and asked all_access;
-  access = bit_and asked (allowed_access is_directory);
+access_of is_directory requested = record {
+  supported = bit_and requested all_access;
+  access = bit_and requested (allowed_access is_directory);
 }
 
 -- NFS4ERR_NOFILEHANDLE if there is no current filehandle
 abbrev pub access_to : Files → Option ℕ → ℕ → PlainAnswer AccessBits
-access_to tree None asked = Refused refusals.NoFileHandle
-access_to tree (Some node) asked = Done (access_of (is_directory tree.nodes node) asked)
+access_to tree None requested = Refused refusals.NoFileHandle
+access_to tree (Some node) requested = Done (access_of (is_directory tree.nodes node) requested)
 
 -- neither filehandle changes
 abbrev pub access : Files → Filehandles → ℕ → Effect
-access tree old asked = stays old (results.Access (access_to tree old.current asked))
+access tree old requested = stays old (results.Access (access_to tree old.current requested))

@@ -53,14 +53,14 @@ impl Filehandles {
     /// ACCESS (RFC 7530, section 16.1): returns which of the requested access rights the client has on the current
     /// object.
     #[tactic(auto, unfolding(nfs_xdr::specs::OpResult::op_result, nfs_xdr::specs::operations::opnum, nfs_xdr::specs::Answer::answer, nfs_xdr::specs::operations::Access::access_bits, nfs_xdr::specs::Status::status, xdr::specs::Writing::written_number))]
-    pub(crate) fn access(&self, tree: &Tree, asked: u32) -> OpResult
+    pub(crate) fn access(&self, tree: &Tree, requested: u32) -> OpResult
         ensures effect { record { answer = result; after = self.now }
-            ≡ access tree.now self.now asked }
+            ≡ access tree.now self.now requested }
         ensures short { length (op_result.spelling result) ≤ TREE_ANSWER_LIMIT }
         ensures form { op_result.Fits result }
     {
         match self.current {
-            Some(node) => OpResult::Access(Answer::Done(tree.access(node, asked))),
+            Some(node) => OpResult::Access(Answer::Done(tree.access(node, requested))),
             None => OpResult::Access(Answer::Refused(Refusal::NoFileHandle)),
         }
     }

@@ -7,7 +7,7 @@ use Rattle.xdr.specs.Layout.{U32, Each, Many}
 use Rattle.xdr.specs.Reading.{Read, Reads, Begins, ◌then◌, number_at, each_at, many_at}
 use Rattle.xdr.specs.Writing.{written_u32, written_many}
 use Rattle.xdr.specs.laws.Reads.{bind_ok, guard_ok, ok_is, Begins-then, reads_then, as_value_gives, reads_number}
-use Rattle.xdr.specs.laws.Spells.{number_stands}
+use Rattle.xdr.specs.laws.Spells.{number_is_encoded}
 
 -- `count` values, one after the other
 abbrev HoldEach : {A : Type 0} → (A → List ℕ → Type 0) → ℕ → List A → List ℕ → Type 0
@@ -69,6 +69,6 @@ each_stand P f Fits law [] fits = refl
 each_stand P f Fits law (value ∷ values) fits =
     (f value, flat_map f values, refl, law value (fits 0 value (omega arith)), each_stand P f Fits law values (λ k d lt. fits (suc k) d (omega (arith, lt))))
 
-pub many_stand : {A : Type 0} (limit : ℕ) (P : A → List ℕ → Type 0) (f : A → List ℕ) (Fits : A → Type 0) → ((value : A) → Fits value → P value (f value)) → (values : List A) → length values ≤ limit → length values < 2 ^ 32 → All Fits values → Many limit P values (written_many f values)
-many_stand limit P f Fits law values within fits all =
-    (within, (written_u32 (length values), flat_map f values, refl, number_stands 4 (length values) fits, each_stand P f Fits law values all))
+pub many_are_encoded : {A : Type 0} (limit : ℕ) (P : A → List ℕ → Type 0) (f : A → List ℕ) (Fits : A → Type 0) → ((value : A) → Fits value → P value (f value)) → (values : List A) → length values ≤ limit → length values < 2 ^ 32 → All Fits values → Many limit P values (written_many f values)
+many_are_encoded limit P f Fits law values within fits all =
+    (within, (written_u32 (length values), flat_map f values, refl, number_is_encoded 4 (length values) fits, each_stand P f Fits law values all))

@@ -142,9 +142,9 @@ reads_opaque limit = record {
       let header = (reads_number 4).sound bytes count n.0.1 n.1 in
       let behind = padded_begins count n.0.1 long in
       let all = Begins-then (U32 count) (Fixed count (take count n.0.1) ⨾ Any (padding_of count)) bytes n.0.1 (drop (count + padding_of count) n.0.1) header behind in
-      let stands : Begins (Opaque limit (take count n.0.1)) bytes (drop (count + padding_of count) n.0.1) =
+      let encodes : Begins (Opaque limit (take count n.0.1)) bytes (drop (count + padding_of count) n.0.1) =
       (all.0, all.1, (omega arith, subst (λ (c : ℕ). (U32 c ⨾ Fixed c (take count n.0.1) ⨾ Any (padding_of c)) all.0) (sym len) all.2)) in
-      subst (λ (x : List ℕ × List ℕ). Begins (Opaque limit x.0) bytes x.1) (ok_is (take count n.0.1, drop (count + padding_of count) n.0.1) (value, rest) k.1) stands;
+      subst (λ (x : List ℕ × List ℕ). Begins (Opaque limit x.0) bytes x.1) (ok_is (take count n.0.1, drop (count + padding_of count) n.0.1) (value, rest) k.1) encodes;
   complete = λ value front rest h.
       let count = length value in
       let head = h.1.0 in
@@ -175,8 +175,8 @@ reads_constant n = record {
   complete = λ value front rest h. rw ((reads_number 4).complete n front rest h, eq-eqb n n refl) refl;
 }
 
-flag_stands : (n : ℕ) (front mid : List ℕ) (y : Bool × List ℕ) → U32 n front → flag_of n mid ≡ Ok y → Flag y.0 front × (mid ≡ y.1)
-flag_stands n front mid y number e =
+flag_is_encoded : (n : ℕ) (front mid : List ℕ) (y : Bool × List ℕ) → U32 n front → flag_of n mid ≡ Ok y → Flag y.0 front × (mid ≡ y.1)
+flag_is_encoded n front mid y number e =
     elim (decided (eqb n 0)) [
       | inl zeroth ↦
           let same : (false, mid) ≡ y = ok_is (false, mid) y (rw zeroth at e) in
@@ -198,7 +198,7 @@ reads_flag = record {
   sound = λ bytes value rest e.
       let n = bind_ok (number_at 4 bytes) (λ n. flag_of n.0 n.1) (value, rest) e in
       let number = (reads_number 4).sound bytes n.0.0 n.0.1 n.1 in
-      let flag = flag_stands n.0.0 number.0 n.0.1 (value, rest) number.2 n.2 in
+      let flag = flag_is_encoded n.0.0 number.0 n.0.1 (value, rest) number.2 n.2 in
       (number.0, number.1 ∙ ap (λ (x : List ℕ). number.0 ++ x) flag.1, flag.0);
   complete = flag_complete;
 }

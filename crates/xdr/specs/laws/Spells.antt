@@ -6,30 +6,30 @@ use Rattle.byteorder.specs.Numbers.{big_number-reads_back, length-bytes_high_fir
 use Rattle.xdr.specs.Layout.{◌⨾◌, Nothing, Number, Flag, Fixed, Opaque, padding_of}
 use Rattle.xdr.specs.Writing.{written_number, written_u32, written_flag, written_opaque, zeros}
 
-pub nothing_stands : (value : Unit {0}) → Unit {0} → Nothing []
-nothing_stands value fits = refl
+pub nothing_is_encoded : (value : Unit {0}) → Unit {0} → Nothing []
+nothing_is_encoded value fits = refl
 
-pub number_stands : (count n : ℕ) → n < 256 ^ count → Number count n (written_number count n)
+pub number_is_encoded : (count n : ℕ) → n < 256 ^ count → Number count n (written_number count n)
 unfolding written_number
-number_stands count n fits =
+number_is_encoded count n fits =
     (length-bytes_high_first count n, ap (big_number count) (sym (append-nil (big_bytes count n))) ∙ big_number-reads_back count n [] fits)
 
-pub flag_stands : (b : Bool) → Flag b (written_flag b)
-flag_stands true = number_stands 4 1 (omega arith)
-flag_stands false = number_stands 4 0 (omega arith)
+pub flag_is_encoded : (b : Bool) → Flag b (written_flag b)
+flag_is_encoded true = number_is_encoded 4 1 (omega arith)
+flag_is_encoded false = number_is_encoded 4 0 (omega arith)
 
-pub fixed_stands : (count : ℕ) (bytes : List ℕ) → length bytes ≡ count → Fixed count bytes bytes
-fixed_stands count bytes fits = (fits, refl)
+pub fixed_is_encoded : (count : ℕ) (bytes : List ℕ) → length bytes ≡ count → Fixed count bytes bytes
+fixed_is_encoded count bytes fits = (fits, refl)
 
 length-zeros : (n : ℕ) → n < 4 → length (zeros n) ≡ n
 length-zeros n few = omega (arith, length-take {A = ℕ} n (0 ∷ 0 ∷ 0 ∷ 0 ∷ []))
 
-pub opaque_stands : (limit : ℕ) (bytes : List ℕ) → length bytes ≤ limit → length bytes < 2 ^ 32 → Opaque limit bytes (written_opaque bytes)
+pub opaque_is_encoded : (limit : ℕ) (bytes : List ℕ) → length bytes ≤ limit → length bytes < 2 ^ 32 → Opaque limit bytes (written_opaque bytes)
 unfolding written_opaque
-opaque_stands limit bytes within fits =
+opaque_is_encoded limit bytes within fits =
     let pad = padding_of (length bytes) in
-    (within, (written_u32 (length bytes), bytes ++ zeros pad, refl, number_stands 4 (length bytes) fits, (bytes, zeros pad, refl, (refl, refl), length-zeros pad (omega arith))))
+    (within, (written_u32 (length bytes), bytes ++ zeros pad, refl, number_is_encoded 4 (length bytes) fits, (bytes, zeros pad, refl, (refl, refl), length-zeros pad (omega arith))))
 
-pub both_stand : {A B : Type 0} (P : A → List ℕ → Type 0) (Q : B → List ℕ → Type 0) (f : A → List ℕ) (g : B → List ℕ) (FFits : A → Type 0) (GFits : B → Type 0)
+pub both_are_encoded : {A B : Type 0} (P : A → List ℕ → Type 0) (Q : B → List ℕ → Type 0) (f : A → List ℕ) (g : B → List ℕ) (FFits : A → Type 0) (GFits : B → Type 0)
     → ((a : A) → FFits a → P a (f a)) → ((b : B) → GFits b → Q b (g b)) → (p : A × B) → FFits p.0 × GFits p.1 → (P p.0 ⨾ Q p.1) (f p.0 ++ g p.1)
-both_stand P Q f g FFits GFits first second p fits = (f p.0, g p.1, refl, first p.0 fits.0, second p.1 fits.1)
+both_are_encoded P Q f g FFits GFits first second p fits = (f p.0, g p.1, refl, first p.0 fits.0, second p.1 fits.1)

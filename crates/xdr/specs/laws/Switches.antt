@@ -32,6 +32,6 @@ reads_switch {K = K} {V = V} tag cases tag_of arm_of agree is_read = record {
       rw head (here ∙ ap (λ (v : V). Ok (v, rest)) (is_read value).is);
 }
 
-pub switch_stands : {K V : Type 0} (tag : Form K) (tag_of : V → K) (arm_of : V → Arm V) (value : V) → tag.Fits (tag_of value) → (arm_of value).Fits → (tag.layout (tag_of value) ⨾ (arm_of value).layout) (tag.spelling (tag_of value) ++ (arm_of value).spelling)
-switch_stands tag tag_of arm_of value small fits =
-    (tag.spelling (tag_of value), (arm_of value).spelling, refl, tag.stands (tag_of value) small, (arm_of value).stands fits)
+pub switch_is_encoded : {K V : Type 0} (tag : Form K) (tag_of : V → K) (arm_of : V → Arm V) (value : V) → tag.Fits (tag_of value) → (arm_of value).Fits → (tag.layout (tag_of value) ⨾ (arm_of value).layout) (tag.spelling (tag_of value) ++ (arm_of value).spelling)
+switch_is_encoded tag tag_of arm_of value small fits =
+    (tag.spelling (tag_of value), (arm_of value).spelling, refl, tag.encodes (tag_of value) small, (arm_of value).encodes fits)

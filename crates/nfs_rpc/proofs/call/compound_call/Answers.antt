@@ -4,7 +4,7 @@ use Rattle.nfs_rpc.proofs.Limits.{accepted_is_short, within_limits}
 use Rattle.nfs_rpc.proofs.call.compound_call.Goals as goal
 
 pub returns-in-Ok-clause-limits : goal.returns-in-Ok-clause-limits
-returns-in-Ok-clause-limits c = within_limits c.in-Ok.compound c.args.bytes.now c.in-Ok.ensures.stands
+returns-in-Ok-clause-limits c = within_limits c.in-Ok.compound c.args.bytes.now c.in-Ok.ensures.encoded
 
 pub returns-in-Err-Memory-clause-call : goal.returns-in-Err-Memory-clause-call
 returns-in-Err-Memory-clause-call c = refused_compound c.args.xid c.args.principal c.args.bytes.now (c.in-Err-Memory.ensures.memory (ap Err c.in-Err-Memory.field-0-is))

@@ -7,7 +7,7 @@ use Rattle.nfs_rpc.proofs.place.take_front.Goals as goal
 
 pub returns-in-InHeader-clause-behind : goal.returns-in-InHeader-clause-behind
 returns-in-InHeader-clause-behind c = λ text a.
-    c.behind_part.ensures.behind text c.args.bodies.now.items (subst (λ (p : Place). IsAt text c.args.bodies.now.items p) c.in-InHeader.is a)
+    c.after_part.ensures.behind text c.args.bodies.now.items (subst (λ (p : Place). IsAt text c.args.bodies.now.items p) c.in-InHeader.is a)
 
 pub returns-in_ok-extend_from_slice-in-InBody-clause-behind :
     goal.returns-in_ok-extend_from_slice-in-InBody-clause-behind

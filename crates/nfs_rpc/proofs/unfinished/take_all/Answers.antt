@@ -16,7 +16,7 @@ returns-then-not-fits-clause-begins c =
 
 pub returns-then-not-fits-clause-ok : goal.returns-then-not-fits-clause-ok
 returns-then-not-fits-clause-ok c =
-    let few = c.in_ok-place.ensures.within c.loop-rest.invariant.stands.fits in
+    let few = c.in_ok-place.ensures.within c.loop-rest.invariant.at_place.fits in
     let len : length c.take_front.new.bodies.items ≡ c.len.result = omega arith in
     let above : Fits (length c.take_front.new.bodies.items) c.in_ok-place.place → ⊥ =
     λ (fits : Fits (length c.take_front.new.bodies.items) c.in_ok-place.place).
@@ -38,7 +38,7 @@ pub loop-rest-preserved : goal.loop-rest-preserved
 loop-rest-preserved c =
     let b = begins_longer c.args.bodies.now.items c.loop-rest.bodies.items c.take_front.new.bodies.items (messages_of c.loop-rest.found.items) c.loop-rest.invariant.begins c.take_front.ensures.begins in
     record {
-      stands = c.in_ok-first.ensures.stands;
+      at_place = c.in_ok-first.ensures.at_place;
       goes = c.in_ok-first.ensures.goes;
       room = omega (arith, c.in_ok-first.ensures.count, c.in_ok-place.ensures.count.1, c.loop-rest.invariant.room, length-take {A = ℕ}, length-drop {A = ℕ});
       begins = subst (λ (l : List ℕ). Begins c.args.bodies.now.items l) (sym c.end_fragment.ensures.begins) b;
@@ -48,4 +48,4 @@ loop-rest-preserved c =
     }
 
 pub returns-clause-ok : goal.returns-clause-ok
-returns-clause-ok c = so_far_all c.args.bodies.now.items c.args.from c.args.piece.now c.loop-rest.rest.now _ _ _ (nil_from_length c.loop-rest.rest.now (eqb-true _ _ (sym c.loop-rest-test.ensures))) c.loop-rest.invariant.stands c.loop-rest.invariant.goes c.loop-rest.invariant.found
+returns-clause-ok c = so_far_all c.args.bodies.now.items c.args.from c.args.piece.now c.loop-rest.rest.now _ _ _ (nil_from_length c.loop-rest.rest.now (eqb-true _ _ (sym c.loop-rest-test.ensures))) c.loop-rest.invariant.at_place c.loop-rest.invariant.goes c.loop-rest.invariant.found

@@ -5,5 +5,5 @@ use Rattle.nfs_tree.proofs.building.chain_of.Given as goal
 abbrev pub invariant-loop-place : goal.invariant-loop-place
 invariant-loop-place l = record {
   counted : l.number ≡ l.initial.number + l.place;
-  joined : l.nodes.items ++ chain l.parent l.number (drop l.place l.names) l.kind ≡ chain l.initial.parent l.initial.number l.names l.kind;
+  join_names : l.nodes.items ++ chain l.parent l.number (drop l.place l.names) l.kind ≡ chain l.initial.parent l.initial.number l.names l.kind;
 }

@@ -16,7 +16,7 @@ use Rattle.xdr.specs.Writing.{written_number, written_opaque, written_u32, zeros
 use Rattle.nfs_tree.specs.declared.attribute.Attribute.{Attribute}
 use Rattle.nfs_tree.specs.declared.attribute.Attribute.TheVariants as attributes
 use Rattle.nfs_tree.specs.declared.attribute.Subject.{Subject}
-use Rattle.nfs_tree.specs.Attributes.{all_attributes, asked, attributes_of, has, mask_of, supported, value_asked, value_of, values_of}
+use Rattle.nfs_tree.specs.Attributes.{all_attributes, requested, attributes_of, has, mask_of, supported, value_requested, value_of, values_of}
 use Rattle.nfs_core.proofs.operations.getattr.attributes.Goals as goal
 
 value_len : (s : Subject) (a : Attribute) → length (value_of s a) ≤ 16
@@ -43,7 +43,7 @@ either_len false value short = omega arith
 values_len : (s : Subject) (word : ℕ) (all : List Attribute) → length (values_of s word all) ≤ 16 * length all
 values_len s word [] = omega arith
 values_len s word (a ∷ all) =
-    omega (arith, length-append (value_asked s word a) (values_of s word all), either_len (has word a) (value_of s a) (value_len s a), values_len s word all)
+    omega (arith, length-append (value_requested s word a) (values_of s word all), either_len (has word a) (value_of s a) (value_len s a), values_len s word all)
 
 all_len : (s : Subject) (word : ℕ) → length (values_of s word all_attributes) ≤ 224
 all_len s word = values_len s word all_attributes
@@ -52,7 +52,7 @@ either_mask : (b : Bool) (word : ℕ) → length (if b then [] else word ∷ [])
 either_mask true word = omega arith
 either_mask false word = omega arith
 
-mask_len : (words : List ℕ) → length (mask_of (asked words)) ≤ 1
+mask_len : (words : List ℕ) → length (mask_of (requested words)) ≤ 1
 mask_len words = either_mask _ _
 
 mask_written : (words : List ℕ) → length words ≤ 1 → length (flat_map written_u32 words) ≤ 4
@@ -69,7 +69,7 @@ told_len f mask values =
 
 -- the result of GETATTR has at most 2032 bytes
 attributes_len : (f : Fattr) (s : Subject) (words : List ℕ) → f ≡ attributes_of s words → length (getattr.result.spelling (Done f)) ≤ 2032
-attributes_len f s words is = rw is (told_len (attributes_of s words) (mask_len words) (all_len s (asked words)))
+attributes_len f s words is = rw is (told_len (attributes_of s words) (mask_len words) (all_len s (requested words)))
 
 -- The attributes in an answer fit their form: the mask is a word of four bytes, and the values are few.
 one_word : (word : ℕ) → word < 2 ^ 32 → All (λ w. w < 2 ^ 32) (word ∷ [])
@@ -80,14 +80,14 @@ mask_fits : (b : Bool) (word : ℕ) → word < 2 ^ 32 → All (λ w. w < 2 ^ 32)
 mask_fits true word small = All-nil (λ w. w < 2 ^ 32)
 mask_fits false word small = one_word word small
 
-asked_fits : (words : List ℕ) → asked words < 2 ^ 32
+asked_fits : (words : List ℕ) → requested words < 2 ^ 32
 asked_fits [] = omega arith
 asked_fits (word ∷ words) = omega (arith, and_le_r word supported)
 
 attributes_fit : (f : Fattr) (s : Subject) (words : List ℕ) → f ≡ attributes_of s words → getattr.result.Fits (Done f)
 unfolding answer fattr status
 attributes_fit f s words is =
-    rw is (omega arith, ((omega (arith, mask_len words), omega (arith, mask_len words), mask_fits (asked words == 0) (asked words) (asked_fits words)), (omega (arith, all_len s (asked words)), omega (arith, all_len s (asked words)))))
+    rw is (omega arith, ((omega (arith, mask_len words), omega (arith, mask_len words), mask_fits (requested words == 0) (requested words) (asked_fits words)), (omega (arith, all_len s (requested words)), omega (arith, all_len s (requested words)))))
 
 pub returns-clause-short : goal.returns-clause-short
 returns-clause-short c = attributes_len c.in_ok-found.found _ _ c.in_ok-found.ensures

@@ -1,7 +1,7 @@
 use Rattle.std.proofs.Common.{◌≡◌, ◌+◌, ◌++◌, List, ℕ, length, take, ap, ◌∙◌, rules, arith}
 use Rattle.std.proofs.lemmas.Slice.{take-put_mid}
 use Rattle.nfs_rpc.proofs.Standing.{at_header_end}
-use Rattle.nfs_rpc.proofs.place.behind_part.Goals as goal
+use Rattle.nfs_rpc.proofs.place.after_part.Goals as goal
 
 pub returns-clause-behind : goal.returns-clause-behind
 returns-clause-behind c = λ text bodies a.
