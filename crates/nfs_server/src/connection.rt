@@ -53,9 +53,9 @@ pub fn serve_connection<R: Source, W: Sink, S: Service, C: Clock>(
 /// The records that a read completes are answered in their order, and their replies are written before the next read.
 /// The service is asked the questions of a record's call at the moment that the clock shows for it. The error is `Read`
 /// or `Write` exactly if a read or a write failed, `TooLong` if a header announces a record above `RECORD_LIMIT`,
-/// `TooMuch` if more than `STREAM_LIMIT` bytes came, and `Memory` if memory ran out for what was read, or for a reply;
-/// then nothing of that record's call was run. What was done before an error remains done, and its replies were
-/// written, except those in which a write failed.
+/// `TooMuch` if more than `STREAM_LIMIT` bytes came, and `Memory` if memory ran out: before the first read, for what
+/// was read, or for a reply; then nothing of that record's call was run. What was done before an error remains done,
+/// and its replies were written, except those in which a write failed.
 pub fn serve_duplex<D: Duplex, S: Service, C: Clock>(
     alloc: Global,
     device: &mut D,
