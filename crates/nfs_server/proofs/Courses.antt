@@ -73,7 +73,7 @@ ready_within old new piece rest none keeps takes =
     let w = takes.split rest keeps in
     rw (found_ready old new piece none takes) (within_limit takes.found w.1.front w.1.records)
 
-same_error : {T : Type 0} (result : Result T ServeError) (e f : ServeError) → result ≡ Err e → result ≡ Err f → e ≡ f
+pub same_error : {T : Type 0} (result : Result T ServeError) (e f : ServeError) → result ≡ Err e → result ≡ Err f → e ≡ f
 same_error result e f first second = let both : Err e ≡ Err f = sym first ∙ second in cc
 
 write_or_memory : (error : ServeError) → (errs error ≡ errs errors.Write) ⊎ (errs error ≡ errs errors.Memory) → (error ≡ errors.Write) ⊎ (error ≡ errors.Memory)

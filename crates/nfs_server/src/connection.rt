@@ -1,4 +1,4 @@
-ghost use Rattle.std.specs.Prelude.{◌≡◌, ◌+◌, ◌-◌, ◌^◌, ◌<◌, ◌≤◌, ◌↔◌, ◌⊎◌, false, [], length, OnOk, OnErr, IsErrOf};
+ghost use Rattle.std.specs.Prelude.{◌≡◌, ◌+◌, ◌-◌, ◌^◌, ◌<◌, ◌≤◌, ◌↔◌, ◌⊎◌, false, [], length, IfOk, OnOk, OnErr, IsErrOf};
 ghost use Rattle.std.specs.List.{AllByRecursion};
 ghost use Rattle.nfs_server.specs.Connection.{HasCourse, scene};
 ghost use Rattle.nfs_server.specs.Device.{IsCut, IsWritten};
@@ -74,34 +74,8 @@ pub fn serve_duplex<D: Duplex, S: Service, C: Clock>(
     ensures write_failed { IsErrOf result ServeError.Write
         ↔ D.write_failures device.old < D.write_failures device.new }
 {
-    let Ok(mut buffer) = vec![in alloc; 0; PIECE_LEN] else {
-        return Err(ServeError::Memory);
-    };
-    serve_turns(alloc, device, service, tree, clock, &mut buffer)
-}
-
-// Reads, answers and writes in turn.
-fn serve_turns<D: Duplex, S: Service, C: Clock>(
-    alloc: Global,
-    device: &mut D,
-    service: &mut S,
-    tree: &Tree,
-    clock: &mut C,
-    buffer: &mut [u8],
-) -> Result<usize, ServeError>
-    requires reads { D.read_failures device.old < 2 ^ 64 - 1 }
-    requires writes { D.write_failures device.old < 2 ^ 64 - 1 }
-    requires serves { S.serves service.old ≡ tree.now.nodes }
-    requires some { 0 < length buffer.old }
-    requires few { length buffer.old < 2 ^ 40 }
-    ensures serves { S.serves service.new ≡ tree.now.nodes }
-    ensures course { HasCourse D.device (rules tree.now S.gives C.tells)
-        (scene device.old service.old clock.old) result (scene device.new service.new clock.new) }
-    ensures read_failed { IsErrOf result ServeError.Read
-        ↔ D.read_failures device.old < D.read_failures device.new }
-    ensures write_failed { IsErrOf result ServeError.Write
-        ↔ D.write_failures device.old < D.write_failures device.new }
-{
+    let mut room = room_for_a_piece(alloc)?;
+    let buffer = room.as_mut_slice();
     let mut records = Records::new(alloc);
     let mut replies = Replies::new(alloc);
     loop {
@@ -119,6 +93,14 @@ fn serve_turns<D: Duplex, S: Service, C: Clock>(
             return Err(ServeError::TooLong);
         }
     }
+}
+
+// Room for what is read at once.
+fn room_for_a_piece(alloc: Global) -> Result<Vec<u8>, ServeError>
+    ensures ok { IfOk result (λ room. length room.items ≡ PIECE_LEN) }
+    ensures memory { OnErr result (result ≡ Err ServeError.Memory) }
+{
+    vec![in alloc; 0; PIECE_LEN].map_err(|_| ServeError::Memory)
 }
 
 // Takes the next piece of the stream. Whether a record is too long now, the records tell.

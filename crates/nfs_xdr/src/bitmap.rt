@@ -1,20 +1,16 @@
 ghost use Rattle.std.specs.Prelude.{◌≡◌, ◌≤◌, length, IfOk, IsOk};
 ghost use Rattle.nfs_xdr.specs.Bitmap as forms;
-ghost use Rattle.xdr.specs.Reading.{Gives, each_at, number_at};
 
 use smallvec::SmallVec;
 use std::alloc::{AllocError, Global};
 use std::marker::Model;
-use xdr::{Measure, NO_LIMIT, Wire, WireError, read_u32, write_many};
-
-/// The words that have the bits of all attributes of NFSv4.0. So many take no memory.
-const FEW_WORDS: usize = 2;
+use xdr::{Measure, NO_LIMIT, Sequence, Wire, WireError, write_many};
 
 /// A set of attributes (bitmap4): bit b is bit b mod 32 of word b / 32. Contracts see the list of the words, so that
 /// other zero words at the end are another value.
 #[derive(Debug, Drop)]
 pub struct Bitmap {
-    words: SmallVec<u32, FEW_WORDS>,
+    words: SmallVec<u32, 2>,
 }
 
 impl Model for Bitmap {
@@ -35,10 +31,10 @@ impl Bitmap {
         }
     }
 
-    /// A copy of these words. It takes memory only where they are more than two.
+    /// A copy of these words. Up to two, enough for every attribute of NFSv4.0, take no memory.
     pub fn copy_of(alloc: Global, words: &[u32]) -> Result<Bitmap, AllocError>
         ensures ok { IfOk result (λ b. b ≡ words.now) }
-        ensures few { length words.now ≤ FEW_WORDS → IsOk result }
+        ensures few { length words.now ≤ 2 → IsOk result }
     {
         Ok(Bitmap {
             words: SmallVec::from_slice(alloc, words)?,
@@ -71,40 +67,16 @@ impl Clone for Bitmap {
     ghost is_clone = { λ x y. y ≡ x };
 
     fn clone(&self) -> Result<Bitmap, AllocError> {
-        Ok(Bitmap {
-            words: SmallVec::from_slice(*self.words.allocator(), self.as_slice())?,
-        })
+        Bitmap::copy_of(*self.words.allocator(), self.as_slice())
     }
-}
-
-// So many words. Memory is taken word by word.
-fn read_words(
-    alloc: Global,
-    count: u32,
-    bytes: &[u8],
-) -> Result<(SmallVec<u32, FEW_WORDS>, &[u8]), WireError>
-    ensures { Gives (λ x. (x.0.items, x.1.now)) result (each_at (number_at 4) count bytes.now) }
-{
-    let mut words = SmallVec::new(alloc);
-    let mut rest = bytes;
-    for _ in 0..count {
-        let (word, behind) = read_u32(rest)?;
-        match words.push(word) {
-            Ok(()) => rest = behind,
-            Err(_) => return Err(WireError::Memory),
-        }
-    }
-    Ok((words, rest))
 }
 
 impl Wire for Bitmap {
     ghost form = { forms.bitmap };
 
-    #[tactic(auto, unfolding(xdr::specs::Reading::many_at))]
     fn read(alloc: Global, bytes: &[u8]) -> Result<(Bitmap, &[u8]), WireError> {
-        let (count, rest) = read_u32(bytes)?;
-        let (words, rest) = read_words(alloc, count, rest)?;
-        Ok((Bitmap { words }, rest))
+        let (words, rest) = Sequence::<u32>::read(alloc, bytes)?;
+        Ok((Bitmap::new(words.into_vec()), rest))
     }
 
     fn write(&self, out: &mut Vec<u8>) -> Result<(), WireError> {

@@ -28,7 +28,7 @@ goes_on f front count i bytes value behind total lt read so_far =
     let one : each_at f (count - i) bytes ≡ joined (one_and value (each_at f (count - (i + 1)) behind)) = rw (k, read) refl in
     one_more front value (each_at f (count - (i + 1)) behind) ∙ ap (and_then front) (sym one) ∙ so_far
 
-pub tells : {A : Type 0} (e : WireError) (r : Read A) → r ≡ Err e → Fails e r
+tells : {A : Type 0} (e : WireError) (r : Read A) → r ≡ Err e → Fails e r
 tells errors.Memory r is = tt
 tells errors.Short r is = is
 tells errors.TooLong r is = is

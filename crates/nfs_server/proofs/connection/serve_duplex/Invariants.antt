@@ -1,9 +1,10 @@
-use Rattle.std.proofs.Common.{◌≡◌, ◌-◌, ◌^◌, [], false}
+use Rattle.std.proofs.Common.{◌≡◌, ◌-◌, ◌^◌, [], length, false}
 use Rattle.nfs_rpc.specs.Records.{IsStream}
+use Rattle.nfs_server.specs.declared.connection.TheConstants.{PIECE_LEN}
 use Rattle.nfs_server.specs.Connection.{scene}
 use Rattle.nfs_server.specs.Exchange.{rules}
 use Rattle.nfs_server.proofs.Courses.{IsUnderWay}
-use Rattle.nfs_server.proofs.connection.serve_turns.Given as goal
+use Rattle.nfs_server.proofs.connection.serve_duplex.Given as goal
 
 -- every turn so far is over
 abbrev pub invariant-loop-records : goal.invariant-loop-records
@@ -11,6 +12,7 @@ invariant-loop-records g l = record {
   under_way : IsUnderWay g.D.Duplex.device (rules l.fn.tree g.S.Service.gives g.C.Clock.tells) (scene l.fn.device l.fn.service l.fn.clock) l.records (scene l.device l.service l.clock);
   sound : IsStream l.records;
   goes : l.records.is_too_long ≡ false;
+  room : length l.buffer ≡ PIECE_LEN;
   idle : l.replies.gathered.items ≡ [];
   serves : g.S.Service.serves l.service ≡ l.fn.tree.nodes;
   reads : g.D.Duplex.read_failures l.device ≡ g.D.Duplex.read_failures l.fn.device;
