@@ -1,5 +1,7 @@
 //! A file of rows: its lines into rows, or the first line at fault.
 
+ghost use Rattle.std.specs.Prelude.{◌≤◌, IfOk};
+
 use crate::message::{Direction, Message};
 use crate::word::split_word;
 use crate::{Connection, Reason, Refused, Row};
@@ -173,7 +175,9 @@ fn add_text(text: &mut String, line: &str) -> Result<(), AllocError> {
     Ok(())
 }
 
-fn lease(text: &str) -> Result<u32, Reason> {
+fn lease(text: &str) -> Result<u32, Reason>
+    ensures { IfOk result (λ n. (LEASE_MIN ≤ n) × (n ≤ LEASE_MAX)) }
+{
     match text.parse::<u32>() {
         Ok(lease) if LEASE_MIN <= lease && lease <= LEASE_MAX => Ok(lease),
         _ => Err(Reason::NoNumber),

@@ -16,4 +16,4 @@ pub use pieces::Pieces;
 pub use reason::{Reason, Refused};
 pub use report::{Summary, try_text};
 pub use row::{Connection, Row};
-pub use run::{Got, run};
+pub use run::{Got, run_row};

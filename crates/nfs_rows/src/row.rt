@@ -1,3 +1,6 @@
+ghost use Rattle.std.specs.Prelude.{◌≤◌};
+ghost use Rattle.nfs_core.specs.declared.journal.TheConstants.{LEASE_MAX, LEASE_MIN};
+
 use nfs_core::Moment;
 use nfs_server::Fault;
 
@@ -18,6 +21,7 @@ pub struct Row {
     pub connections: Vec<Connection>,
     /// Whether it says what is wanted.
     pub is_whole: bool,
+    pub ghost limits: { (LEASE_MIN ≤ lease) × (lease ≤ LEASE_MAX) },
 }
 
 /// A connection at a moment.

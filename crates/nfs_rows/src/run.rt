@@ -24,7 +24,11 @@ impl Got {
 
 /// Runs the row on a server of its own, whose input comes in pieces of at most `piece_len` bytes. It gives the first
 /// connection, counted from 0, that doesn't get what is wanted, with what it gets.
-pub fn run(alloc: Global, row: &Row, piece_len: usize) -> Result<Option<(usize, Got)>, AllocError>
+pub fn run_row(
+    alloc: Global,
+    row: &Row,
+    piece_len: usize,
+) -> Result<Option<(usize, Got)>, AllocError>
     requires { 0 < piece_len }
 {
     let tree = match Tree::from_toml(alloc, document(row)) {

@@ -8,44 +8,51 @@ use std::{env, fs, io};
 /// The rows of the repository, from its top.
 const DEFAULT_FOLDER: &str = "crates/rows/data";
 
-/// `rows [FOLDER]`: the status is 0 where every row of the folder's files passes.
+/// `rows [FOLDER | FILE.rows]..`: the status is 0 where every row passes.
 fn main(rt: HostRuntime) -> ExitCode {
-    match try_folder(&rt) {
+    match try_all(&rt) {
         Ok(true) => ExitCode::from(0),
         Ok(false) => ExitCode::from(1),
         Err(error) => {
+            // There is nobody left to tell that this line isn't written either.
             let _ = eprintln!(rt; "rows: {error}");
             ExitCode::from(1)
         }
     }
 }
 
-fn try_folder(rt: &HostRuntime) -> io::Result<bool> {
+fn try_all(rt: &HostRuntime) -> io::Result<bool> {
     let words: Vec<String> = env::args(rt)?.collect(rt.alloc())?;
-    let folder = match words.get(1) {
-        Some(word) => word.as_str(),
-        None => DEFAULT_FOLDER,
-    };
-    let names = names_of_files(rt, folder)?;
-    let mut tally = Tally::default();
-    for name in &names {
-        let path = format!(in rt.alloc(); "{folder}/{name}")?;
-        tally.try_file(rt, name.as_str(), path.as_str())?;
+    let mut files = Vec::new(rt.alloc());
+    for word in words.iter().skip(1) {
+        add_files(rt, word.as_str(), &mut files)?;
     }
-    tally.tell(rt, names.len())
+    if words.len() < 2 {
+        add_files(rt, DEFAULT_FOLDER, &mut files)?;
+    }
+    let mut tally = Tally::default();
+    for file in &files {
+        tally.try_file(rt, file.as_str())?;
+    }
+    tally.tell(rt, files.len())
 }
 
-// The files of the folder whose names end with `.rows`, in the order of their names.
-fn names_of_files(rt: &HostRuntime, folder: &str) -> io::Result<Vec<String>> {
-    let mut names = Vec::new(rt.alloc());
-    for entry in fs::read_dir(rt, folder)? {
+// Adds the file, if the path ends with `.rows`, and else those files of the folder that do, in the order of their names.
+fn add_files(rt: &HostRuntime, path: &str, files: &mut Vec<String>) -> io::Result<()> {
+    if path.ends_with(".rows") {
+        files.push(String::from_str(rt.alloc(), path)?)?;
+        return Ok(());
+    }
+    let mut found = Vec::new(rt.alloc());
+    for entry in fs::read_dir(rt, path)? {
         let entry = entry?;
         if entry.file_name().ends_with(".rows") {
-            names.push(String::from_str(rt.alloc(), entry.file_name())?)?;
+            found.push(format!(in rt.alloc(); "{path}/{}", entry.file_name())?)?;
         }
     }
-    names.sort()?;
-    Ok(names)
+    found.sort()?;
+    files.append(&mut found)?;
+    Ok(())
 }
 
 /// What was tried so far.
@@ -57,15 +64,15 @@ struct Tally {
 }
 
 impl Tally {
-    fn try_file(&mut self, rt: &HostRuntime, name: &str, path: &str) -> io::Result<()> {
+    fn try_file(&mut self, rt: &HostRuntime, path: &str) -> io::Result<()> {
         let text = match fs::read_to_string(rt, path) {
             Ok(text) => text,
             Err(error) => {
                 self.unread = self.unread.saturating_add(1);
-                return println!(rt; "{name}: {error}");
+                return println!(rt; "{path}: {error}");
             }
         };
-        let summary = try_text(rt.alloc(), name, text.as_str())?;
+        let summary = try_text(rt.alloc(), path, text.as_str())?;
         self.rows = self.rows.saturating_add(summary.rows);
         self.failures = self.failures.saturating_add(summary.failures);
         if !summary.is_read {
