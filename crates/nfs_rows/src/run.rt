@@ -40,13 +40,28 @@ pub fn run_row(
         return Err(AllocError);
     };
     let mut lent = Lent::new(core);
-    for (place, connection) in row.connections.iter().enumerate() {
-        let got = converse(alloc, &mut lent, &tree, connection, piece_len);
+    let connections = row.connections.as_slice();
+    Ok(first_wrong(alloc, &mut lent, &tree, connections, piece_len))
+}
+
+// The first connection that doesn't get what is wanted.
+fn first_wrong(
+    alloc: Global,
+    lent: &mut Lent,
+    tree: &Tree,
+    connections: &[Connection],
+    piece_len: usize,
+) -> Option<(usize, Got)>
+    requires pieces { 0 < piece_len }
+    requires serves { ⟦<Lent as Service>⟧.serves lent.old ≡ tree.now.nodes }
+{
+    for (place, connection) in connections.iter().enumerate() {
+        let got = converse(alloc, lent, tree, connection, piece_len);
         if !got.is_right(connection) {
-            return Ok(Some((place, got)));
+            return Some((place, got));
         }
     }
-    Ok(None)
+    None
 }
 
 fn document(row: &Row) -> &str {
