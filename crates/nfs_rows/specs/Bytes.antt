@@ -7,7 +7,7 @@ use Rattle.std.specs.List.{flat_map}
 abbrev pub four_bytes : ℕ → List ℕ
 four_bytes n = to_be_bytes w32 n
 
--- numbers, one behind the other
+-- numbers, one after the other
 abbrev pub words_of : List ℕ → List ℕ
 words_of ns = flat_map four_bytes ns
 

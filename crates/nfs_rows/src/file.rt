@@ -101,7 +101,7 @@ impl Reader {
         Ok(())
     }
 
-    // Puts the message that is read behind what its connection has of its direction.
+    // Adds the message that is read to what its connection has of its direction.
     fn end_message(&mut self) -> Result<(), Reason> {
         let Some(message) = self.message.take() else {
             return Ok(());
@@ -124,7 +124,7 @@ impl Reader {
         message.go_on(self.alloc, words)
     }
 
-    // What is said of the row or of its last connection.
+    // Sets something of the row or of its last connection.
     fn set(&mut self, keyword: &str, text: &str) -> Result<(), Reason> {
         self.end_message()?;
         let row = self.rows.last_mut().ok_or(Reason::NoRow)?;
@@ -189,7 +189,7 @@ fn moment(text: &str) -> Result<Moment, Reason> {
     Moment::new(seconds).ok_or(Reason::NoNumber)
 }
 
-// The fault that the program tells by this text.
+// The fault that the program reports by this text.
 fn fault(text: &str) -> Option<Fault> {
     match text {
         "input ends inside a record" => Some(Fault::EndsInsideRecord),

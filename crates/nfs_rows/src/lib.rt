@@ -14,6 +14,6 @@ mod word;
 pub use file::read_rows;
 pub use pieces::Pieces;
 pub use reason::{Reason, Refused};
-pub use report::{Summary, try_text};
+pub use report::{Summary, show_text, try_text};
 pub use row::{Connection, Row};
 pub use run::{Got, run_row};

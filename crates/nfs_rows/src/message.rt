@@ -5,7 +5,7 @@ ghost use Rattle.nfs_rows.specs.Bytes.{four_bytes, words_of};
 ghost use Rattle.nfs_rows.specs.Messages.{message_of};
 
 use crate::Reason;
-use crate::word::{MESSAGE_LIMIT, number, put_words, split_word};
+use crate::word::{MESSAGE_LIMIT, expect_end, number, put_words, split_word};
 use std::alloc::{AllocError, Global};
 
 /// Who writes a message.
@@ -15,14 +15,14 @@ pub enum Direction {
     Wanted,
 }
 
-// What the words of a message stand in.
+// What surrounds the words of a message.
 #[derive(Clone, Copy, Debug, PartialEq, Eq)]
 enum Form {
     /// Nothing: they are all there is.
     Bytes,
-    /// A record of one fragment, behind the head.
+    /// A record of one fragment, after the head.
     Record,
-    /// The same, behind the number of their lines.
+    /// A record of one fragment, after the head and the number of their lines.
     Compound,
 }
 
@@ -41,16 +41,16 @@ const NULL: u32 = 0;
 const COMPOUND: u32 = 1;
 
 impl Message {
-    /// The message that begins with what is written behind `send` or `want`, before its words.
+    /// The message that begins with what is written after `send` or `want`, before its words.
     pub fn begin(alloc: Global, direction: Direction, text: &str) -> Result<Message, Reason> {
         let (word, rest) = split_word(text);
         let (form, head) = match (direction, word) {
-            (_, "bytes") => (Form::Bytes, Vec::new(alloc)),
-            (_, "record") => (Form::Record, Vec::new(alloc)),
+            (_, "bytes") => (Form::Bytes, empty(alloc, rest)?),
+            (_, "record") => (Form::Record, empty(alloc, rest)?),
             (Direction::Sent, "null") => (Form::Record, call(alloc, NULL, rest)?),
             (Direction::Sent, "arguments") => (Form::Record, call(alloc, COMPOUND, rest)?),
             (Direction::Sent, "compound") => (Form::Compound, compound_call(alloc, rest)?),
-            (Direction::Wanted, "null" | "results") => (Form::Record, reply(alloc, rest)?),
+            (Direction::Wanted, "null" | "results") => (Form::Record, plain_reply(alloc, rest)?),
             (Direction::Wanted, "compound") => (Form::Compound, compound_reply(alloc, rest)?),
             _ => return Err(Reason::NoForm),
         };
@@ -74,7 +74,7 @@ impl Message {
         put_words(alloc, &mut self.body, words)
     }
 
-    /// Puts the whole message behind the bytes.
+    /// Appends the whole message.
     pub fn put(&self, out: &mut Vec<u8>) -> Result<(), Reason>
         ensures { OnOk result (out.new.items ≡ out.old.items ++ message_of self.now) }
     {
@@ -152,19 +152,31 @@ fn compound_call(alloc: Global, text: &str) -> Result<Vec<u8>, Reason> {
     Ok(head)
 }
 
+// The head of a message that has none.
+fn empty(alloc: Global, text: &str) -> Result<Vec<u8>, Reason> {
+    expect_end(text)?;
+    Ok(Vec::new(alloc))
+}
+
 // The head of a reply to a call that was run.
-fn reply(alloc: Global, text: &str) -> Result<Vec<u8>, Reason> {
-    let (xid, _) = split_xid(text)?;
+fn reply(alloc: Global, xid: u32) -> Result<Vec<u8>, AllocError> {
     let mut head = Vec::new(alloc);
     put_numbers(&mut head, &[xid, 1, 0, 0, 0, 0])?;
     Ok(head)
 }
 
+fn plain_reply(alloc: Global, text: &str) -> Result<Vec<u8>, Reason> {
+    let (xid, rest) = split_xid(text)?;
+    expect_end(rest)?;
+    Ok(reply(alloc, xid)?)
+}
+
 // The head of the reply to a COMPOUND, with its status and an empty tag.
 fn compound_reply(alloc: Global, text: &str) -> Result<Vec<u8>, Reason> {
-    let mut head = reply(alloc, text)?;
-    let (_, rest) = split_xid(text)?;
-    let (status, _) = split_word(rest);
+    let (xid, rest) = split_xid(text)?;
+    let (status, rest) = split_word(rest);
+    expect_end(rest)?;
+    let mut head = reply(alloc, xid)?;
     put_numbers(&mut head, &[number(status)?, 0])?;
     Ok(head)
 }

@@ -22,8 +22,10 @@ pub enum Reason {
     NoForm,
     #[error("a message has no xid, or a number that is none")]
     NoXid,
-    #[error("behind the xid only `credential FLAVOR WORDS` can follow in a call, and a status in a reply")]
+    #[error("after the xid of a call only `credential FLAVOR WORDS` can follow")]
     NoCredential,
+    #[error("the line goes on after its message")]
+    NoEnd,
     #[error("a lease is 1 to 86,400 seconds, an epoch below 2^32, a moment below 2^40")]
     NoNumber,
     #[error("no fault of a connection")]

@@ -1,6 +1,6 @@
-//! What the program tells of a file of rows.
+//! What the program reports of a file of rows.
 
-use crate::{Connection, Got, Row, read_rows, run_row};
+use crate::{Connection, Got, Refused, Row, read_rows, run_row};
 use nfs_server::Fault;
 use std::alloc::{AllocError, Global};
 
@@ -10,7 +10,7 @@ const PIECES: [usize; 4] = [1 << 20, 1000, 3, 1];
 /// An input of more bytes isn't cut into pieces of a few bytes.
 const SHORT: usize = 10_000;
 
-/// What came of a file: what is told of it, and how many rows there are and failed.
+/// What came of a file: the report, and how many rows there are and failed.
 #[derive(Debug, Drop)]
 pub struct Summary {
     pub text: String,
@@ -19,38 +19,75 @@ pub struct Summary {
     pub is_read: bool,
 }
 
-/// Runs the rows of a file's text, which is told under this name.
+/// Runs the rows of a file's text, which is reported under this name.
 pub fn try_text(alloc: Global, name: &str, text: &str) -> Result<Summary, AllocError> {
-    let mut summary = Summary {
-        text: String::new(alloc),
-        rows: 0,
-        failures: 0,
-        is_read: true,
-    };
     let rows = match read_rows(alloc, text) {
         Ok(rows) => rows,
-        Err(refused) => {
-            summary.is_read = false;
-            let line = text
-                .lines()
-                .nth(refused.line.saturating_sub(1))
-                .unwrap_or("");
-            writeln!(summary.text, "{name}:{}: {}", refused.line, refused.reason)?;
-            writeln!(summary.text, "    {}", line.trim())?;
-            return Ok(summary);
-        }
+        Err(refused) => return refusal(alloc, name, text, refused),
     };
-    summary.rows = rows.len();
+    let mut out = String::new(alloc);
+    let mut failures = 0usize;
     for row in &rows {
-        if !tell_row(alloc, name, row, &mut summary.text)? {
-            summary.failures = summary.failures.saturating_add(1);
+        if !report_row(alloc, name, row, &mut out)? {
+            failures = failures.saturating_add(1);
         }
     }
-    Ok(summary)
+    Ok(Summary {
+        text: out,
+        rows: rows.len(),
+        failures,
+        is_read: true,
+    })
 }
 
-// Whether the row passes; the first way in which it doesn't is told.
-fn tell_row(alloc: Global, name: &str, row: &Row, out: &mut String) -> Result<bool, AllocError> {
+/// The bytes that are sent and wanted by the rows of a file's text, in hexadecimal: nothing is run.
+pub fn show_text(alloc: Global, name: &str, text: &str) -> Result<Summary, AllocError> {
+    let rows = match read_rows(alloc, text) {
+        Ok(rows) => rows,
+        Err(refused) => return refusal(alloc, name, text, refused),
+    };
+    let mut out = String::new(alloc);
+    for row in &rows {
+        writeln!(out, "row {}", row.name)?;
+        show_row(alloc, row, &mut out)?;
+    }
+    Ok(Summary {
+        text: out,
+        rows: rows.len(),
+        failures: 0,
+        is_read: true,
+    })
+}
+
+fn show_row(alloc: Global, row: &Row, out: &mut String) -> Result<(), AllocError> {
+    for connection in &row.connections {
+        let sent = hex::encode(alloc, connection.sent.as_slice())?;
+        let wanted = hex::encode(alloc, connection.wanted.as_slice())?;
+        writeln!(out, "send {sent}")?;
+        writeln!(out, "want {wanted}")?;
+    }
+    Ok(())
+}
+
+// The report of a file that can't be read.
+fn refusal(alloc: Global, name: &str, text: &str, refused: Refused) -> Result<Summary, AllocError> {
+    let line = text
+        .lines()
+        .nth(refused.line.saturating_sub(1))
+        .unwrap_or("");
+    let mut out = String::new(alloc);
+    writeln!(out, "{name}:{}: {}", refused.line, refused.reason)?;
+    writeln!(out, "    {}", line.trim())?;
+    Ok(Summary {
+        text: out,
+        rows: 0,
+        failures: 0,
+        is_read: false,
+    })
+}
+
+// Whether the row passes; the first way in which it doesn't is reported.
+fn report_row(alloc: Global, name: &str, row: &Row, out: &mut String) -> Result<bool, AllocError> {
     let is_short = row.connections.iter().all(|it| it.sent.len() <= SHORT);
     for piece_len in PIECES {
         if piece_len < 1000 && !is_short {
@@ -64,14 +101,14 @@ fn tell_row(alloc: Global, name: &str, row: &Row, out: &mut String) -> Result<bo
             writeln!(out, "    {line}")?;
         }
         if let Some(connection) = row.connections.get(place) {
-            tell_difference(alloc, connection, &got, piece_len, out)?;
+            report_difference(alloc, connection, &got, piece_len, out)?;
         }
         return Ok(false);
     }
     Ok(true)
 }
 
-fn tell_difference(
+fn report_difference(
     alloc: Global,
     connection: &Connection,
     got: &Got,
@@ -84,9 +121,9 @@ fn tell_difference(
             "    where the input comes in pieces of {piece_len} bytes:"
         )?;
     }
-    tell_fault(out, "wanted", connection.fault)?;
-    tell_fault(out, "got", got.fault)?;
-    tell_words(
+    report_fault(out, "wanted", connection.fault)?;
+    report_fault(out, "got", got.fault)?;
+    report_words(
         alloc,
         connection.wanted.as_slice(),
         got.bytes.as_slice(),
@@ -94,7 +131,7 @@ fn tell_difference(
     )
 }
 
-fn tell_fault(out: &mut String, what: &str, fault: Option<Fault>) -> Result<(), AllocError> {
+fn report_fault(out: &mut String, what: &str, fault: Option<Fault>) -> Result<(), AllocError> {
     match fault {
         Some(fault) => writeln!(out, "    {what} at the end: {fault}"),
         None => Ok(()),
@@ -102,7 +139,7 @@ fn tell_fault(out: &mut String, what: &str, fault: Option<Fault>) -> Result<(), 
 }
 
 // The words of both replies, from a few before the first that differs.
-fn tell_words(
+fn report_words(
     alloc: Global,
     wanted: &[u8],
     got: &[u8],

@@ -7,7 +7,7 @@ use nfs_server::Fault;
 /// What a client sends to a server of its own, and what it has to get.
 #[derive(Debug, Drop)]
 pub struct Row {
-    /// The row's name, and the line where it stands in its file.
+    /// The row's name, and the line of its file where it begins.
     pub name: String,
     pub line: usize,
     /// The rule that it shows, in words.
@@ -30,6 +30,6 @@ pub struct Connection {
     pub moment: Moment,
     pub sent: Vec<u8>,
     pub wanted: Vec<u8>,
-    /// What ends it in place of the end of the input behind a whole record.
+    /// What ends it, if it isn't the end of the input after a whole record.
     pub fault: Option<Fault>,
 }

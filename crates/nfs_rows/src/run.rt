@@ -3,7 +3,7 @@
 ghost use Rattle.std.specs.Prelude.{◌≡◌, ◌<◌};
 
 use crate::{Connection, Pieces, Row};
-use nfs_core::{Core, Moment};
+use nfs_core::Core;
 use nfs_server::{Counted, Fault, Lent, Service, Stopped, serve_connection};
 use nfs_tree::{DEFAULT_TREE, Tree, TreeError};
 use std::alloc::{AllocError, Global};

@@ -19,21 +19,21 @@ enum Word<'a> {
     Bare(&'a str),
 }
 
-/// Puts the words of the line behind the bytes, up to its end or to a word that begins with `#`.
+/// Appends the words of the line, up to its end or to a word that begins with `#`.
 pub fn put_words(alloc: Global, out: &mut Vec<u8>, line: &str) -> Result<(), Reason> {
     let mut rest = line;
     // No line has more words than bytes.
     for _ in 0..line.len() {
-        let Some((word, behind)) = next_word(rest)? else {
+        let Some((word, after)) = next_word(rest)? else {
             return Ok(());
         };
         put_word(alloc, out, word)?;
-        rest = behind;
+        rest = after;
     }
     Ok(())
 }
 
-// The first word of the line and what is behind it, if there is one.
+// The first word of the line and what follows it, if there is one.
 fn next_word(line: &str) -> Result<Option<(Word<'_>, &str)>, Reason> {
     let line = line.trim_start();
     if line.is_empty() || line.starts_with('#') {
@@ -49,7 +49,7 @@ fn next_word(line: &str) -> Result<Option<(Word<'_>, &str)>, Reason> {
     }
 }
 
-/// A line up to its first space, and what is behind that.
+/// A line up to its first space, and what follows that.
 pub fn split_word(line: &str) -> (&str, &str) {
     line.split_once(' ').unwrap_or((line, ""))
 }
@@ -94,23 +94,40 @@ fn put_single(alloc: Global, out: &mut Vec<u8>, text: &str) -> Result<(), Reason
         let bytes = hex::decode(alloc, digits).map_err(|_| Reason::NoWord)?;
         out.extend_from_slice(bytes.as_slice())?;
     } else if let Some(digits) = text.strip_prefix("u64:") {
-        let number = digits.parse::<u64>().map_err(|_| Reason::NoWord)?;
-        out.extend_from_slice(&number.to_be_bytes())?;
+        out.extend_from_slice(&long_number(digits)?.to_be_bytes())?;
     } else {
         out.extend_from_slice(&number(text)?.to_be_bytes())?;
     }
     Ok(())
 }
 
-/// The number that a word is: decimal, hexadecimal behind `0x`, or a name of the protocol.
+// A number has no sign.
+fn long_number(digits: &str) -> Result<u64, Reason> {
+    if digits.starts_with('+') {
+        return Err(Reason::NoWord);
+    }
+    digits.parse::<u64>().map_err(|_| Reason::NoWord)
+}
+
+/// The number that a word is: decimal, hexadecimal after `0x`, or a name of the protocol.
 pub fn number(text: &str) -> Result<u32, Reason> {
     if let Some(number) = number_of_name(text) {
         return Ok(number);
     }
-    let digits = text.strip_prefix("0x");
-    let number = match digits {
+    if text.contains('+') {
+        return Err(Reason::NoWord);
+    }
+    let number = match text.strip_prefix("0x") {
         Some(digits) => u32::from_str_radix(digits, 16),
         None => text.parse::<u32>(),
     };
     number.map_err(|_| Reason::NoWord)
+}
+
+/// Nothing but a comment may follow on the line.
+pub fn expect_end(text: &str) -> Result<(), Reason> {
+    match next_word(text)? {
+        None => Ok(()),
+        Some(_) => Err(Reason::NoEnd),
+    }
 }
