@@ -1,4 +1,4 @@
-use nfs_rpc::{RECORD_LIMIT, RecordError, Records};
+use nfs_rpc::{RecordError, Records};
 use std::process::Abort;
 
 /// A call of the procedure NULL of NFSv4 with no credential (RFC 5531, section 9).
