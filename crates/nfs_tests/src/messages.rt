@@ -2,11 +2,31 @@
 
 ghost use Rattle.std.specs.Prelude.{◌≡◌, IfOk};
 
-use nfs_core::{Core, Moment};
-use nfs_server::{Counted, Lent, ServeError, Stopped, serve_connection};
+use nfs_core::Core;
 use nfs_tree::{DEFAULT_TREE, Tree};
 use std::alloc::{AllocError, Global};
 use std::test::Fail;
+
+/// A COMPOUND with SETCLIENTID: verifier 01 to 08, id `c1`, program 0x40000000, `tcp`, `127.0.0.1.8.1`, ident 1.
+pub const SET_CLIENT_ID: [u32; 17] = [
+    0,
+    0,
+    1,
+    35,
+    0x0102_0304,
+    0x0506_0708,
+    2,
+    0x6331_0000,
+    0x4000_0000,
+    3,
+    0x7463_7000,
+    13,
+    0x3132_372e,
+    0x302e_302e,
+    0x312e_382e,
+    0x3100_0000,
+    1,
+];
 
 /// The words, big-endian.
 pub fn bytes_of(alloc: Global, words: &[u32]) -> Result<Vec<u8>, AllocError> {
@@ -40,17 +60,6 @@ pub fn record(alloc: Global, head: &[u32], body: &[u32]) -> Result<Vec<u8>, Allo
     bytes.extend_from_slice(bytes_of(alloc, head)?.as_slice())?;
     bytes.extend_from_slice(bytes_of(alloc, body)?.as_slice())?;
     Ok(bytes)
-}
-
-/// What a fresh server with lease 90 and epoch 1 writes for this input, and how the connection ends.
-pub fn served(alloc: Global, input: &[u8]) -> Result<(Vec<u8>, Result<usize, ServeError>), Fail> {
-    let mut source = Counted::new(input);
-    let mut sink = Counted::new(Vec::new(alloc));
-    let (tree, core) = opened(alloc)?;
-    let mut lent = Lent::new(core);
-    let mut clock = Stopped::at(Moment::new(0).unwrap());
-    let outcome = serve_connection(alloc, &mut source, &mut sink, &mut lent, &tree, &mut clock);
-    Ok((sink.into_device(), outcome))
 }
 
 /// A fresh server with lease 90 and epoch 1, on the tree that it has without a file of its own.

@@ -3,8 +3,7 @@
 
 ghost use Rattle.std.specs.Prelude.{◌≡◌, IfOk};
 
-use crate::messages::{call, record, reply};
-use crate::rows::SET_CLIENT_ID;
+use crate::messages::{SET_CLIENT_ID, call, record, reply};
 use nfs_core::{Core, CoreError, Moment};
 use nfs_rpc::{RecordError, Records};
 use nfs_server::{Counted, Lent, ServeError, Service, Stopped, serve_connection};

@@ -1,4 +1,4 @@
-use nfs_rpc::{RECORD_LIMIT, RecordError, Records};
+use nfs_rpc::{RecordError, Records};
 use std::process::Abort;
 
 /// A call of the procedure NULL of NFSv4 with no credential (RFC 5531, section 9).
@@ -54,25 +54,6 @@ fn takes_a_call_in_one_fragment(rt: HostRuntime) {
 }
 
 #[test]
-fn takes_a_call_byte_by_byte(rt: HostRuntime) {
-    let mut records = Records::new(rt.alloc());
-    let pieces: [&[u8]; 4] = [
-        &[0, 0, 0, 20],
-        &NULL_CALL[..20],
-        &[0x80, 0, 0, 20],
-        &NULL_CALL[20..],
-    ];
-    for piece in pieces {
-        for byte in piece {
-            assert_no_next(&rt, &mut records);
-            feed_all(&rt, &mut records, &[&[*byte]]);
-        }
-    }
-    assert_next(&rt, &mut records, &NULL_CALL);
-    assert_no_next(&rt, &mut records);
-}
-
-#[test]
 fn refuses_a_record_at_its_second_header(rt: HostRuntime) {
     let mut records = Records::new(rt.alloc());
     feed_all(&rt, &mut records, &[&[0x80, 0, 0, 1, 7], &[0, 2, 0, 0]]);
@@ -86,42 +67,6 @@ fn refuses_a_record_at_its_second_header(rt: HostRuntime) {
     assert!(rt; records.is_too_long());
     assert_eq!(rt; feed(&rt, &mut records, &[0]), Err(RecordError::TooLong));
     assert_next(&rt, &mut records, &[7]);
-    assert_no_next(&rt, &mut records);
-}
-
-#[test]
-fn refuses_a_record_at_its_first_header(rt: HostRuntime) {
-    let mut records = Records::new(rt.alloc());
-    feed_all(&rt, &mut records, &[&[0x80, 4, 0]]);
-    assert_eq!(rt; records.rest(), 3);
-    assert!(rt; !records.is_too_long());
-    assert_eq!(rt; feed(&rt, &mut records, &[1]), Err(RecordError::TooLong));
-}
-
-#[test]
-fn takes_a_record_at_the_limit(rt: HostRuntime) {
-    let mut records = Records::new(rt.alloc());
-    feed_all(&rt, &mut records, &[&[0x80, 4, 0, 0]]);
-    for _ in 0..64 {
-        assert_no_next(&rt, &mut records);
-        feed_all(&rt, &mut records, &[&ZEROS]);
-    }
-    assert_eq!(rt;
-        records.next().map(|message| message.len()),
-        Some(RECORD_LIMIT)
-    );
-}
-
-#[test]
-fn takes_empty_fragments(rt: HostRuntime) {
-    let mut records = Records::new(rt.alloc());
-    feed_all(
-        &rt,
-        &mut records,
-        &[&[0, 0, 0, 0], &[0x80, 0, 0, 1, 7], &[0x80, 0, 0, 0]],
-    );
-    assert_next(&rt, &mut records, &[7]);
-    assert_next(&rt, &mut records, &[]);
     assert_no_next(&rt, &mut records);
 }
 
@@ -170,19 +115,4 @@ fn takes_a_record_cut_anywhere(rt: HostRuntime) {
         assert_next(&rt, &mut records, &[1, 2, 3]);
         assert_no_next(&rt, &mut records);
     }
-}
-
-#[test]
-fn takes_two_records_and_a_half(rt: HostRuntime) {
-    let mut records = Records::new(rt.alloc());
-    let piece = [
-        0x80, 0, 0, 1, 1, 0, 0, 0, 1, 2, 0x80, 0, 0, 1, 3, 0x80, 0, 0, 2, 4,
-    ];
-    feed_all(&rt, &mut records, &[&piece]);
-    assert_eq!(rt; records.rest(), 5);
-    assert_next(&rt, &mut records, &[1]);
-    assert_next(&rt, &mut records, &[2, 3]);
-    assert_no_next(&rt, &mut records);
-    feed_all(&rt, &mut records, &[&[5]]);
-    assert_next(&rt, &mut records, &[4, 5]);
 }

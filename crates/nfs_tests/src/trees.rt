@@ -55,136 +55,18 @@ fn default_tree_has_its_policy(rt: HostRuntime) -> Result<(), Fail> {
 }
 
 #[test]
-fn looks_up_names(rt: HostRuntime) -> Result<(), Fail> {
-    let tree = Tree::from_toml(rt.alloc(), DEFAULT_TREE)?;
-    for (node, name, want) in [
-        (0, "a", Some(1)),
-        (0, "b", Some(2)),
-        (0, "d", Some(3)),
-        (3, "c", Some(4)),
-        // In another directory, of another name, in a file and in no node.
-        (0, "c", None),
-        (3, "a", None),
-        (0, "A", None),
-        (0, "aa", None),
-        (0, "", None),
-        (0, ".", None),
-        (3, "..", None),
-        (1, "a", None),
-        (5, "a", None),
-    ] {
-        assert!(rt;
-            tree.lookup(node, name.as_bytes()) == want,
-            "{name} in {node}"
-        );
-    }
-    Ok(())
-}
-
-#[test]
 fn nodes_have_filehandles(rt: HostRuntime) -> Result<(), Fail> {
     let tree = Tree::from_toml(rt.alloc(), DEFAULT_TREE)?;
     assert!(rt; Tree::handle_of(0x0102_0304) == *b"nfh1\x01\x02\x03\x04");
     for node in 0..5 {
         assert!(rt; tree.node_of(&Tree::handle_of(node)) == Some(node));
     }
-    for handle in [
-        b"".as_slice(),
-        b"nfh1".as_slice(),
-        b"nfh1\0\0\0".as_slice(),
-        b"nfh1\0\0\0\x01\0".as_slice(),
-        b"nfh2\0\0\0\x01".as_slice(),
-        b"\0\0\0\x01nfh1".as_slice(),
-        b"nfh1\x01\0\0\0".as_slice(),
-        // One past the last node.
-        b"nfh1\0\0\0\x05".as_slice(),
-    ] {
-        assert!(rt; tree.node_of(handle).is_none());
-    }
     Ok(())
 }
-
-const SYNTAX: TreeError = TreeError::Syntax;
 
 const NAME: TreeError = TreeError::Name;
 
 const TAKEN: TreeError = TreeError::Duplicate;
-
-/// Documents without a tree.
-const REFUSED: [(&str, TreeError); 34] = [
-    // No TOML, another key, a missing path, a wrong type, a wrong word.
-    ("[[file]", SYNTAX),
-    ("[[file]]\npath = \"a\"\npath = \"b\"\n", SYNTAX),
-    ("lease = 90\n", SYNTAX),
-    ("[[file]]\npath = \"a\"\nmode = \"x\"\n", SYNTAX),
-    ("[[directory]]\npath = \"a\"\ntext = \"x\"\n", SYNTAX),
-    ("[policy]\nlease = \"90\"\n", SYNTAX),
-    ("[[file]]\ntext = \"a\"\n", SYNTAX),
-    ("[[directory]]\n", SYNTAX),
-    ("[[file]]\npath = 1\n", SYNTAX),
-    ("[[file]]\npath = \"a\"\ntext = [\"x\"]\n", SYNTAX),
-    ("file = \"a\"\n", SYNTAX),
-    ("file = [\"a\"]\n", SYNTAX),
-    ("[file]\npath = \"a\"\n", SYNTAX),
-    ("[[policy]]\n", SYNTAX),
-    ("[policy]\ndelegations = \"write\"\n", SYNTAX),
-    ("[policy]\ndelegations = \"All\"\n", SYNTAX),
-    ("[policy]\ncallbacks = true\n", SYNTAX),
-    // The whole document is read before any path is judged.
-    ("[[file]]\npath = \"..\"\n[[file]]\n", SYNTAX),
-    (
-        "[[file]]\npath = \"a\"\n[[file]]\npath = \"a\"\n[policy]\ncallbacks = \"x\"\n",
-        SYNTAX,
-    ),
-    // Names.
-    ("[[file]]\npath = \"\"\n", NAME),
-    ("[[file]]\npath = \"/a\"\n", NAME),
-    ("[[file]]\npath = \"a/\"\n", NAME),
-    ("[[file]]\npath = \"a//b\"\n", NAME),
-    ("[[directory]]\npath = \".\"\n", NAME),
-    ("[[directory]]\npath = \"a/..\"\n", NAME),
-    ("[[file]]\npath = \"a\\u0000b\"\n", NAME),
-    ("[[file]]\npath = \"a/b/c/d/e/f/g/h/i\"\n", NAME),
-    // A path that is there, and a file on the way.
-    ("[[file]]\npath = \"a\"\n[[file]]\npath = \"a\"\n", TAKEN),
-    (
-        "[[directory]]\npath = \"a\"\n[[file]]\npath = \"a\"\n",
-        TAKEN,
-    ),
-    ("[[file]]\npath = \"a/b\"\n[[file]]\npath = \"a\"\n", TAKEN),
-    ("[[file]]\npath = \"a\"\n[[file]]\npath = \"a/b\"\n", TAKEN),
-    (
-        "[[file]]\npath = \"a\"\n[[file]]\npath = \"a/b/c\"\n",
-        TAKEN,
-    ),
-    // The first entry that is refused decides.
-    (
-        "[[file]]\npath = \"a\"\n[[file]]\npath = \"a\"\n[[file]]\npath = \".\"\n",
-        TAKEN,
-    ),
-    // A directory's path is judged before any file's.
-    (
-        "[[file]]\npath = \"a\"\n[[file]]\npath = \"a\"\n[[directory]]\npath = \".\"\n",
-        NAME,
-    ),
-];
-
-#[test]
-fn refuses_documents(rt: HostRuntime) {
-    for (i, (text, want)) in REFUSED.iter().enumerate() {
-        let error = Tree::from_toml(rt.alloc(), text).err();
-        assert!(rt; error == Some(*want), "document {i}");
-    }
-    for (error, number) in [
-        (SYNTAX, 1),
-        (NAME, 2),
-        (TreeError::TooMany, 3),
-        (TAKEN, 4),
-        (TreeError::Memory, 5),
-    ] {
-        assert_eq!(rt; error.number(), number);
-    }
-}
 
 /// A document of so many files of one name each, `f0` and so on, behind so many directories, and then this text.
 fn numbered(alloc: Global, directories: u32, files: u32, more: &str) -> Result<String, AllocError> {
@@ -421,22 +303,6 @@ fn nodes_have_attributes(rt: HostRuntime) -> Result<(), Fail> {
     ] {
         let right = has_attributes(rt.alloc(), &tree, node, mask, want_mask, want)?;
         assert!(rt; right, "node {node}");
-    }
-    Ok(())
-}
-
-#[test]
-fn nodes_allow_access(rt: HostRuntime) -> Result<(), Fail> {
-    let tree = Tree::from_toml(rt.alloc(), DEFAULT_TREE)?;
-    for (node, bits, want) in [
-        (1, u32::MAX, (63, 13)),
-        (0, u32::MAX, (63, 3)),
-        (3, 0x46, (6, 2)),
-        (4, 0x2c, (44, 12)),
-        (4, 0, (0, 0)),
-    ] {
-        let told = tree.access(node, bits);
-        assert!(rt; (told.supported, told.access) == want, "node {node}");
     }
     Ok(())
 }

@@ -1,0 +1,19 @@
+//! Rows: what a client sends and what it has to get, read from text files and run against the server.
+#![tactic(auto)]
+
+mod file;
+mod message;
+mod names;
+mod pieces;
+mod reason;
+mod report;
+mod row;
+mod run;
+mod word;
+
+pub use file::read_rows;
+pub use pieces::Pieces;
+pub use reason::{Reason, Refused};
+pub use report::{Summary, show_text, try_text};
+pub use row::{Connection, Row};
+pub use run::{Got, run_row};

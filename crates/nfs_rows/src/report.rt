@@ -1,0 +1,166 @@
+//! What the program reports of a file of rows.
+
+use crate::{Connection, Got, Refused, Row, read_rows, run_row};
+use nfs_server::Fault;
+use std::alloc::{AllocError, Global};
+
+/// The lengths of the pieces that a row's input comes in: first the whole, and then cut in several ways.
+const PIECES: [usize; 4] = [1 << 20, 1000, 3, 1];
+
+/// An input of more bytes isn't cut into pieces of a few bytes.
+const SHORT: usize = 10_000;
+
+/// What came of a file: the report, and how many rows there are and failed.
+#[derive(Debug, Drop)]
+pub struct Summary {
+    pub text: String,
+    pub rows: usize,
+    pub failures: usize,
+    pub is_read: bool,
+}
+
+/// Runs the rows of a file's text, which is reported under this name.
+pub fn try_text(alloc: Global, name: &str, text: &str) -> Result<Summary, AllocError> {
+    let rows = match read_rows(alloc, text) {
+        Ok(rows) => rows,
+        Err(refused) => return refusal(alloc, name, text, refused),
+    };
+    let mut out = String::new(alloc);
+    let mut failures = 0usize;
+    for row in &rows {
+        if !report_row(alloc, name, row, &mut out)? {
+            failures = failures.saturating_add(1);
+        }
+    }
+    Ok(Summary {
+        text: out,
+        rows: rows.len(),
+        failures,
+        is_read: true,
+    })
+}
+
+/// The bytes that are sent and wanted by the rows of a file's text, in hexadecimal: nothing is run.
+pub fn show_text(alloc: Global, name: &str, text: &str) -> Result<Summary, AllocError> {
+    let rows = match read_rows(alloc, text) {
+        Ok(rows) => rows,
+        Err(refused) => return refusal(alloc, name, text, refused),
+    };
+    let mut out = String::new(alloc);
+    for row in &rows {
+        writeln!(out, "row {}", row.name)?;
+        show_row(alloc, row, &mut out)?;
+    }
+    Ok(Summary {
+        text: out,
+        rows: rows.len(),
+        failures: 0,
+        is_read: true,
+    })
+}
+
+fn show_row(alloc: Global, row: &Row, out: &mut String) -> Result<(), AllocError> {
+    for connection in &row.connections {
+        let sent = hex::encode(alloc, connection.sent.as_slice())?;
+        let wanted = hex::encode(alloc, connection.wanted.as_slice())?;
+        writeln!(out, "send {sent}")?;
+        writeln!(out, "want {wanted}")?;
+    }
+    Ok(())
+}
+
+// The report of a file that can't be read.
+fn refusal(alloc: Global, name: &str, text: &str, refused: Refused) -> Result<Summary, AllocError> {
+    let line = text
+        .lines()
+        .nth(refused.line.saturating_sub(1))
+        .unwrap_or("");
+    let mut out = String::new(alloc);
+    writeln!(out, "{name}:{}: {}", refused.line, refused.reason)?;
+    writeln!(out, "    {}", line.trim())?;
+    Ok(Summary {
+        text: out,
+        rows: 0,
+        failures: 0,
+        is_read: false,
+    })
+}
+
+// Whether the row passes; the first way in which it doesn't is reported.
+fn report_row(alloc: Global, name: &str, row: &Row, out: &mut String) -> Result<bool, AllocError> {
+    let is_short = row.connections.iter().all(|it| it.sent.len() <= SHORT);
+    for piece_len in PIECES {
+        if piece_len < 1000 && !is_short {
+            continue;
+        }
+        let Some((place, got)) = run_row(alloc, row, piece_len)? else {
+            continue;
+        };
+        writeln!(out, "{name}:{}: {}", row.line, row.name)?;
+        for line in row.rule.as_str().lines() {
+            writeln!(out, "    {line}")?;
+        }
+        if let Some(connection) = row.connections.get(place) {
+            report_difference(alloc, connection, &got, piece_len, out)?;
+        }
+        return Ok(false);
+    }
+    Ok(true)
+}
+
+fn report_difference(
+    alloc: Global,
+    connection: &Connection,
+    got: &Got,
+    piece_len: usize,
+    out: &mut String,
+) -> Result<(), AllocError> {
+    if piece_len < connection.sent.len() {
+        writeln!(
+            out,
+            "    where the input comes in pieces of {piece_len} bytes:"
+        )?;
+    }
+    report_fault(out, "wanted", connection.fault)?;
+    report_fault(out, "got", got.fault)?;
+    report_words(
+        alloc,
+        connection.wanted.as_slice(),
+        got.bytes.as_slice(),
+        out,
+    )
+}
+
+fn report_fault(out: &mut String, what: &str, fault: Option<Fault>) -> Result<(), AllocError> {
+    match fault {
+        Some(fault) => writeln!(out, "    {what} at the end: {fault}"),
+        None => Ok(()),
+    }
+}
+
+// The words of both replies, from a few before the first that differs.
+fn report_words(
+    alloc: Global,
+    wanted: &[u8],
+    got: &[u8],
+    out: &mut String,
+) -> Result<(), AllocError> {
+    let same = wanted.iter().zip(got).take_while(|(a, b)| a == b).count() / 4;
+    let count = wanted.len().max(got.len()).div_ceil(4);
+    writeln!(out, "      word  wanted    got")?;
+    for place in same.saturating_sub(WORDS_BEFORE)..count.min(same.saturating_add(WORDS_BEHIND)) {
+        let (a, b) = (word_at(wanted, place), word_at(got, place));
+        let mark = if a == b { "" } else { "  <--" };
+        let (a, b) = (hex::encode(alloc, a)?, hex::encode(alloc, b)?);
+        writeln!(out, "    {place:>6}  {a:<8}  {b:<8}{mark}")?;
+    }
+    Ok(())
+}
+
+const WORDS_BEFORE: usize = 20;
+
+const WORDS_BEHIND: usize = 20;
+
+fn word_at(bytes: &[u8], place: usize) -> &[u8] {
+    bytes.chunks(4).nth(place).unwrap_or(&[])
+}

@@ -1,0 +1,35 @@
+ghost use Rattle.std.specs.Prelude.{◌≤◌};
+ghost use Rattle.nfs_core.specs.declared.journal.TheConstants.{LEASE_MAX, LEASE_MIN};
+
+use nfs_core::Moment;
+use nfs_server::Fault;
+
+/// What a client sends to a server of its own, and what it has to get.
+#[derive(Debug, Drop)]
+pub struct Row {
+    /// The row's name, and the line of its file where it begins.
+    pub name: String,
+    pub line: usize,
+    /// The rule that it shows, in words.
+    pub rule: String,
+    /// The TOML document of the server's files, or none for its own tree.
+    pub document: Option<String>,
+    /// Seconds.
+    pub lease: u32,
+    pub epoch: u32,
+    /// One after another.
+    pub connections: Vec<Connection>,
+    /// Whether it says what is wanted.
+    pub is_whole: bool,
+    pub ghost limits: { (LEASE_MIN ≤ lease) × (lease ≤ LEASE_MAX) },
+}
+
+/// A connection at a moment.
+#[derive(Debug, Drop)]
+pub struct Connection {
+    pub moment: Moment,
+    pub sent: Vec<u8>,
+    pub wanted: Vec<u8>,
+    /// What ends it, if it isn't the end of the input after a whole record.
+    pub fault: Option<Fault>,
+}

@@ -1,0 +1,108 @@
+//! Runs files of rows against the server, and reports which rows fail.
+#![tactic(auto)]
+
+use nfs_rows::{show_text, try_text};
+use std::process::ExitCode;
+use std::{env, fs, io};
+
+/// The rows of the repository, from its top.
+const DEFAULT_FOLDER: &str = "crates/rows/data";
+
+/// `rows [--hex] [FOLDER | FILE.rows]..`: the status is 0 where every row passes, or with `--hex` where every file can be read.
+fn main(rt: HostRuntime) -> ExitCode {
+    match try_all(&rt) {
+        Ok(true) => ExitCode::from(0),
+        Ok(false) => ExitCode::from(1),
+        Err(error) => {
+            // There is nobody left to tell that this line isn't written either.
+            let _ = eprintln!(rt; "rows: {error}");
+            ExitCode::from(1)
+        }
+    }
+}
+
+fn try_all(rt: &HostRuntime) -> io::Result<bool> {
+    let words: Vec<String> = env::args(rt)?.collect(rt.alloc())?;
+    let is_hex = words.get(1).is_some_and(|word| word.as_str() == "--hex");
+    let files = files_of(rt, words.as_slice(), if is_hex { 2 } else { 1 })?;
+    let mut tally = Tally::default();
+    for file in &files {
+        tally.try_file(rt, file.as_str(), is_hex)?;
+    }
+    if is_hex {
+        return Ok(tally.unread == 0);
+    }
+    tally.tell(rt, files.len())
+}
+
+// The files that the words name from the first path on, or those of the repository where no path is named.
+fn files_of(rt: &HostRuntime, words: &[String], first: usize) -> io::Result<Vec<String>> {
+    let mut files = Vec::new(rt.alloc());
+    for word in words.iter().skip(first) {
+        add_files(rt, word.as_str(), &mut files)?;
+    }
+    if words.len() <= first {
+        add_files(rt, DEFAULT_FOLDER, &mut files)?;
+    }
+    Ok(files)
+}
+
+// Adds the file, if the path ends with `.rows`, and else those files of the folder that do, in the order of their names.
+fn add_files(rt: &HostRuntime, path: &str, files: &mut Vec<String>) -> io::Result<()> {
+    if path.ends_with(".rows") {
+        files.push(String::from_str(rt.alloc(), path)?)?;
+        return Ok(());
+    }
+    let mut found = Vec::new(rt.alloc());
+    for entry in fs::read_dir(rt, path)? {
+        let entry = entry?;
+        if entry.file_name().ends_with(".rows") {
+            found.push(format!(in rt.alloc(); "{path}/{}", entry.file_name())?)?;
+        }
+    }
+    found.sort()?;
+    files.append(&mut found)?;
+    Ok(())
+}
+
+/// What was tried so far.
+#[derive(Clone, Copy, Debug, Default)]
+struct Tally {
+    rows: usize,
+    failures: usize,
+    unread: usize,
+}
+
+impl Tally {
+    fn try_file(&mut self, rt: &HostRuntime, path: &str, is_hex: bool) -> io::Result<()> {
+        let text = match fs::read_to_string(rt, path) {
+            Ok(text) => text,
+            Err(error) => {
+                self.unread = self.unread.saturating_add(1);
+                return println!(rt; "{path}: {error}");
+            }
+        };
+        let summary = if is_hex {
+            show_text(rt.alloc(), path, text.as_str())?
+        } else {
+            try_text(rt.alloc(), path, text.as_str())?
+        };
+        self.rows = self.rows.saturating_add(summary.rows);
+        self.failures = self.failures.saturating_add(summary.failures);
+        if !summary.is_read {
+            self.unread = self.unread.saturating_add(1);
+        }
+        rt.print(summary.text)
+    }
+
+    // Whether all passed.
+    fn tell(self, rt: &HostRuntime, files: usize) -> io::Result<bool> {
+        let Tally {
+            rows,
+            failures,
+            unread,
+        } = self;
+        println!(rt; "{rows} rows in {files} files: {failures} failed, {unread} files not read")?;
+        Ok(rows > 0 && failures == 0 && unread == 0)
+    }
+}
