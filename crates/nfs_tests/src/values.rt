@@ -25,39 +25,33 @@ fn operations(rt: HostRuntime) -> Result<(), Fail> {
     Ok(())
 }
 
-/// Results with statuses that bring something of other operations, by their words.
-fn results_with_nothing_behind(alloc: Global) -> Result<[(OpResult, Vec<u8>); 4], Fail> {
-    Ok([
-        (
-            OpResult::Getattr(Answer::ClidInUse(())),
-            bytes_of(alloc, &[9, 10017])?,
-        ),
-        (
-            OpResult::Lookup(Answer::Denied(())),
-            bytes_of(alloc, &[15, 10010])?,
-        ),
-        (
-            OpResult::Setclientid(Answer::Denied(())),
-            bytes_of(alloc, &[35, 10010])?,
-        ),
-        (
-            OpResult::SetclientidConfirm(Answer::ClidInUse(())),
-            bytes_of(alloc, &[36, 10017])?,
-        ),
-    ])
+/// Whether the result is encoded as these words, and they are read as the result.
+fn is_encoded_as(alloc: Global, answer: OpResult, words: &[u32]) -> Result<bool, Fail> {
+    let bytes = bytes_of(alloc, words)?;
+    let mut written = Vec::new(alloc);
+    answer.write(&mut written)?;
+    let (again, rest) = OpResult::read(alloc, bytes.as_slice())?;
+    Ok(written.as_slice() == bytes.as_slice() && again == answer && rest.is_empty())
 }
 
-/// Results by their words.
-fn results(alloc: Global) -> Result<[(OpResult, Vec<u8>); 5], Fail> {
+#[test]
+fn setclientid_gives_a_clientid(rt: HostRuntime) -> Result<(), Fail> {
     let client = ClientId {
         epoch: 1,
         number: 2,
     };
-    let address = Address {
-        netid: Bytes::copy_of(alloc, b"tcp")?,
-        addr: Bytes::copy_of(alloc, b"1.2.3.4.8.1")?,
-    };
-    let in_use = [
+    let answer = OpResult::Setclientid(Answer::Done(SetclientidConfirm { client, confirm: 3 }));
+    assert!(rt; is_encoded_as(rt.alloc(), answer, &[35, 0, 1, 2, 0, 3])?);
+    Ok(())
+}
+
+#[test]
+fn an_id_in_use_gives_the_address_of_its_client(rt: HostRuntime) -> Result<(), Fail> {
+    let alloc = rt.alloc();
+    let netid = Bytes::copy_of(alloc, b"tcp")?;
+    let addr = Bytes::copy_of(alloc, b"1.2.3.4.8.1")?;
+    let answer = OpResult::Setclientid(Answer::ClidInUse(Address { netid, addr }));
+    let words = [
         35,
         10017,
         3,
@@ -67,53 +61,45 @@ fn results(alloc: Global) -> Result<[(OpResult, Vec<u8>); 5], Fail> {
         0x332e_342e,
         0x382e_3100,
     ];
-    Ok([
-        (
-            OpResult::Setclientid(Answer::Done(SetclientidConfirm { client, confirm: 3 })),
-            bytes_of(alloc, &[35, 0, 1, 2, 0, 3])?,
-        ),
-        (
-            OpResult::Setclientid(Answer::ClidInUse(address)),
-            bytes_of(alloc, &in_use)?,
-        ),
-        (
-            OpResult::SetclientidConfirm(Answer::Refused(Refusal::StaleClientId)),
-            bytes_of(alloc, &[36, 10022])?,
-        ),
-        (
-            OpResult::Unsupported(Unsupported::Setattr),
-            bytes_of(alloc, &[34, 10004, 0])?,
-        ),
-        (
-            OpResult::Illegal(Answer::Refused(Refusal::OpIllegal)),
-            bytes_of(alloc, &[10044, 10044])?,
-        ),
-    ])
-}
-
-/// Whether these are the bytes of the result, and the result is what they are read as.
-fn stands_for(alloc: Global, answer: &OpResult, bytes: &[u8]) -> Result<bool, Fail> {
-    let mut written = Vec::new(alloc);
-    answer.write(&mut written)?;
-    let (again, rest) = OpResult::read(alloc, bytes)?;
-    Ok(written.as_slice() == bytes && again == *answer && rest.is_empty())
-}
-
-#[test]
-fn results_of_operations(rt: HostRuntime) -> Result<(), Fail> {
-    let alloc = rt.alloc();
-    for (answer, bytes) in &results(alloc)? {
-        assert!(rt; stands_for(alloc, answer, bytes.as_slice())?);
-    }
+    assert!(rt; is_encoded_as(alloc, answer, &words)?);
     Ok(())
 }
 
 #[test]
-fn results_with_statuses_of_other_operations(rt: HostRuntime) -> Result<(), Fail> {
+fn refusals_are_a_status(rt: HostRuntime) -> Result<(), Fail> {
     let alloc = rt.alloc();
-    for (answer, bytes) in &results_with_nothing_behind(alloc)? {
-        assert!(rt; stands_for(alloc, answer, bytes.as_slice())?);
-    }
+    let stale = OpResult::SetclientidConfirm(Answer::Refused(Refusal::StaleClientId));
+    assert!(rt; is_encoded_as(alloc, stale, &[36, 10022])?);
+    let illegal = OpResult::Illegal(Answer::Refused(Refusal::OpIllegal));
+    assert!(rt; is_encoded_as(alloc, illegal, &[10044, 10044])?);
+    Ok(())
+}
+
+#[test]
+fn setattr_is_refused_with_an_empty_bitmap(rt: HostRuntime) -> Result<(), Fail> {
+    let answer = OpResult::Unsupported(Unsupported::Setattr);
+    assert!(rt; is_encoded_as(rt.alloc(), answer, &[34, 10004, 0])?);
+    Ok(())
+}
+
+/// Statuses that bring something in results of other operations.
+#[test]
+fn statuses_of_other_operations_bring_nothing(rt: HostRuntime) -> Result<(), Fail> {
+    let alloc = rt.alloc();
+    let getattr = OpResult::Getattr(Answer::ClidInUse(()));
+    assert!(rt; is_encoded_as(alloc, getattr, &[9, 10017])?);
+    let lookup = OpResult::Lookup(Answer::Denied(()));
+    assert!(rt; is_encoded_as(alloc, lookup, &[15, 10010])?);
+    Ok(())
+}
+
+#[test]
+fn statuses_of_locks_bring_nothing_of_clients(rt: HostRuntime) -> Result<(), Fail> {
+    let alloc = rt.alloc();
+    let setclientid = OpResult::Setclientid(Answer::Denied(()));
+    assert!(rt; is_encoded_as(alloc, setclientid, &[35, 10010])?);
+    let confirmation = OpResult::SetclientidConfirm(Answer::ClidInUse(()));
+    assert!(rt; is_encoded_as(alloc, confirmation, &[36, 10017])?);
     Ok(())
 }
 
