@@ -62,7 +62,7 @@ impl Journal {
         }
     }
 
-    /// The tree that the server was started with.
+    /// A tree with the nodes of the one that the server was started with.
     pub fn tree(&self) -> &Tree
         ensures { result.now.nodes ≡ self.now.nodes }
     {

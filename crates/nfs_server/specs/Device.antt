@@ -2,7 +2,7 @@
 use Rattle.std.specs.Prelude.{◌≡◌, ◌≢◌, ℕ, List, [], ◌∷◌, ◌++◌}
 use Rattle.std.specs.List.{flat_map}
 
--- What the calls of a device do. A read gives bytes, and none only at the end of the input, or it fails; a write takes
+-- What the calls of a device do. A read gives bytes, or it fails; none are taken for the end of the input. A write takes
 -- bytes, or it fails.
 pub record Device (D : Type 0) : Type 1 where
   pub gives : D → List ℕ → D → Type 0

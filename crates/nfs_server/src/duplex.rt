@@ -13,7 +13,7 @@ pub trait Duplex {
     /// How often a write has failed.
     ghost write_failures: { Self → ℕ };
 
-    /// Reads some bytes into the buffer, and returns how many: 0 only at the end of the input.
+    /// Reads some bytes into the buffer, and returns how many: 0 is taken for the end of the input.
     fn read(&mut self, buffer: &mut [u8]) -> Result<usize, DeviceFailed>
         requires room { read_failures self.old < 2 ^ 64 - 1 }
         requires some { 0 < length buffer.old }

@@ -51,8 +51,8 @@ impl Replies {
         self.gathered.clear();
     }
 
-    /// Answers a record, and adds the reply after the others, as a record of one fragment. All memory is taken before
-    /// the service is asked, so that after an error it wasn't asked.
+    /// Answers a record, and adds the reply after the others, as a record of one fragment. All memory of its own is
+    /// taken before the service is asked, so that after an error it wasn't asked.
     pub(crate) fn answer<S: Service, C: Clock>(
         &mut self,
         message: &[u8],

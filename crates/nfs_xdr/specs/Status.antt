@@ -9,7 +9,7 @@ use Rattle.nfs_xdr.specs.declared.status.Status.TheVariants.{Ok, Denied, ClidInU
 use Rattle.nfs_xdr.specs.declared.status.TheConstants.{STATUSES}
 use Rattle.xdr.specs.Form.{Form, enumeration}
 
--- enum nfsstat4
+-- enum nfsstat4, of which these are known here
 abbrev pub number_of_refusal : Refusal → ℕ
 number_of_refusal refusal.NoEnt = 2
 number_of_refusal refusal.Access = 13

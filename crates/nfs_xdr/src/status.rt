@@ -60,7 +60,7 @@ pub enum Status {
     Refused(Refusal),
 }
 
-/// Every status.
+/// Every status that this server knows.
 pub const STATUSES: [Status; 31] = [
     Status::Ok,
     Status::Refused(Refusal::NoEnt),

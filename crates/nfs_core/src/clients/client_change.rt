@@ -11,6 +11,6 @@ pub(crate) enum ClientChange {
     Updates(ClientRecord),
     /// Adds this confirmed record, as the only one with its id.
     Confirms(ClientRecord),
-    /// Adds this confirmed record, as the only one with its id, and removes the client with this clientid.
+    /// Adds this confirmed record, as the only one with its id, in place of that of the client with this clientid.
     Replaces(ClientRecord, ClientId),
 }
