@@ -93,7 +93,7 @@ fn op_of(alloc: Global, ask: Ask) -> Result<Op, AllocError>
 }
 
 /// A server of a tree with one file, under a policy of callbacks.
-fn opened(alloc: Global, lease: u32, callbacks: Callbacks) -> Result<Core, Fail>
+fn open_core(alloc: Global, lease: u32, callbacks: Callbacks) -> Result<Core, Fail>
     requires { (LEASE_MIN ≤ lease) × (lease ≤ LEASE_MAX) }
 {
     let tree = Tree::from_toml(alloc, "file = [{ path = \"a\", text = \"hello\" }]")?;
@@ -124,7 +124,7 @@ fn gives(
 
 #[test]
 fn limits_numbers(rt: HostRuntime) -> Result<(), Fail> {
-    let mut core = opened(rt.alloc(), 90, Callbacks::Probe)?;
+    let mut core = open_core(rt.alloc(), 90, Callbacks::Probe)?;
     let ask = Ask::Set(b'a', 1);
     for number in 1..=CLIENT_LIMIT {
         let want = Want::Given(number, u64::from(number));
@@ -152,7 +152,7 @@ fn lawful_entries(core: &Core) -> usize
 
 #[test]
 fn opens_empty(rt: HostRuntime) -> Result<(), Fail> {
-    let core = opened(rt.alloc(), LEASE_MAX, Callbacks::Probe)?;
+    let core = open_core(rt.alloc(), LEASE_MAX, Callbacks::Probe)?;
     assert_eq!(rt; lawful_entries(&core), 0);
     let journal = core.journal();
     assert_eq!(rt; journal.epoch(), EPOCH);

@@ -1,6 +1,6 @@
 //! Devices that give or take a byte at a time, and fail.
 
-use crate::messages::{bytes_of, call, opened, reply};
+use crate::messages::{bytes_of, call, open_server, reply};
 use nfs_core::Moment;
 use nfs_server::{Counted, Lent, ServeError, Stopped, serve_connection};
 use std::alloc::{AllocError, Global};
@@ -96,7 +96,7 @@ fn fragments(rt: HostRuntime) -> Result<(), Fail> {
         room: 1000,
         failure: None,
     });
-    let (tree, core) = opened(alloc)?;
+    let (tree, core) = open_server(alloc)?;
     let mut lent = Lent::new(core);
     let mut clock = Stopped::at(Moment::new(0).unwrap());
     let outcome = serve_connection(alloc, &mut source, &mut sink, &mut lent, &tree, &mut clock);
@@ -120,7 +120,7 @@ fn read_fails(rt: HostRuntime) -> Result<(), Fail> {
             failure: Some(kind),
         });
         let mut sink = Counted::new(Vec::new(alloc));
-        let (tree, core) = opened(alloc)?;
+        let (tree, core) = open_server(alloc)?;
         let mut lent = Lent::new(core);
         let mut clock = Stopped::at(Moment::new(0).unwrap());
         let outcome = serve_connection(alloc, &mut source, &mut sink, &mut lent, &tree, &mut clock);
@@ -147,7 +147,7 @@ fn cut(
         room: 40,
         failure,
     });
-    let (tree, core) = opened(alloc)?;
+    let (tree, core) = open_server(alloc)?;
     let mut lent = Lent::new(core);
     let mut clock = Stopped::at(Moment::new(0).unwrap());
     let outcome = serve_connection(alloc, &mut source, &mut sink, &mut lent, &tree, &mut clock);

@@ -34,7 +34,7 @@ fn numbers(rt: HostRuntime) {
     }
 }
 
-/// Whether each error tells its text.
+/// Whether each error has its text.
 fn tell<E: Display>(alloc: Global, errors: &[(E, &str)]) -> Result<bool, Fail> {
     for (error, text) in errors {
         if error.to_string(alloc)?.as_str() != *text {

@@ -1,6 +1,6 @@
 //! The status and the line that a run ends with.
 
-use crate::messages::{bytes_of, call, opened, reply};
+use crate::messages::{bytes_of, call, open_server, reply};
 use nfs_server::{Counted, Fault, ServeError, read_tree, run_once};
 use std::alloc::Global;
 use std::test::Fail;
@@ -10,7 +10,7 @@ fn run(alloc: Global, input: &[u8]) -> Result<(Vec<u8>, Vec<u8>, u8), Fail> {
     let mut source = Counted::new(input);
     let mut sink = Counted::new(Vec::new(alloc));
     let mut errors = Vec::new(alloc);
-    let (tree, core) = opened(alloc)?;
+    let (tree, core) = open_server(alloc)?;
     let status = run_once(alloc, core, &tree, &mut source, &mut sink, &mut errors);
     Ok((sink.into_device(), errors, status))
 }

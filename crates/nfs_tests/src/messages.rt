@@ -48,7 +48,7 @@ pub fn call(
     record(alloc, &head, arguments)
 }
 
-/// A record of one fragment: an accepted reply with SUCCESS and these words behind it.
+/// A record of one fragment: an accepted reply with SUCCESS and these words after it.
 pub fn reply(alloc: Global, xid: u32, words: &[u32]) -> Result<Vec<u8>, AllocError> {
     record(alloc, &[xid, 1, 0, 0, 0, 0], words)
 }
@@ -63,7 +63,7 @@ pub fn record(alloc: Global, head: &[u32], body: &[u32]) -> Result<Vec<u8>, Allo
 }
 
 /// A fresh server with lease 90 and epoch 1, on the tree that it has without a file of its own.
-pub fn opened(alloc: Global) -> Result<(Tree, Core), Fail>
+pub fn open_server(alloc: Global) -> Result<(Tree, Core), Fail>
     ensures { IfOk result (λ r. (r.1.journal.nodes ≡ r.0.nodes)
         × (r.1.journal.policy ≡ r.0.policy)) }
 {

@@ -1,6 +1,6 @@
 //! A peer that waits for a reply before it sends more, and one that counts writes.
 
-use crate::messages::{call, opened, reply};
+use crate::messages::{call, open_server, reply};
 use nfs_core::Moment;
 use nfs_server::{Counted, Lent, Stopped, serve_connection};
 use std::alloc::AllocError;
@@ -9,7 +9,7 @@ use std::io;
 use std::io::{ErrorKind, Read, Write};
 use std::test::Fail;
 
-/// Gives pieces in turn, each behind a number: the bytes of replies that the peer has to have by
+/// Gives pieces in turn, each after a number: the bytes of replies that the peer has to have by
 /// then. A read that comes before that fails, and nothing more is given.
 #[derive(Drop)]
 struct Turns<'a> {
@@ -35,7 +35,7 @@ impl Read for Turns<'_> {
     }
 }
 
-/// Takes all that it is given, tells the peer how many bytes it has, and counts the writes.
+/// Takes all that it is given, lets the peer know how many bytes it has, and counts the writes.
 #[derive(Drop)]
 struct Meter<'a> {
     taken: Vec<u8>,
@@ -60,7 +60,7 @@ impl Write for Meter<'_> {
     }
 }
 
-/// Two calls of 44 bytes, cut at the end of the first or anywhere in the second: what is behind the
+/// Two calls of 44 bytes, cut at the end of the first or anywhere in the second: what follows the
 /// cut comes only where the first reply, of 28 bytes, is there, and the end only where both are.
 #[test]
 fn reply_comes_before_more_is_read(rt: HostRuntime) -> Result<(), Fail> {
@@ -70,8 +70,8 @@ fn reply_comes_before_more_is_read(rt: HostRuntime) -> Result<(), Fail> {
     let mut expected = reply(alloc, 7, &[])?;
     expected.extend_from_slice(reply(alloc, 8, &[])?.as_slice())?;
     for cut in 44..input.len() {
-        let (front, behind) = input.as_slice().split_at(cut);
-        let turns: [(usize, &[u8]); 3] = [(0, front), (28, behind), (56, &[])];
+        let (front, rest) = input.as_slice().split_at(cut);
+        let turns: [(usize, &[u8]); 3] = [(0, front), (28, rest), (56, &[])];
         let replied = Cell::new(0);
         let mut source = Counted::new(Turns {
             piece: &[],
@@ -83,7 +83,7 @@ fn reply_comes_before_more_is_read(rt: HostRuntime) -> Result<(), Fail> {
             replied: &replied,
             writes: 0,
         });
-        let (tree, core) = opened(alloc)?;
+        let (tree, core) = open_server(alloc)?;
         let mut lent = Lent::new(core);
         let mut clock = Stopped::at(Moment::new(0).unwrap());
         let outcome = serve_connection(alloc, &mut source, &mut sink, &mut lent, &tree, &mut clock);
@@ -114,7 +114,7 @@ fn replies_go_out_together(rt: HostRuntime) -> Result<(), Fail> {
         replied: &replied,
         writes: 0,
     });
-    let (tree, core) = opened(alloc)?;
+    let (tree, core) = open_server(alloc)?;
     let mut lent = Lent::new(core);
     let mut clock = Stopped::at(Moment::new(0).unwrap());
     let outcome = serve_connection(alloc, &mut source, &mut sink, &mut lent, &tree, &mut clock);

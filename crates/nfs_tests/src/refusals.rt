@@ -58,9 +58,9 @@ impl Line {
     /// A GETATTR of the root's type.
     fn attributes(alloc: Global, xid: u32) -> Result<Line, AllocError> {
         let arguments = [0, 0, 2, 24, 9, 1, 2];
-        let told = [0, 0, 2, 24, 0, 9, 0, 1, 2, 4, 2];
-        let untold = [10018, 0, 2, 24, 0, 9, 10018];
-        Line::new(alloc, xid, &arguments, &told, &untold)
+        let attributes = [0, 0, 2, 24, 0, 9, 0, 1, 2, 4, 2];
+        let refusal = [10018, 0, 2, 24, 0, 9, 10018];
+        Line::new(alloc, xid, &arguments, &attributes, &refusal)
     }
 
     /// Whether this is how the call may be refused: by the end of the connection before anything was run, or by a reply.
@@ -82,7 +82,7 @@ fn set_anew() -> [u32; 17] {
 }
 
 /// What comes back for a message, put into `output`, which has room.
-fn sent(
+fn send(
     alloc: Global,
     lent: &mut Lent,
     tree: &Tree,
@@ -100,7 +100,7 @@ fn sent(
 }
 
 /// A server, also where memory is refused once for its tree or for its core.
-fn opened_again(alloc: Global) -> Result<(Tree, Core), Fail>
+fn open_again(alloc: Global) -> Result<(Tree, Core), Fail>
     ensures { IfOk result (λ r. (r.1.journal.nodes ≡ r.0.nodes)
         × (r.1.journal.policy ≡ r.0.policy)) }
 {
@@ -116,7 +116,7 @@ fn opened_again(alloc: Global) -> Result<(Tree, Core), Fail>
 }
 
 /// Sends a call, and once more where it is refused as it may be. None where it gets anything but that or its answer.
-fn told(
+fn send_line(
     alloc: Global,
     lent: &mut Lent,
     tree: &Tree,
@@ -126,7 +126,7 @@ fn told(
     requires { ⟦<Lent as Service>⟧.serves lent.old ≡ tree.now.nodes }
     ensures { ⟦<Lent as Service>⟧.serves lent.new ≡ tree.now.nodes }
 {
-    let (mut output, outcome) = sent(alloc, lent, tree, line.message.as_slice(), output);
+    let (mut output, outcome) = send(alloc, lent, tree, line.message.as_slice(), output);
     if output.as_slice() == line.answer.as_slice() && outcome == Ok(0) {
         output.clear();
         return Some(output);
@@ -135,7 +135,7 @@ fn told(
         return None;
     }
     output.clear();
-    let (mut output, outcome) = sent(alloc, lent, tree, line.message.as_slice(), output);
+    let (mut output, outcome) = send(alloc, lent, tree, line.message.as_slice(), output);
     if output.as_slice() != line.answer.as_slice() || outcome != Ok(0) {
         return None;
     }
@@ -144,7 +144,7 @@ fn told(
 }
 
 /// Sends four calls in turn to a server of their own.
-fn tell_each(alloc: Global, script: Result<[Line; 4], AllocError>) -> Result<(), Fail> {
+fn send_each(alloc: Global, script: Result<[Line; 4], AllocError>) -> Result<(), Fail> {
     // Where memory is refused for the test itself, there is nothing to learn.
     let Ok(lines) = script else {
         return Ok(());
@@ -152,12 +152,12 @@ fn tell_each(alloc: Global, script: Result<[Line; 4], AllocError>) -> Result<(),
     let Ok(output) = Vec::with_capacity(alloc, 1024) else {
         return Ok(());
     };
-    let (tree, core) = opened_again(alloc)?;
+    let (tree, core) = open_again(alloc)?;
     let mut lent = Lent::new(core);
-    let output = told(alloc, &mut lent, &tree, &lines[0], output).ok_or("the first call")?;
-    let output = told(alloc, &mut lent, &tree, &lines[1], output).ok_or("the second call")?;
-    let output = told(alloc, &mut lent, &tree, &lines[2], output).ok_or("the third call")?;
-    told(alloc, &mut lent, &tree, &lines[3], output).ok_or("the fourth call")?;
+    let output = send_line(alloc, &mut lent, &tree, &lines[0], output).ok_or("the first call")?;
+    let output = send_line(alloc, &mut lent, &tree, &lines[1], output).ok_or("the second call")?;
+    let output = send_line(alloc, &mut lent, &tree, &lines[2], output).ok_or("the third call")?;
+    send_line(alloc, &mut lent, &tree, &lines[3], output).ok_or("the fourth call")?;
     Ok(())
 }
 
@@ -173,7 +173,7 @@ fn client_and_attributes(alloc: Global) -> Result<[Line; 4], AllocError> {
 /// A client id, its confirmation, the confirmation again, and attributes.
 #[test]
 fn refused_once(rt: HostRuntime) -> Result<(), Fail> {
-    tell_each(rt.alloc(), client_and_attributes(rt.alloc()))
+    send_each(rt.alloc(), client_and_attributes(rt.alloc()))
 }
 
 fn client_and_update(alloc: Global) -> Result<[Line; 4], AllocError> {
@@ -188,7 +188,7 @@ fn client_and_update(alloc: Global) -> Result<[Line; 4], AllocError> {
 /// A client that asks again, with the verifier that it had: it keeps its number.
 #[test]
 fn update_refused_once(rt: HostRuntime) -> Result<(), Fail> {
-    tell_each(rt.alloc(), client_and_update(rt.alloc()))
+    send_each(rt.alloc(), client_and_update(rt.alloc()))
 }
 
 fn client_and_restart(alloc: Global) -> Result<[Line; 4], AllocError> {
@@ -203,7 +203,7 @@ fn client_and_restart(alloc: Global) -> Result<[Line; 4], AllocError> {
 /// A client that has started anew: it gets another number, and its old record leaves.
 #[test]
 fn restart_refused_once(rt: HostRuntime) -> Result<(), Fail> {
-    tell_each(rt.alloc(), client_and_restart(rt.alloc()))
+    send_each(rt.alloc(), client_and_restart(rt.alloc()))
 }
 
 /// Three records, cut here and there: a piece that is refused leaves all as it was, and is taken when it comes again.

@@ -109,8 +109,8 @@ fn takes_a_record_cut_anywhere(rt: HostRuntime) {
     ];
     for cut in 0..text.len() {
         let mut records = Records::new(rt.alloc());
-        let (front, behind) = text.split_at(cut);
-        feed_all(&rt, &mut records, &[front, behind]);
+        let (front, rest) = text.split_at(cut);
+        feed_all(&rt, &mut records, &[front, rest]);
         assert_eq!(rt; (records.kept(), records.rest()), (1, 5));
         assert_next(&rt, &mut records, &[1, 2, 3]);
         assert_no_next(&rt, &mut records);

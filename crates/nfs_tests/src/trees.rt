@@ -68,7 +68,7 @@ const NAME: TreeError = TreeError::Name;
 
 const TAKEN: TreeError = TreeError::Duplicate;
 
-/// A document of so many files of one name each, `f0` and so on, behind so many directories, and then this text.
+/// A document of that many files of one name each, `f0` and so on, after that many directories, and then this text.
 fn numbered(alloc: Global, directories: u32, files: u32, more: &str) -> Result<String, AllocError> {
     let mut text = String::new(alloc);
     for i in 0..directories {
