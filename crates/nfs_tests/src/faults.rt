@@ -1,6 +1,6 @@
 //! The status and the line that a run ends with.
 
-use crate::messages::{bytes_of, call, open_server, reply};
+use crate::messages::{bytes_of, open_server, reply};
 use nfs_server::{Counted, Fault, ServeError, read_tree, run_once};
 use std::alloc::Global;
 use std::test::Fail;
@@ -15,28 +15,41 @@ fn run(alloc: Global, input: &[u8]) -> Result<(Vec<u8>, Vec<u8>, u8), Fail> {
     Ok((sink.into_device(), errors, status))
 }
 
+/// Whether the run of these words writes these bytes and this line, and ends with this status.
+fn ends(alloc: Global, words: &[u32], output: &[u8], line: &str, status: u8) -> Result<bool, Fail> {
+    let (got, errors, end) = run(alloc, bytes_of(alloc, words)?.as_slice())?;
+    Ok(got.as_slice() == output && errors.as_slice() == line.as_bytes() && end == status)
+}
+
 #[test]
-fn runs(rt: HostRuntime) -> Result<(), Fail> {
-    let alloc = rt.alloc();
-    let null = call(alloc, 7, 0, &[])?;
-    let (output, errors, status) = run(alloc, null.as_slice())?;
-    assert_eq!(rt; output.as_slice(), reply(alloc, 7, &[])?.as_slice());
-    assert_eq!(rt; errors.as_slice(), b"".as_slice());
-    assert_eq!(rt; status, 0);
+fn a_run_without_a_fault_ends_with_0(rt: HostRuntime) -> Result<(), Fail> {
+    let call = [0x8000_0028, 7, 0, 2, 0x0001_86a3, 4, 0, 0, 0, 0, 0];
+    let answer = reply(rt.alloc(), 7, &[])?;
+    assert!(rt; ends(rt.alloc(), &call, answer.as_slice(), "", 0)?);
+    Ok(())
+}
 
-    let inside = bytes_of(alloc, &[0x8000_0028, 7, 0, 2, 0x0001_86a3, 4])?;
-    let (output, errors, status) = run(alloc, inside.as_slice())?;
-    assert_eq!(rt; output.as_slice(), b"".as_slice());
-    assert_eq!(rt;
-        errors.as_slice(),
-        b"fault: input ends inside a record\n".as_slice()
+#[test]
+fn a_run_with_a_fault_ends_with_1_and_a_line(rt: HostRuntime) -> Result<(), Fail> {
+    let inside = [0x8000_0028, 7, 0, 2, 0x0001_86a3, 4];
+    assert!(rt;
+        ends(
+            rt.alloc(),
+            &inside,
+            b"",
+            "fault: input ends inside a record\n",
+            1
+        )?
     );
-    assert_eq!(rt; status, 1);
-
-    let long = bytes_of(alloc, &[0x8004_0001])?;
-    let (_, errors, status) = run(alloc, long.as_slice())?;
-    assert_eq!(rt; errors.as_slice(), b"fault: record too long\n".as_slice());
-    assert_eq!(rt; status, 1);
+    assert!(rt;
+        ends(
+            rt.alloc(),
+            &[0x8004_0001],
+            b"",
+            "fault: record too long\n",
+            1
+        )?
+    );
     Ok(())
 }
 

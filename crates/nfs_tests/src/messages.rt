@@ -1,8 +1,9 @@
 //! Messages in words of four bytes, and a server over memory to send them to.
 
-ghost use Rattle.std.specs.Prelude.{◌≡◌, IfOk};
+ghost use Rattle.std.specs.Prelude.{◌≡◌, ◌-◌, ◌<◌, ◌^◌, IfOk};
 
-use nfs_core::Core;
+use nfs_core::{Core, Moment};
+use nfs_server::{Lent, ServeError, Sink, Source, Stopped, serve_connection};
 use nfs_tree::{DEFAULT_TREE, Tree};
 use std::alloc::{AllocError, Global};
 use std::test::Fail;
@@ -70,4 +71,20 @@ pub fn open_server(alloc: Global) -> Result<(Tree, Core), Fail>
     let tree = Tree::from_toml(alloc, DEFAULT_TREE)?;
     let core = Core::new(alloc, &tree, 90, 1, tree.policy())?;
     Ok((tree, core))
+}
+
+/// Serves a connection by a fresh server, at moment 0, and gives how it ended.
+pub fn serve<R: Source, W: Sink>(
+    alloc: Global,
+    source: &mut R,
+    sink: &mut W,
+) -> Result<Result<usize, ServeError>, Fail>
+    requires reads { R.failures source.old < 2 ^ 64 - 1 }
+    requires writes { W.failures sink.old < 2 ^ 64 - 1 }
+{
+    let (tree, core) = open_server(alloc)?;
+    let mut lent = Lent::new(core);
+    let mut clock = Stopped::at(Moment::new(0).unwrap());
+    let outcome = serve_connection(alloc, source, sink, &mut lent, &tree, &mut clock);
+    Ok(outcome)
 }

@@ -1,8 +1,7 @@
 //! A peer that waits for a reply before it sends more, and one that counts writes.
 
-use crate::messages::{call, open_server, reply};
-use nfs_core::Moment;
-use nfs_server::{Counted, Lent, Stopped, serve_connection};
+use crate::messages::{call, reply, serve};
+use nfs_server::Counted;
 use std::alloc::AllocError;
 use std::cell::Cell;
 use std::io;
@@ -83,14 +82,10 @@ fn reply_comes_before_more_is_read(rt: HostRuntime) -> Result<(), Fail> {
             replied: &replied,
             writes: 0,
         });
-        let (tree, core) = open_server(alloc)?;
-        let mut lent = Lent::new(core);
-        let mut clock = Stopped::at(Moment::new(0).unwrap());
-        let outcome = serve_connection(alloc, &mut source, &mut sink, &mut lent, &tree, &mut clock);
-        assert_eq!(rt; outcome, Ok(0), "cut at {cut}");
-        assert_eq!(rt;
-            sink.into_device().taken.as_slice(),
-            expected.as_slice(),
+        let outcome = serve(alloc, &mut source, &mut sink)?;
+        let taken = sink.into_device().taken;
+        assert!(rt;
+            outcome == Ok(0) && taken.as_slice() == expected.as_slice(),
             "cut at {cut}"
         );
     }
@@ -114,13 +109,9 @@ fn replies_go_out_together(rt: HostRuntime) -> Result<(), Fail> {
         replied: &replied,
         writes: 0,
     });
-    let (tree, core) = open_server(alloc)?;
-    let mut lent = Lent::new(core);
-    let mut clock = Stopped::at(Moment::new(0).unwrap());
-    let outcome = serve_connection(alloc, &mut source, &mut sink, &mut lent, &tree, &mut clock);
+    let outcome = serve(alloc, &mut source, &mut sink)?;
     let peer = sink.into_device();
-    assert_eq!(rt; outcome, Ok(0));
-    assert!(rt; peer.taken.as_slice() == expected.as_slice());
+    assert!(rt; outcome == Ok(0) && peer.taken.as_slice() == expected.as_slice());
     assert!(rt; peer.writes <= 2, "{} writes", peer.writes);
     Ok(())
 }
