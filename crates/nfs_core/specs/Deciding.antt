@@ -1,7 +1,7 @@
 -- What the functions that decide an operation guarantee; used only in the contracts of this crate's own functions.
 use Rattle.std.specs.Prelude.{◌≡◌, ◌≢◌, ◌≤◌, length, Option, Some, None, Result, Ok, Err}
-use Rattle.nfs_core.specs.declared.clients.clients_error.ClientsError.{ClientsError}
-use Rattle.nfs_core.specs.declared.clients.clients_error.ClientsError.TheVariants as errors
+use Rattle.nfs_owners.specs.declared.owners_error.OwnersError.{OwnersError}
+use Rattle.nfs_owners.specs.declared.owners_error.OwnersError.TheVariants as errors
 use Rattle.nfs_core.specs.declared.core_state.TheConstants.{ANSWER_LIMIT}
 use Rattle.nfs_core.specs.declared.decision.Decision.{Decision}
 use Rattle.nfs_core.specs.declared.request.Request.{Request}
@@ -34,6 +34,6 @@ HasNoStep journal old request =
     (answer : OpResult) (new : State) → Step journal old (entry_of request answer) new → ⊥
 
 -- the shortage that an error of the clients' records leads to
-abbrev pub shortage_of : ClientsError → Shortage
+abbrev pub shortage_of : OwnersError → Shortage
 shortage_of errors.Full = Limit
 shortage_of errors.Memory = Memory

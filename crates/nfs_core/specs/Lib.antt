@@ -1,13 +1,8 @@
-pub mod Registry
-pub mod ClientChange
-pub mod Registration
-pub mod Confirmation
 pub mod State
 pub mod Stored
 pub mod operations
 pub mod Step
 pub mod Lawful
 pub mod Server
-pub mod ClientRoom
 pub mod Room
 pub mod Deciding

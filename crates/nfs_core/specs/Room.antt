@@ -3,7 +3,7 @@ use Rattle.std.specs.Prelude.{⊤}
 use Rattle.nfs_core.specs.declared.change.Change.{Change}
 use Rattle.nfs_core.specs.declared.change.Change.TheVariants as changes
 use Rattle.nfs_core.specs.declared.tables.Tables.{Tables}
-use Rattle.nfs_core.specs.ClientRoom.{HasNumbersFor, HasRoomFor}
+use Rattle.nfs_owners.specs.ClientRoom.{HasNumbersFor, HasRoomFor}
 use Rattle.nfs_core.specs.State.{State}
 use Rattle.nfs_core.specs.Stored.{Stored, meaning}
 

@@ -8,7 +8,7 @@ use Rattle.nfs_core.specs.declared.entry.Entry.{Entry}
 use Rattle.nfs_core.specs.declared.entry.Entry.TheVariants as entries
 use Rattle.nfs_core.specs.declared.entry.TheConstants.{JOURNAL_LIMIT}
 use Rattle.nfs_core.specs.declared.request.Request.{Request}
-use Rattle.nfs_core.specs.ClientChange.{with_change}
+use Rattle.nfs_owners.specs.ClientChange.{with_change}
 use Rattle.nfs_core.specs.operations.{rule}
 use Rattle.nfs_core.specs.State.{State, History}
 use Rattle.nfs_tree.specs.Tree.{node_count}

@@ -1,7 +1,7 @@
 -- What the server stores, and the state that it represents.
 use Rattle.std.specs.Prelude.{List}
 use Rattle.nfs_core.specs.declared.stored_file.StoredFile.{StoredFile}
-use Rattle.nfs_core.specs.Registry.{Registry, no_clients}
+use Rattle.nfs_owners.specs.Registry.{Registry, no_clients}
 use Rattle.nfs_core.specs.State.{State, initial_files}
 use Rattle.nfs_tree.specs.declared.node.Node.{Node}
 

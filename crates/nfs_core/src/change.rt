@@ -1,4 +1,4 @@
-use crate::clients::ClientChange;
+use nfs_owners::ClientChange;
 
 /// What an operation changes in the state.
 #[derive(Debug, Drop)]

@@ -2,8 +2,6 @@
 #![tactic(auto)]
 
 mod change;
-mod client_record;
-mod clients;
 mod core_error;
 mod core_state;
 mod decision;
@@ -18,7 +16,6 @@ mod stored_file;
 mod stored_files;
 mod tables;
 
-pub use client_record::{ADDRESS_LIMIT, CLIENT_LIMIT, ClientRecord, PathMark};
 pub use core_error::CoreError;
 pub use core_state::{ANSWER_LIMIT, Core, at_most_one_step};
 pub use entry::{Call, Entry, JOURNAL_LIMIT};

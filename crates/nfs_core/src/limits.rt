@@ -1,15 +1,12 @@
 ghost use Rattle.std.specs.Prelude.{◌≡◌};
 
-use crate::client_record::{ADDRESS_LIMIT, CLIENT_LIMIT};
 use crate::core_state::ANSWER_LIMIT;
 use crate::entry::JOURNAL_LIMIT;
 use crate::journal::{LEASE_MAX, LEASE_MIN};
 
-/// The limits in the rules: on the entries of a journal, the client numbers of a run, the bytes of an r_netid or
-/// r_addr, the seconds of a lease, and the bytes of an answer in a reply.
+/// The limits in the rules: on the entries of a journal, the seconds of a lease, and the bytes of an answer in a reply.
 pub fn limits_of_the_state()
     ensures journal { JOURNAL_LIMIT ≡ 1000000 }
-    ensures clients { (CLIENT_LIMIT ≡ 4096) × (ADDRESS_LIMIT ≡ 128) }
     ensures lease { (LEASE_MIN ≡ 1) × (LEASE_MAX ≡ 86400) }
     ensures answer { ANSWER_LIMIT ≡ 2036 }
 {}

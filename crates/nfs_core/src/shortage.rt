@@ -1,6 +1,6 @@
 ghost use Rattle.std.specs.Prelude.{◌≡◌};
 
-use crate::clients::ClientsError;
+use nfs_owners::OwnersError;
 use std::alloc::AllocError;
 
 /// Why a request is answered NFS4ERR_RESOURCE and changes nothing.
@@ -22,15 +22,15 @@ impl From<AllocError> for Shortage {
     }
 }
 
-impl From<ClientsError> for Shortage {
+impl From<OwnersError> for Shortage {
     ghost use Rattle.nfs_core.specs.Deciding.{shortage_of};
 
     ghost from_gives = { λ error shortage. shortage ≡ shortage_of error };
 
-    fn from(error: ClientsError) -> Shortage {
+    fn from(error: OwnersError) -> Shortage {
         match error {
-            ClientsError::Full => Shortage::Limit,
-            ClientsError::Memory => Shortage::Memory,
+            OwnersError::Full => Shortage::Limit,
+            OwnersError::Memory => Shortage::Memory,
         }
     }
 }

@@ -1,9 +1,8 @@
 ghost use Rattle.std.specs.Prelude.{◌≡◌, IfOk, OnOk};
 
-use crate::ClientRecord;
 use crate::change::Change;
-use crate::clients::Clients;
 use crate::stored_files::StoredFiles;
+use nfs_owners::{ClientRecord, Clients};
 use nfs_tree::Tree;
 use nfs_xdr::ClientId;
 use std::alloc::{AllocError, Global};

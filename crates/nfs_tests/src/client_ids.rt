@@ -4,7 +4,8 @@ ghost use Rattle.std.specs.Prelude.{IsTrue, IfOk};
 ghost use Rattle.nfs_core.specs.Server.{IsLawful};
 ghost use Rattle.nfs_xdr.specs.Op.{has_entry};
 
-use nfs_core::{CLIENT_LIMIT, Core, LEASE_MAX, Moment, at_most_one_step};
+use nfs_core::{Core, LEASE_MAX, Moment, at_most_one_step};
+use nfs_owners::CLIENT_LIMIT;
 use nfs_tree::Tree;
 use nfs_xdr::operations::setclientid::Setclientid;
 use nfs_xdr::operations::setclientid_confirm::SetclientidConfirm;

@@ -1,11 +1,11 @@
 -- SETCLIENTID (RFC 7530, section 16.33.5): its answer, and its change of the clients' records.
 use Rattle.std.specs.Prelude.{Option, option_map}
 use Rattle.nfs_core.specs.declared.change.Change.TheVariants.{Clients}
-use Rattle.nfs_core.specs.declared.clients.client_change.ClientChange.{ClientChange}
+use Rattle.nfs_owners.specs.declared.clients.client_change.ClientChange.{ClientChange}
 use Rattle.nfs_core.specs.declared.decision.Decision.{Decision}
 use Rattle.nfs_core.specs.declared.request.Request.{Request}
-use Rattle.nfs_core.specs.Registration.{Outcome, registration}
-use Rattle.nfs_core.specs.Registry.{confirmed_of}
+use Rattle.nfs_owners.specs.Registration.{Outcome, registration}
+use Rattle.nfs_owners.specs.Registry.{confirmed_of}
 use Rattle.nfs_core.specs.State.{State, History, record_has_state}
 use Rattle.nfs_xdr.specs.declared.op_result.OpResult.TheVariants as results
 use Rattle.nfs_xdr.specs.declared.operations.setclientid.Setclientid.{Setclientid}

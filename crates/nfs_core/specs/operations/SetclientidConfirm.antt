@@ -1,13 +1,13 @@
 -- SETCLIENTID_CONFIRM (RFC 7530, section 16.34.5): its answer, and its change of the clients' records.
 use Rattle.std.specs.Prelude.{Option, Some}
 use Rattle.nfs_core.specs.declared.change.Change.TheVariants.{Clients}
-use Rattle.nfs_core.specs.declared.client_record.PathMark.{PathMark}
-use Rattle.nfs_core.specs.declared.client_record.PathMark.TheVariants.{Unknown, Up}
-use Rattle.nfs_core.specs.declared.clients.client_change.ClientChange.{ClientChange}
+use Rattle.nfs_owners.specs.declared.client_record.PathMark.{PathMark}
+use Rattle.nfs_owners.specs.declared.client_record.PathMark.TheVariants.{Unknown, Up}
+use Rattle.nfs_owners.specs.declared.clients.client_change.ClientChange.{ClientChange}
 use Rattle.nfs_core.specs.declared.decision.Decision.{Decision}
 use Rattle.nfs_core.specs.declared.request.Request.{Request}
-use Rattle.nfs_core.specs.Confirmation.{Outcome, confirmation, holder_of}
-use Rattle.nfs_core.specs.Registry.{unconfirmed_named_by}
+use Rattle.nfs_owners.specs.Confirmation.{Outcome, confirmation, holder_of}
+use Rattle.nfs_owners.specs.Registry.{unconfirmed_named_by}
 use Rattle.nfs_core.specs.State.{State, History, record_has_state}
 use Rattle.nfs_tree.specs.declared.policy.Callbacks.{Callbacks}
 use Rattle.nfs_tree.specs.declared.policy.Callbacks.TheVariants.{Probe, Assume}

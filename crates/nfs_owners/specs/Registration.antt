@@ -1,12 +1,12 @@
 -- What SETCLIENTID does to the clients' records (RFC 7530, section 16.33.5).
 use Rattle.std.specs.Prelude.{ℕ, ◌+◌, nat_lt, Bool, false, ◌&&◌, Option, Some, None, if◌then◌else◌}
 use Rattle.std.specs.Str.{bytes_eq}
-use Rattle.nfs_core.specs.declared.client_record.ClientRecord.{ClientRecord}
-use Rattle.nfs_core.specs.declared.client_record.PathMark.TheVariants.{Unknown}
-use Rattle.nfs_core.specs.declared.client_record.TheConstants.{CLIENT_LIMIT}
-use Rattle.nfs_core.specs.declared.clients.client_change.ClientChange.{ClientChange}
-use Rattle.nfs_core.specs.declared.clients.client_change.ClientChange.TheVariants.{Nothing, Arrives, Updates}
-use Rattle.nfs_core.specs.Registry.{Registry, confirmed_of, is_within_limit}
+use Rattle.nfs_owners.specs.declared.client_record.ClientRecord.{ClientRecord}
+use Rattle.nfs_owners.specs.declared.client_record.PathMark.TheVariants.{Unknown}
+use Rattle.nfs_owners.specs.declared.client_record.TheConstants.{CLIENT_LIMIT}
+use Rattle.nfs_owners.specs.declared.clients.client_change.ClientChange.{ClientChange}
+use Rattle.nfs_owners.specs.declared.clients.client_change.ClientChange.TheVariants.{Nothing, Arrives, Updates}
+use Rattle.nfs_owners.specs.Registry.{Registry, confirmed_of, is_within_limit}
 use Rattle.nfs_xdr.specs.declared.callback.Address.{Address}
 use Rattle.nfs_xdr.specs.declared.answer.Answer.{Answer}
 use Rattle.nfs_xdr.specs.declared.answer.Answer.TheVariants.{Done, ClidInUse}

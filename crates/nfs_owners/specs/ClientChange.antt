@@ -1,9 +1,9 @@
 -- What a call changes in the clients' records.
 use Rattle.std.specs.Prelude.{◌+◌, not, List, [], ◌∷◌, ◌++◌, filter}
-use Rattle.nfs_core.specs.declared.client_record.ClientRecord.{ClientRecord}
-use Rattle.nfs_core.specs.declared.clients.client_change.ClientChange.{ClientChange}
-use Rattle.nfs_core.specs.declared.clients.client_change.ClientChange.TheVariants as changes
-use Rattle.nfs_core.specs.Registry.{Registry, is_of, is_unconfirmed_of}
+use Rattle.nfs_owners.specs.declared.client_record.ClientRecord.{ClientRecord}
+use Rattle.nfs_owners.specs.declared.clients.client_change.ClientChange.{ClientChange}
+use Rattle.nfs_owners.specs.declared.clients.client_change.ClientChange.TheVariants as changes
+use Rattle.nfs_owners.specs.Registry.{Registry, is_of, is_unconfirmed_of}
 
 -- the unconfirmed record is added, and an earlier unconfirmed record with the same id is removed
 abbrev pub with_unconfirmed : ClientRecord → List ClientRecord → List ClientRecord

@@ -43,7 +43,7 @@ pub const CLIENT_LIMIT: u32 = 4096;
 
 impl ClientRecord {
     ghost use Rattle.std.specs.Prelude.{◌≡◌};
-    ghost use Rattle.nfs_core.specs.Registry.{is_confirmed_of, is_named_by, is_of, is_unconfirmed_of};
+    ghost use Rattle.nfs_owners.specs.Registry.{is_confirmed_of, is_named_by, is_of, is_unconfirmed_of};
 
     /// Whether the record has this id.
     pub(crate) fn is_of(&self, id: &[u8]) -> bool

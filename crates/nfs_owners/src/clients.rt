@@ -1,15 +1,13 @@
 ghost use Rattle.std.specs.Prelude.{◌≡◌, ◌<◌, OnOk};
 ghost use Rattle.std.specs.Vec.{vec_len, vec_capacity};
-ghost use Rattle.nfs_core.specs.ClientChange.{with_confirmed, with_unconfirmed};
+ghost use Rattle.nfs_owners.specs.ClientChange.{with_confirmed, with_unconfirmed};
 
 mod client_change;
-mod clients_error;
 mod confirmation;
 mod registration;
 
 use crate::ClientRecord;
-pub(crate) use client_change::ClientChange;
-pub(crate) use clients_error::ClientsError;
+pub use client_change::ClientChange;
 use nfs_xdr::operations::setclientid_confirm::SetclientidConfirm;
 use std::alloc::{AllocError, Global};
 use std::marker::Model;
@@ -17,7 +15,7 @@ use std::marker::Model;
 /// The clients' records in the order in which they were added, and the numbers that were given out last. SETCLIENTID
 /// and SETCLIENTID_CONFIRM are decided first (`set`, `confirm`); after `make_room` the change takes no memory.
 #[derive(Debug, Drop)]
-pub(crate) struct Clients {
+pub struct Clients {
     records: Vec<ClientRecord>,
     /// The client number that was given out last; 0 before the first.
     last_number: u32,
@@ -28,7 +26,7 @@ pub(crate) struct Clients {
 impl Model for Clients {
     ghost use Rattle.std.specs.Prelude.{◌-◌};
     ghost use Rattle.std.specs.Vec.{vec_len, vec_capacity};
-    ghost use Rattle.nfs_core.specs.ClientRoom.{RoomyClients};
+    ghost use Rattle.nfs_owners.specs.ClientRoom.{RoomyClients};
 
     ghost Value = { RoomyClients };
 
@@ -44,12 +42,12 @@ impl Model for Clients {
 
 impl Clients {
     ghost use Rattle.std.specs.Option.{option_copied};
-    ghost use Rattle.nfs_core.specs.ClientChange.{with_change};
-    ghost use Rattle.nfs_core.specs.ClientRoom.{HasNumbersFor, HasRoomFor};
-    ghost use Rattle.nfs_core.specs.Registry.{confirmed_named_by, confirmed_of, no_clients, unconfirmed_named_by};
+    ghost use Rattle.nfs_owners.specs.ClientChange.{with_change};
+    ghost use Rattle.nfs_owners.specs.ClientRoom.{HasNumbersFor, HasRoomFor};
+    ghost use Rattle.nfs_owners.specs.Registry.{confirmed_named_by, confirmed_of, no_clients, unconfirmed_named_by};
 
     /// A registry without clients, taking no memory.
-    pub(crate) fn new(alloc: Global) -> Clients
+    pub fn new(alloc: Global) -> Clients
         ensures { result.registry ≡ no_clients }
     {
         Clients {
@@ -60,14 +58,14 @@ impl Clients {
     }
 
     /// The confirmed record with this id, if there is one.
-    pub(crate) fn confirmed_of(&self, id: &[u8]) -> Option<&ClientRecord>
+    pub fn confirmed_of(&self, id: &[u8]) -> Option<&ClientRecord>
         ensures { option_copied result ≡ confirmed_of self.now.registry id.now }
     {
         self.records.iter().find(|r| r.is_confirmed_of(id))
     }
 
     /// The unconfirmed record that the arguments of SETCLIENTID_CONFIRM name, if there is one.
-    pub(crate) fn unconfirmed_named_by(&self, args: &SetclientidConfirm) -> Option<&ClientRecord>
+    pub fn unconfirmed_named_by(&self, args: &SetclientidConfirm) -> Option<&ClientRecord>
         ensures { option_copied result ≡ unconfirmed_named_by args.now self.now.registry }
     {
         self.records
@@ -76,7 +74,7 @@ impl Clients {
     }
 
     /// The confirmed record that the arguments of SETCLIENTID_CONFIRM name, if there is one.
-    pub(crate) fn confirmed_named_by(&self, args: &SetclientidConfirm) -> Option<&ClientRecord>
+    pub fn confirmed_named_by(&self, args: &SetclientidConfirm) -> Option<&ClientRecord>
         ensures { option_copied result ≡ confirmed_named_by args.now self.now.registry }
     {
         self.records
@@ -85,7 +83,7 @@ impl Clients {
     }
 
     /// Makes room for the change.
-    pub(crate) fn make_room(&mut self, change: &ClientChange) -> Result<(), AllocError>
+    pub fn make_room(&mut self, change: &ClientChange) -> Result<(), AllocError>
         ensures same { self.new.registry ≡ self.old.registry }
         ensures room { OnOk result (HasRoomFor change.now self.new) }
     {
@@ -99,7 +97,7 @@ impl Clients {
     }
 
     /// Makes the change, for which there has to be room. It takes no memory.
-    pub(crate) fn commit(&mut self, change: ClientChange)
+    pub fn commit(&mut self, change: ClientChange)
         requires room { HasRoomFor change self.old }
         requires numbers { HasNumbersFor change self.old.registry }
         ensures { self.new.registry ≡ with_change change self.old.registry }

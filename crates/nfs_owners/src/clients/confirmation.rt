@@ -1,9 +1,9 @@
 ghost use Rattle.std.specs.Prelude.{◌≡◌, IfOk};
 ghost use Rattle.std.specs.Option.{option_copied};
-ghost use Rattle.nfs_core.specs.ClientRoom.{HasNumbersFor};
-ghost use Rattle.nfs_core.specs.Confirmation.{confirmation, confirmation_before, confirmation_beside, confirmation_by, confirmed_record, holder_of, updated_record};
-ghost use Rattle.nfs_core.specs.Registry.{confirmed_named_by, confirmed_of, unconfirmed_named_by};
-ghost use Rattle.nfs_core.specs.declared.client_record.PathMark.{PathMark};
+ghost use Rattle.nfs_owners.specs.ClientRoom.{HasNumbersFor};
+ghost use Rattle.nfs_owners.specs.Confirmation.{confirmation, confirmation_before, confirmation_beside, confirmation_by, confirmed_record, holder_of, updated_record};
+ghost use Rattle.nfs_owners.specs.Registry.{confirmed_named_by, confirmed_of, unconfirmed_named_by};
+ghost use Rattle.nfs_owners.specs.declared.client_record.PathMark.{PathMark};
 
 use super::{ClientChange, Clients};
 use crate::{ClientRecord, PathMark};
@@ -15,7 +15,7 @@ impl Clients {
     /// The answer of SETCLIENTID_CONFIRM (RFC 7530, section 16.34.5), and its change of the clients' records.
     /// `has_state` is whether the client of the confirmed record with the same id has state, and `path` is the mark for
     /// the path of a client that is confirmed by this call.
-    pub(crate) fn confirm(
+    pub fn confirm(
         &self,
         principal: Principal,
         args: &SetclientidConfirm,
@@ -75,7 +75,7 @@ impl Clients {
     }
 
     /// The confirmed record of the id that the call would confirm, if there is one.
-    pub(crate) fn holder_of(&self, args: &SetclientidConfirm) -> Option<&ClientRecord>
+    pub fn holder_of(&self, args: &SetclientidConfirm) -> Option<&ClientRecord>
         ensures { option_copied result ≡ holder_of
             (unconfirmed_named_by args.now self.now.registry) self.now.registry }
     {

@@ -1,11 +1,11 @@
 ghost use Rattle.std.specs.Prelude.{◌≡◌, ℕ, ◌-◌, ◌^◌, ◌<◌, ◌↔◌, false, None, Some, IfOk, IsErrOf};
 ghost use Rattle.nfs_xdr.specs.operations.Setclientid as setclientid;
-ghost use Rattle.nfs_core.specs.Registration.{Arrival, Update, registration, registration_by, unconfirmed_record};
-ghost use Rattle.nfs_core.specs.ClientRoom.{HasNumbersFor};
-ghost use Rattle.nfs_core.specs.Registry.{is_within_limit};
+ghost use Rattle.nfs_owners.specs.Registration.{Arrival, Update, registration, registration_by, unconfirmed_record};
+ghost use Rattle.nfs_owners.specs.ClientRoom.{HasNumbersFor};
+ghost use Rattle.nfs_owners.specs.Registry.{is_within_limit};
 
-use super::{ClientChange, Clients, ClientsError};
-use crate::{ADDRESS_LIMIT, CLIENT_LIMIT, ClientRecord, PathMark};
+use super::{ClientChange, Clients};
+use crate::{ADDRESS_LIMIT, CLIENT_LIMIT, ClientRecord, OwnersError, PathMark};
 use nfs_xdr::operations::setclientid::{Outcome, Setclientid};
 use nfs_xdr::operations::setclientid_confirm::SetclientidConfirm;
 use nfs_xdr::{Address, ClientId, Principal};
@@ -16,17 +16,17 @@ impl Clients {
     /// clients' records. `has_state` is whether the client of the confirmed record with the id has state. Full if a
     /// limit would be exceeded.
     #[tactic(auto, unfolding(nfs_xdr::specs::Answer::answer, nfs_xdr::specs::Status::status, nfs_xdr::specs::operations::SetclientidConfirm::arguments, nfs_xdr::specs::ClientId::client_id))]
-    pub(crate) fn set(
+    pub fn set(
         &self,
         epoch: u32,
         principal: Principal,
         args: &Setclientid,
         has_state: bool,
-    ) -> Result<(Outcome, ClientChange), ClientsError>
+    ) -> Result<(Outcome, ClientChange), OwnersError>
         requires { self.now.registry.last_confirm < 2 ^ 64 - 1 }
         ensures ok { IfOk result (λ r.
             registration epoch has_state self.now.registry principal args.now ≡ Some r) }
-        ensures full { IsErrOf result ClientsError.Full
+        ensures full { IsErrOf result OwnersError.Full
             ↔ registration epoch has_state self.now.registry principal args.now ≡ None }
         ensures numbers { IfOk result (λ r. HasNumbersFor r.1 self.now.registry) }
         ensures form { IfOk result (λ r. has_state ≡ false → setclientid.result.Fits r.0) }
@@ -54,17 +54,17 @@ impl Clients {
         principal: Principal,
         args: &Setclientid,
         client: ClientId,
-    ) -> Result<(Outcome, ClientChange), ClientsError>
+    ) -> Result<(Outcome, ClientChange), OwnersError>
         requires { self.now.registry.last_confirm < 2 ^ 64 - 1 }
         ensures ok { IfOk result (λ r. registration_by (Update client)
             client.epoch self.now.registry principal args.now ≡ Some r) }
-        ensures full { IsErrOf result ClientsError.Full ↔ registration_by (Update client)
+        ensures full { IsErrOf result OwnersError.Full ↔ registration_by (Update client)
             client.epoch self.now.registry principal args.now ≡ None }
         ensures numbers { IfOk result (λ r. HasNumbersFor r.1 self.now.registry) }
         ensures form { IfOk result (λ r. setclientid.result.Fits r.0) }
     {
         if !is_within_limit(&args.callback.address) {
-            return Err(ClientsError::Full);
+            return Err(OwnersError::Full);
         }
         let confirm = self.last_confirm + 1;
         let answer = SetclientidConfirm { client, confirm };
@@ -79,17 +79,17 @@ impl Clients {
         epoch: u32,
         principal: Principal,
         args: &Setclientid,
-    ) -> Result<(Outcome, ClientChange), ClientsError>
+    ) -> Result<(Outcome, ClientChange), OwnersError>
         requires { self.now.registry.last_confirm < 2 ^ 64 - 1 }
         ensures ok { IfOk result (λ r.
             registration_by Arrival epoch self.now.registry principal args.now ≡ Some r) }
-        ensures full { IsErrOf result ClientsError.Full
+        ensures full { IsErrOf result OwnersError.Full
             ↔ registration_by Arrival epoch self.now.registry principal args.now ≡ None }
         ensures numbers { IfOk result (λ r. HasNumbersFor r.1 self.now.registry) }
         ensures form { IfOk result (λ r. setclientid.result.Fits r.0) }
     {
         if !is_within_limit(&args.callback.address) || self.last_number >= CLIENT_LIMIT {
-            return Err(ClientsError::Full);
+            return Err(OwnersError::Full);
         }
         let client = ClientId {
             epoch,

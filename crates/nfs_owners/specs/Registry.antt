@@ -4,8 +4,8 @@ use Rattle.std.specs.Str.{bytes_eq}
 use Rattle.nfs_xdr.specs.declared.callback.Address.{Address}
 use Rattle.nfs_xdr.specs.declared.client_id.ClientId.{ClientId}
 use Rattle.nfs_xdr.specs.declared.operations.setclientid_confirm.SetclientidConfirm.{SetclientidConfirm}
-use Rattle.nfs_core.specs.declared.client_record.ClientRecord.{ClientRecord}
-use Rattle.nfs_core.specs.declared.client_record.TheConstants.{ADDRESS_LIMIT}
+use Rattle.nfs_owners.specs.declared.client_record.ClientRecord.{ClientRecord}
+use Rattle.nfs_owners.specs.declared.client_record.TheConstants.{ADDRESS_LIMIT}
 
 -- The records in the order in which they were added, and the last client number and the last confirm value that were
 -- given out; each is 0 before the first.

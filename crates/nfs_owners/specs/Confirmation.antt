@@ -1,10 +1,10 @@
 -- What SETCLIENTID_CONFIRM does to the clients' records (RFC 7530, section 16.34.5).
 use Rattle.std.specs.Prelude.{Bool, true, not, ◌&&◌, Option, Some, None, if◌then◌else◌}
-use Rattle.nfs_core.specs.declared.client_record.ClientRecord.{ClientRecord}
-use Rattle.nfs_core.specs.declared.client_record.PathMark.{PathMark}
-use Rattle.nfs_core.specs.declared.clients.client_change.ClientChange.{ClientChange}
-use Rattle.nfs_core.specs.declared.clients.client_change.ClientChange.TheVariants.{Nothing, Confirms, Replaces}
-use Rattle.nfs_core.specs.Registry.{Registry, confirmed_named_by, confirmed_of, is_same_client, unconfirmed_named_by}
+use Rattle.nfs_owners.specs.declared.client_record.ClientRecord.{ClientRecord}
+use Rattle.nfs_owners.specs.declared.client_record.PathMark.{PathMark}
+use Rattle.nfs_owners.specs.declared.clients.client_change.ClientChange.{ClientChange}
+use Rattle.nfs_owners.specs.declared.clients.client_change.ClientChange.TheVariants.{Nothing, Confirms, Replaces}
+use Rattle.nfs_owners.specs.Registry.{Registry, confirmed_named_by, confirmed_of, is_same_client, unconfirmed_named_by}
 use Rattle.nfs_xdr.specs.declared.answer.Answer.TheVariants.{Done, ClidInUse, Refused}
 use Rattle.nfs_xdr.specs.declared.operations.setclientid_confirm.SetclientidConfirm.{SetclientidConfirm}
 use Rattle.nfs_xdr.specs.declared.principal.Principal.{Principal}

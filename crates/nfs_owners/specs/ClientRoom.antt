@@ -1,8 +1,8 @@
--- What a change of the clients' records needs; used only in the contracts of this crate's own functions.
+-- What a change of the clients' records needs.
 use Rattle.std.specs.Prelude.{ℕ, ◌<◌, ◌-◌, ◌^◌, ⊤}
-use Rattle.nfs_core.specs.declared.clients.client_change.ClientChange.{ClientChange}
-use Rattle.nfs_core.specs.declared.clients.client_change.ClientChange.TheVariants as changes
-use Rattle.nfs_core.specs.Registry.{Registry}
+use Rattle.nfs_owners.specs.declared.clients.client_change.ClientChange.{ClientChange}
+use Rattle.nfs_owners.specs.declared.clients.client_change.ClientChange.TheVariants as changes
+use Rattle.nfs_owners.specs.Registry.{Registry}
 
 -- The clients' records, and how many more of them fit without taking memory.
 pub record RoomyClients : Type 0 where

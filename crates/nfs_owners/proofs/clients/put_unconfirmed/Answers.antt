@@ -1,6 +1,6 @@
 use Rattle.std.proofs.Common.{◌∷◌, [], ◌++◌, ap, ◌∙◌, rules}
 use Rattle.std.proofs.lemmas.Fn.{filter_same}
-use Rattle.nfs_core.proofs.clients.put_confirmed.Goals as goal
+use Rattle.nfs_owners.proofs.clients.put_unconfirmed.Goals as goal
 
 pub returns : goal.returns
 returns c =

@@ -3,7 +3,7 @@ use nfs_xdr::ClientId;
 
 /// What a call changes in the clients' records.
 #[derive(Debug, Drop)]
-pub(crate) enum ClientChange {
+pub enum ClientChange {
     Nothing,
     /// Adds this unconfirmed record, with the next client number and the next confirm value.
     Arrives(ClientRecord),

@@ -1,0 +1,5 @@
+pub mod Registry
+pub mod ClientChange
+pub mod Registration
+pub mod Confirmation
+pub mod ClientRoom
