@@ -1,3 +1,4 @@
+pub mod Addresses
 pub mod Registry
 pub mod ClientChange
 pub mod Registration

@@ -6,7 +6,8 @@ use Rattle.nfs_owners.specs.declared.client_record.PathMark.TheVariants.{Unknown
 use Rattle.nfs_owners.specs.declared.client_record.TheConstants.{CLIENT_LIMIT}
 use Rattle.nfs_owners.specs.declared.clients.client_change.ClientChange.{ClientChange}
 use Rattle.nfs_owners.specs.declared.clients.client_change.ClientChange.TheVariants.{Nothing, Arrives, Updates}
-use Rattle.nfs_owners.specs.Registry.{Registry, confirmed_of, is_within_limit}
+use Rattle.nfs_owners.specs.Addresses.{is_within_limit}
+use Rattle.nfs_owners.specs.Registry.{Registry, confirmed_of}
 use Rattle.nfs_xdr.specs.declared.callback.Address.{Address}
 use Rattle.nfs_xdr.specs.declared.answer.Answer.{Answer}
 use Rattle.nfs_xdr.specs.declared.answer.Answer.TheVariants.{Done, ClidInUse}

@@ -1,11 +1,9 @@
 -- The clients' records (RFC 7530, section 16.33.5).
-use Rattle.std.specs.Prelude.{ℕ, nat_le, Bool, ◌&&◌, ◌==◌, not, List, [], length, find, Option}
+use Rattle.std.specs.Prelude.{ℕ, Bool, ◌&&◌, ◌==◌, not, List, [], find, Option}
 use Rattle.std.specs.Str.{bytes_eq}
-use Rattle.nfs_xdr.specs.declared.callback.Address.{Address}
 use Rattle.nfs_xdr.specs.declared.client_id.ClientId.{ClientId}
 use Rattle.nfs_xdr.specs.declared.operations.setclientid_confirm.SetclientidConfirm.{SetclientidConfirm}
 use Rattle.nfs_owners.specs.declared.client_record.ClientRecord.{ClientRecord}
-use Rattle.nfs_owners.specs.declared.client_record.TheConstants.{ADDRESS_LIMIT}
 
 -- The records in the order in which they were added, and the last client number and the last confirm value that were
 -- given out; each is 0 before the first.
@@ -50,8 +48,3 @@ unconfirmed_named_by args registry =
 -- the confirmed record that the arguments of SETCLIENTID_CONFIRM name, if there is one
 abbrev pub confirmed_named_by : SetclientidConfirm → Registry → Option ClientRecord
 confirmed_named_by args registry = find (λ r. r.confirmed && is_named_by args r) registry.records
-
--- both parts of the address are within the limit
-abbrev pub is_within_limit : Address → Bool
-is_within_limit address =
-    nat_le (length address.netid) ADDRESS_LIMIT && nat_le (length address.addr) ADDRESS_LIMIT

@@ -1,6 +1,7 @@
+use crate::ClientCallback;
 use nfs_xdr::operations::setclientid::ID_LIMIT;
 use nfs_xdr::operations::setclientid_confirm::SetclientidConfirm;
-use nfs_xdr::{Callback, ClientId, Principal, Verifier};
+use nfs_xdr::{ClientId, Principal, Verifier};
 use xdr::Opaque;
 
 /// What the server stores of a SETCLIENTID, written { v, x, c, l, s } in RFC 7530, section 16.33.5.
@@ -13,7 +14,7 @@ pub struct ClientRecord {
     /// Identifies one start of the client (v).
     pub verifier: Verifier,
     /// How the client is called back (l).
-    pub callback: Callback,
+    pub callback: ClientCallback,
     /// The confirm value, which SETCLIENTID_CONFIRM has to repeat (s).
     pub confirm: u64,
     /// The clientid (c).
@@ -34,9 +35,6 @@ pub enum PathMark {
     /// A callback was not answered, or the client gave no valid address.
     Down,
 }
-
-/// The greatest length of r_netid, and of r_addr, in a client's record, in bytes.
-pub const ADDRESS_LIMIT: usize = 128;
 
 /// How many client numbers can be given out in one run of the server.
 pub const CLIENT_LIMIT: u32 = 4096;

@@ -1,12 +1,14 @@
 //! Who holds state: the clients' records, and the rules of SETCLIENTID and its confirmation.
 #![tactic(auto)]
 
+mod client_callback;
 mod client_record;
 mod clients;
 mod limits;
 mod owners_error;
 
-pub use client_record::{ADDRESS_LIMIT, CLIENT_LIMIT, ClientRecord, PathMark};
+pub use client_callback::{ADDRESS_LIMIT, ClientCallback};
+pub use client_record::{CLIENT_LIMIT, ClientRecord, PathMark};
 pub use clients::{ClientChange, Clients};
 pub use limits::limits_of_owners;
 pub use owners_error::OwnersError;

@@ -1,11 +1,12 @@
-ghost use Rattle.std.specs.Prelude.{◌≡◌, ℕ, ◌-◌, ◌^◌, ◌<◌, ◌↔◌, false, None, Some, IfOk, IsErrOf};
+ghost use Rattle.std.specs.Prelude.{◌≡◌, ℕ, ◌-◌, ◌^◌, ◌<◌, ◌≤◌, ◌↔◌, false, true, None, Some, IfOk, IsErrOf, length};
+ghost use Rattle.nfs_xdr.specs.declared.answer.Answer.TheVariants.{ClidInUse};
 ghost use Rattle.nfs_xdr.specs.operations.Setclientid as setclientid;
 ghost use Rattle.nfs_owners.specs.Registration.{Arrival, Update, registration, registration_by, unconfirmed_record};
 ghost use Rattle.nfs_owners.specs.ClientRoom.{HasNumbersFor};
-ghost use Rattle.nfs_owners.specs.Registry.{is_within_limit};
+ghost use Rattle.nfs_owners.specs.Addresses.{is_within_limit};
 
 use super::{ClientChange, Clients};
-use crate::{ADDRESS_LIMIT, CLIENT_LIMIT, ClientRecord, OwnersError, PathMark};
+use crate::{CLIENT_LIMIT, ClientCallback, ClientRecord, OwnersError, PathMark};
 use nfs_xdr::operations::setclientid::{Outcome, Setclientid};
 use nfs_xdr::operations::setclientid_confirm::SetclientidConfirm;
 use nfs_xdr::{Address, ClientId, Principal};
@@ -15,7 +16,7 @@ impl Clients {
     /// The answer of SETCLIENTID (RFC 7530, section 16.33.5) in the server's run `epoch`, and its change of the
     /// clients' records. `has_state` is whether the client of the confirmed record with the id has state. Full if a
     /// limit would be exceeded.
-    #[tactic(auto, unfolding(nfs_xdr::specs::Answer::answer, nfs_xdr::specs::Status::status, nfs_xdr::specs::operations::SetclientidConfirm::arguments, nfs_xdr::specs::ClientId::client_id))]
+    #[tactic(auto, unfolding(nfs_xdr::specs::Answer::answer, nfs_xdr::specs::Status::status, nfs_xdr::specs::operations::SetclientidConfirm::arguments, nfs_xdr::specs::ClientId::client_id, xdr::specs::Writing::written_number))]
     pub fn set(
         &self,
         epoch: u32,
@@ -29,7 +30,8 @@ impl Clients {
         ensures full { IsErrOf result OwnersError.Full
             ↔ registration epoch has_state self.now.registry principal args.now ≡ None }
         ensures numbers { IfOk result (λ r. HasNumbersFor r.1 self.now.registry) }
-        ensures form { IfOk result (λ r. has_state ≡ false → setclientid.result.Fits r.0) }
+        ensures form { IfOk result (λ r. setclientid.result.Fits r.0) }
+        ensures short { IfOk result (λ r. length (setclientid.result.spelling r.0) ≤ 300) }
     {
         match self.confirmed_of(args.id.as_slice()) {
             Some(record) if record.principal.is(principal) => {
@@ -40,15 +42,15 @@ impl Clients {
                 }
             }
             Some(record) if has_state => {
-                let address = record.callback.address.clone()?;
-                Ok((Outcome::ClidInUse(address), ClientChange::Nothing))
+                let answer = clid_in_use(record.callback.address())?;
+                Ok((answer, ClientChange::Nothing))
             }
             _ => self.set_arrival(epoch, principal, args),
         }
     }
 
     // A client updates its callback, and keeps its clientid.
-    #[tactic(auto, unfolding(nfs_xdr::specs::Answer::answer, nfs_xdr::specs::Status::status, nfs_xdr::specs::operations::SetclientidConfirm::arguments, nfs_xdr::specs::ClientId::client_id))]
+    #[tactic(auto, unfolding(nfs_xdr::specs::Answer::answer, nfs_xdr::specs::Status::status, nfs_xdr::specs::operations::SetclientidConfirm::arguments, nfs_xdr::specs::ClientId::client_id, xdr::specs::Writing::written_number))]
     fn set_update(
         &self,
         principal: Principal,
@@ -62,10 +64,8 @@ impl Clients {
             client.epoch self.now.registry principal args.now ≡ None }
         ensures numbers { IfOk result (λ r. HasNumbersFor r.1 self.now.registry) }
         ensures form { IfOk result (λ r. setclientid.result.Fits r.0) }
+        ensures short { IfOk result (λ r. length (setclientid.result.spelling r.0) ≤ 300) }
     {
-        if !is_within_limit(&args.callback.address) {
-            return Err(OwnersError::Full);
-        }
         let confirm = self.last_confirm + 1;
         let answer = SetclientidConfirm { client, confirm };
         let record = unconfirmed_record(principal, args, answer)?;
@@ -73,7 +73,7 @@ impl Clients {
     }
 
     // A client gets a new client number.
-    #[tactic(auto, unfolding(nfs_xdr::specs::Answer::answer, nfs_xdr::specs::Status::status, nfs_xdr::specs::operations::SetclientidConfirm::arguments, nfs_xdr::specs::ClientId::client_id))]
+    #[tactic(auto, unfolding(nfs_xdr::specs::Answer::answer, nfs_xdr::specs::Status::status, nfs_xdr::specs::operations::SetclientidConfirm::arguments, nfs_xdr::specs::ClientId::client_id, xdr::specs::Writing::written_number))]
     fn set_arrival(
         &self,
         epoch: u32,
@@ -87,8 +87,9 @@ impl Clients {
             ↔ registration_by Arrival epoch self.now.registry principal args.now ≡ None }
         ensures numbers { IfOk result (λ r. HasNumbersFor r.1 self.now.registry) }
         ensures form { IfOk result (λ r. setclientid.result.Fits r.0) }
+        ensures short { IfOk result (λ r. length (setclientid.result.spelling r.0) ≤ 300) }
     {
-        if !is_within_limit(&args.callback.address) || self.last_number >= CLIENT_LIMIT {
+        if self.last_number >= CLIENT_LIMIT {
             return Err(OwnersError::Full);
         }
         let client = ClientId {
@@ -102,30 +103,37 @@ impl Clients {
     }
 }
 
-// The record that SETCLIENTID adds for a clientid and a confirm value, not yet confirmed.
+// NFS4ERR_CLID_INUSE, with the address at which the client that has the id is called back.
+#[tactic(auto, unfolding(nfs_xdr::specs::Answer::answer, nfs_xdr::specs::Status::status, nfs_xdr::specs::Callback::address, xdr::specs::Form::bytes, xdr::specs::Form::opaque))]
+fn clid_in_use(address: &Address) -> Result<Outcome, AllocError>
+    requires { is_within_limit address.now ≡ true }
+    ensures ok { IfOk result (λ r. r ≡ ClidInUse address.now) }
+    ensures form { IfOk result (λ r. setclientid.result.Fits r) }
+    ensures short { IfOk result (λ r. length (setclientid.result.spelling r) ≤ 300) }
+{
+    Ok(Outcome::ClidInUse(address.clone()?))
+}
+
+// The record that SETCLIENTID adds for a clientid and a confirm value, not yet confirmed. Full if a part of the
+// callback's address is too long.
 fn unconfirmed_record(
     principal: Principal,
     args: &Setclientid,
     answer: SetclientidConfirm,
-) -> Result<ClientRecord, AllocError>
-    ensures { IfOk result (λ r. r ≡ unconfirmed_record principal args.now answer) }
+) -> Result<ClientRecord, OwnersError>
+    ensures ok { IfOk result (λ r. r ≡ unconfirmed_record principal args.now answer) }
+    ensures full { IsErrOf result OwnersError.Full
+        ↔ is_within_limit args.now.callback.address ≡ false }
 {
+    let callback = ClientCallback::copy_of(&args.callback)?;
     Ok(ClientRecord {
         id: args.id.clone()?,
         principal,
         verifier: args.verifier,
-        callback: args.callback.clone()?,
+        callback,
         confirm: answer.confirm,
         client: answer.client,
         confirmed: false,
         path: PathMark::Unknown,
     })
-}
-
-// Whether both parts of the address are within the limit.
-fn is_within_limit(address: &Address) -> bool
-    ensures { result ≡ is_within_limit address.now }
-{
-    address.netid.as_slice().len() <= ADDRESS_LIMIT
-        && address.addr.as_slice().len() <= ADDRESS_LIMIT
 }
