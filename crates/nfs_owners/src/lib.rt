@@ -3,10 +3,16 @@
 
 mod client_record;
 mod clients;
+mod kept;
 mod limits;
+mod owner;
+mod owners;
 mod owners_error;
 
 pub use client_record::{ADDRESS_LIMIT, CLIENT_LIMIT, ClientRecord, PathMark};
 pub use clients::{ClientChange, Clients};
+pub use kept::{Kept, KeptRequest, Verdict};
 pub use limits::limits_of_owners;
+pub use owner::{OWNER_LIMIT, Owner, OwnerStanding};
+pub use owners::Owners;
 pub use owners_error::OwnersError;
