@@ -58,4 +58,11 @@ impl Owner {
     {
         self.name.client == client
     }
+    /// Makes this the last request, in the journal's entry of this number.
+    pub fn keep(&mut self, number: u32, kept: Kept)
+        ensures { self.new ≡ record self.old { number = number; kept = kept } }
+    {
+        self.number = number;
+        self.kept = kept;
+    }
 }

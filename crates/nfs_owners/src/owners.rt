@@ -2,7 +2,7 @@ ghost use Rattle.std.specs.Prelude.{◌≡◌, ◌<◌, ◌≤◌, ◌↔◌, fa
 ghost use Rattle.std.specs.List.{position};
 ghost use Rattle.std.specs.Option.{option_copied};
 ghost use Rattle.nfs_owners.specs.Kept.{request_of};
-ghost use Rattle.nfs_owners.specs.Owner.{has_name, owner_of, standing_of};
+ghost use Rattle.nfs_owners.specs.Owner.{has_name, is_known, owner_of, standing_of};
 ghost use Rattle.nfs_owners.specs.Owners.{IsJudged, has_place, with_confirmed, with_kept, without_owner, without_owners_of};
 
 use crate::{Kept, OWNER_LIMIT, Owner, OwnerStanding, OwnersError, Verdict};
@@ -79,7 +79,21 @@ impl Owners {
     pub fn has_place(&self, name: &OpenOwner) -> bool
         ensures { result ≡ has_place name.now self.now.owners }
     {
-        self.owners.iter().any(|o| o.has_name(name)) || self.owners.len() < OWNER_LIMIT
+        self.is_known(name) || self.owners.len() < OWNER_LIMIT
+    }
+
+    // Whether the owner with this name is known.
+    fn is_known(&self, name: &OpenOwner) -> bool
+        ensures { result ≡ is_known name.now self.now.owners }
+    {
+        self.owners.iter().any(|o| o.has_name(name))
+    }
+
+    // Where the owner with this name is in the list, if it is known.
+    fn place_of(&self, name: &OpenOwner) -> Option<usize>
+        ensures { result ≡ position (has_name name.now) self.now.owners }
+    {
+        self.owners.iter().position(|o| o.has_name(name))
     }
 
     /// Makes room for the owner. Full if it has no place.
@@ -102,12 +116,8 @@ impl Owners {
         requires room { 0 < self.old.room }
         ensures { self.new.owners ≡ with_kept name number kept self.old.owners }
     {
-        match self.owners.iter().position(|o| o.has_name(&name)) {
-            Some(place) => {
-                let owner = &mut self.owners[place];
-                owner.number = number;
-                owner.kept = kept;
-            }
+        match self.place_of(&name) {
+            Some(place) => self.owners[place].keep(number, kept),
             None => self.owners.push_reserved(Owner::new(name, number, kept)),
         }
     }
@@ -117,7 +127,7 @@ impl Owners {
         ensures owners { self.new.owners ≡ with_confirmed name.now self.old.owners }
         ensures room { self.new.room ≡ self.old.room }
     {
-        if let Some(place) = self.owners.iter().position(|o| o.has_name(name)) {
+        if let Some(place) = self.place_of(name) {
             self.owners[place].confirmed = true;
         }
     }
