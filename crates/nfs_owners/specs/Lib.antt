@@ -6,3 +6,4 @@ pub mod ClientRoom
 pub mod Kept
 pub mod Owner
 pub mod Owners
+pub mod Numbers
