@@ -14,7 +14,7 @@ use Rattle.nfs_owners.specs.declared.owner.Owner.{Owner}
 use Rattle.nfs_owners.specs.declared.owner.TheConstants.{OWNER_LIMIT}
 use Rattle.nfs_owners.specs.Owner.{has_name, is_known, new_owner}
 use Rattle.nfs_owners.specs.Registry.{is_same_client}
-use Rattle.nfs_owners.specs.Owners.{AreApart, AreOwners, has_place, with_change, with_kept}
+use Rattle.nfs_owners.specs.Owners.{AreApart, AreOwners, has_place, with_change, with_kept, without_owner}
 use Rattle.nfs_xdr.specs.declared.open_owner.OpenOwner.{OpenOwner}
 
 both : (a b : Bool) → a && b ≡ true → (a ≡ true) × (b ≡ true)
@@ -115,3 +115,24 @@ owners_kept name number kept owners are place = by (is_known name owners) refl
     by : (b : Bool) → is_known name owners ≡ b → AreOwners (with_kept name number kept owners)
     by true known = rw known (owners_change (λ p. record p { number = number; kept = kept }) (λ p. refl) name owners are)
     by false unknown = rw unknown (owners_push owners (new_owner name number kept) are unknown (grind (arith, place, unknown)))
+
+not_not : (b : Bool) → b ≡ not (not b)
+not_not true = refl
+not_not false = refl
+
+-- where an owner was known, one place more is left without it
+fewer_known : (name : OpenOwner) (owners : List Owner) → is_known name owners ≡ true → length (without_owner name owners) < length owners
+fewer_known name [] known = cc
+fewer_known name (o ∷ owners) known = grind (arith, known, fewer_known name owners, length-filter_both (λ o. not (has_name name o)) (has_name name) (λ x. not_not (has_name name x)) owners)
+
+same_unknown : (name : OpenOwner) (owners : List Owner) → is_known name owners ≡ false → without_owner name owners ≡ owners
+same_unknown name [] unknown = refl
+same_unknown name (o ∷ owners) unknown = grind (arith, unknown, same_unknown name owners)
+
+-- whoever has a place has one without another owner
+pub place_without : (name other : OpenOwner) (owners : List Owner) → AreOwners owners → has_place other owners ≡ true → has_place other (without_owner name owners) ≡ true
+place_without name other owners are place = by (is_known name owners) refl
+  where
+    by : (b : Bool) → is_known name owners ≡ b → has_place other (without_owner name owners) ≡ true
+    by true known = grind (arith, fewer_known name owners known, are.0)
+    by false unknown = rw (same_unknown name owners unknown) place

@@ -2,6 +2,7 @@ ghost use Rattle.std.specs.Prelude.{◌≡◌, ◌<◌, ◌≤◌, ◌↔◌, fa
 ghost use Rattle.std.specs.List.{position};
 ghost use Rattle.std.specs.Option.{option_copied};
 ghost use Rattle.nfs_owners.specs.Kept.{request_of};
+ghost use Rattle.nfs_xdr.specs.declared.open_owner.OpenOwner.{OpenOwner};
 ghost use Rattle.nfs_owners.specs.Owner.{has_name, is_known, owner_of, standing_of};
 ghost use Rattle.nfs_owners.specs.Owners.{IsJudged, has_place, with_confirmed, with_kept, without_owner, without_owners_of};
 
@@ -136,6 +137,8 @@ impl Owners {
     pub fn remove(&mut self, name: &OpenOwner)
         ensures owners { self.new.owners ≡ without_owner name.now self.old.owners }
         ensures room { self.old.room ≤ self.new.room }
+        ensures places { (other : OpenOwner)
+            → IsTrue (has_place other self.old.owners) → IsTrue (has_place other self.new.owners) }
     {
         self.owners.retain(|o| !o.has_name(name));
     }
