@@ -4,3 +4,7 @@ pub mod ClientChange
 pub mod Registration
 pub mod Confirmation
 pub mod ClientRoom
+pub mod Kept
+pub mod Owner
+pub mod Owners
+pub mod Numbers

@@ -1,5 +1,6 @@
 -- The clients' records (RFC 7530, section 16.33.5).
-use Rattle.std.specs.Prelude.{ℕ, Bool, ◌&&◌, ◌==◌, not, List, [], find, Option}
+use Rattle.std.specs.Prelude.{ℕ, Bool, ◌&&◌, ◌==◌, not, List, [], filter, find, Option}
+use Rattle.std.specs.List.{list_any}
 use Rattle.std.specs.Str.{bytes_eq}
 use Rattle.nfs_xdr.specs.declared.client_id.ClientId.{ClientId}
 use Rattle.nfs_xdr.specs.declared.operations.setclientid_confirm.SetclientidConfirm.{SetclientidConfirm}
@@ -35,6 +36,27 @@ is_unconfirmed_of id r = not r.confirmed && is_of id r
 -- the confirmed record with this id, if there is one
 abbrev pub confirmed_of : Registry → List ℕ → Option ClientRecord
 confirmed_of registry id = find (is_confirmed_of id) registry.records
+
+-- the record is one of the client with this number
+abbrev pub is_of_client : ℕ → ClientRecord → Bool
+is_of_client number r = r.client.number == number
+
+-- the confirmed record with this clientid, if there is one
+abbrev pub record_of : ClientId → Registry → Option ClientRecord
+record_of client registry = find (λ r. r.confirmed && is_same_client r.client client) registry.records
+
+-- the client with this number has a confirmed record
+abbrev pub is_live : ℕ → Registry → Bool
+is_live number registry = list_any (λ r. r.confirmed && is_of_client number r) registry.records
+
+-- a client was given this number
+abbrev pub was_given : ℕ → Registry → Bool
+was_given number registry = nat_le 1 number && nat_le number registry.last_number
+
+-- all records of the client with this number are removed, also an unconfirmed one
+abbrev pub without_client : ℕ → Registry → Registry
+without_client number registry =
+    record registry { records = filter (λ r. not (is_of_client number r)) registry.records }
 
 -- the arguments of SETCLIENTID_CONFIRM name the record, by its clientid and its confirm value
 abbrev pub is_named_by : SetclientidConfirm → ClientRecord → Bool

@@ -41,7 +41,7 @@ pub const CLIENT_LIMIT: u32 = 4096;
 
 impl ClientRecord {
     ghost use Rattle.std.specs.Prelude.{◌≡◌};
-    ghost use Rattle.nfs_owners.specs.Registry.{is_confirmed_of, is_named_by, is_of, is_unconfirmed_of};
+    ghost use Rattle.nfs_owners.specs.Registry.{is_confirmed_of, is_named_by, is_of, is_of_client, is_unconfirmed_of};
 
     /// Whether the record has this id.
     pub(crate) fn is_of(&self, id: &[u8]) -> bool
@@ -62,6 +62,13 @@ impl ClientRecord {
         ensures { result ≡ is_unconfirmed_of id.now self.now }
     {
         !self.confirmed && self.is_of(id)
+    }
+
+    /// Whether the record is one of the client with this number.
+    pub(crate) fn is_of_client(&self, number: u32) -> bool
+        ensures { result ≡ is_of_client number self.now }
+    {
+        self.client.number == number
     }
 
     /// Whether the arguments of SETCLIENTID_CONFIRM name the record, by its clientid and its confirm value.

@@ -1,4 +1,4 @@
-ghost use Rattle.std.specs.Prelude.{◌≡◌, ◌<◌, OnOk};
+ghost use Rattle.std.specs.Prelude.{◌≡◌, ◌<◌, ◌≤◌, OnOk};
 ghost use Rattle.std.specs.Vec.{vec_len, vec_capacity};
 ghost use Rattle.nfs_owners.specs.ClientChange.{with_confirmed, with_unconfirmed};
 
@@ -8,6 +8,7 @@ mod registration;
 
 use crate::ClientRecord;
 pub use client_change::ClientChange;
+use nfs_xdr::ClientId;
 use nfs_xdr::operations::setclientid_confirm::SetclientidConfirm;
 use std::alloc::{AllocError, Global};
 use std::marker::Model;
@@ -44,7 +45,7 @@ impl Clients {
     ghost use Rattle.std.specs.Option.{option_copied};
     ghost use Rattle.nfs_owners.specs.ClientChange.{with_change};
     ghost use Rattle.nfs_owners.specs.ClientRoom.{HasNumbersFor, HasRoomFor};
-    ghost use Rattle.nfs_owners.specs.Registry.{confirmed_named_by, confirmed_of, no_clients, unconfirmed_named_by};
+    ghost use Rattle.nfs_owners.specs.Registry.{confirmed_named_by, confirmed_of, is_live, no_clients, record_of, unconfirmed_named_by, was_given, without_client};
 
     /// A registry without clients, taking no memory.
     pub fn new(alloc: Global) -> Clients
@@ -64,6 +65,31 @@ impl Clients {
         self.records.iter().find(|r| r.is_confirmed_of(id))
     }
 
+    /// The confirmed record with this clientid, if there is one.
+    pub fn of(&self, client: ClientId) -> Option<&ClientRecord>
+        ensures { option_copied result ≡ record_of client self.now.registry }
+    {
+        self.records
+            .iter()
+            .find(|r| r.confirmed && r.client == client)
+    }
+
+    /// Whether the client with this number has a confirmed record.
+    pub fn live(&self, number: u32) -> bool
+        ensures { result ≡ is_live number self.now.registry }
+    {
+        self.records
+            .iter()
+            .any(|r| r.confirmed && r.is_of_client(number))
+    }
+
+    /// Whether a client was given this number.
+    pub fn was_given(&self, number: u32) -> bool
+        ensures { result ≡ was_given number self.now.registry }
+    {
+        1 <= number && number <= self.last_number
+    }
+
     /// The unconfirmed record that the arguments of SETCLIENTID_CONFIRM name, if there is one.
     pub fn unconfirmed_named_by(&self, args: &SetclientidConfirm) -> Option<&ClientRecord>
         ensures { option_copied result ≡ unconfirmed_named_by args.now self.now.registry }
@@ -80,6 +106,14 @@ impl Clients {
         self.records
             .iter()
             .find(|r| r.confirmed && r.is_named_by(args))
+    }
+
+    /// Removes all records of the client with this number, also an unconfirmed one.
+    pub fn remove(&mut self, number: u32)
+        ensures registry { self.new.registry ≡ without_client number self.old.registry }
+        ensures room { self.old.room ≤ self.new.room }
+    {
+        self.records.retain(|r| !r.is_of_client(number));
     }
 
     /// Makes room for the change.

@@ -4,11 +4,19 @@
 mod client_callback;
 mod client_record;
 mod clients;
+mod kept;
 mod limits;
+mod numbers;
+mod owner;
+mod owners;
 mod owners_error;
 
 pub use client_callback::{ADDRESS_LIMIT, ClientCallback};
 pub use client_record::{CLIENT_LIMIT, ClientRecord, PathMark};
 pub use clients::{ClientChange, Clients};
+pub use kept::{Kept, KeptRequest, Verdict};
 pub use limits::limits_of_owners;
+pub use numbers::{Numbers, numbers_rise};
+pub use owner::{OWNER_LIMIT, Owner, OwnerStanding};
+pub use owners::Owners;
 pub use owners_error::OwnersError;

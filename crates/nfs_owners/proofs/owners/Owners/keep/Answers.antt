@@ -1,0 +1,28 @@
+use Rattle.std.proofs.Common.{◌≡◌, [], ◌∷◌, ◌++◌, sym, ap, ◌∙◌, subst, slice_set}
+use Rattle.std.specs.List.{position}
+use Rattle.nfs_owners.specs.Owner.{has_name}
+use Rattle.nfs_owners.specs.Owners.{AreOwners, RoomyOwners, has_place, with_kept}
+use Rattle.nfs_owners.proofs.OwnerLists.{kept_found, kept_new, owners_kept}
+use Rattle.nfs_owners.proofs.owners.Owners.keep.Goals as goal
+
+found : (c : goal.After-drop-name) → slice_set c.self.inside.owners.items c.in-Some.place c.keep.new.self ≡ with_kept c.args.name c.args.number c.args.kept c.self.inside.owners.items
+found c = ap (λ o. slice_set c.self.inside.owners.items c.in-Some.place o) c.keep.ensures
+    ∙ kept_found c.args.name c.args.number c.args.kept c.self.inside.owners.items c.in-Some.place c.index_mut.result.now c.self.invariant.1
+    (ap (λ (o : RoomyOwners). position (has_name c.args.name) o.owners) c.self.view_is ∙ sym c.place_of.ensures ∙ c.in-Some.is) c.index_mut.ensures.value
+
+added : (c : goal.After-push_reserved) → c.push_reserved.new.self.items ≡ with_kept c.args.name c.args.number c.args.kept c.self.inside.owners.items
+added c = c.push_reserved.ensures.items ∙ ap (λ o. c.self.inside.owners.items ++ o ∷ []) c.new.ensures
+    ∙ kept_new c.args.name c.args.number c.args.kept c.self.inside.owners.items
+    (ap (λ (o : RoomyOwners). position (has_name c.args.name) o.owners) c.self.view_is ∙ sym c.place_of.ensures ∙ c.in-None.is)
+
+pub invariant_of-self : goal.invariant_of-self
+invariant_of-self c = subst AreOwners (sym (found c)) (owners_kept _ _ _ _ c.self.invariant (ap (λ (o : RoomyOwners). has_place c.args.name o.owners) c.self.view_is ∙ c.requires.place))
+
+pub invariant_of-self-in-None : goal.invariant_of-self-in-None
+invariant_of-self-in-None c = subst AreOwners (sym (added c)) (owners_kept _ _ _ _ c.self.invariant (ap (λ (o : RoomyOwners). has_place c.args.name o.owners) c.self.view_is ∙ c.requires.place))
+
+pub returns-in-Some : goal.returns-in-Some
+returns-in-Some c = found c ∙ ap (λ (o : RoomyOwners). with_kept c.args.name c.args.number c.args.kept o.owners) c.self.view_is
+
+pub returns-in-None : goal.returns-in-None
+returns-in-None c = added c ∙ ap (λ (o : RoomyOwners). with_kept c.args.name c.args.number c.args.kept o.owners) c.self.view_is

@@ -1,0 +1,26 @@
+-- What is kept of an owner's last request, and the verdict on the one that comes (RFC 7530, sections 9.1.7 and 9.1.8).
+use Rattle.std.specs.Prelude.{◌≡◌, ◌≢◌, ℕ, ◌+◌, ◌-◌, ◌^◌, ◌==◌, Option, if◌then◌else◌}
+use Rattle.nfs_owners.specs.declared.kept.Kept.{Kept}
+use Rattle.nfs_owners.specs.declared.kept.KeptRequest.{KeptRequest}
+use Rattle.nfs_owners.specs.declared.kept.Verdict.{Verdict}
+use Rattle.nfs_owners.specs.declared.kept.Verdict.TheVariants as verdicts
+use Rattle.nfs_xdr.specs.declared.op.Op.{Op}
+
+-- a request of this operation, with the node of the current filehandle
+abbrev pub request_of : Op → Option ℕ → KeptRequest
+request_of op filehandle = record { op = op; filehandle = filehandle }
+
+-- the sequence id that follows another; after 2^32 - 1 comes 0
+abbrev pub next_seqid : ℕ → ℕ
+next_seqid seqid = if seqid == 2 ^ 32 - 1 then 0 else seqid + 1
+
+-- The request is the last one again: with its sequence id, operation, arguments and current filehandle.
+abbrev pub IsAgain : Kept → ℕ → KeptRequest → Type 0
+IsAgain kept seqid request = (seqid ≡ kept.seqid) × (request ≡ kept.request)
+
+-- The verdict on a request, given the owner's last one: it is the next one, or the last one again, or neither.
+abbrev pub IsVerdict : Kept → ℕ → KeptRequest → Verdict → Type 0
+IsVerdict kept seqid request verdicts.New = seqid ≡ next_seqid kept.seqid
+IsVerdict kept seqid request (verdicts.Replay answer) = IsAgain kept seqid request × (answer.now ≡ kept.answer)
+IsVerdict kept seqid request verdicts.Bad =
+    (seqid ≢ next_seqid kept.seqid) × (IsAgain kept seqid request → ⊥)

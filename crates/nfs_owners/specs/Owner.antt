@@ -1,0 +1,42 @@
+-- The owners that the server knows (RFC 7530, section 9.1.5).
+use Rattle.std.specs.Prelude.{ℕ, Bool, true, false, ◌&&◌, List, find, Option, Some, None, if◌then◌else◌}
+use Rattle.std.specs.List.{list_any}
+use Rattle.std.specs.Str.{bytes_eq}
+use Rattle.nfs_owners.specs.declared.kept.Kept.{Kept}
+use Rattle.nfs_owners.specs.declared.owner.Owner.{Owner}
+use Rattle.nfs_owners.specs.declared.owner.OwnerStanding.{OwnerStanding}
+use Rattle.nfs_owners.specs.declared.owner.OwnerStanding.TheVariants.{Unknown, Unconfirmed, Confirmed}
+use Rattle.nfs_owners.specs.Registry.{is_same_client}
+use Rattle.nfs_xdr.specs.declared.client_id.ClientId.{ClientId}
+use Rattle.nfs_xdr.specs.declared.open_owner.OpenOwner.{OpenOwner}
+
+-- the owner is one of this client's
+abbrev pub has_client : ClientId → Owner → Bool
+has_client client o = is_same_client o.name.client client
+
+-- the owner has this name at this client
+abbrev pub has_name : OpenOwner → Owner → Bool
+has_name name o = has_client name.client o && bytes_eq o.name.name name.name
+
+-- the owner with this name, if it is known
+abbrev pub owner_of : OpenOwner → List Owner → Option Owner
+owner_of name owners = find (has_name name) owners
+
+-- an owner with this name is known
+abbrev pub is_known : OpenOwner → List Owner → Bool
+is_known name owners = list_any (has_name name) owners
+
+-- what is known of an owner, given the one with its name
+abbrev pub standing_of : Option Owner → OwnerStanding
+standing_of None = Unknown
+standing_of (Some o) = if o.confirmed then Confirmed else Unconfirmed
+
+-- an owner that is recorded by its first request, in the journal's entry of this number
+abbrev pub new_owner : OpenOwner → ℕ → Kept → Owner
+new_owner name number kept = record {
+  name = name;
+  confirmed = false;
+  recorded = number;
+  number = number;
+  kept = kept;
+}

@@ -1,0 +1,59 @@
+-- What the calls on owners tell and change.
+use Rattle.std.specs.Prelude.{◌≡◌, ℕ, ◌≤◌, nat_lt, ⊤, Bool, true, not, ◌||◌, IsTrue, IsFalse, List, [], ◌∷◌, ◌++◌, map, filter, length, Option, Some, None, if◌then◌else◌}
+use Rattle.nfs_owners.specs.declared.kept.Kept.{Kept}
+use Rattle.nfs_owners.specs.declared.kept.KeptRequest.{KeptRequest}
+use Rattle.nfs_owners.specs.declared.kept.Verdict.{Verdict}
+use Rattle.nfs_owners.specs.declared.owner.Owner.{Owner}
+use Rattle.nfs_owners.specs.declared.owner.TheConstants.{OWNER_LIMIT}
+use Rattle.nfs_owners.specs.Kept.{IsVerdict}
+use Rattle.nfs_owners.specs.Owner.{has_client, has_name, is_known, new_owner}
+use Rattle.nfs_xdr.specs.declared.client_id.ClientId.{ClientId}
+use Rattle.nfs_xdr.specs.declared.open_owner.OpenOwner.{OpenOwner}
+
+-- The owners in the order in which they were recorded, and how many more of them fit without taking memory.
+pub record RoomyOwners : Type 0 where
+  pub owners : List Owner
+  pub room : ℕ
+
+-- no two owners have one name
+abbrev pub AreApart : List Owner → Type 0
+AreApart [] = ⊤
+AreApart (o ∷ owners) = IsFalse (is_known o.name owners) × AreApart owners
+
+-- the server can know these owners at a time
+abbrev pub AreOwners : List Owner → Type 0
+AreOwners owners = (length owners ≤ OWNER_LIMIT) × AreApart owners
+
+-- the owner is known, or may be recorded without passing the limit
+abbrev pub has_place : OpenOwner → List Owner → Bool
+has_place name owners = is_known name owners || nat_lt (length owners) OWNER_LIMIT
+
+-- The verdict on a request of an owner; there is none on that of an unknown owner.
+abbrev pub IsJudged : Option Owner → ℕ → KeptRequest → Option Verdict → Type 0
+IsJudged None seqid request verdict = verdict ≡ None
+IsJudged (Some o) seqid request None = ⊥
+IsJudged (Some o) seqid request (Some verdict) = IsVerdict o.kept seqid request verdict
+
+-- the owner with this name is changed, and the others stay
+abbrev pub with_change : (Owner → Owner) → OpenOwner → List Owner → List Owner
+with_change change name owners = map (λ o. if has_name name o then change o else o) owners
+
+-- The owner's last request is now this one, in the journal's entry of this number. An owner that was unknown is
+-- recorded by it.
+abbrev pub with_kept : OpenOwner → ℕ → Kept → List Owner → List Owner
+with_kept name number kept owners =
+    if is_known name owners
+    then with_change (λ o. record o { number = number; kept = kept }) name owners
+    else owners ++ new_owner name number kept ∷ []
+
+-- the owner is confirmed
+abbrev pub with_confirmed : OpenOwner → List Owner → List Owner
+with_confirmed name owners = with_change (λ o. record o { confirmed = true }) name owners
+
+-- the owner is no longer known
+abbrev pub without_owner : OpenOwner → List Owner → List Owner
+without_owner name owners = filter (λ o. not (has_name name o)) owners
+
+-- no owner of the client is known any longer
+abbrev pub without_owners_of : ClientId → List Owner → List Owner
+without_owners_of client owners = filter (λ o. not (has_client client o)) owners

@@ -1,0 +1,64 @@
+ghost use Rattle.std.specs.Prelude.{◌≡◌, ◌≢◌, MatchBool};
+ghost use Rattle.nfs_owners.specs.Kept.{IsVerdict, next_seqid, request_of};
+
+use nfs_xdr::{Op, OpResult};
+
+/// An owner's last request, with its sequence id, and the answer to it (RFC 7530, section 9.1.8).
+#[derive(Debug, Drop)]
+pub struct Kept {
+    pub seqid: u32,
+    pub request: KeptRequest,
+    pub answer: OpResult,
+}
+
+/// What a request and its retransmission have in common: the operation with its arguments, and the current
+/// filehandle.
+#[derive(Debug, Drop)]
+pub struct KeptRequest {
+    pub op: Op,
+    /// The node of the current filehandle, if there is one.
+    pub filehandle: Option<u32>,
+}
+
+/// The verdict on a request, given the owner's last one (RFC 7530, section 9.1.7).
+#[derive(Clone, Copy, Debug)]
+pub enum Verdict<'a> {
+    /// It is the owner's next request.
+    New,
+    /// It is the owner's last request again, which had this answer.
+    Replay(&'a OpResult),
+    /// It is neither.
+    Bad,
+}
+
+impl Kept {
+    /// The verdict on a request with this sequence id, operation and current filehandle.
+    pub fn judge(&self, seqid: u32, op: &Op, filehandle: Option<u32>) -> Verdict<'_>
+        ensures { IsVerdict self.now seqid (request_of op.now filehandle) result }
+    {
+        if seqid == next_seqid(self.seqid) {
+            Verdict::New
+        } else if seqid == self.seqid && self.request.is(op, filehandle) {
+            Verdict::Replay(&self.answer)
+        } else {
+            Verdict::Bad
+        }
+    }
+}
+
+impl KeptRequest {
+    /// Whether the request has this operation, with the same arguments, and this current filehandle.
+    pub fn is(&self, op: &Op, filehandle: Option<u32>) -> bool
+        ensures { MatchBool result (self.now ≡ request_of op.now filehandle)
+            (self.now ≢ request_of op.now filehandle) }
+    {
+        self.filehandle == filehandle && self.op.is_same(op)
+    }
+}
+
+// The sequence id after this one.
+fn next_seqid(seqid: u32) -> u32
+    ensures { result ≡ next_seqid seqid }
+{
+    seqid.wrapping_add(1)
+}

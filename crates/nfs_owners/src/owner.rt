@@ -1,0 +1,68 @@
+ghost use Rattle.std.specs.Prelude.{◌≡◌};
+ghost use Rattle.nfs_owners.specs.Owner.{has_client, has_name, new_owner, standing_of};
+
+use crate::Kept;
+use nfs_xdr::{ClientId, OpenOwner};
+
+/// An owner that the server knows (RFC 7530, section 9.1.5), and its last request.
+#[derive(Debug, Drop)]
+pub struct Owner {
+    pub name: OpenOwner,
+    /// Whether an OPEN_CONFIRM has confirmed the owner.
+    pub confirmed: bool,
+    /// The number of the journal's entry that recorded the owner.
+    pub recorded: u32,
+    /// The number of the journal's entry of the last request.
+    pub number: u32,
+    /// The last request with its answer.
+    pub kept: Kept,
+}
+
+/// What the server knows of an owner (RFC 7530, section 9.1.11).
+#[derive(Clone, Copy, Debug, PartialEq, Eq)]
+pub enum OwnerStanding {
+    /// Nothing.
+    Unknown,
+    /// It has opened a file, and no OPEN_CONFIRM has come.
+    Unconfirmed,
+    Confirmed,
+}
+
+/// How many owners the server can know at a time.
+pub const OWNER_LIMIT: usize = 16_384;
+
+impl Owner {
+    /// An owner that is recorded by its first request, in the journal's entry of this number.
+    pub fn new(name: OpenOwner, number: u32, kept: Kept) -> Owner
+        ensures { result ≡ new_owner name number kept }
+    {
+        Owner {
+            name,
+            confirmed: false,
+            recorded: number,
+            number,
+            kept,
+        }
+    }
+
+    /// Whether the owner has this name at this client.
+    pub fn has_name(&self, name: &OpenOwner) -> bool
+        ensures { result ≡ has_name name.now self.now }
+    {
+        self.has_client(name.client) && self.name.name.as_slice() == name.name.as_slice()
+    }
+
+    /// Whether the owner is one of this client's.
+    pub fn has_client(&self, client: ClientId) -> bool
+        ensures { result ≡ has_client client self.now }
+    {
+        self.name.client == client
+    }
+    /// Makes this the last request, in the journal's entry of this number.
+    pub fn keep(&mut self, number: u32, kept: Kept)
+        ensures { self.new ≡ record self.old { number = number; kept = kept } }
+    {
+        self.number = number;
+        self.kept = kept;
+    }
+}

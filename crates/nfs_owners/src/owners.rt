@@ -1,0 +1,153 @@
+ghost use Rattle.std.specs.Prelude.{◌≡◌, ◌<◌, ◌≤◌, ◌↔◌, false, [], IsErrOf, IsTrue, OnOk};
+ghost use Rattle.std.specs.List.{position};
+ghost use Rattle.std.specs.Option.{option_copied};
+ghost use Rattle.nfs_owners.specs.Kept.{request_of};
+ghost use Rattle.nfs_xdr.specs.declared.open_owner.OpenOwner.{OpenOwner};
+ghost use Rattle.nfs_owners.specs.Owner.{has_name, is_known, owner_of, standing_of};
+ghost use Rattle.nfs_owners.specs.Owners.{IsJudged, has_place, with_confirmed, with_kept, without_owner, without_owners_of};
+
+use crate::{Kept, OWNER_LIMIT, Owner, OwnerStanding, OwnersError, Verdict};
+use nfs_xdr::{ClientId, Op, OpenOwner};
+use std::alloc::Global;
+use std::marker::Model;
+
+/// The owners that the server knows, in the order in which they were recorded: at most `OWNER_LIMIT`, no two with one
+/// name.
+#[derive(Debug, Drop)]
+pub struct Owners {
+    owners: Vec<Owner>,
+}
+
+impl Model for Owners {
+    ghost use Rattle.std.specs.Prelude.{◌-◌};
+    ghost use Rattle.std.specs.Vec.{vec_len, vec_capacity};
+    ghost use Rattle.nfs_owners.specs.Owners.{AreOwners, RoomyOwners};
+
+    ghost Value = { RoomyOwners };
+
+    ghost view = { λ o. record {
+      owners = o.owners.items;
+      room = vec_capacity o.owners - vec_len o.owners;
+    } };
+
+    ghost invariant = { λ o. AreOwners o.owners.items };
+}
+
+impl Owners {
+    /// No owners, taking no memory.
+    pub fn new(alloc: Global) -> Owners
+        ensures { result.owners ≡ [] }
+    {
+        Owners {
+            owners: Vec::new(alloc),
+        }
+    }
+
+    /// The owner with this name, if it is known.
+    pub fn find(&self, name: &OpenOwner) -> Option<&Owner>
+        ensures { option_copied result ≡ owner_of name.now self.now.owners }
+    {
+        self.owners.iter().find(|o| o.has_name(name))
+    }
+
+    /// What is known of the owner with this name.
+    pub fn known(&self, name: &OpenOwner) -> OwnerStanding
+        ensures { result ≡ standing_of (owner_of name.now self.now.owners) }
+    {
+        match self.find(name) {
+            None => OwnerStanding::Unknown,
+            Some(owner) if owner.confirmed => OwnerStanding::Confirmed,
+            Some(_) => OwnerStanding::Unconfirmed,
+        }
+    }
+
+    /// The verdict on a request of the owner with this name, or `None` if the owner is unknown.
+    pub fn judge(
+        &self,
+        name: &OpenOwner,
+        seqid: u32,
+        op: &Op,
+        filehandle: Option<u32>,
+    ) -> Option<Verdict<'_>>
+        ensures { IsJudged (owner_of name.now self.now.owners) seqid
+            (request_of op.now filehandle) result }
+    {
+        let owner = self.find(name)?;
+        Some(owner.kept.judge(seqid, op, filehandle))
+    }
+
+    /// Whether the owner is known, or can be recorded without exceeding the limit.
+    pub fn has_place(&self, name: &OpenOwner) -> bool
+        ensures { result ≡ has_place name.now self.now.owners }
+    {
+        self.is_known(name) || self.owners.len() < OWNER_LIMIT
+    }
+
+    // Whether the owner with this name is known.
+    fn is_known(&self, name: &OpenOwner) -> bool
+        ensures { result ≡ is_known name.now self.now.owners }
+    {
+        self.owners.iter().any(|o| o.has_name(name))
+    }
+
+    // Where the owner with this name is in the list, if it is known.
+    fn place_of(&self, name: &OpenOwner) -> Option<usize>
+        ensures { result ≡ position (has_name name.now) self.now.owners }
+    {
+        self.owners.iter().position(|o| o.has_name(name))
+    }
+
+    /// Makes room for the owner. Full if it has no place.
+    pub fn reserve(&mut self, name: &OpenOwner) -> Result<(), OwnersError>
+        ensures same { self.new.owners ≡ self.old.owners }
+        ensures room { OnOk result (0 < self.new.room) }
+        ensures full { IsErrOf result OwnersError.Full ↔ has_place name.now self.old.owners ≡ false }
+    {
+        if !self.has_place(name) {
+            return Err(OwnersError::Full);
+        }
+        self.owners.reserve(1)?;
+        Ok(())
+    }
+
+    /// Makes this the last request of the owner with this name, in the journal's entry `number`; an unknown owner is
+    /// recorded by it. It takes no memory.
+    pub fn keep(&mut self, name: OpenOwner, number: u32, kept: Kept)
+        requires place { IsTrue (has_place name self.old.owners) }
+        requires room { 0 < self.old.room }
+        ensures { self.new.owners ≡ with_kept name number kept self.old.owners }
+    {
+        match self.place_of(&name) {
+            Some(place) => self.owners[place].keep(number, kept),
+            None => self.owners.push_reserved(Owner::new(name, number, kept)),
+        }
+    }
+
+    /// Confirms the owner with this name.
+    pub fn confirm(&mut self, name: &OpenOwner)
+        ensures owners { self.new.owners ≡ with_confirmed name.now self.old.owners }
+        ensures room { self.new.room ≡ self.old.room }
+    {
+        if let Some(place) = self.place_of(name) {
+            self.owners[place].confirmed = true;
+        }
+    }
+
+    /// Forgets the owner with this name.
+    pub fn remove(&mut self, name: &OpenOwner)
+        ensures owners { self.new.owners ≡ without_owner name.now self.old.owners }
+        ensures room { self.old.room ≤ self.new.room }
+        ensures places { (other : OpenOwner)
+            → IsTrue (has_place other self.old.owners) → IsTrue (has_place other self.new.owners) }
+    {
+        self.owners.retain(|o| !o.has_name(name));
+    }
+
+    /// Forgets the owners of this client.
+    pub fn remove_client(&mut self, client: ClientId)
+        ensures owners { self.new.owners ≡ without_owners_of client self.old.owners }
+        ensures room { self.old.room ≤ self.new.room }
+    {
+        self.owners.retain(|o| !o.has_client(client));
+    }
+}
