@@ -1,0 +1,3 @@
+pub mod Modes
+pub mod Share
+pub mod Shares
