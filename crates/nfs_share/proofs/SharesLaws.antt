@@ -1,13 +1,13 @@
 -- Laws of the shares that an open has.
-use Rattle.std.proofs.Common.{◌≡◌, ◌≢◌, ◌<◌, length-append, Bool, true, false, ◌&&◌, ◌||◌, cond, List, [], ◌∷◌, ◌++◌, length, filter, fold, refl, sym, ◌∙◌, ap, subst, arith}
+use Rattle.std.proofs.Common.{inl, inr, ◌≡◌, ◌≢◌, ◌<◌, length-append, Bool, true, false, ◌&&◌, ◌||◌, cond, List, [], ◌∷◌, ◌++◌, length, filter, fold, refl, sym, ◌∙◌, ap, subst, arith}
 use Rattle.std.specs.Prelude.{◌↔◌, IsTrue}
 use Rattle.std.specs.List.{IsDistinct, list_any, AllByRecursion}
-use Rattle.std.proofs.lemmas.Bool.{and_parts, and_from, cond_both, cond-true, false≢true, or_left, or_right}
+use Rattle.std.proofs.lemmas.Bool.{and_parts, and_from, cond_both, cond-true, false≢true, or_cases, or_left, or_right}
 use Rattle.std.proofs.lemmas.Map.Keys.{IsDistinct-push, IsDistinct-head, IsDistinct-tail, IsDistinct-cons}
 use Rattle.nfs_share.specs.declared.share.Share.{Share}
 use Rattle.nfs_share.specs.Share.{contains, is_same, no_share, union}
-use Rattle.nfs_share.specs.Shares.{IsLawfulDowngrade, union_of}
-use Rattle.nfs_share.proofs.ShareLaws.{contains_from_union, distinct_length, equal_from_is_same, is_same_laws, is_same_self, part_absorbed, rest_absorbed, union_assoc, union_comm, union-contains, union-none, union-self}
+use Rattle.nfs_share.specs.Shares.{IsLawfulDowngrade, union_of, with_share}
+use Rattle.nfs_share.proofs.ShareLaws.{union-part, contains_from_union, distinct_length, equal_from_is_same, is_same_laws, is_same_self, part_absorbed, rest_absorbed, union_assoc, union_comm, union-contains, union-none, union-self}
 
 -- to join shares one after the other gives their union
 pub fold-union : (all : Share) (shares : List Share) → fold union all shares ≡ union all (union_of shares)
@@ -18,7 +18,8 @@ fold-union all (share ∷ shares) =
 pub fold-union-none : (shares : List Share) → fold union no_share shares ≡ union_of shares
 fold-union-none = fold-union no_share
 
-AllByRecursion-filter : {X : Type 0} (P : X → Type 0) (p : X → Bool) (xs : List X) → AllByRecursion P xs → AllByRecursion P (filter p xs)
+-- what holds of each element holds of each that a filter keeps
+pub AllByRecursion-filter : {X : Type 0} (P : X → Type 0) (p : X → Bool) (xs : List X) → AllByRecursion P xs → AllByRecursion P (filter p xs)
 AllByRecursion-filter P p [] h = tt
 AllByRecursion-filter P p (x ∷ xs) h =
     elim (p x) as (λ b. AllByRecursion P (cond b (x ∷ filter p xs) (filter p xs))) [
@@ -53,7 +54,7 @@ union_within share [] = union-none share
 union_within share (first ∷ shares) =
     let rest = filter (contains share) shares in
     let here : contains share first ≡ true → union share (union first (union_of rest)) ≡ share =
-      λ e. sym (union_assoc share first (union_of rest)) ∙ ap (λ x. union x (union_of rest)) (union-contains share first e) ∙ union_within share shares in
+    λ e. sym (union_assoc share first (union_of rest)) ∙ ap (λ x. union x (union_of rest)) (union-contains share first e) ∙ union_within share shares in
     cond_both (contains share first) (first ∷ rest) rest (λ xs. union share (union_of xs) ≡ share) here (λ _. union_within share shares)
 
 -- If a share contains the union of some, then the union of all that it contains contains that of the some.
@@ -65,16 +66,16 @@ union_of_some share picks (first ∷ shares) =
     let some = filter picks shares in
     let all = cond (contains share first) (first ∷ within) within in
     let skipped : union share (union_of some) ≡ share → union (union_of all) (union_of some) ≡ union_of all =
-      λ h. cond_both (contains share first) (first ∷ within) within (λ xs. union (union_of xs) (union_of some) ≡ union_of xs)
-        (λ _. union_assoc first (union_of within) (union_of some) ∙ ap (union first) (union_of_some share picks shares h))
-        (λ _. union_of_some share picks shares h) in
+    λ h. cond_both (contains share first) (first ∷ within) within (λ xs. union (union_of xs) (union_of some) ≡ union_of xs)
+    (λ _. union_assoc first (union_of within) (union_of some) ∙ ap (union first) (union_of_some share picks shares h))
+    (λ _. union_of_some share picks shares h) in
     elim (picks first) as (λ b. union share (union_of (cond b (first ∷ some) some)) ≡ share → union (union_of all) (union_of (cond b (first ∷ some) some)) ≡ union_of all) [
       | true ↦ λ h.
-        let rest = skipped (rest_absorbed share first (union_of some) h) in
-        let here : all ≡ first ∷ within = cond-true (contains share first) (first ∷ within) within (contains_from_union share first (part_absorbed share first (union_of some) h)) in
-        let there : union (union_of all) first ≡ union_of all =
+          let rest = skipped (rest_absorbed share first (union_of some) h) in
+          let here : all ≡ first ∷ within = cond-true (contains share first) (first ∷ within) within (contains_from_union share first (part_absorbed share first (union_of some) h)) in
+          let there : union (union_of all) first ≡ union_of all =
           rw here (union_comm (union first (union_of within)) first ∙ sym (union_assoc first first (union_of within)) ∙ ap (λ x. union x (union_of within)) (union-self first)) in
-        sym (union_assoc (union_of all) first (union_of some)) ∙ ap (λ x. union x (union_of some)) there ∙ rest
+          sym (union_assoc (union_of all) first (union_of some)) ∙ ap (λ x. union x (union_of some)) there ∙ rest
       | false ↦ skipped
     ]
 
@@ -100,14 +101,45 @@ filter_some p (first ∷ shares) =
 pub lawful : (any same : Bool) (shares : List Share) (share : Share) → any ≡ list_any (contains share) shares
     → same ≡ is_same (union_of (filter (contains share) shares)) share → IsTrue (any && same) ↔ IsLawfulDowngrade shares share
 lawful any same shares share any_is same_is = (
-    λ h.
+  λ h.
       let both = and_parts any same h in
       (contains share, filter_some (contains share) shares (sym any_is ∙ both.0), equal_from_is_same _ share (sym same_is ∙ both.1)),
-    λ law.
+  λ law.
       let picks = law.0 in
       let is = law.2 in
       let inside : union share (union_of (filter picks shares)) ≡ share = ap (union share) is ∙ union-self share in
       let within = union_of (filter (contains share) shares) in
       let equal : within ≡ share = sym (union_of_some share picks shares inside) ∙ ap (union within) is ∙ union_comm within share ∙ union_within share shares in
       and_from any same (any_is ∙ any_within share picks shares inside law.1) (same_is ∙ subst (λ x. is_same x share ≡ true) (sym equal) (is_same_self share)),
-  )
+)
+
+-- the union of some adds nothing to the union of all
+pub union-some : (picks : Share → Bool) (shares : List Share)
+    → union (union_of shares) (union_of (filter picks shares)) ≡ union_of shares
+union-some picks [] = refl
+union-some picks (share ∷ shares) =
+    let all = union_of shares in
+    let some = union_of (filter picks shares) in
+    let rest = union_assoc share all some ∙ ap (union share) (union-some picks shares) in
+    cond_both (picks share) (share ∷ filter picks shares) (filter picks shares) (λ xs. union (union share all) (union_of xs) ≡ union share all)
+    (λ _. sym (union_assoc (union share all) share some) ∙ ap (λ x. union x some) (union-part share all) ∙ rest)
+    (λ _. rest)
+
+union_of-append : (shares : List Share) (share : Share) → union_of (shares ++ share ∷ []) ≡ union (union_of shares) share
+union_of-append [] share = union-none share
+union_of-append (first ∷ shares) share =
+    ap (union first) (union_of-append shares share) ∙ sym (union_assoc first (union_of shares) share)
+
+union_of-present : (share : Share) (shares : List Share) → list_any (is_same share) shares ≡ true → union_of shares ≡ union (union_of shares) share
+union_of-present share [] there = absurd (false≢true there)
+union_of-present share (first ∷ shares) there =
+    elim (or_cases (is_same share first) (list_any (is_same share) shares) there) [
+      | inl here ↦ rw (equal_from_is_same share first here) (sym (union-part first (union_of shares)))
+      | inr later ↦ ap (union first) (union_of-present share shares later) ∙ sym (union_assoc first (union_of shares) share)
+    ]
+
+-- one more share, also one that is there already
+pub union_of-with_share : (share : Share) (shares : List Share) → union_of (with_share share shares) ≡ union (union_of shares) share
+union_of-with_share share shares =
+    cond_both (list_any (is_same share) shares) shares (shares ++ share ∷ []) (λ xs. union_of xs ≡ union (union_of shares) share)
+    (union_of-present share shares) (λ _. union_of-append shares share)
