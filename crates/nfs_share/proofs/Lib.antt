@@ -1,0 +1,4 @@
+pub mod ShareLaws
+pub mod SharesLaws
+pub mod OpensLaws
+pub mod CompatibleOpens

@@ -1,0 +1,6 @@
+pub mod Modes
+pub mod Share
+pub mod Shares
+pub mod Opens
+pub mod Laws
+pub mod ShareError

@@ -1,0 +1,61 @@
+ghost use Rattle.std.specs.Prelude.{◌≡◌};
+ghost use Rattle.std.specs.Vec.{vec_capacity};
+ghost use Rattle.nfs_share.specs.Opens.{advanced, downgraded, is_numbered, is_of, joined, with_each};
+
+use crate::{OpenState, Share};
+use nfs_xdr::OpenOwner;
+
+/// Adds the share to the owner's open.
+pub(crate) fn join_each(opens: &mut Vec<OpenState>, owner: &OpenOwner, share: Share)
+    ensures items { opens.new.items ≡ with_each (is_of owner.now) (joined share) opens.old.items }
+    ensures capacity { vec_capacity opens.new ≡ vec_capacity opens.old }
+{
+    join_in(opens, owner, share);
+}
+
+fn join_in(opens: &mut [OpenState], owner: &OpenOwner, share: Share)
+    ensures { opens.new ≡ with_each (is_of owner.now) (joined share) opens.old }
+{
+    for open in opens.iter_mut() {
+        if open.is_of(owner) {
+            open.join(share);
+        }
+    }
+}
+
+/// Gives the open with this number its next seqid.
+pub(crate) fn advance_each(opens: &mut Vec<OpenState>, number: u32)
+    ensures items { opens.new.items ≡ with_each (is_numbered number) advanced opens.old.items }
+    ensures capacity { vec_capacity opens.new ≡ vec_capacity opens.old }
+{
+    advance_in(opens, number);
+}
+
+fn advance_in(opens: &mut [OpenState], number: u32)
+    ensures { opens.new ≡ with_each (is_numbered number) advanced opens.old }
+{
+    for open in opens.iter_mut() {
+        if open.number == number {
+            open.advance();
+        }
+    }
+}
+
+/// Downgrades the open with this number to the share.
+pub(crate) fn downgrade_each(opens: &mut Vec<OpenState>, number: u32, share: Share)
+    ensures items { opens.new.items
+        ≡ with_each (is_numbered number) (downgraded share) opens.old.items }
+    ensures capacity { vec_capacity opens.new ≡ vec_capacity opens.old }
+{
+    downgrade_in(opens, number, share);
+}
+
+fn downgrade_in(opens: &mut [OpenState], number: u32, share: Share)
+    ensures { opens.new ≡ with_each (is_numbered number) (downgraded share) opens.old }
+{
+    for open in opens.iter_mut() {
+        if open.number == number {
+            open.downgrade(share);
+        }
+    }
+}

@@ -1,0 +1,203 @@
+ghost use Rattle.std.specs.Prelude.{◌≡◌, ◌≤◌, ◌<◌, ◌+◌, ◌↔◌, IfErr, IfNone, IfOk, IsErrOf, IsOk, IsTrue, OnErr, OnOk, OnSome, Some, [], ◌∷◌, ◌++◌, ◌≢◌, option_map};
+ghost use Rattle.std.specs.Option.{option_copied};
+ghost use Rattle.nfs_share.specs.Opens.{CanDowngrade, advanced, downgraded, is_denied, is_numbered, is_of, is_of_client, is_refused, joined, next_stateid_of, numbered, open_of, share_of, stateid_of, with_each, with_opening, without};
+
+use crate::changes::{advance_each, downgrade_each, join_each};
+use crate::{Modes, OpenState, Share, ShareError};
+use nfs_xdr::{ClientId, OpenOwner, Stateid};
+use std::alloc::{AllocError, Global};
+use std::marker::Model;
+
+/// The opens of a file, each of which keeps others out by its share reservation (RFC 7530, section 9.9). An owner has at
+/// most one: a second OPEN joins it.
+#[derive(Debug, Drop)]
+pub struct FileShare {
+    opens: Vec<OpenState>,
+}
+
+impl Model for FileShare {
+    ghost use Rattle.std.specs.Prelude.{◌-◌};
+    ghost use Rattle.std.specs.Vec.{vec_capacity, vec_len};
+    ghost use Rattle.nfs_share.specs.Opens.{FileOpens};
+
+    ghost Value = { FileOpens };
+
+    ghost view = { λ f. record {
+      opens = f.opens.items;
+      room = vec_capacity f.opens - vec_len f.opens;
+    } };
+}
+
+impl FileShare {
+    /// A file without opens, taking no memory.
+    pub fn new(alloc: Global) -> FileShare
+        ensures { result.opens ≡ [] }
+    {
+        FileShare {
+            opens: Vec::new(alloc),
+        }
+    }
+
+    /// The opens in the order in which they came.
+    pub fn opens(&self) -> &[OpenState]
+        ensures { result.now ≡ self.now.opens }
+    {
+        self.opens.as_slice()
+    }
+
+    /// The open whose stateid has this number, if there is one.
+    pub fn find(&self, number: u32) -> Option<&OpenState>
+        ensures { option_copied result ≡ numbered number self.now.opens }
+    {
+        self.opens.iter().find(|open| open.number == number)
+    }
+
+    /// The open of this owner, if there is one.
+    pub fn open_of(&self, owner: &OpenOwner) -> Option<&OpenState>
+        ensures { option_copied result ≡ open_of owner.now self.now.opens }
+    {
+        self.opens.iter().find(|open| open.is_of(owner))
+    }
+
+    /// All access of the owner's open, with all that it denies, if the owner has one.
+    pub fn share_of(&self, owner: &OpenOwner) -> Option<Share>
+        ensures { result ≡ option_map share_of (open_of owner.now self.now.opens) }
+    {
+        let open = self.open_of(owner)?;
+        Some(open.share())
+    }
+
+    /// Whether an open denies one of these modes.
+    pub fn denies(&self, modes: Modes) -> bool
+        ensures { result ≡ is_denied modes self.now.opens }
+    {
+        self.opens.iter().any(|open| open.share().deny.meets(modes))
+    }
+
+    /// Whether an open of another owner conflicts with the share.
+    pub fn refuses(&self, owner: &OpenOwner, share: Share) -> bool
+        ensures { result ≡ is_refused owner.now share self.now.opens }
+    {
+        self.opens.iter().any(|open| !open.is_of(owner) && share.conflicts_with(open.share()))
+    }
+
+    /// Makes room, so that the next change takes no memory.
+    pub fn reserve(&mut self) -> Result<(), AllocError>
+        ensures opens { self.new.opens ≡ self.old.opens }
+        ensures room { OnOk result (0 < self.new.room) }
+        ensures grows { self.old.room ≤ self.new.room }
+        ensures ready { 0 < self.old.room → IsOk result }
+    {
+        self.opens.reserve(1)
+    }
+
+    /// OPEN (RFC 7530, section 16.16): adds the share to the owner's open, or makes an open with this number. Returns the
+    /// open's stateid.
+    pub fn try_open(
+        &mut self,
+        owner: OpenOwner,
+        share: Share,
+        number: u32,
+    ) -> Result<Stateid, ShareError>
+        ensures ok { OnOk result (
+            self.new.opens ≡ with_opening owner share number self.old.opens) }
+        ensures stateid { IfOk result (λ stateid.
+            option_map stateid_of (open_of owner self.new.opens) ≡ Some stateid) }
+        ensures denied { IsErrOf result ShareError.Denied
+            ↔ IsTrue (is_refused owner share self.old.opens) }
+        ensures memory { IsErrOf result ShareError.Memory → self.old.room ≡ 0 }
+        ensures errors { IfErr result (λ e. e ≢ ShareError.Invalid) }
+        ensures err { OnErr result (self.new ≡ self.old) }
+        ensures room { OnOk result (self.old.room ≤ self.new.room + 1) }
+    {
+        if self.refuses(&owner, share) {
+            return Err(ShareError::Denied);
+        }
+        match self.join(&owner, share) {
+            Some(stateid) => Ok(stateid),
+            None => Ok(self.add(OpenState::new(owner, share, number))?),
+        }
+    }
+
+    // Adds the share to the owner's open, if there is one, and returns the open's stateid.
+    fn join(&mut self, owner: &OpenOwner, share: Share) -> Option<Stateid>
+        ensures joined { OnSome result (self.new ≡ record self.old {
+          opens = with_each (is_of owner.now) (joined share) self.old.opens;
+        }) }
+        ensures stateid { result ≡ option_map next_stateid_of (open_of owner.now self.old.opens) }
+        ensures none { IfNone result (self.new ≡ self.old) }
+    {
+        let stateid = self.open_of(owner)?.next_stateid();
+        join_each(&mut self.opens, owner, share);
+        Some(stateid)
+    }
+
+    // Adds the open, and returns its stateid.
+    fn add(&mut self, newcomer: OpenState) -> Result<Stateid, AllocError>
+        ensures ok { IfOk result (λ stateid. stateid ≡ stateid_of newcomer) }
+        ensures opens { OnOk result (self.new.opens ≡ self.old.opens ++ newcomer ∷ []) }
+        ensures room { OnOk result (self.old.room ≤ self.new.room + 1) }
+        ensures err { OnErr result (self.new ≡ self.old) }
+        ensures full { OnErr result (self.old.room ≡ 0) }
+    {
+        self.opens.reserve(1)?;
+        let stateid = newcomer.stateid();
+        self.opens.push_reserved(newcomer);
+        Ok(stateid)
+    }
+
+    /// OPEN_CONFIRM (RFC 7530, section 16.18): gives the open with this number its next seqid.
+    pub fn advance(&mut self, number: u32)
+        ensures { self.new ≡ record self.old {
+          opens = with_each (is_numbered number) advanced self.old.opens;
+        } }
+    {
+        advance_each(&mut self.opens, number);
+    }
+
+    /// OPEN_DOWNGRADE (RFC 7530, section 16.19): of the open with this number keeps the shares that this share contains.
+    /// Returns the open's stateid.
+    pub fn downgrade(&mut self, number: u32, share: Share) -> Result<Stateid, ShareError>
+        ensures ok { OnOk result (self.new ≡ record self.old {
+          opens = with_each (is_numbered number) (downgraded share) self.old.opens;
+        }) }
+        ensures stateid { IfOk result (λ stateid.
+            option_map stateid_of (numbered number self.new.opens) ≡ Some stateid) }
+        ensures allowed { IsOk result ↔ CanDowngrade number share self.old.opens }
+        ensures invalid { IfErr result (λ e. e ≡ ShareError.Invalid) }
+        ensures err { OnErr result (self.new ≡ self.old) }
+    {
+        match self.find(number) {
+            Some(open) if open.shares.can_downgrade_to(share) => {
+                let stateid = open.next_stateid();
+                downgrade_each(&mut self.opens, number, share);
+                Ok(stateid)
+            }
+            _ => Err(ShareError::Invalid),
+        }
+    }
+
+    /// CLOSE (RFC 7530, section 16.2): removes the open with this number.
+    pub fn close(&mut self, number: u32)
+        ensures opens { self.new.opens ≡ without (is_numbered number) self.old.opens }
+        ensures room { self.old.room ≤ self.new.room }
+    {
+        self.opens.retain(|open| open.number != number);
+    }
+
+    /// Removes the open of this owner.
+    pub fn remove_owner(&mut self, owner: &OpenOwner)
+        ensures opens { self.new.opens ≡ without (is_of owner.now) self.old.opens }
+        ensures room { self.old.room ≤ self.new.room }
+    {
+        self.opens.retain(|open| !open.is_of(owner));
+    }
+
+    /// Removes the opens of all owners of this client.
+    pub fn remove_client(&mut self, client: ClientId)
+        ensures opens { self.new.opens ≡ without (is_of_client client) self.old.opens }
+        ensures room { self.old.room ≤ self.new.room }
+    {
+        self.opens.retain(|open| !open.is_of_client(client));
+    }
+}

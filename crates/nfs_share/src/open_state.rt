@@ -1,0 +1,108 @@
+use crate::{Share, Shares};
+use nfs_xdr::{ClientId, OpenOwner, Stateid};
+
+/// An open of a file: all that one owner has opened the file for (RFC 7530, section 9.10).
+#[derive(Debug, Drop)]
+pub struct OpenState {
+    pub owner: OpenOwner,
+    /// The shares of the OPENs that made it.
+    pub shares: Shares,
+    /// The number in its stateid.
+    pub number: u32,
+    /// The seqid in its stateid.
+    pub seqid: u32,
+}
+
+impl OpenState {
+    ghost use Rattle.std.specs.Prelude.{◌≡◌};
+    ghost use Rattle.nfs_share.specs.Opens.{advanced, downgraded, first_open, is_of, is_of_client, joined, next_seqid, next_stateid_of, share_of, stateid_of};
+
+    /// The open that an owner's first OPEN of the file makes.
+    pub fn new(owner: OpenOwner, share: Share, number: u32) -> OpenState
+        ensures { result ≡ first_open owner share number }
+    {
+        OpenState {
+            owner,
+            shares: Shares::of(share),
+            number,
+            seqid: 1,
+        }
+    }
+
+    /// All access of the open, with all that it denies.
+    pub fn share(&self) -> Share
+        ensures { result ≡ share_of self.now }
+    {
+        self.shares.union()
+    }
+
+    /// The open's stateid as it is now.
+    pub fn stateid(&self) -> Stateid
+        ensures { result ≡ stateid_of self.now }
+    {
+        Stateid {
+            seqid: self.seqid,
+            client: self.owner.client,
+            number: self.number,
+        }
+    }
+
+    /// The seqid of the open's stateid after its next change.
+    pub fn next_seqid(&self) -> u32
+        ensures { result ≡ next_seqid self.now.seqid }
+    {
+        if self.seqid == u32::MAX {
+            1
+        } else {
+            self.seqid + 1
+        }
+    }
+
+    /// The open's stateid after its next change.
+    pub fn next_stateid(&self) -> Stateid
+        ensures { result ≡ next_stateid_of self.now }
+    {
+        Stateid {
+            seqid: self.next_seqid(),
+            client: self.owner.client,
+            number: self.number,
+        }
+    }
+
+    /// Whether this owner has the open.
+    pub fn is_of(&self, owner: &OpenOwner) -> bool
+        ensures { result ≡ is_of owner.now self.now }
+    {
+        self.owner == *owner
+    }
+
+    /// Whether an owner of this client has the open.
+    pub fn is_of_client(&self, client: ClientId) -> bool
+        ensures { result ≡ is_of_client client self.now }
+    {
+        self.owner.client == client
+    }
+
+    /// Gives the open its next seqid.
+    pub(crate) fn advance(&mut self)
+        ensures { self.new ≡ advanced self.old }
+    {
+        self.seqid = self.next_seqid();
+    }
+
+    /// Adds the share of another OPEN.
+    pub(crate) fn join(&mut self, share: Share)
+        ensures { self.new ≡ joined share self.old }
+    {
+        self.shares.insert(share);
+        self.advance();
+    }
+
+    /// Keeps the shares that this share contains.
+    pub(crate) fn downgrade(&mut self, share: Share)
+        ensures { self.new ≡ downgraded share self.old }
+    {
+        self.shares.keep_within(share);
+        self.advance();
+    }
+}
