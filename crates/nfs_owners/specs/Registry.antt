@@ -1,5 +1,5 @@
 -- The clients' records (RFC 7530, section 16.33.5).
-use Rattle.std.specs.Prelude.{ℕ, Bool, ◌&&◌, ◌==◌, not, List, [], filter, find, Option}
+use Rattle.std.specs.Prelude.{ℕ, nat_le, Bool, ◌&&◌, ◌==◌, not, List, [], filter, find, Option}
 use Rattle.std.specs.List.{list_any}
 use Rattle.std.specs.Str.{bytes_eq}
 use Rattle.nfs_xdr.specs.declared.client_id.ClientId.{ClientId}
