@@ -62,7 +62,8 @@ def main(files):
             if wrong:
                 report(row, row.connections[wrong[0]], got[wrong[0]])
             agreed, differ = agreed + (not wrong), differ + bool(wrong)
-    print(f"check_rows: {agreed} rows agree with the model, {differ} differ, {left_out} left out, {unread} files not read")
+    print(f"check_rows: {agreed} rows agree with the model, {differ} differ, {left_out} left out, "
+          f"{unread} files not read")
     return 1 if differ or unread or not agreed else 0
 
 

@@ -338,7 +338,8 @@ class Server:
         confirmed = self.record_where(True, lambda it: it.id == arguments.id)
         is_other = confirmed is not None and confirmed.principal != principal
         if is_other and self.has_state(confirmed.number):
-            raise Refusal(Status.CLID_INUSE, wire.opaque(confirmed.callback.netid) + wire.opaque(confirmed.callback.address))
+            used = confirmed.callback
+            raise Refusal(Status.CLID_INUSE, wire.opaque(used.netid) + wire.opaque(used.address))
         if max(len(callback.netid), len(callback.address)) > ADDRESS_LIMIT:
             raise Refusal(Status.RESOURCE)
         if confirmed is not None and not is_other and confirmed.verifier == arguments.verifier:

@@ -183,7 +183,8 @@ SetclientidConfirm = namedtuple("SetclientidConfirm", "epoch client confirm")
 
 
 def read_open(reader):
-    return Open(reader.u32(), reader.u32(), reader.u32(), read_open_owner(reader), read_openhow(reader), read_claim(reader))
+    seqid, access, deny = reader.u32(), reader.u32(), reader.u32()
+    return Open(seqid, access, deny, read_open_owner(reader), read_openhow(reader), read_claim(reader))
 
 
 def read_setclientid(reader):
