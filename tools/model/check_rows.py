@@ -10,6 +10,16 @@ sys.dont_write_bytecode = True
 import rows
 from model import Server
 from tree import DEFAULT, Refused, Tree
+from wire import Opnum, Status
+
+
+def expect_numbers():
+    """The rows' names of operations and statuses have the numbers that the model knows them by."""
+    known = {item.name: item for item in Opnum}
+    known.update({"NFS4_OK" if item == Status.OK else "NFS4ERR_" + item.name: item for item in Status})
+    wrong = [name for name, number in known.items() if rows.NAMES.get(name) != number]
+    if wrong:
+        sys.exit(f"check_rows: other numbers than in {rows.NAMES_FILE}: {', '.join(wrong)}")
 
 
 def run(row):
@@ -43,6 +53,7 @@ def report(row, connection, got):
 
 
 def main(files):
+    expect_numbers()
     agreed = differ = left_out = unread = 0
     for file in files:
         try:
