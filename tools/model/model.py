@@ -151,6 +151,7 @@ class Filehandles:
 
 @dataclass
 class Server:
+    """The files, and all that is kept of clients, owners and opens."""
     tree: Tree = field(default_factory=Tree)
     lease: int = 90
     epoch: int = 1
@@ -416,7 +417,7 @@ class Server:
             raise Refusal(Status.BAD_STATEID)
         return found
 
-    def delegation_of(self, stateid, owner, file):
+    def delegation_of(self, stateid):
         """The verdict on a delegation's stateid: there is no delegation yet that could pass it."""
         self.looked_up(stateid)
         raise Refusal(Status.BAD_STATEID)
@@ -438,14 +439,14 @@ class Server:
             owner = self.owner_of(request)
         except Refusal as refusal:
             return Result(refusal.status)
-        is_new = request.opnum == Opnum.OPEN and (owner is None or not owner.is_confirmed)
+        begins = request.opnum == Opnum.OPEN and (owner is None or not owner.is_confirmed)
         if owner is not None:
             replayed = replay(owner.kept, request)
             if replayed is not None:
                 return replayed
-            if not is_new and request.arguments.seqid != next_sequence_id(owner.kept.seqid):
+            if not begins and request.arguments.seqid != next_sequence_id(owner.kept.seqid):
                 return Result(Status.BAD_SEQID)
-        if is_new:
+        if begins:
             return self.begin_owner(request, owner)
         result = answer(lambda: self.effect_of(request))
         if result.status not in NOT_COUNTED:
@@ -495,7 +496,7 @@ class Server:
         expect_share(share)
         file = self.opened_file(arguments, directory)
         if arguments.claim.kind == CLAIM_DELEGATE_CUR:
-            self.delegation_of(arguments.claim.delegation, owner, file)
+            self.delegation_of(arguments.claim.delegation)
         if any(it.file == file and it.owner != owner and conflict(it.share(), share) for it in self.opens):
             raise Refusal(Status.SHARE_DENIED)
         is_confirmed = owner in self.owners

@@ -25,6 +25,7 @@ class Row:
     document: str = None
     lease: int = 90
     epoch: int = 1
+    is_portable: bool = False
     connections: list = field(default_factory=lambda: [Connection()])
 
 
@@ -131,6 +132,8 @@ class File:
     def take(self, place, line):
         keyword, _, rest = line.partition(" ")
         rest = rest.lstrip()
+        if line == "# portable":
+            self.rows[-1].is_portable = True
         if line == "" or line.startswith("#") or keyword == "rule":
             return
         if keyword == "row":
