@@ -1,10 +1,12 @@
 """An independent server of the rules: records in, replies out. It was written from the rules, not from the program.
 
 `Server.converse` takes the bytes of a connection. `Server.reply` takes one record, and can be told at which operations
-memory was refused: these are answered RESOURCE and change nothing. Sections are those of RFC 7530.
+memory was refused: these are answered RESOURCE and change nothing. `Server.follows` judges a reply of a server that may
+have been refused memory. Sections are those of RFC 7530.
 
 There are no leases, byte-range locks and delegations yet.
 """
+import copy
 from dataclasses import dataclass, field
 
 import wire
@@ -180,6 +182,22 @@ class Server:
         if not isinstance(call, CompoundCall):
             return call
         return wire.accepted(call.xid, wire.SUCCESS, self.run_compound(call, refused))
+
+    def follows(self, record, reply):
+        """Whether a server may give this reply: the model's, or that with memory refused where the list ends, or while
+        the call is read. The state goes on from what it says was done."""
+        before = copy.deepcopy(self.__dict__)
+        if self.reply(record) == reply:
+            return True
+        self.__dict__ = before
+        call = wire.read_call(record)
+        if not isinstance(call, CompoundCall) or reply is None:
+            return False
+        if reply == wire.accepted(call.xid, wire.SYSTEM_ERR):
+            return True
+        count = len(wire.opaque(call.tag)) + RPC_HEAD + 4
+        last = int.from_bytes(reply[count:count + 4], "big") - 1
+        return self.reply(record, refused={last}) == reply
 
     def run_compound(self, call, refused):
         if call.minor != 0:

@@ -243,7 +243,7 @@ CALL, REPLY = 0, 1
 AUTH_NONE, AUTH_SYS = 0, 1
 NFS4_PROGRAM, NFS_V4 = 100003, 4
 NFSPROC4_NULL, NFSPROC4_COMPOUND = 0, 1
-SUCCESS, PROG_UNAVAIL, PROG_MISMATCH, PROC_UNAVAIL, GARBAGE_ARGS = 0, 1, 2, 3, 4
+SUCCESS, PROG_UNAVAIL, PROG_MISMATCH, PROC_UNAVAIL, GARBAGE_ARGS, SYSTEM_ERR = 0, 1, 2, 3, 4, 5
 
 # A COMPOUND that can be called: who calls, its head, and a reader of its operations.
 CompoundCall = namedtuple("CompoundCall", "xid principal tag minor count operations")
