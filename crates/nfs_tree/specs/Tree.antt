@@ -1,5 +1,5 @@
 -- The tree of files, its nodes and their filehandles.
-use Rattle.std.specs.Prelude.{codes, ◌≡◌, ℕ, ◌+◌, ◌-◌, ◌≤◌, ◌==◌, nat_le, Bool, true, false, not, ◌&&◌, if◌then◌else◌, List, [], ◌∷◌, ◌++◌, length, filter, position, slice_get, drop, nat_lt, Option, Some, None, option_map, option_and_then}
+use Rattle.std.specs.Prelude.{codes, ◌≡◌, ℕ, ◌+◌, ◌-◌, ◌≤◌, ◌==◌, nat_le, Bool, true, false, not, ◌&&◌, if◌then◌else◌, List, [], ◌∷◌, ◌++◌, length, filter, position, slice_get, drop, nat_lt, Option, Some, None, option_map, option_and_then, Result, Ok, Err}
 use Rattle.std.specs.List.{list_all}
 use Rattle.std.specs.Str.{bytes_eq}
 use Rattle.byteorder.specs.Endian.{big_number}
@@ -10,6 +10,8 @@ use Rattle.nfs_tree.specs.declared.node.NodeKind.TheVariants.{Directory, File}
 use Rattle.nfs_tree.specs.declared.policy.Policy.{Policy}
 use Rattle.nfs_tree.specs.declared.path.TheConstants.{NAME_LIMIT}
 use Rattle.nfs_tree.specs.declared.tree.TheConstants.{FILE_LIMIT, DIRECTORY_LIMIT, HANDLE_LEN, TEXT_LIMIT}
+use Rattle.nfs_xdr.specs.declared.status.Refusal.{Refusal}
+use Rattle.nfs_xdr.specs.declared.status.Refusal.TheVariants as refusals
 
 -- The nodes other than the root in order of their numbers, starting with number 1. The root has number 0.
 pub record Files : Type 0 where
@@ -65,6 +67,19 @@ is_child parent name node = (node.parent == parent) && bytes_eq node.name name
 
 abbrev pub child : List Node → ℕ → List ℕ → Option ℕ
 child nodes parent name = option_map (λ place. place + 1) (position (is_child parent name) nodes)
+
+-- The object that a name names in the node with this number: NFS4ERR_NOTDIR if that isn't a directory, NFS4ERR_INVAL
+-- for an empty name, NFS4ERR_NAMETOOLONG for a name of more than 255 bytes, NFS4ERR_NOENT if nothing has the name.
+abbrev pub found_or : Refusal → Option ℕ → Result ℕ Refusal
+found_or refusal None = Err refusal
+found_or refusal (Some node) = Ok node
+
+abbrev pub resolved : List Node → ℕ → List ℕ → Result ℕ Refusal
+resolved nodes node name =
+    if not (is_directory nodes node) then Err refusals.NotDir
+    else if length name == 0 then Err refusals.Inval
+    else if nat_lt NAME_LIMIT (length name) then Err refusals.NameTooLong
+    else found_or refusals.NoEnt (child nodes node name)
 
 -- how many directories there are besides the root, and how many files
 abbrev pub directories : List Node → ℕ

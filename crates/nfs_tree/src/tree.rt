@@ -1,9 +1,10 @@
-ghost use Rattle.std.specs.Prelude.{◌≡◌, ◌<◌, ◌≤◌, ◌+◌, ℕ, true, Some, IfSome, OnSome, option_map, position};
+ghost use Rattle.std.specs.Prelude.{◌≡◌, ◌<◌, ◌≤◌, ◌+◌, ℕ, true, Some, IfOk, IfSome, OnSome, option_map, position};
 ghost use Rattle.std.specs.Option.{option_copied};
-ghost use Rattle.nfs_tree.specs.Tree.{child, handle_of, is_child, is_directory, node_at, node_count, node_of, text_of};
+ghost use Rattle.nfs_tree.specs.Tree.{child, handle_of, is_child, is_directory, node_at, node_count, node_of, resolved, text_of};
 
-use crate::{Node, NodeKind, Policy};
+use crate::{NAME_LIMIT, Node, NodeKind, Policy};
 use byteorder::{BigEndian, ByteOrder};
+use nfs_xdr::Refusal;
 use std::alloc::AllocError;
 use std::marker::Model;
 
@@ -108,6 +109,24 @@ impl Tree {
     {
         let place = place_of(self.nodes.as_slice(), node, name)?;
         Some(place as u32 + 1)
+    }
+
+    /// The object that a name names in a node. Fails if the node isn't a directory, or if the name is empty, too long or
+    /// not found.
+    pub fn resolve(&self, node: u32, name: &[u8]) -> Result<u32, Refusal>
+        ensures object { result ≡ resolved self.now.nodes node name.now }
+        ensures within { IfOk result (λ n. n < node_count self.now.nodes) }
+    {
+        if !self.is_directory(node) {
+            return Err(Refusal::NotDir);
+        }
+        if name.is_empty() {
+            return Err(Refusal::Inval);
+        }
+        if name.len() > NAME_LIMIT {
+            return Err(Refusal::NameTooLong);
+        }
+        self.lookup(node, name).ok_or(Refusal::NoEnt)
     }
 
     /// The filehandle of a node.

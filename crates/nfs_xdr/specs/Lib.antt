@@ -1,5 +1,7 @@
 pub mod Principal
 pub mod ClientId
+pub mod Stateid
+pub mod OpenOwner
 pub mod Verifier
 pub mod Callback
 pub mod Bitmap

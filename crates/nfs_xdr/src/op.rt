@@ -1,4 +1,4 @@
-ghost use Rattle.std.specs.Prelude.{◌≡◌};
+ghost use Rattle.std.specs.Prelude.{◌≡◌, ◌≢◌, MatchBool};
 ghost use Rattle.nfs_xdr.specs.Op as ops;
 ghost use Rattle.nfs_xdr.specs.Op.{op_case, opnum_of};
 ghost use Rattle.xdr.specs.Reading.{Gives};
@@ -69,6 +69,13 @@ impl Op {
         ensures { result ≡ opnum_of self.now }
     {
         each_operation!(opnum_of_op self)
+    }
+
+    /// Whether the other is the same operation with the same arguments.
+    pub fn is_same(&self, other: &Op) -> bool
+        ensures { MatchBool result (self.now ≡ other.now) (self.now ≢ other.now) }
+    {
+        self == other
     }
 
     /// Whether the operation works on the state, so that every answer except NFS4ERR_RESOURCE is an entry of the
