@@ -1,0 +1,84 @@
+#!/usr/bin/env python3
+"""check_rows.py FILE.rows..: runs rows through the model, and compares its replies with those that the rows want.
+
+Rows are left out where the model can't judge them: those that use an operation that gets a rule later. The status is 1
+where a row differs or a file can't be read."""
+import sys
+
+sys.dont_write_bytecode = True
+
+import rows
+from model import Server
+from tree import DEFAULT, Refused, Tree
+from wire import Opnum, Status
+
+
+def expect_numbers():
+    """The rows' names of operations and statuses have the numbers that the model knows them by."""
+    known = {item.name: item for item in Opnum}
+    known.update({"NFS4_OK" if item == Status.OK else "NFS4ERR_" + item.name: item for item in Status})
+    wrong = [name for name, number in known.items() if rows.NAMES.get(name) != number]
+    if wrong:
+        sys.exit(f"check_rows: other numbers than in {rows.NAMES_FILE}: {', '.join(wrong)}")
+
+
+def run(row):
+    """For each connection what it gets: bytes, and the fault that ends it. And the operations that have no rule yet."""
+    try:
+        tree = Tree(DEFAULT if row.document is None else row.document)
+    except Refused as refused:
+        return [(b"", f"tree refused ({refused.args[0]})")], set()
+    server = Server(tree, row.lease, row.epoch)
+    return [server.converse(connection.sent) for connection in row.connections], server.unknown
+
+
+def words(data):
+    return [data[at:at + 4].hex() for at in range(0, len(data), 4)]
+
+
+def report(row, connection, got):
+    print(f"{row.file}:{row.line}: {row.name}")
+    replies, fault = got
+    if fault != connection.fault:
+        print(f"    ends: wanted {connection.fault}, the model {fault}")
+    wanted, mine = words(connection.wanted), words(replies)
+    count = max(len(wanted), len(mine))
+    wanted, mine = wanted + [""] * (count - len(wanted)), mine + [""] * (count - len(mine))
+    places = [place for place in range(count) if wanted[place] != mine[place]]
+    if places:
+        print("      word  wanted    model")
+        for place in range(max(0, places[0] - 12), min(count, places[0] + 12)):
+            mark = "" if wanted[place] == mine[place] else "  <--"
+            print(f"    {place:>6}  {wanted[place]:<8}  {mine[place]:<8}{mark}")
+
+
+def main(files):
+    expect_numbers()
+    agreed = differ = left_out = unread = 0
+    for file in files:
+        try:
+            found = rows.File(file).rows
+        except (OSError, UnicodeDecodeError, rows.Bad) as error:
+            print(f"{file}: {error}")
+            unread += 1
+            continue
+        for row in found:
+            got, unknown = run(row)
+            if unknown:
+                print(f"{row.file}:{row.line}: left out, as the model has no {', '.join(sorted(unknown))}: {row.name}")
+                left_out += 1
+                continue
+            wrong = [place for place, connection in enumerate(row.connections)
+                     if got[place:place + 1] != [(connection.wanted, connection.fault)]]
+            if wrong:
+                report(row, row.connections[wrong[0]], got[wrong[0]])
+            agreed, differ = agreed + (not wrong), differ + bool(wrong)
+    print(f"check_rows: {agreed} rows agree with the model, {differ} differ, {left_out} left out, "
+          f"{unread} files not read")
+    return 1 if differ or unread or not agreed else 0
+
+
+if __name__ == "__main__":
+    if len(sys.argv) < 2:
+        sys.exit(__doc__)
+    sys.exit(main(sys.argv[1:]))

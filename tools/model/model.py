@@ -1,0 +1,609 @@
+"""An independent server of the rules: records in, replies out. It was written from the rules, not from the program.
+
+`Server.converse` takes the bytes of a connection. `Server.reply` takes one record, and can be told at which operations
+memory was refused: these are answered RESOURCE and change nothing. `Server.follows` judges a reply of a server that may
+have been refused memory. Sections are those of RFC 7530.
+
+There are no leases, byte-range locks and delegations yet.
+"""
+import copy
+from dataclasses import dataclass, field
+
+import wire
+from tree import Tree
+from wire import (Callback, CLAIM_DELEGATE_CUR, CLAIM_DELEGATE_PREV, CLAIM_PREVIOUS, CompoundCall, EXCLUSIVE4, GUARDED4,
+                  OPEN4_CREATE, OpenOwner, Opnum, Stateid, Status, u32, u64)
+
+OPERATIONS_LIMIT = 64
+ANSWER_ROOM = 2048
+RPC_HEAD = 24
+NAME_LIMIT = 255
+ADDRESS_LIMIT = 128
+CLIENTS_LIMIT = 4096
+OWNERS_LIMIT = 16384
+STATES_LIMIT = 65536
+JOURNAL_LIMIT = 1000000
+
+READ, BOTH = 1, 3
+CONFIRM, LOCKTYPE_POSIX = 2, 4
+HANDLE_HEAD = b"nfh1"
+LAST = 2**32 - 1
+
+# The answers to a new request that leave its owner's sequence id as it was (section 9.1.7).
+NOT_COUNTED = {Status.STALE_CLIENTID, Status.STALE_STATEID, Status.BAD_STATEID, Status.BAD_SEQID, Status.BADXDR,
+               Status.RESOURCE, Status.NOFILEHANDLE}
+
+# The operations that ask the state, and so make an entry of the journal.
+STATEFUL = {Opnum.GETATTR, Opnum.SETCLIENTID, Opnum.SETCLIENTID_CONFIRM, Opnum.OPEN, Opnum.OPEN_CONFIRM,
+            Opnum.OPEN_DOWNGRADE, Opnum.CLOSE}
+SEQUENCED = {Opnum.OPEN, Opnum.OPEN_CONFIRM, Opnum.OPEN_DOWNGRADE, Opnum.CLOSE}
+
+# Operations of NFSv4.0 that get a rule later: rows that use them are not for this model yet.
+TO_COME = {8: "DELEGRETURN", 12: "LOCK", 13: "LOCKT", 14: "LOCKU", 25: "READ", 30: "RENEW", 38: "WRITE",
+           39: "RELEASE_LOCKOWNER"}
+
+
+class Refusal(Exception):
+    """A rule's answer other than OK; what it brings after the status is `rest`."""
+
+    def __init__(self, status, rest=b""):
+        super().__init__(status)
+        self.status, self.rest = status, rest
+
+
+@dataclass(frozen=True)
+class Result:
+    """An answer: its status, and the bytes after it."""
+    status: Status
+    rest: bytes = b""
+
+
+@dataclass
+class ClientRecord:
+    """A client that has introduced itself (section 9.1.1)."""
+    id: bytes
+    principal: tuple
+    verifier: bytes
+    callback: Callback
+    confirm: int
+    number: int
+    is_confirmed: bool = False
+
+
+@dataclass(frozen=True)
+class Request:
+    """What is compared to tell a retransmission: the operation with its arguments, and the current filehandle."""
+    opnum: Opnum
+    arguments: tuple
+    filehandle: int
+
+
+@dataclass
+class Kept:
+    """The last request of an owner that counted, and its answer (section 9.1.8)."""
+    seqid: int
+    request: Request
+    answer: Result
+
+
+@dataclass
+class Owner:
+    """An open owner that is known (sections 9.1.5 and 9.1.11)."""
+    name: OpenOwner
+    kept: Kept
+    is_confirmed: bool = False
+
+
+@dataclass
+class OpenState:
+    """An open of an owner on a file (sections 9.9 and 9.11)."""
+    owner: OpenOwner
+    file: int
+    number: int
+    pairs: list
+    seqid: int = 1
+
+    def share(self):
+        return union(self.pairs)
+
+
+def union(pairs):
+    access = deny = 0
+    for pair in pairs:
+        access, deny = access | pair[0], deny | pair[1]
+    return access, deny
+
+
+def contains(outer, inner):
+    return inner[0] & ~outer[0] == 0 and inner[1] & ~outer[1] == 0
+
+
+def conflict(one, other):
+    """The access of one meets what the other denies (section 9.9)."""
+    return one[0] & other[1] != 0 or one[1] & other[0] != 0
+
+
+def is_lawful_downgrade(pairs, wanted):
+    """Some of the pairs, one at least, have just this union (section 16.19)."""
+    subsets = range(1, 2**len(pairs))
+    return any(union([pair for place, pair in enumerate(pairs) if subset >> place & 1]) == wanted for subset in subsets)
+
+
+def next_seqid(seqid):
+    """The seqid of a stateid after this one: 0 is left out (section 9.1.4.2)."""
+    return 1 if seqid == LAST else seqid + 1
+
+
+def next_sequence_id(seqid):
+    """The sequence id of an owner's request after this one (section 9.1.7)."""
+    return 0 if seqid == LAST else seqid + 1
+
+
+def is_special(stateid):
+    """Anonymous, or READ bypass (section 9.1.4.3)."""
+    return stateid in (Stateid(0, 0, 0, 0), Stateid(LAST, LAST, LAST, LAST))
+
+
+@dataclass
+class Filehandles:
+    """Of a COMPOUND: nodes of the tree, or None."""
+    current: int = None
+    saved: int = None
+
+
+@dataclass
+class Server:
+    """The files, and all that is kept of clients, owners and opens."""
+    tree: Tree = field(default_factory=Tree)
+    lease: int = 90
+    epoch: int = 1
+    journal_limit: int = JOURNAL_LIMIT
+    records: list = field(default_factory=list)
+    owners: dict = field(default_factory=dict)
+    opens: list = field(default_factory=list)
+    entries: int = 0
+    last_client: int = 0
+    last_state: int = 0
+    last_confirm: int = 0
+    # The operations to come that were met.
+    unknown: set = field(default_factory=set)
+
+    # Connections and COMPOUND (section 15.2).
+
+    def converse(self, data):
+        """The replies to a connection's bytes, and the fault that ends it, or None."""
+        records, fault = wire.split_records(data)
+        replies = [self.reply(record) for record in records]
+        return b"".join(wire.record(reply) for reply in replies if reply is not None), fault
+
+    def reply(self, record, refused=frozenset()):
+        """The reply to a record, or None. `refused` has the places in the COMPOUND, from 0, at which memory was."""
+        call = wire.read_call(record)
+        if not isinstance(call, CompoundCall):
+            return call
+        return wire.accepted(call.xid, wire.SUCCESS, self.run_compound(call, refused))
+
+    def follows(self, record, reply):
+        """Whether a server may give this reply: the model's, or that with memory refused where the list ends, or while
+        the call is read. The state goes on from what it says was done."""
+        before = copy.deepcopy(self.__dict__)
+        if self.reply(record) == reply:
+            return True
+        self.__dict__ = before
+        call = wire.read_call(record)
+        if not isinstance(call, CompoundCall) or reply is None:
+            return False
+        if reply == wire.accepted(call.xid, wire.SYSTEM_ERR):
+            return True
+        count = len(wire.opaque(call.tag)) + RPC_HEAD + 4
+        last = int.from_bytes(reply[count:count + 4], "big") - 1
+        return self.reply(record, refused={last}) == reply
+
+    def run_compound(self, call, refused):
+        if call.minor != 0:
+            return u32(Status.MINOR_VERS_MISMATCH) + wire.opaque(call.tag) + u32(0)
+        if call.count > OPERATIONS_LIMIT:
+            return u32(Status.RESOURCE) + wire.opaque(call.tag) + u32(0)
+        handles, results, status = Filehandles(), [], Status.OK
+        head = RPC_HEAD + 8 + len(wire.opaque(call.tag))
+        while status == Status.OK and len(results) < call.count:
+            length = head + sum(len(result) for result in results)
+            is_full = length + ANSWER_ROOM > wire.RECORD_LIMIT
+            number, result = self.run_next(call, handles, is_full, len(results) in refused)
+            results.append(u32(number, result.status) + result.rest)
+            status = result.status
+        return u32(status) + wire.opaque(call.tag) + u32(len(results)) + b"".join(results)
+
+    def run_next(self, call, handles, is_full, is_refused):
+        """Reads the next operation and runs it: its number, and its answer."""
+        try:
+            number = call.operations.u32()
+        except wire.Unreadable:
+            return Opnum.ILLEGAL, Result(Status.BADXDR)
+        if number not in wire.ARGUMENTS:
+            return self.without_rule(number)
+        opnum = Opnum(number)
+        try:
+            arguments = wire.ARGUMENTS[opnum](call.operations)
+        except wire.Unreadable:
+            return opnum, Result(Status.BADXDR)
+        if is_full:
+            return opnum, Result(Status.RESOURCE)
+        if opnum not in STATEFUL:
+            return opnum, answer(lambda: self.on_tree(opnum, arguments, handles))
+        result = self.apply(opnum, arguments, handles.current, call.principal, is_refused)
+        if opnum == Opnum.OPEN and result.status == Status.OK:
+            handles.current = self.tree.child(handles.current, arguments.claim.name)
+        return opnum, result
+
+    def without_rule(self, number):
+        if number in TO_COME:
+            self.unknown.add(TO_COME[number])
+        if not 3 <= number <= 39:
+            return Opnum.ILLEGAL, Result(Status.OP_ILLEGAL)
+        return number, Result(Status.NOTSUPP, u32(0) if number == Opnum.SETATTR else b"")
+
+    # Operations on the tree alone.
+
+    def on_tree(self, opnum, arguments, handles):
+        return getattr(self, opnum.name.lower())(arguments, handles)
+
+    def putrootfh(self, _arguments, handles):
+        """Section 16.22."""
+        handles.current = 0
+        return b""
+
+    def putfh(self, arguments, handles):
+        """Section 16.20."""
+        handles.current = self.node_of(arguments.filehandle)
+        return b""
+
+    def getfh(self, _arguments, handles):
+        """Section 16.8."""
+        expect_filehandle(handles.current)
+        return wire.opaque(handle_of(handles.current))
+
+    def savefh(self, _arguments, handles):
+        """Section 16.30."""
+        expect_filehandle(handles.current)
+        handles.saved = handles.current
+        return b""
+
+    def restorefh(self, _arguments, handles):
+        """Section 16.29."""
+        if handles.saved is None:
+            raise Refusal(Status.RESTOREFH)
+        handles.current = handles.saved
+        return b""
+
+    def access(self, arguments, handles):
+        """Section 16.1."""
+        expect_filehandle(handles.current)
+        supported = arguments.access & 63
+        return u32(supported, supported & (13 if self.tree.is_file(handles.current) else 3))
+
+    def lookup(self, arguments, handles):
+        """Section 16.13."""
+        expect_filehandle(handles.current)
+        handles.current = self.named(handles.current, arguments.name, Status.NOENT)
+        return b""
+
+    def named(self, directory, name, missing):
+        """The node of this name."""
+        if self.tree.is_file(directory):
+            raise Refusal(Status.NOTDIR)
+        if name == b"":
+            raise Refusal(Status.INVAL)
+        if len(name) > NAME_LIMIT:
+            raise Refusal(Status.NAMETOOLONG)
+        node = self.tree.child(directory, name)
+        if node is None:
+            raise Refusal(missing)
+        return node
+
+    def node_of(self, handle):
+        for number in range(len(self.tree.nodes)):
+            if handle_of(number) == handle:
+                return number
+        raise Refusal(Status.BADHANDLE)
+
+    # Operations that ask the state: each makes an entry of the journal, unless it is RESOURCE.
+
+    def apply(self, opnum, arguments, filehandle, principal, is_refused=False):
+        if is_refused or self.entries >= self.journal_limit:
+            return Result(Status.RESOURCE)
+        if opnum in SEQUENCED:
+            result = self.sequenced(Request(opnum, arguments, filehandle))
+        elif opnum == Opnum.GETATTR:
+            result = answer(lambda: self.getattr(arguments, filehandle))
+        elif opnum == Opnum.SETCLIENTID:
+            result = answer(lambda: self.setclientid(arguments, principal))
+        else:
+            result = answer(lambda: self.setclientid_confirm(arguments, principal))
+        self.entries += result.status != Status.RESOURCE
+        return result
+
+    def getattr(self, arguments, filehandle):
+        """Section 16.7."""
+        expect_filehandle(filehandle)
+        values = self.attributes(filehandle)
+        asked = [number for number in sorted(values)
+                 if number // 32 < len(arguments.mask) and arguments.mask[number // 32] >> number % 32 & 1]
+        mask = [sum(1 << number for number in asked)] if asked else []
+        return wire.bitmap(mask) + wire.opaque(b"".join(values[number] for number in asked))
+
+    def attributes(self, node):
+        is_file = self.tree.is_file(node)
+        size = len(self.tree.nodes[node].text)
+        return {
+            0: wire.bitmap([0x00180FFF]), 1: u32(1 if is_file else 2), 2: u32(0), 3: u64(0), 4: u64(size),
+            5: u32(0), 6: u32(0), 7: u32(0), 8: u64(1) + u64(0), 9: u32(1), 10: u32(self.lease), 11: u32(0),
+            19: wire.opaque(handle_of(node)), 20: u64(node + 1),
+        }
+
+    # Client ids (sections 9.1.1, 16.33 and 16.34).
+
+    def record_where(self, is_confirmed, test):
+        return next((it for it in self.records if it.is_confirmed == is_confirmed and test(it)), None)
+
+    def has_state(self, number):
+        return any(it.owner.client == number for it in self.opens)
+
+    def is_live(self, number):
+        return self.record_where(True, lambda it: it.number == number) is not None
+
+    def setclientid(self, arguments, principal):
+        callback = arguments.callback
+        confirmed = self.record_where(True, lambda it: it.id == arguments.id)
+        is_other = confirmed is not None and confirmed.principal != principal
+        if is_other and self.has_state(confirmed.number):
+            used = confirmed.callback
+            raise Refusal(Status.CLID_INUSE, wire.opaque(used.netid) + wire.opaque(used.address))
+        if max(len(callback.netid), len(callback.address)) > ADDRESS_LIMIT:
+            raise Refusal(Status.RESOURCE)
+        if confirmed is not None and not is_other and confirmed.verifier == arguments.verifier:
+            number = confirmed.number
+        elif self.last_client == CLIENTS_LIMIT:
+            raise Refusal(Status.RESOURCE)
+        else:
+            number = self.last_client = self.last_client + 1
+        self.last_confirm += 1
+        self.records = [it for it in self.records if it.is_confirmed or it.id != arguments.id]
+        self.records.append(
+            ClientRecord(arguments.id, principal, arguments.verifier, callback, self.last_confirm, number))
+        return u32(self.epoch, number) + u64(self.last_confirm)
+
+    def setclientid_confirm(self, arguments, principal):
+        def is_named(record):
+            return (self.epoch, record.number, record.confirm) == tuple(arguments)
+        unconfirmed = self.record_where(False, is_named)
+        if unconfirmed is not None:
+            self.confirm_record(unconfirmed, principal)
+            return b""
+        confirmed = self.record_where(True, is_named)
+        if confirmed is None:
+            raise Refusal(Status.STALE_CLIENTID)
+        if confirmed.principal != principal:
+            raise Refusal(Status.CLID_INUSE)
+        return b""
+
+    def confirm_record(self, record, principal):
+        if record.principal != principal:
+            raise Refusal(Status.CLID_INUSE)
+        old = self.record_where(True, lambda it: it.id == record.id)
+        if old is not None and old.number != record.number:
+            if old.principal != principal and self.has_state(old.number):
+                raise Refusal(Status.CLID_INUSE)
+            self.remove_client(old.number)
+        self.records = [it for it in self.records if it is not old]
+        record.is_confirmed = True
+
+    def remove_client(self, number):
+        """Its owners and opens go with it (section 9.1.2)."""
+        self.records = [it for it in self.records if it.number != number]
+        self.owners = {name: owner for name, owner in self.owners.items() if name.client != number}
+        self.opens = [it for it in self.opens if it.owner.client != number]
+
+    def expect_client(self, epoch, number):
+        if epoch != self.epoch or not self.is_live(number):
+            raise Refusal(Status.STALE_CLIENTID)
+
+    # Stateids (section 9.1.4).
+
+    def looked_up(self, stateid):
+        """The open that the stateid's `other` names, or None where its client has no such state (section 9.1.4.4)."""
+        if is_special(stateid):
+            raise Refusal(Status.BAD_STATEID)
+        if stateid.epoch != self.epoch:
+            raise Refusal(Status.STALE_STATEID)
+        if not 1 <= stateid.client <= self.last_client:
+            raise Refusal(Status.BAD_STATEID)
+        if not self.is_live(stateid.client):
+            raise Refusal(Status.EXPIRED)
+        return next((it for it in self.opens if (it.owner.client, it.number) == (stateid.client, stateid.number)), None)
+
+    def open_of(self, stateid, file, of_unconfirmed=False):
+        """The open that the stateid names on the file, by all its parts."""
+        found = self.looked_up(stateid)
+        if found is None or found.file != file:
+            raise Refusal(Status.BAD_STATEID)
+        if not of_unconfirmed and not self.owners[found.owner].is_confirmed:
+            raise Refusal(Status.BAD_STATEID)
+        if stateid.seqid < found.seqid:
+            raise Refusal(Status.OLD_STATEID)
+        if stateid.seqid > found.seqid:
+            raise Refusal(Status.BAD_STATEID)
+        return found
+
+    def delegation_of(self, stateid):
+        """The verdict on a delegation's stateid: there is no delegation yet that could pass it."""
+        self.looked_up(stateid)
+        raise Refusal(Status.BAD_STATEID)
+
+    def answer_stateid(self, found):
+        """The stateid of an open after an operation on it: its seqid is one more."""
+        found.seqid = next_seqid(found.seqid)
+        return self.spelled(found)
+
+    def spelled(self, found):
+        return u32(found.seqid, self.epoch, found.owner.client, found.number)
+
+    # Sequenced operations (sections 9.1.7 to 9.1.9).
+
+    def sequenced(self, request):
+        """No filehandle, the owner, the sequence verdict; then the operation, whose answer is kept where it counts."""
+        try:
+            expect_filehandle(request.filehandle)
+            owner = self.owner_of(request)
+        except Refusal as refusal:
+            return Result(refusal.status)
+        begins = request.opnum == Opnum.OPEN and (owner is None or not owner.is_confirmed)
+        if owner is not None:
+            replayed = replay(owner.kept, request)
+            if replayed is not None:
+                return replayed
+            if not begins and request.arguments.seqid != next_sequence_id(owner.kept.seqid):
+                return Result(Status.BAD_SEQID)
+        if begins:
+            return self.begin_owner(request, owner)
+        result = answer(lambda: self.effect_of(request))
+        if result.status not in NOT_COUNTED:
+            owner.kept = Kept(request.arguments.seqid, request, result)
+        return result
+
+    def begin_owner(self, request, owner):
+        """An OPEN of an owner that is unknown, or was not confirmed: it begins anew (section 9.1.11)."""
+        before = dict(self.owners), list(self.opens)
+        if owner is not None:
+            del self.owners[owner.name]
+            self.opens = [it for it in self.opens if it.owner != owner.name]
+        result = answer(lambda: self.effect_of(request))
+        if result.status == Status.OK:
+            name = request.arguments.owner
+            self.owners[name] = Owner(name, Kept(request.arguments.seqid, request, result))
+        elif result.status == Status.RESOURCE:
+            self.owners, self.opens = before
+        return result
+
+    def owner_of(self, request):
+        """The owner of a sequenced operation, or None for one that is unknown."""
+        arguments = request.arguments
+        if request.opnum == Opnum.OPEN:
+            self.expect_client(arguments.owner.epoch, arguments.owner.client)
+            return self.owners.get(arguments.owner)
+        found = self.looked_up(arguments.stateid)
+        if found is not None:
+            return self.owners[found.owner]
+        for owner in self.owners.values():
+            if closed_by(owner.kept, arguments.stateid):
+                return owner
+        raise Refusal(Status.BAD_STATEID)
+
+    def effect_of(self, request):
+        return getattr(self, request.opnum.name.lower())(request.arguments, request.filehandle)
+
+    # Opens (section 9.9 to 9.11).
+
+    def open(self, arguments, directory):
+        """Section 16.16."""
+        owner, share = arguments.owner, (arguments.access, arguments.deny)
+        if arguments.claim.kind == CLAIM_PREVIOUS:
+            raise Refusal(Status.NO_GRACE)
+        if arguments.claim.kind == CLAIM_DELEGATE_PREV:
+            raise Refusal(Status.NOTSUPP)
+        expect_share(share)
+        file = self.opened_file(arguments, directory)
+        if arguments.claim.kind == CLAIM_DELEGATE_CUR:
+            self.delegation_of(arguments.claim.delegation)
+        if any(it.file == file and it.owner != owner and conflict(it.share(), share) for it in self.opens):
+            raise Refusal(Status.SHARE_DENIED)
+        is_confirmed = owner in self.owners
+        found = self.join(owner, file, share)
+        flags = LOCKTYPE_POSIX if is_confirmed else CONFIRM | LOCKTYPE_POSIX
+        change, attributes, delegation = u32(1) + u64(0) + u64(0), wire.bitmap([]), u32(0)
+        return self.spelled(found) + change + u32(flags) + attributes + delegation
+
+    def opened_file(self, arguments, directory):
+        """The file that the OPEN names."""
+        create = arguments.how.create == OPEN4_CREATE
+        file = self.named(directory, arguments.claim.name, Status.ACCESS if create else Status.NOENT)
+        if not self.tree.is_file(file):
+            raise Refusal(Status.ISDIR)
+        if create and arguments.how.mode in (GUARDED4, EXCLUSIVE4):
+            raise Refusal(Status.EXIST)
+        return file
+
+    def join(self, owner, file, share):
+        """Adds the pair to the owner's open on the file, or makes one (section 9.11)."""
+        found = next((it for it in self.opens if (it.owner, it.file) == (owner, file)), None)
+        if found is not None:
+            if share not in found.pairs:
+                found.pairs.append(share)
+            found.seqid = next_seqid(found.seqid)
+            return found
+        if len(self.opens) == STATES_LIMIT or (owner not in self.owners and len(self.owners) == OWNERS_LIMIT):
+            raise Refusal(Status.RESOURCE)
+        self.last_state += 1
+        self.opens.append(OpenState(owner, file, self.last_state, [share]))
+        return self.opens[-1]
+
+    def open_confirm(self, arguments, file):
+        """Section 16.18."""
+        found = self.open_of(arguments.stateid, file, of_unconfirmed=True)
+        owner = self.owners[found.owner]
+        if owner.is_confirmed:
+            raise Refusal(Status.BAD_STATEID)
+        owner.is_confirmed = True
+        return self.answer_stateid(found)
+
+    def open_downgrade(self, arguments, file):
+        """Section 16.19."""
+        found = self.open_of(arguments.stateid, file)
+        share = (arguments.access, arguments.deny)
+        expect_share(share)
+        if not is_lawful_downgrade(found.pairs, share):
+            raise Refusal(Status.INVAL)
+        found.pairs = [pair for pair in found.pairs if contains(share, pair)]
+        return self.answer_stateid(found)
+
+    def close(self, arguments, file):
+        """Section 16.2."""
+        found = self.open_of(arguments.stateid, file)
+        self.opens = [it for it in self.opens if it is not found]
+        return self.answer_stateid(found)
+
+
+def answer(rule):
+    """What the rule answers: OK and its bytes, or its refusal."""
+    try:
+        return Result(Status.OK, rule())
+    except Refusal as refusal:
+        return Result(refusal.status, refusal.rest)
+
+
+def replay(kept, request):
+    """The kept answer to a retransmission of the last request, or None (section 9.1.8)."""
+    is_same = (kept.seqid, kept.request) == (request.arguments.seqid, request)
+    return kept.answer if is_same else None
+
+
+def closed_by(kept, stateid):
+    """Whether the last request closed the open that the stateid names."""
+    if kept.request.opnum != Opnum.CLOSE or kept.answer.status != Status.OK:
+        return False
+    return kept.request.arguments.stateid[1:] == stateid[1:]
+
+
+def expect_filehandle(filehandle):
+    if filehandle is None:
+        raise Refusal(Status.NOFILEHANDLE)
+
+
+def expect_share(share):
+    """An access of READ, WRITE or both, and a deny of no more than both (section 9.9)."""
+    if not (READ <= share[0] <= BOTH and share[1] <= BOTH):
+        raise Refusal(Status.INVAL)
+
+
+def handle_of(node):
+    return HANDLE_HEAD + u32(node)

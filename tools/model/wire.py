@@ -1,0 +1,307 @@
+"""The bytes of the messages: XDR (RFC 4506), records and calls (RFC 5531), and COMPOUND with its operations (RFC 7531).
+
+Arguments are read into named tuples, so that two operations are the same where their values are, whatever the padding.
+"""
+from collections import namedtuple
+from enum import IntEnum
+
+RECORD_LIMIT = 262144
+OWNER_LIMIT = 1024
+FILEHANDLE_LIMIT = 128
+BODY_LIMIT = 400
+
+
+class Status(IntEnum):
+    """nfsstat4 of RFC 7531: the ones that this server gives."""
+    OK = 0
+    NOENT = 2
+    ACCESS = 13
+    EXIST = 17
+    NOTDIR = 20
+    ISDIR = 21
+    INVAL = 22
+    NAMETOOLONG = 63
+    BADHANDLE = 10001
+    NOTSUPP = 10004
+    EXPIRED = 10011
+    SHARE_DENIED = 10015
+    CLID_INUSE = 10017
+    RESOURCE = 10018
+    NOFILEHANDLE = 10020
+    MINOR_VERS_MISMATCH = 10021
+    STALE_CLIENTID = 10022
+    STALE_STATEID = 10023
+    OLD_STATEID = 10024
+    BAD_STATEID = 10025
+    BAD_SEQID = 10026
+    RESTOREFH = 10030
+    NO_GRACE = 10033
+    BADXDR = 10036
+    OP_ILLEGAL = 10044
+
+
+class Opnum(IntEnum):
+    """nfs_opnum4 of RFC 7531: the operations that have a rule in the model, and ILLEGAL."""
+    ACCESS = 3
+    CLOSE = 4
+    GETATTR = 9
+    GETFH = 10
+    LOOKUP = 15
+    OPEN = 18
+    OPEN_CONFIRM = 20
+    OPEN_DOWNGRADE = 21
+    PUTFH = 22
+    PUTROOTFH = 24
+    RESTOREFH = 31
+    SAVEFH = 32
+    SETATTR = 34
+    SETCLIENTID = 35
+    SETCLIENTID_CONFIRM = 36
+    ILLEGAL = 10044
+
+
+class Unreadable(Exception):
+    """The bytes are no value of the form."""
+
+
+class Reader:
+    """Takes values of XDR from the front of bytes."""
+
+    def __init__(self, data):
+        self.data = data
+        self.at = 0
+
+    def fixed(self, count):
+        if len(self.data) - self.at < count:
+            raise Unreadable
+        self.at += count
+        return self.data[self.at - count:self.at]
+
+    def u32(self):
+        return int.from_bytes(self.fixed(4), "big")
+
+    def u64(self):
+        return int.from_bytes(self.fixed(8), "big")
+
+    def opaque(self, limit=2**32 - 1):
+        """Its length, its bytes, and padding of any value up to a multiple of four."""
+        length = self.u32()
+        if length > limit:
+            raise Unreadable
+        value = self.fixed(length)
+        self.fixed(-length % 4)
+        return value
+
+    def one_of(self, count):
+        """A number below the count: a bool, or an enumeration that begins at 0."""
+        number = self.u32()
+        if number >= count:
+            raise Unreadable
+        return number
+
+    def bitmap(self):
+        count = self.u32()
+        if count > len(self.data) // 4:
+            raise Unreadable
+        return tuple(self.u32() for _ in range(count))
+
+
+def u32(*numbers):
+    return b"".join(number.to_bytes(4, "big") for number in numbers)
+
+
+def u64(number):
+    return number.to_bytes(8, "big")
+
+
+def opaque(value):
+    return u32(len(value)) + value + bytes(-len(value) % 4)
+
+
+def bitmap(words):
+    return u32(len(words), *words)
+
+
+# Types that several operations have.
+
+# A stateid by the parts that this server gives its 12 bytes of `other`.
+Stateid = namedtuple("Stateid", "seqid epoch client number")
+# An open owner: a clientid by its two halves, and the owner's bytes.
+OpenOwner = namedtuple("OpenOwner", "epoch client name")
+Callback = namedtuple("Callback", "program netid address ident")
+# How an OPEN creates: its opentype, and with OPEN4_CREATE the createmode and the attributes or the verifier.
+Openhow = namedtuple("Openhow", "create mode value")
+# Which file an OPEN names: the claim, the name, and the delegation's type or stateid, each where the claim has it.
+Claim = namedtuple("Claim", "kind name delegation")
+
+OPEN4_NOCREATE, OPEN4_CREATE = 0, 1
+UNCHECKED4, GUARDED4, EXCLUSIVE4 = 0, 1, 2
+CLAIM_NULL, CLAIM_PREVIOUS, CLAIM_DELEGATE_CUR, CLAIM_DELEGATE_PREV = 0, 1, 2, 3
+
+
+def read_stateid(reader):
+    return Stateid(reader.u32(), reader.u32(), reader.u32(), reader.u32())
+
+
+def read_open_owner(reader):
+    return OpenOwner(reader.u32(), reader.u32(), reader.opaque(OWNER_LIMIT))
+
+
+def read_openhow(reader):
+    if reader.one_of(2) == OPEN4_NOCREATE:
+        return Openhow(OPEN4_NOCREATE, None, None)
+    mode = reader.one_of(3)
+    if mode == EXCLUSIVE4:
+        return Openhow(OPEN4_CREATE, mode, reader.fixed(8))
+    return Openhow(OPEN4_CREATE, mode, (reader.bitmap(), reader.opaque()))
+
+
+def read_claim(reader):
+    kind = reader.one_of(4)
+    if kind == CLAIM_PREVIOUS:
+        return Claim(kind, None, reader.one_of(3))
+    delegation = read_stateid(reader) if kind == CLAIM_DELEGATE_CUR else None
+    return Claim(kind, reader.opaque(), delegation)
+
+
+# The arguments of each operation, in the order of their fields.
+
+Access = namedtuple("Access", "access")
+Close = namedtuple("Close", "seqid stateid")
+Getattr = namedtuple("Getattr", "mask")
+Getfh = namedtuple("Getfh", "")
+Lookup = namedtuple("Lookup", "name")
+Open = namedtuple("Open", "seqid access deny owner how claim")
+OpenConfirm = namedtuple("OpenConfirm", "stateid seqid")
+OpenDowngrade = namedtuple("OpenDowngrade", "stateid seqid access deny")
+Putfh = namedtuple("Putfh", "filehandle")
+Putrootfh = namedtuple("Putrootfh", "")
+Restorefh = namedtuple("Restorefh", "")
+Savefh = namedtuple("Savefh", "")
+Setclientid = namedtuple("Setclientid", "verifier id callback")
+SetclientidConfirm = namedtuple("SetclientidConfirm", "epoch client confirm")
+
+
+def read_open(reader):
+    seqid, access, deny = reader.u32(), reader.u32(), reader.u32()
+    return Open(seqid, access, deny, read_open_owner(reader), read_openhow(reader), read_claim(reader))
+
+
+def read_setclientid(reader):
+    verifier, name, program = reader.fixed(8), reader.opaque(OWNER_LIMIT), reader.u32()
+    return Setclientid(verifier, name, Callback(program, reader.opaque(), reader.opaque(), reader.u32()))
+
+
+ARGUMENTS = {
+    Opnum.ACCESS: lambda r: Access(r.u32()),
+    Opnum.CLOSE: lambda r: Close(r.u32(), read_stateid(r)),
+    Opnum.GETATTR: lambda r: Getattr(r.bitmap()),
+    Opnum.GETFH: lambda r: Getfh(),
+    Opnum.LOOKUP: lambda r: Lookup(r.opaque()),
+    Opnum.OPEN: read_open,
+    Opnum.OPEN_CONFIRM: lambda r: OpenConfirm(read_stateid(r), r.u32()),
+    Opnum.OPEN_DOWNGRADE: lambda r: OpenDowngrade(read_stateid(r), r.u32(), r.u32(), r.u32()),
+    Opnum.PUTFH: lambda r: Putfh(r.opaque(FILEHANDLE_LIMIT)),
+    Opnum.PUTROOTFH: lambda r: Putrootfh(),
+    Opnum.RESTOREFH: lambda r: Restorefh(),
+    Opnum.SAVEFH: lambda r: Savefh(),
+    Opnum.SETCLIENTID: read_setclientid,
+    Opnum.SETCLIENTID_CONFIRM: lambda r: SetclientidConfirm(r.u32(), r.u32(), r.u64()),
+}
+
+
+# Records (RFC 5531, section 11).
+
+def split_records(data):
+    """The whole records, and what ends the connection: None after a whole record, else the program's fault."""
+    records, body, at, is_inside = [], b"", 0, False
+    while at < len(data):
+        is_inside = True
+        if len(data) - at < 4:
+            break
+        header = int.from_bytes(data[at:at + 4], "big")
+        length, at = header & 0x7FFFFFFF, at + 4
+        if len(body) + length > RECORD_LIMIT:
+            return records, "record too long"
+        if len(data) - at < length:
+            break
+        body, at = body + data[at:at + length], at + length
+        if header >> 31:
+            records.append(body)
+            body, is_inside = b"", False
+    return records, "input ends inside a record" if is_inside else None
+
+
+def record(body):
+    """A record of one fragment."""
+    return u32(0x80000000 + len(body)) + body
+
+
+# Calls (RFC 5531, section 9).
+
+CALL, REPLY = 0, 1
+AUTH_NONE, AUTH_SYS = 0, 1
+NFS4_PROGRAM, NFS_V4 = 100003, 4
+NFSPROC4_NULL, NFSPROC4_COMPOUND = 0, 1
+SUCCESS, PROG_UNAVAIL, PROG_MISMATCH, PROC_UNAVAIL, GARBAGE_ARGS, SYSTEM_ERR = 0, 1, 2, 3, 4, 5
+
+# A COMPOUND that can be called: who calls, its head, and a reader of its operations.
+CompoundCall = namedtuple("CompoundCall", "xid principal tag minor count operations")
+
+
+def accepted(xid, state, rest=b""):
+    return u32(xid, REPLY, 0, AUTH_NONE, 0, state) + rest
+
+
+def denied(xid, *rest):
+    return u32(xid, REPLY, 1, *rest)
+
+
+def read_call(data):
+    """What a record calls for: a CompoundCall, the bytes of a reply, or None where there is no reply."""
+    reader = Reader(data)
+    try:
+        xid, message_type, version = reader.u32(), reader.u32(), reader.u32()
+    except Unreadable:
+        return None
+    if message_type != CALL:
+        return None
+    if version != 2:
+        return denied(xid, 0, 2, 2)
+    try:
+        program, program_version, procedure = reader.u32(), reader.u32(), reader.u32()
+        flavor, body = reader.u32(), reader.opaque(BODY_LIMIT)
+        reader.u32(), reader.opaque(BODY_LIMIT)
+    except Unreadable:
+        return None
+    try:
+        principal = read_principal(flavor, body)
+    except Unreadable:
+        return denied(xid, 1, 1)
+    if program != NFS4_PROGRAM:
+        return accepted(xid, PROG_UNAVAIL)
+    if program_version != NFS_V4:
+        return accepted(xid, PROG_MISMATCH, u32(NFS_V4, NFS_V4))
+    if procedure == NFSPROC4_NULL:
+        return accepted(xid, SUCCESS)
+    if procedure != NFSPROC4_COMPOUND:
+        return accepted(xid, PROC_UNAVAIL)
+    try:
+        return CompoundCall(xid, principal, reader.opaque(), reader.u32(), reader.u32(), reader)
+    except Unreadable:
+        return accepted(xid, GARBAGE_ARGS)
+
+
+def read_principal(flavor, body):
+    """The flavor, and under AUTH_SYS the uid."""
+    if flavor == AUTH_NONE:
+        return (flavor, 0)
+    if flavor != AUTH_SYS:
+        raise Unreadable
+    reader = Reader(body)
+    reader.u32(), reader.opaque(255)
+    uid, _gid, groups = reader.u32(), reader.u32(), reader.u32()
+    if groups > 16:
+        raise Unreadable
+    reader.fixed(4 * groups)
+    return (flavor, uid)
