@@ -8,27 +8,6 @@ use nfs_tree::{DEFAULT_TREE, Tree};
 use std::alloc::{AllocError, Global};
 use std::test::Fail;
 
-/// A COMPOUND with SETCLIENTID: verifier 01 to 08, id `c1`, program 0x40000000, `tcp`, `127.0.0.1.8.1`, ident 1.
-pub const SET_CLIENT_ID: [u32; 17] = [
-    0,
-    0,
-    1,
-    35,
-    0x0102_0304,
-    0x0506_0708,
-    2,
-    0x6331_0000,
-    0x4000_0000,
-    3,
-    0x7463_7000,
-    13,
-    0x3132_372e,
-    0x302e_302e,
-    0x312e_382e,
-    0x3100_0000,
-    1,
-];
-
 /// The words, big-endian.
 pub fn bytes_of(alloc: Global, words: &[u32]) -> Result<Vec<u8>, AllocError> {
     let mut bytes = Vec::new(alloc);
