@@ -4,28 +4,11 @@
 
 ghost use Rattle.std.specs.Prelude.{◌≡◌};
 
-use crate::messages::{call, reply};
-use nfs_core::{Core, Moment};
+use crate::messages::{call, open_server, reply};
+use nfs_core::Moment;
 use nfs_server::{Counted, Lent, Service, Stopped, serve_connection};
-use nfs_tree::{DEFAULT_TREE, Tree};
+use nfs_tree::Tree;
 use std::alloc::{AllocError, Global};
-
-/// Whether the call gets its answer on a connection of its own, up to the second time that it is sent.
-fn is_answered(
-    alloc: Global,
-    lent: &mut Lent,
-    tree: &Tree,
-    call: &[u8],
-    answer: &[u8],
-) -> Result<bool, AllocError>
-    requires { ⟦<Lent as Service>⟧.serves lent.old ≡ tree.now.nodes }
-    ensures { ⟦<Lent as Service>⟧.serves lent.new ≡ tree.now.nodes }
-{
-    if is_answered_at_once(alloc, lent, tree, call, answer)? {
-        return Ok(true);
-    }
-    is_answered_at_once(alloc, lent, tree, call, answer)
-}
 
 /// Whether the call gets its answer on a connection of its own.
 fn is_answered_at_once(
@@ -43,6 +26,26 @@ fn is_answered_at_once(
     let mut clock = Stopped::at(Moment::new(0).unwrap());
     let outcome = serve_connection(alloc, &mut source, &mut sink, lent, tree, &mut clock);
     Ok(outcome == Ok(0) && sink.into_device().as_slice() == answer)
+}
+
+/// Whether a COMPOUND of these words is answered by these, up to the second time that it is sent, which is then on
+/// another connection.
+fn is_answered(
+    alloc: Global,
+    lent: &mut Lent,
+    tree: &Tree,
+    arguments: &[u32],
+    results: &[u32],
+) -> Result<bool, AllocError>
+    requires { ⟦<Lent as Service>⟧.serves lent.old ≡ tree.now.nodes }
+    ensures { ⟦<Lent as Service>⟧.serves lent.new ≡ tree.now.nodes }
+{
+    let call = call(alloc, 1, 1, arguments)?;
+    let answer = reply(alloc, 1, results)?;
+    if is_answered_at_once(alloc, lent, tree, call.as_slice(), answer.as_slice())? {
+        return Ok(true);
+    }
+    is_answered_at_once(alloc, lent, tree, call.as_slice(), answer.as_slice())
 }
 
 /// SETCLIENTID: verifier 01 to 08, id `c1`, program 0x40000000, `tcp`, `127.0.0.1.8.1`, ident 1.
@@ -68,17 +71,14 @@ const SET_CLIENT_ID: [u32; 17] = [
 
 /// Whether a client id is given and confirmed; None where memory is refused for the test itself.
 fn is_registered(alloc: Global) -> Option<bool> {
-    let tree = Tree::from_toml(alloc, DEFAULT_TREE).ok()?;
-    let core = Core::new(alloc, &tree, 90, 1, tree.policy()).ok()?;
+    let (tree, core) = open_server(alloc)?;
     let mut lent = Lent::new(core);
-    let sent = call(alloc, 1, 1, &SET_CLIENT_ID).ok()?;
-    let answer = reply(alloc, 1, &[0, 0, 1, 35, 0, 1, 1, 0, 1]).ok()?;
-    if !is_answered(alloc, &mut lent, &tree, sent.as_slice(), answer.as_slice()).ok()? {
-        return Some(false);
-    }
-    let sent = call(alloc, 2, 1, &[0, 0, 1, 36, 1, 1, 0, 1]).ok()?;
-    let answer = reply(alloc, 2, &[0, 0, 1, 36, 0]).ok()?;
-    is_answered(alloc, &mut lent, &tree, sent.as_slice(), answer.as_slice()).ok()
+    let given = [0, 0, 1, 35, 0, 1, 1, 0, 1];
+    let is_given = is_answered(alloc, &mut lent, &tree, &SET_CLIENT_ID, &given).ok()?;
+    let confirmation = [0, 0, 1, 36, 1, 1, 0, 1];
+    let done = [0, 0, 1, 36, 0];
+    let is_confirmed = is_answered(alloc, &mut lent, &tree, &confirmation, &done).ok()?;
+    Some(is_given && is_confirmed)
 }
 
 #[test]
