@@ -120,8 +120,8 @@ fn takes_a_record_cut_anywhere(rt: HostRuntime) {
     }
 }
 
-/// Three records, cut here and there. `tools/refuse_growths` runs this with each of its growths refused in turn: a piece that is
-/// refused leaves all as it was, and is taken when it comes again.
+/// Three records, cut here and there. `tools/refuse_growths` runs this with each of its growths refused in turn: a
+/// piece that is refused leaves all as it was, and is taken when it comes again.
 #[test]
 fn takes_records_cut_here_and_there(rt: HostRuntime) {
     let mut records = Records::new(rt.alloc());
