@@ -1,56 +1,73 @@
-use nfs_tree::{
-    Callbacks, DEFAULT_TREE, Delegations, FILE_LIMIT, NodeKind, Policy, TEXT_LIMIT, Tree,
-    TreeError, paths_are_joined_names, trees_are_their_entries,
-};
-use std::alloc::{AllocError, Global};
-use std::test::Fail;
-use xdr::{WireError, write_u32};
+//! Trees: what no answer of the program shows yet, as texts, policies, changes, and the handles of high numbers.
 
-/// The default tree's nodes beside the root: parent, name, and a file's text.
-const DEFAULT_NODES: [(u32, &str, Option<&str>); 4] = [
-    (0, "a", Some("hello")),
-    (0, "b", Some("")),
-    (0, "d", None),
-    (3, "c", Some("")),
-];
+use crate::messages::bytes_of;
+use nfs_tree::{
+    Callbacks, DEFAULT_TREE, Delegations, FILE_LIMIT, Policy, TEXT_LIMIT, Tree, TreeError,
+    paths_are_joined_names, trees_are_their_entries,
+};
+use std::alloc::Global;
+use std::test::Fail;
+
+/// Whether the tree's node has this parent, this name, and this text, which a directory has not.
+fn has_node(tree: &Tree, node: u32, parent: u32, name: &[u8], text: Option<&[u8]>) -> bool {
+    let is_at_its_place = tree.nodes().get(node as usize - 1).is_some_and(|node| node.parent
+        == parent
+        && node.name.as_slice() == name);
+    is_at_its_place && tree.is_directory(node) == text.is_none() && tree.text(node) == text
+}
 
 #[test]
 fn default_tree_has_its_nodes(rt: HostRuntime) -> Result<(), Fail> {
     let tree = Tree::from_toml(rt.alloc(), DEFAULT_TREE)?;
-    assert_eq!(rt; tree.len(), 5);
     assert!(rt; tree.is_directory(0) && tree.text(0).is_none());
-    assert!(rt; !tree.is_directory(5) && tree.text(5).is_none());
-    for (i, ((parent, name, text), node)) in DEFAULT_NODES.iter().zip(tree.nodes()).enumerate() {
-        let number = i as u32 + 1;
-        assert_eq!(rt; node.parent, *parent, "node {number}");
-        assert!(rt; node.name.as_slice() == name.as_bytes(), "node {number}");
-        assert!(rt;
-            tree.is_directory(number) == text.is_none(),
-            "node {number}"
-        );
-        let right = match (tree.text(number), text) {
-            (Some(bytes), Some(text)) => bytes == text.as_bytes(),
-            (None, None) => matches!(node.kind, NodeKind::Directory),
-            _ => false,
-        };
-        assert!(rt; right, "node {number}");
-    }
-    let copy = tree.clone()?;
-    assert_eq!(rt; copy.len(), 5);
-    assert!(rt; copy.policy() == tree.policy());
-    paths_are_joined_names();
-    trees_are_their_entries();
+    assert!(rt; has_node(&tree, 1, 0, b"a", Some(b"hello")));
+    assert!(rt; has_node(&tree, 2, 0, b"b", Some(b"")));
+    assert!(rt; has_node(&tree, 3, 0, b"d", None));
+    assert!(rt; has_node(&tree, 4, 3, b"c", Some(b"")));
+    assert!(rt; tree.len() == 5 && !tree.is_directory(5) && tree.text(5).is_none());
     Ok(())
 }
 
-/// The default tree's document has no policy: delegations are given for all, and callbacks are probed.
 #[test]
-fn default_tree_has_its_policy(rt: HostRuntime) -> Result<(), Fail> {
+fn copy_has_nodes_and_policy(rt: HostRuntime) -> Result<(), Fail> {
+    let tree = Tree::from_toml(rt.alloc(), DEFAULT_TREE)?;
+    let copy = tree.clone()?;
+    assert!(rt; copy.len() == 5 && copy.policy() == tree.policy());
+    paths_are_joined_names();
+    trees_are_their_entries();
+    assert!(rt; FILE_LIMIT == 64 && TEXT_LIMIT == 65_536);
+    Ok(())
+}
+
+/// Whether the document has this policy.
+fn has_policy(
+    alloc: Global,
+    text: &str,
+    delegations: Delegations,
+    callbacks: Callbacks,
+) -> Result<bool, TreeError> {
     let policy = Policy {
-        delegations: Delegations::All,
-        callbacks: Callbacks::Probe,
+        delegations,
+        callbacks,
     };
-    assert!(rt; Tree::from_toml(rt.alloc(), DEFAULT_TREE)?.policy() == policy);
+    Ok(Tree::from_toml(alloc, text)?.policy() == policy)
+}
+
+/// A document without a policy, as that of the default tree, has delegations given for all, and callbacks probed.
+#[test]
+fn documents_have_policies(rt: HostRuntime) -> Result<(), Fail> {
+    let (all, probe) = (Delegations::All, Callbacks::Probe);
+    assert!(rt; has_policy(rt.alloc(), DEFAULT_TREE, all, probe)?);
+    assert!(rt; has_policy(rt.alloc(), "", all, probe)?);
+    assert!(rt; has_policy(rt.alloc(), "# none\n[policy]\n", all, probe)?);
+    let text = "[policy]\ndelegations = \"none\"\n";
+    assert!(rt; has_policy(rt.alloc(), text, Delegations::None, probe)?);
+    let text = "policy = { delegations = \"read\" }\n";
+    assert!(rt; has_policy(rt.alloc(), text, Delegations::Read, probe)?);
+    let text = "policy.callbacks = \"assume\"\n";
+    assert!(rt; has_policy(rt.alloc(), text, all, Callbacks::Assume)?);
+    let text = "[policy]\ndelegations = \"all\"\ncallbacks = \"probe\"\n";
+    assert!(rt; has_policy(rt.alloc(), text, all, probe)?);
     Ok(())
 }
 
@@ -64,175 +81,22 @@ fn nodes_have_filehandles(rt: HostRuntime) -> Result<(), Fail> {
     Ok(())
 }
 
-const NAME: TreeError = TreeError::Name;
-
-const TAKEN: TreeError = TreeError::Duplicate;
-
-/// A document of that many files of one name each, `f0` and so on, after that many directories, and then this text.
-fn numbered(alloc: Global, directories: u32, files: u32, more: &str) -> Result<String, AllocError> {
-    let mut text = String::new(alloc);
-    for i in 0..directories {
-        text.push_str(format!(in alloc; "[[directory]]\npath = \"d{i}\"\n")?.as_str())?;
-    }
-    for i in 0..files {
-        text.push_str(format!(in alloc; "[[file]]\npath = \"f{i}\"\n")?.as_str())?;
-    }
-    text.push_str(more)?;
-    Ok(text)
-}
-
-#[test]
-fn counts_files_and_directories(rt: HostRuntime) -> Result<(), Fail> {
-    let many = Err(TreeError::TooMany);
-    for (directories, files, more, want) in [
-        (0, 64, "", Ok(65)),
-        (0, 65, "", many),
-        // The 65th file is judged before what its path says, but not before its name.
-        (0, 64, "[[file]]\npath = \"f0\"\n", many),
-        (0, 64, "[[file]]\npath = \"f0/a\"\n", many),
-        (0, 64, "[[file]]\npath = \"..\"\n", Err(NAME)),
-        (0, 65, "[[file]]\npath = \"..\"\n", many),
-        (64, 0, "", Ok(65)),
-        (65, 0, "", many),
-        // A directory is named again, and files need none anew.
-        (64, 0, "[[directory]]\npath = \"d63\"\n", Ok(65)),
-        (64, 1, "[[file]]\npath = \"d0/a\"\n", Ok(67)),
-        (64, 1, "[[file]]\npath = \"f0/a\"\n", Err(TAKEN)),
-        (64, 1, "[[file]]\npath = \"f0/a/b\"\n", many),
-        (63, 0, "[[directory]]\npath = \"e/f\"\n", many),
-        (63, 0, "[[file]]\npath = \"e/f\"\n", Ok(66)),
-        (63, 0, "[[file]]\npath = \"e/f/g\"\n", many),
-        (64, 64, "", Ok(129)),
-    ] {
-        let text = numbered(rt.alloc(), directories, files, more)?;
-        let len = match Tree::from_toml(rt.alloc(), text.as_str()) {
-            Ok(tree) => Ok(tree.len()),
-            Err(error) => Err(error),
-        };
-        assert!(rt; len == want, "{directories} and {files}{more}");
-    }
-    assert_eq!(rt; FILE_LIMIT, 64);
-    Ok(())
-}
-
-/// A document of one file, of a name and a text of so many bytes.
-fn one_file(alloc: Global, name: u32, text: u32) -> Result<String, AllocError> {
-    let mut document = String::from_str(alloc, "[[file]]\npath = \"")?;
-    for _ in 0..name {
-        document.push_str("n")?;
-    }
-    document.push_str("\"\ntext = \"")?;
-    for _ in 0..text {
-        document.push_str("t")?;
-    }
-    document.push_str("\"\n")?;
-    Ok(document)
-}
-
-#[test]
-fn limits_names_and_texts(rt: HostRuntime) -> Result<(), Fail> {
-    for (name, text, want) in [
-        (255, 0, None),
-        (256, 0, Some(NAME)),
-        (1, 65_536, None),
-        (1, 65_537, Some(TreeError::TooMany)),
-        (256, 65_537, Some(NAME)),
-    ] {
-        let document = one_file(rt.alloc(), name, text)?;
-        let error = Tree::from_toml(rt.alloc(), document.as_str()).err();
-        assert!(rt; error == want, "{name} and {text}");
-    }
-    assert_eq!(rt; TEXT_LIMIT, 65_536);
-    Ok(())
-}
-
-#[test]
-fn reads_documents(rt: HostRuntime) -> Result<(), Fail> {
-    let all = Delegations::All;
-    for (text, len, delegations, callbacks) in [
-        ("", 1, all, Callbacks::Probe),
-        ("# none\n[policy]\n", 1, all, Callbacks::Probe),
-        (
-            "[policy]\ndelegations = \"none\"\n",
-            1,
-            Delegations::None,
-            Callbacks::Probe,
-        ),
-        (
-            "policy = { delegations = \"read\" }\n",
-            1,
-            Delegations::Read,
-            Callbacks::Probe,
-        ),
-        ("policy.callbacks = \"assume\"\n", 1, all, Callbacks::Assume),
-        (
-            "[policy]\ndelegations = \"all\"\ncallbacks = \"probe\"\n",
-            1,
-            all,
-            Callbacks::Probe,
-        ),
-        (
-            "file = [{ path = \"a/b/c/d/e/f/g/h\" }]\n",
-            9,
-            all,
-            Callbacks::Probe,
-        ),
-        (
-            "[[directory]]\npath = \"a/b\"\n[[directory]]\npath = \"a\"\n",
-            3,
-            all,
-            Callbacks::Probe,
-        ),
-    ] {
-        let tree = Tree::from_toml(rt.alloc(), text)?;
-        let policy = Policy {
-            delegations,
-            callbacks,
-        };
-        assert_eq!(rt; tree.len(), len, "{text}");
-        assert!(rt; tree.policy() == policy, "{text}");
-    }
-    // Directories come first, wherever they stand.
-    let text = "[[file]]\npath = \"f\"\n[[directory]]\npath = \"d/e\"\n";
-    let tree = Tree::from_toml(rt.alloc(), text)?;
-    assert!(rt; tree.lookup(0, b"d") == Some(1));
-    assert!(rt; tree.lookup(1, b"e") == Some(2));
-    assert!(rt; tree.lookup(0, b"f") == Some(3));
-    Ok(())
-}
-
-/// The words as bytes, the highest byte first.
-fn words(alloc: Global, words: &[u32]) -> Result<Vec<u8>, WireError> {
-    let mut bytes = Vec::new(alloc);
-    for word in words {
-        write_u32(&mut bytes, *word)?;
-    }
-    Ok(bytes)
-}
-
-/// Whether these attributes of the node are what is wanted, where it has been written twice, has 7 bytes, and the
-/// lease is 90.
-fn has_attributes(
-    alloc: Global,
-    tree: &Tree,
-    node: u32,
-    mask: &[u32],
-    want_mask: &[u32],
-    want: &[u32],
-) -> Result<bool, Fail> {
-    if node >= tree.len() {
+/// Whether these are the values of the attributes in this mask of the file `a`, where it has been written twice, has 7
+/// bytes, and the lease is 90.
+fn has_attributes(alloc: Global, mask: u32, values: &[u32]) -> Result<bool, Fail> {
+    let tree = Tree::from_toml(alloc, DEFAULT_TREE)?;
+    if tree.len() != 5 {
         return Ok(false);
     }
-    let attributes = tree.attributes(alloc, node, mask, 2, 7, 90)?;
-    Ok(
-        attributes.mask.as_slice() == want_mask
-            && attributes.values.as_slice() == words(alloc, want)?.as_slice(),
-    )
+    let attributes = tree.attributes(alloc, 1, &[mask], 2, 7, 90)?;
+    let is_mask = attributes.mask.as_slice() == [mask & 0x0018_0fff].as_slice();
+    Ok(is_mask && attributes.values.as_slice() == bytes_of(alloc, values)?.as_slice())
 }
 
+/// Changes and sizes of files that were written to; `tools/try_program` has the other attributes of each node.
 #[test]
 fn nodes_have_attributes(rt: HostRuntime) -> Result<(), Fail> {
-    let tree = Tree::from_toml(rt.alloc(), DEFAULT_TREE)?;
+    assert!(rt; has_attributes(rt.alloc(), 0x1a, &[1, 0, 2, 0, 7])?);
     let all = [
         1,
         0x0018_0fff,
@@ -258,51 +122,6 @@ fn nodes_have_attributes(rt: HostRuntime) -> Result<(), Fail> {
         0,
         2,
     ];
-    let all_of_d = [
-        1,
-        0x0018_0fff,
-        2,
-        0,
-        0,
-        0,
-        0,
-        0,
-        0,
-        0,
-        0,
-        0,
-        1,
-        0,
-        0,
-        1,
-        90,
-        0,
-        8,
-        0x6e66_6831,
-        3,
-        0,
-        4,
-    ];
-    for (node, mask, want_mask, want) in [
-        (
-            1,
-            [0x1a].as_slice(),
-            [0x1a].as_slice(),
-            [1, 0, 2, 0, 7].as_slice(),
-        ),
-        (3, &[0x1a], &[0x1a], &[2, 0, 0, 0, 0]),
-        (4, &[0x0010_0002], &[0x0010_0002], &[1, 0, 5]),
-        (0, &[0x0010_0000], &[0x0010_0000], &[0, 1]),
-        (1, &[u32::MAX], &[0x0018_0fff], &all),
-        (3, &[u32::MAX], &[0x0018_0fff], &all_of_d),
-        // None of those that there are, and two words.
-        (1, &[0xffe7_f000], &[], &[]),
-        (1, &[0, 2], &[], &[]),
-        (1, &[], &[], &[]),
-        (1, &[2, u32::MAX], &[2], &[1]),
-    ] {
-        let right = has_attributes(rt.alloc(), &tree, node, mask, want_mask, want)?;
-        assert!(rt; right, "node {node}");
-    }
+    assert!(rt; has_attributes(rt.alloc(), u32::MAX, &all)?);
     Ok(())
 }

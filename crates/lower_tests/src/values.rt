@@ -1,37 +1,60 @@
 //! Values written and read again, with the bytes between them worked out by hand.
 
-use crate::messages::bytes_of;
+use crate::words::bytes_of;
 use nfs_xdr::operations::setclientid_confirm::SetclientidConfirm;
 use nfs_xdr::{Address, Answer, ArgOp, ClientId, Op, OpResult, Refusal, Unsupported, read_op};
 use std::alloc::Global;
 use std::test::Fail;
 use xdr::{Bytes, Wire, WireError, read_flag, write_flag};
 
+/// The bytes that are written of the operation.
+fn bytes_of_op(alloc: Global, op: &Op) -> Result<Vec<u8>, Fail> {
+    let mut bytes = Vec::new(alloc);
+    op.write(&mut bytes)?;
+    Ok(bytes)
+}
+
+/// Whether all of the bytes are read as the operation.
+fn is_read_as_op(alloc: Global, bytes: &[u8], op: Op) -> Result<bool, Fail> {
+    let (read, rest) = read_op(alloc, bytes)?;
+    Ok(read == ArgOp::Run(op) && rest.is_empty())
+}
+
 #[test]
 fn operations(rt: HostRuntime) -> Result<(), Fail> {
-    let alloc = rt.alloc();
     let client = ClientId {
         epoch: 1,
         number: 2,
     };
     let op = Op::SetclientidConfirm(SetclientidConfirm { client, confirm: 3 });
-    let mut written = Vec::new(alloc);
-    op.write(&mut written)?;
-    let expected = bytes_of(alloc, &[36, 1, 2, 0, 3])?;
-    assert_eq!(rt; written.as_slice(), expected.as_slice());
-    let (again, rest) = read_op(alloc, written.as_slice())?;
-    assert!(rt; again == ArgOp::Run(op));
-    assert!(rt; rest.is_empty());
+    let expected = bytes_of(rt.alloc(), &[36, 1, 2, 0, 3])?;
+    let written = bytes_of_op(rt.alloc(), &op)?;
+    assert!(rt; written.as_slice() == expected.as_slice());
+    assert!(rt; is_read_as_op(rt.alloc(), expected.as_slice(), op)?);
     Ok(())
+}
+
+/// The bytes that are written of the result.
+fn bytes_of_result(alloc: Global, answer: &OpResult) -> Result<Vec<u8>, Fail> {
+    let mut bytes = Vec::new(alloc);
+    answer.write(&mut bytes)?;
+    Ok(bytes)
+}
+
+/// Whether all of the bytes are read as the result.
+fn is_read_as(alloc: Global, bytes: &[u8], answer: &OpResult) -> Result<bool, Fail> {
+    let (read, rest) = OpResult::read(alloc, bytes)?;
+    Ok(read == *answer && rest.is_empty())
 }
 
 /// Whether the result is encoded as these words, and they are read as the result.
 fn is_encoded_as(alloc: Global, answer: OpResult, words: &[u32]) -> Result<bool, Fail> {
-    let bytes = bytes_of(alloc, words)?;
-    let mut written = Vec::new(alloc);
-    answer.write(&mut written)?;
-    let (again, rest) = OpResult::read(alloc, bytes.as_slice())?;
-    Ok(written.as_slice() == bytes.as_slice() && again == answer && rest.is_empty())
+    let expected = bytes_of(alloc, words)?;
+    let written = bytes_of_result(alloc, &answer)?;
+    Ok(
+        written.as_slice() == expected.as_slice()
+            && is_read_as(alloc, expected.as_slice(), &answer)?,
+    )
 }
 
 #[test]
@@ -103,17 +126,23 @@ fn statuses_of_locks_bring_nothing_of_clients(rt: HostRuntime) -> Result<(), Fai
     Ok(())
 }
 
+/// Whether the flag is encoded as this word, which is read as the flag.
+fn flag_is_encoded_as(alloc: Global, flag: bool, word: u32) -> Result<bool, Fail> {
+    let mut written = Vec::new(alloc);
+    write_flag(&mut written, flag)?;
+    let (read, _) = read_flag(written.as_slice())?;
+    Ok(read == flag && written.as_slice() == word.to_be_bytes().as_slice())
+}
+
 #[test]
 fn flags(rt: HostRuntime) -> Result<(), Fail> {
-    for (flag, word) in [(false, 0), (true, 1)] {
-        let mut written = Vec::new(rt.alloc());
-        write_flag(&mut written, flag)?;
-        let expected = bytes_of(rt.alloc(), &[word])?;
-        assert_eq!(rt; written.as_slice(), expected.as_slice());
-        let (again, _) = read_flag(written.as_slice())?;
-        assert_eq!(rt; again, flag);
-    }
-    let two = bytes_of(rt.alloc(), &[2])?;
-    assert!(rt; matches!(read_flag(two.as_slice()), Err(WireError::Short)));
+    assert!(rt; flag_is_encoded_as(rt.alloc(), false, 0)?);
+    assert!(rt; flag_is_encoded_as(rt.alloc(), true, 1)?);
+    assert!(rt; matches!(read_flag(&[0, 0, 0, 2]), Err(WireError::Short)));
     Ok(())
+}
+
+#[test]
+fn savefh_has_no_entry(rt: HostRuntime) {
+    assert!(rt; !Op::Savefh.has_entry());
 }

@@ -1,3 +1,5 @@
+//! Records of a stream, cut in any way: what is kept, and what is left.
+
 use nfs_rpc::{RecordError, Records};
 use std::process::Abort;
 
@@ -23,6 +25,7 @@ fn feed(rt: &impl Abort, records: &mut Records, piece: &[u8]) -> Result<(), Reco
     }
     assert_eq!(rt; (records.rest(), records.kept()), (rest, kept));
     assert_eq!(rt; records.fed(), fed);
+    assert!(rt; !records.is_too_long());
     feed_if_few(rt, records, piece)
 }
 
@@ -115,4 +118,22 @@ fn takes_a_record_cut_anywhere(rt: HostRuntime) {
         assert_next(&rt, &mut records, &[1, 2, 3]);
         assert_no_next(&rt, &mut records);
     }
+}
+
+/// Three records, cut here and there. `tools/refuse_growths` runs this with each of its growths refused in turn: a
+/// piece that is refused leaves all as it was, and is taken when it comes again.
+#[test]
+fn takes_records_cut_here_and_there(rt: HostRuntime) {
+    let mut records = Records::new(rt.alloc());
+    let pieces: [&[u8]; 4] = [
+        &[0x80, 0, 0, 1, 1, 0, 0, 0, 1],
+        &[2, 0x80, 0, 0],
+        &[1, 3, 0x80, 0, 0, 2, 4],
+        &[5],
+    ];
+    feed_all(&rt, &mut records, &pieces);
+    assert_next(&rt, &mut records, &[1]);
+    assert_next(&rt, &mut records, &[2, 3]);
+    assert_next(&rt, &mut records, &[4, 5]);
+    assert_no_next(&rt, &mut records);
 }
