@@ -1,4 +1,5 @@
-ghost use Rattle.std.specs.Prelude.{◌≡◌, ◌≤◌, ◌<◌, ◌+◌, ◌↔◌, IfErr, IfNone, IfOk, IsErrOf, IsOk, IsTrue, OnErr, OnOk, OnSome, Some, [], ◌∷◌, ◌++◌, ◌≢◌, option_map};
+ghost use Rattle.std.specs.Prelude.{◌≡◌, ◌≤◌, ◌<◌, ◌+◌, ◌↔◌, IfErr, IfNone, IfOk, IsErrOf, IsOk, IsTrue, OnErr, OnOk, OnSome, Some, [], ◌∷◌, ◌++◌, ◌⊎◌, option_map};
+ghost use Rattle.std.specs.List.{list_any};
 ghost use Rattle.std.specs.Option.{option_copied};
 ghost use Rattle.nfs_share.specs.Opens.{CanDowngrade, advanced, downgraded, is_denied, is_numbered, is_of, is_of_client, is_refused, joined, next_stateid_of, numbered, open_of, share_of, stateid_of, with_each, with_opening, without};
 
@@ -8,8 +9,8 @@ use nfs_xdr::{ClientId, OpenOwner, Stateid};
 use std::alloc::{AllocError, Global};
 use std::marker::Model;
 
-/// The opens of a file, each of which keeps others out by its share reservation (RFC 7530, section 9.9). An owner has at
-/// most one: a second OPEN joins it.
+/// The opens of a file, each of which keeps others out by its share reservation (RFC 7530, section 9.9). A second OPEN of
+/// an owner joins the open that the owner has.
 #[derive(Debug, Drop)]
 pub struct FileShare {
     opens: Vec<OpenState>,
@@ -81,6 +82,13 @@ impl FileShare {
         self.opens.iter().any(|open| !open.is_of(owner) && share.conflicts_with(open.share()))
     }
 
+    /// Whether an owner of this client has an open.
+    pub fn has_client(&self, client: ClientId) -> bool
+        ensures { result ≡ list_any (is_of_client client) self.now.opens }
+    {
+        self.opens.iter().any(|open| open.is_of_client(client))
+    }
+
     /// Makes room, so that the next change takes no memory.
     pub fn reserve(&mut self) -> Result<(), AllocError>
         ensures opens { self.new.opens ≡ self.old.opens }
@@ -91,8 +99,8 @@ impl FileShare {
         self.opens.reserve(1)
     }
 
-    /// OPEN (RFC 7530, section 16.16): adds the share to the owner's open, or makes an open with this number. Returns the
-    /// open's stateid.
+    /// OPEN (RFC 7530, section 16.16): adds the share to the owner's open, or makes an open with this number. Returns
+    /// the open's stateid.
     pub fn try_open(
         &mut self,
         owner: OpenOwner,
@@ -105,8 +113,8 @@ impl FileShare {
             option_map stateid_of (open_of owner self.new.opens) ≡ Some stateid) }
         ensures denied { IsErrOf result ShareError.Denied
             ↔ IsTrue (is_refused owner share self.old.opens) }
-        ensures memory { IsErrOf result ShareError.Memory → self.old.room ≡ 0 }
-        ensures errors { IfErr result (λ e. e ≢ ShareError.Invalid) }
+        ensures memory { IfErr result (λ e.
+            (e ≡ ShareError.Denied) ⊎ ((e ≡ ShareError.Memory) × (self.old.room ≡ 0))) }
         ensures err { OnErr result (self.new ≡ self.old) }
         ensures room { OnOk result (self.old.room ≤ self.new.room + 1) }
     {
@@ -146,7 +154,7 @@ impl FileShare {
         Ok(stateid)
     }
 
-    /// OPEN_CONFIRM (RFC 7530, section 16.18): gives the open with this number its next seqid.
+    /// OPEN_CONFIRM (RFC 7530, section 16.18): gives the open with this number its next seqid, if there is one.
     pub fn advance(&mut self, number: u32)
         ensures { self.new ≡ record self.old {
           opens = with_each (is_numbered number) advanced self.old.opens;
@@ -155,8 +163,8 @@ impl FileShare {
         advance_each(&mut self.opens, number);
     }
 
-    /// OPEN_DOWNGRADE (RFC 7530, section 16.19): of the open with this number keeps the shares that this share contains.
-    /// Returns the open's stateid.
+    /// OPEN_DOWNGRADE (RFC 7530, section 16.19): keeps of the open with this number the shares that this share
+    /// contains. Returns the open's stateid.
     pub fn downgrade(&mut self, number: u32, share: Share) -> Result<Stateid, ShareError>
         ensures ok { OnOk result (self.new ≡ record self.old {
           opens = with_each (is_numbered number) (downgraded share) self.old.opens;
@@ -177,7 +185,7 @@ impl FileShare {
         }
     }
 
-    /// CLOSE (RFC 7530, section 16.2): removes the open with this number.
+    /// CLOSE (RFC 7530, section 16.2): removes the open with this number, if there is one.
     pub fn close(&mut self, number: u32)
         ensures opens { self.new.opens ≡ without (is_numbered number) self.old.opens }
         ensures room { self.old.room ≤ self.new.room }
