@@ -8,11 +8,14 @@ use nfs_tree::{
 use std::alloc::Global;
 use std::test::Fail;
 
-/// Whether the tree's node has this parent, this name, and this text, which a directory has not.
+/// Whether the tree's node, which isn't the root, has this parent, this name, and this text, which a directory has not.
 fn has_node(tree: &Tree, node: u32, parent: u32, name: &[u8], text: Option<&[u8]>) -> bool {
-    let is_at_its_place = tree.nodes().get(node as usize - 1).is_some_and(|node| node.parent
+    let Some(place) = node.checked_sub(1) else {
+        return false;
+    };
+    let is_at_its_place = tree.nodes().get(place as usize).is_some_and(|found| found.parent
         == parent
-        && node.name.as_slice() == name);
+        && found.name.as_slice() == name);
     is_at_its_place && tree.is_directory(node) == text.is_none() && tree.text(node) == text
 }
 
