@@ -6,6 +6,12 @@ pub mod Verifier
 pub mod Callback
 pub mod Bitmap
 pub mod Fattr
+pub mod ChangeInfo
+pub mod DelegationType
+pub mod OpenDelegation
+pub mod CreateHow
+pub mod OpenHow
+pub mod Claim
 pub mod FileHandle
 pub mod Status
 pub mod operations

@@ -12,9 +12,13 @@ use Rattle.nfs_xdr.specs.declared.operations.Unsupported.{Unsupported}
 use Rattle.nfs_xdr.specs.declared.operations.Unsupported.TheVariants as without
 use Rattle.xdr.specs.Form.{Form, enumeration}
 pub mod Access
+pub mod Close
 pub mod Getattr
 pub mod Getfh
 pub mod Lookup
+pub mod Open
+pub mod OpenConfirm
+pub mod OpenDowngrade
 pub mod Putfh
 pub mod Putrootfh
 pub mod Restorefh

@@ -10,9 +10,13 @@ use std::alloc::Global;
 use xdr::{Wire, WireError, read_u32, write_u32};
 
 pub mod access;
+pub mod close;
 pub mod getattr;
 pub mod getfh;
 pub mod lookup;
+pub mod open;
+pub mod open_confirm;
+pub mod open_downgrade;
 pub mod putfh;
 pub mod putrootfh;
 pub mod restorefh;
