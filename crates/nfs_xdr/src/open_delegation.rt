@@ -1,4 +1,7 @@
 ghost use Rattle.nfs_xdr.specs.OpenDelegation as forms;
+ghost use Rattle.nfs_xdr.specs.OpenDelegation.{not_recalled};
+ghost use Rattle.nfs_xdr.specs.Stateid.{stateid};
+ghost use Rattle.xdr.specs.Form.{◌and◌};
 ghost use Rattle.xdr.specs.Reading.{Answers};
 
 use crate::{DelegationType, Stateid};
@@ -6,6 +9,15 @@ use std::alloc::Global;
 use xdr::{
     Measure, Wire, WireError, read_constant, write_five, write_four, write_three, write_two,
 };
+
+// FALSE, the value of `recall`, as a number.
+const NOT_RECALLED: u32 = 0;
+
+// NFS_LIMIT_SIZE: the limit is a number of bytes.
+const LIMIT_SIZE: u32 = 1;
+
+// The greatest length of a file in bytes, which is written as a number of eight bytes.
+const FILE_LIMIT: u32 = 65_536;
 
 /// The delegation that an open is given, with its stateid (open_delegation4; RFC 7530, section 16.16).
 #[derive(Clone, Copy, Debug, PartialEq, Eq)]
@@ -34,14 +46,12 @@ impl Wire for OpenDelegation {
         match kind {
             DelegationType::None => Ok((OpenDelegation::None, rest)),
             DelegationType::Read => {
-                let (stateid, rest) = Stateid::read(alloc, rest)?;
-                let (_, rest) = read_constant(rest, NOT_RECALLED)?;
+                let (stateid, rest) = read_stateid(alloc, rest)?;
                 let (_, rest) = EmptyAce::read(alloc, rest)?;
                 Ok((OpenDelegation::Read(stateid), rest))
             }
             DelegationType::Write => {
-                let (stateid, rest) = Stateid::read(alloc, rest)?;
-                let (_, rest) = read_constant(rest, NOT_RECALLED)?;
+                let (stateid, rest) = read_stateid(alloc, rest)?;
                 let (_, rest) = SpaceLimit::read(alloc, rest)?;
                 let (_, rest) = EmptyAce::read(alloc, rest)?;
                 Ok((OpenDelegation::Write(stateid), rest))
@@ -72,6 +82,15 @@ impl Wire for OpenDelegation {
     }
 }
 
+// Reads the stateid of a delegation, and that it isn't recalled.
+fn read_stateid(alloc: Global, bytes: &[u8]) -> Result<(Stateid, &[u8]), WireError>
+    ensures { Answers (λ x. ((x.0, tt), x.1.now)) result ((stateid and not_recalled).at bytes.now) }
+{
+    let (stateid, rest) = Stateid::read(alloc, bytes)?;
+    let (_, rest) = read_constant(rest, NOT_RECALLED)?;
+    Ok((stateid, rest))
+}
+
 impl Measure for OpenDelegation {
     #[tactic(auto, unfolding(crate::specs::OpenDelegation::open_delegation, crate::specs::OpenDelegation::read_delegation, crate::specs::OpenDelegation::write_delegation, crate::specs::OpenDelegation::empty_ace, crate::specs::OpenDelegation::space_limit, crate::specs::DelegationType::delegation_type, xdr::specs::Writing::written_number))]
     fn written_len(&self) -> usize {
@@ -82,9 +101,6 @@ impl Measure for OpenDelegation {
         }
     }
 }
-
-// FALSE, as a number.
-const NOT_RECALLED: u32 = 0;
 
 impl Wire for EmptyAce {
     ghost form = { forms.empty_ace };
@@ -105,12 +121,6 @@ impl Wire for EmptyAce {
         write_four(out, &0u32, &0u32, &0u32, &0u32)
     }
 }
-
-// NFS_LIMIT_SIZE: the limit is a number of bytes.
-const LIMIT_SIZE: u32 = 1;
-
-// The greatest length of a file in bytes, which is written as a number of eight bytes.
-const FILE_LIMIT: u32 = 65_536;
 
 impl Wire for SpaceLimit {
     ghost form = { forms.space_limit };
