@@ -1,9 +1,9 @@
 -- The clients' records (RFC 7530, section 16.33.5).
 use Rattle.std.specs.Prelude.{ℕ, nat_le, Bool, ◌&&◌, ◌==◌, not, List, [], length, find, Option}
 use Rattle.std.specs.Str.{bytes_eq}
-use Rattle.nfs_xdr.specs.declared.callback.Address.{Address}
-use Rattle.nfs_xdr.specs.declared.client_id.ClientId.{ClientId}
-use Rattle.nfs_xdr.specs.declared.operations.setclientid_confirm.SetclientidConfirm.{SetclientidConfirm}
+use Rattle.nfs_forms.specs.declared.callback.Address.{Address}
+use Rattle.nfs_forms.specs.declared.client_id.ClientId.{ClientId}
+use Rattle.nfs_forms.specs.declared.operations.setclientid_confirm.SetclientidConfirm.{SetclientidConfirm}
 use Rattle.nfs_core.specs.declared.client_record.ClientRecord.{ClientRecord}
 use Rattle.nfs_core.specs.declared.client_record.TheConstants.{ADDRESS_LIMIT}
 

@@ -1,5 +1,5 @@
 ghost use Rattle.std.specs.Prelude.{◌≡◌, ℕ, ◌-◌, ◌^◌, ◌<◌, ◌↔◌, false, None, Some, IfOk, IsErrOf};
-ghost use Rattle.nfs_xdr.specs.operations.Setclientid as setclientid;
+ghost use Rattle.nfs_forms.specs.operations.Setclientid as setclientid;
 ghost use Rattle.nfs_core.specs.Registration.{Arrival, Update, registration, registration_by, unconfirmed_record};
 ghost use Rattle.nfs_core.specs.ClientRoom.{HasNumbersFor};
 ghost use Rattle.nfs_core.specs.Registry.{is_within_limit};
@@ -15,7 +15,7 @@ impl Clients {
     /// The answer of SETCLIENTID (RFC 7530, section 16.33.5) in the server's run `epoch`, and its change of the
     /// clients' records. `has_state` is whether the client of the confirmed record with the id has state. Full if a
     /// limit would be exceeded.
-    #[tactic(auto, unfolding(nfs_xdr::specs::Answer::answer, nfs_xdr::specs::Status::status, nfs_xdr::specs::operations::SetclientidConfirm::arguments, nfs_xdr::specs::ClientId::client_id))]
+    #[tactic(auto, unfolding(nfs_forms::specs::Answer::answer, nfs_forms::specs::Status::status, nfs_forms::specs::operations::SetclientidConfirm::arguments, nfs_forms::specs::ClientId::client_id))]
     pub(crate) fn set(
         &self,
         epoch: u32,
@@ -48,7 +48,7 @@ impl Clients {
     }
 
     // A client updates its callback, and keeps its clientid.
-    #[tactic(auto, unfolding(nfs_xdr::specs::Answer::answer, nfs_xdr::specs::Status::status, nfs_xdr::specs::operations::SetclientidConfirm::arguments, nfs_xdr::specs::ClientId::client_id))]
+    #[tactic(auto, unfolding(nfs_forms::specs::Answer::answer, nfs_forms::specs::Status::status, nfs_forms::specs::operations::SetclientidConfirm::arguments, nfs_forms::specs::ClientId::client_id))]
     fn set_update(
         &self,
         principal: Principal,
@@ -73,7 +73,7 @@ impl Clients {
     }
 
     // A client gets a new client number.
-    #[tactic(auto, unfolding(nfs_xdr::specs::Answer::answer, nfs_xdr::specs::Status::status, nfs_xdr::specs::operations::SetclientidConfirm::arguments, nfs_xdr::specs::ClientId::client_id))]
+    #[tactic(auto, unfolding(nfs_forms::specs::Answer::answer, nfs_forms::specs::Status::status, nfs_forms::specs::operations::SetclientidConfirm::arguments, nfs_forms::specs::ClientId::client_id))]
     fn set_arrival(
         &self,
         epoch: u32,
