@@ -1,4 +1,4 @@
-ghost use Rattle.std.specs.Prelude.{◌≡◌, ◌<◌, ◌≤◌, ◌+◌, ℕ, true, Some, IfSome, OnSome, option_map, position};
+ghost use Rattle.std.specs.Prelude.{◌≡◌, ◌<◌, ◌≤◌, ◌+◌, ℕ, true, Some, IfOk, IfSome, OnSome, option_map, position};
 ghost use Rattle.std.specs.Option.{option_copied};
 ghost use Rattle.nfs_tree.specs.Tree.{child, handle_of, is_child, is_directory, node_at, node_count, node_of, resolved, text_of};
 
@@ -115,7 +115,7 @@ impl Tree {
     /// not found.
     pub fn resolve(&self, node: u32, name: &[u8]) -> Result<u32, Refusal>
         ensures object { result ≡ resolved self.now.nodes node name.now }
-        ensures within { OnOk result (λ n. n < node_count self.now.nodes) }
+        ensures within { IfOk result (λ n. n < node_count self.now.nodes) }
     {
         if !self.is_directory(node) {
             return Err(Refusal::NotDir);
