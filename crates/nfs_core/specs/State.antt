@@ -1,6 +1,6 @@
 -- The state that the rules of the operations refer to, and the journal of its changes.
 use Rattle.std.specs.Prelude.{ℕ, zero, suc, Bool, false, ◌==◌, List, [], ◌∷◌, ◌++◌, length, find, Option, Some, None}
-use Rattle.nfs_xdr.specs.declared.client_id.ClientId.{ClientId}
+use Rattle.nfs_forms.specs.declared.client_id.ClientId.{ClientId}
 use Rattle.nfs_owners.specs.declared.client_record.ClientRecord.{ClientRecord}
 use Rattle.nfs_core.specs.declared.entry.Entry.{Entry}
 use Rattle.nfs_owners.specs.Registry.{Registry, no_clients}

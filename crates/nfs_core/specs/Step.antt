@@ -14,8 +14,8 @@ use Rattle.nfs_core.specs.State.{State, History}
 use Rattle.nfs_tree.specs.Tree.{node_count}
 use Rattle.nfs_xdr.specs.declared.op.Op.{Op}
 use Rattle.nfs_xdr.specs.declared.op_result.OpResult.{OpResult}
-use Rattle.nfs_xdr.specs.declared.principal.Principal.{Principal}
-use Rattle.nfs_xdr.specs.declared.status.Refusal.TheVariants.{Resource}
+use Rattle.nfs_forms.specs.declared.principal.Principal.{Principal}
+use Rattle.nfs_forms.specs.declared.status.Refusal.TheVariants.{Resource}
 use Rattle.nfs_xdr.specs.Op.{opnum_of}
 use Rattle.nfs_xdr.specs.OpResult.{refusal_of}
 

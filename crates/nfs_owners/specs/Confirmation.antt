@@ -5,12 +5,12 @@ use Rattle.nfs_owners.specs.declared.client_record.PathMark.{PathMark}
 use Rattle.nfs_owners.specs.declared.clients.client_change.ClientChange.{ClientChange}
 use Rattle.nfs_owners.specs.declared.clients.client_change.ClientChange.TheVariants.{Nothing, Confirms, Replaces}
 use Rattle.nfs_owners.specs.Registry.{Registry, confirmed_named_by, confirmed_of, is_same_client, unconfirmed_named_by}
-use Rattle.nfs_xdr.specs.declared.answer.Answer.TheVariants.{Done, ClidInUse, Refused}
-use Rattle.nfs_xdr.specs.declared.operations.setclientid_confirm.SetclientidConfirm.{SetclientidConfirm}
-use Rattle.nfs_xdr.specs.declared.principal.Principal.{Principal}
-use Rattle.nfs_xdr.specs.declared.status.Refusal.TheVariants.{StaleClientId}
-use Rattle.nfs_xdr.specs.Answer.{PlainAnswer}
-use Rattle.nfs_xdr.specs.Principal.{is_same_principal}
+use Rattle.nfs_forms.specs.declared.answer.Answer.TheVariants.{Done, ClidInUse, Refused}
+use Rattle.nfs_forms.specs.declared.operations.setclientid_confirm.SetclientidConfirm.{SetclientidConfirm}
+use Rattle.nfs_forms.specs.declared.principal.Principal.{Principal}
+use Rattle.nfs_forms.specs.declared.status.Refusal.TheVariants.{StaleClientId}
+use Rattle.nfs_forms.specs.Answer.{PlainAnswer}
+use Rattle.nfs_forms.specs.Principal.{is_same_principal}
 
 -- the answer of SETCLIENTID_CONFIRM: a status without further data
 abbrev pub Outcome : Type 0

@@ -7,8 +7,8 @@ use Rattle.nfs_owners.specs.declared.owner.Owner.{Owner}
 use Rattle.nfs_owners.specs.declared.owner.TheConstants.{OWNER_LIMIT}
 use Rattle.nfs_owners.specs.Kept.{IsVerdict}
 use Rattle.nfs_owners.specs.Owner.{has_client, has_name, is_known, new_owner}
-use Rattle.nfs_xdr.specs.declared.client_id.ClientId.{ClientId}
-use Rattle.nfs_xdr.specs.declared.open_owner.OpenOwner.{OpenOwner}
+use Rattle.nfs_forms.specs.declared.client_id.ClientId.{ClientId}
+use Rattle.nfs_forms.specs.declared.open_owner.OpenOwner.{OpenOwner}
 
 -- The owners in the order in which they were recorded, and how many more of them fit without taking memory.
 pub record RoomyOwners : Type 0 where

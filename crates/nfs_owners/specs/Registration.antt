@@ -8,14 +8,14 @@ use Rattle.nfs_owners.specs.declared.clients.client_change.ClientChange.{ClientC
 use Rattle.nfs_owners.specs.declared.clients.client_change.ClientChange.TheVariants.{Nothing, Arrives, Updates}
 use Rattle.nfs_owners.specs.Addresses.{is_within_limit}
 use Rattle.nfs_owners.specs.Registry.{Registry, confirmed_of}
-use Rattle.nfs_xdr.specs.declared.callback.Address.{Address}
-use Rattle.nfs_xdr.specs.declared.answer.Answer.{Answer}
-use Rattle.nfs_xdr.specs.declared.answer.Answer.TheVariants.{Done, ClidInUse}
-use Rattle.nfs_xdr.specs.declared.client_id.ClientId.{ClientId}
-use Rattle.nfs_xdr.specs.declared.operations.setclientid.Setclientid.{Setclientid}
-use Rattle.nfs_xdr.specs.declared.operations.setclientid_confirm.SetclientidConfirm.{SetclientidConfirm}
-use Rattle.nfs_xdr.specs.declared.principal.Principal.{Principal}
-use Rattle.nfs_xdr.specs.Principal.{is_same_principal}
+use Rattle.nfs_forms.specs.declared.callback.Address.{Address}
+use Rattle.nfs_forms.specs.declared.answer.Answer.{Answer}
+use Rattle.nfs_forms.specs.declared.answer.Answer.TheVariants.{Done, ClidInUse}
+use Rattle.nfs_forms.specs.declared.client_id.ClientId.{ClientId}
+use Rattle.nfs_forms.specs.declared.operations.setclientid.Setclientid.{Setclientid}
+use Rattle.nfs_forms.specs.declared.operations.setclientid_confirm.SetclientidConfirm.{SetclientidConfirm}
+use Rattle.nfs_forms.specs.declared.principal.Principal.{Principal}
+use Rattle.nfs_forms.specs.Principal.{is_same_principal}
 
 -- the answer of SETCLIENTID
 abbrev pub Outcome : Type 0

@@ -2,8 +2,8 @@
 use Rattle.std.specs.Prelude.{ℕ, nat_le, Bool, ◌&&◌, ◌==◌, not, List, [], filter, find, Option}
 use Rattle.std.specs.List.{list_any}
 use Rattle.std.specs.Str.{bytes_eq}
-use Rattle.nfs_xdr.specs.declared.client_id.ClientId.{ClientId}
-use Rattle.nfs_xdr.specs.declared.operations.setclientid_confirm.SetclientidConfirm.{SetclientidConfirm}
+use Rattle.nfs_forms.specs.declared.client_id.ClientId.{ClientId}
+use Rattle.nfs_forms.specs.declared.operations.setclientid_confirm.SetclientidConfirm.{SetclientidConfirm}
 use Rattle.nfs_owners.specs.declared.client_record.ClientRecord.{ClientRecord}
 
 -- The records in the order in which they were added, and the last client number and the last confirm value that were

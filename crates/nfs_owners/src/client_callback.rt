@@ -18,7 +18,7 @@ pub struct ClientCallback {
 impl Model for ClientCallback {
     ghost use Rattle.std.specs.Prelude.{◌≡◌, true};
     ghost use Rattle.nfs_owners.specs.Addresses.{is_within_limit};
-    ghost use Rattle.nfs_xdr.specs.declared.callback.Callback.{Callback};
+    ghost use Rattle.nfs_forms.specs.declared.callback.Callback.{Callback};
 
     ghost Value = { Callback };
 

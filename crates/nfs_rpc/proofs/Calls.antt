@@ -7,8 +7,8 @@ use Rattle.xdr.specs.Form.{Form}
 use Rattle.xdr.specs.Reading.{Read, Begins, ◌>>=◌}
 use Rattle.xdr.specs.laws.Reads.{decided, ok_is, lacks}
 use Rattle.nfs_xdr.specs.declared.compound.Compound.{Compound as CompoundArgs}
-use Rattle.nfs_xdr.specs.declared.principal.Principal.{Principal}
-use Rattle.nfs_xdr.specs.declared.principal.Principal.TheVariants as principals
+use Rattle.nfs_forms.specs.declared.principal.Principal.{Principal}
+use Rattle.nfs_forms.specs.declared.principal.Principal.TheVariants as principals
 use Rattle.nfs_xdr.specs.Compound.{OneCompoundIsEncoded, compound_at, head, request_at}
 use Rattle.nfs_rpc.specs.declared.call.Call.{Call}
 use Rattle.nfs_rpc.specs.declared.call.Call.TheVariants.{Silent, Null, Compound, Answer}

@@ -10,7 +10,7 @@ use Rattle.nfs_rpc.specs.declared.reply.Reply.TheVariants.{RpcMismatch, AuthErro
 use Rattle.nfs_rpc.specs.declared.reply.TheConstants.{SHORT_REPLY_LEN}
 use Rattle.nfs_rpc.specs.Credential.{IsOf, OpaqueAuth, opaque_auth}
 use Rattle.nfs_rpc.specs.Reply.{IsWritable, written_reply}
-use Rattle.nfs_xdr.specs.declared.principal.Principal.{Principal}
+use Rattle.nfs_forms.specs.declared.principal.Principal.{Principal}
 use Rattle.nfs_xdr.specs.Compound.{IsCompound}
 use Rattle.nfs_xdr.specs.declared.compound.Compound.{Compound as CompoundArgs}
 use Rattle.nfs_xdr.specs.declared.compound.Request.{Request}

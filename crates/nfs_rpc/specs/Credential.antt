@@ -2,8 +2,8 @@
 use Rattle.std.specs.Prelude.{◌≡◌, ℕ, ◌==◌, List, Option, Some, None, Ok, Err, if◌then◌else◌}
 use Rattle.nfs_rpc.specs.declared.credential.TheConstants.{AUTH_NONE, AUTH_SYS, BODY_LIMIT}
 use Rattle.nfs_rpc.specs.AuthSys.{AuthSys, auth_sys}
-use Rattle.nfs_xdr.specs.declared.principal.Principal.{Principal}
-use Rattle.nfs_xdr.specs.declared.principal.Principal.TheVariants as principals
+use Rattle.nfs_forms.specs.declared.principal.Principal.{Principal}
+use Rattle.nfs_forms.specs.declared.principal.Principal.TheVariants as principals
 use Rattle.xdr.specs.Form.{Form, ◌and◌, u32, opaque}
 use Rattle.xdr.specs.Reading.{Begins, Read}
 

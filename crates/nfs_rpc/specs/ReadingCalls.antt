@@ -8,7 +8,7 @@ use Rattle.nfs_rpc.specs.declared.call.TheConstants.{NFS_PROGRAM, NFS_VERSION, P
 use Rattle.nfs_rpc.specs.declared.reply.Reply.TheVariants.{RpcMismatch, AuthError, ProgUnavail, ProgMismatch, ProcUnavail, GarbageArgs}
 use Rattle.nfs_rpc.specs.Call.{Body, body, start}
 use Rattle.nfs_rpc.specs.Credential.{principal_of}
-use Rattle.nfs_xdr.specs.declared.principal.Principal.{Principal}
+use Rattle.nfs_forms.specs.declared.principal.Principal.{Principal}
 use Rattle.nfs_xdr.specs.Compound.{compound_at}
 use Rattle.nfs_xdr.specs.declared.compound.Compound.{Compound as CompoundArgs}
 use Rattle.xdr.specs.declared.wire_error.WireError.{WireError}

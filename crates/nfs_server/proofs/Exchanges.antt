@@ -12,7 +12,7 @@ use Rattle.nfs_server.specs.Asking.{Asks, question_of}
 use Rattle.nfs_server.specs.Exchange.{Exchange, Rules, IsExchanged, written_for}
 use Rattle.nfs_xdr.specs.declared.compound.Compound.{Compound}
 use Rattle.nfs_xdr.specs.declared.op_result.OpResult.{OpResult}
-use Rattle.nfs_xdr.specs.declared.principal.Principal.{Principal}
+use Rattle.nfs_forms.specs.declared.principal.Principal.{Principal}
 
 -- the message was answered, and its reply was added after the bytes that were there before
 abbrev pub IsAnswered : {S C : Type 0} → Rules S C → S → C → List ℕ → List ℕ → List ℕ → S → C → Type 0

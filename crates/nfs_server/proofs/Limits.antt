@@ -5,13 +5,13 @@ use Rattle.std.proofs.lemmas.List.Concat.{flat_map-cons}
 use Rattle.std.proofs.lemmas.List.{length-append}
 use Rattle.byteorder.specs.Numbers.{length-bytes_high_first}
 use Rattle.nfs_xdr.specs.declared.op_result.OpResult.{OpResult}
-use Rattle.nfs_xdr.specs.declared.status.Status.{Status}
-use Rattle.nfs_xdr.specs.declared.status.Status.TheVariants as statuses
-use Rattle.nfs_xdr.specs.declared.status.Refusal.TheVariants as refusals
+use Rattle.nfs_forms.specs.declared.status.Status.{Status}
+use Rattle.nfs_forms.specs.declared.status.Status.TheVariants as statuses
+use Rattle.nfs_forms.specs.declared.status.Refusal.TheVariants as refusals
 use Rattle.nfs_xdr.specs.Compound.{compound_result}
-use Rattle.nfs_xdr.specs.operations.{number_of, opnum}
+use Rattle.nfs_xdr.specs.Opnum.{number_of, opnum}
 use Rattle.nfs_xdr.specs.OpResult.{op_result, opnum_of, result_arm}
-use Rattle.nfs_xdr.specs.Status.{status}
+use Rattle.nfs_forms.specs.Status.{status}
 use Rattle.nfs_rpc.specs.declared.records.TheConstants.{RECORD_LIMIT}
 use Rattle.xdr.specs.Writing.{written_number, written_u32}
 

@@ -9,7 +9,7 @@ use Rattle.nfs_rpc.specs.declared.reply.TheConstants.{ACCEPTED_LEN, ACCEPTED_SUC
 use Rattle.nfs_server.specs.Answering.{head_size}
 use Rattle.nfs_rpc.specs.Reply.{written_accepted, written_reply}
 use Rattle.nfs_xdr.specs.Compound.{compound_result}
-use Rattle.nfs_xdr.specs.Status.{status}
+use Rattle.nfs_forms.specs.Status.{status}
 use Rattle.std.specs.List.{flat_map}
 use Rattle.nfs_xdr.specs.OpResult.{op_result}
 use Rattle.xdr.specs.Writing.{written_number, written_opaque, written_u32}

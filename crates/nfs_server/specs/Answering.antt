@@ -20,12 +20,12 @@ use Rattle.nfs_xdr.specs.declared.compound.Request.{Request}
 use Rattle.nfs_xdr.specs.declared.compound.Request.TheVariants.{MinorVersion, TooMany, Operations}
 use Rattle.nfs_xdr.specs.declared.op.Op.{Op}
 use Rattle.nfs_xdr.specs.declared.op_result.OpResult.{OpResult}
-use Rattle.nfs_xdr.specs.declared.operations.Opnum.TheVariants as opnums
-use Rattle.nfs_xdr.specs.declared.status.Refusal.TheVariants as refusals
-use Rattle.nfs_xdr.specs.declared.status.Status.{Status}
-use Rattle.nfs_xdr.specs.declared.status.Status.TheVariants as status
+use Rattle.nfs_xdr.specs.declared.opnum.Opnum.TheVariants as opnums
+use Rattle.nfs_forms.specs.declared.status.Refusal.TheVariants as refusals
+use Rattle.nfs_forms.specs.declared.status.Status.{Status}
+use Rattle.nfs_forms.specs.declared.status.Status.TheVariants as status
 use Rattle.nfs_xdr.specs.Op.{opnum_of}
-use Rattle.nfs_xdr.specs.operations.{room_of}
+use Rattle.nfs_xdr.specs.Opnum.{room_of}
 use Rattle.nfs_xdr.specs.OpResult.{op_result, refusal_of, status_of}
 use Rattle.xdr.specs.Writing.{written_opaque}
 

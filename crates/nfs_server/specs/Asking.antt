@@ -1,6 +1,6 @@
 -- The questions that a service is asked, and its answers.
 use Rattle.std.specs.Prelude.{◌≡◌, ℕ, List, [], ◌∷◌, Option}
-use Rattle.nfs_xdr.specs.declared.principal.Principal.{Principal}
+use Rattle.nfs_forms.specs.declared.principal.Principal.{Principal}
 use Rattle.nfs_server.specs.Answering.{Asked}
 use Rattle.nfs_core.specs.declared.request.Request.{Request}
 use Rattle.nfs_core.specs.Server.{Server, Applies}

@@ -1,8 +1,8 @@
 -- A record and how it is answered: what the service is asked, at which moment, and what is written.
 use Rattle.std.specs.Prelude.{◌≡◌, ℕ, List, [], ◌∷◌, map, Option, Some, None}
 use Rattle.std.specs.List.{flat_map}
-use Rattle.nfs_xdr.specs.declared.principal.Principal.{Principal}
-use Rattle.nfs_xdr.specs.declared.principal.Principal.TheVariants.{AuthNone}
+use Rattle.nfs_forms.specs.declared.principal.Principal.{Principal}
+use Rattle.nfs_forms.specs.declared.principal.Principal.TheVariants.{AuthNone}
 use Rattle.nfs_rpc.specs.declared.call.Call.{Call}
 use Rattle.nfs_rpc.specs.declared.call.Call.TheVariants as calls
 use Rattle.nfs_rpc.specs.Call.{IsCall}

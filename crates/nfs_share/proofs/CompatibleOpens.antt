@@ -5,7 +5,7 @@ use Rattle.std.specs.List.{AllByRecursion, list_any}
 use Rattle.std.specs.Str.{bytes_eq}
 use Rattle.std.proofs.lemmas.Bool.{and_parts, cases_Bool, cond_both, cond-false, or_from, eqb-true, not-true, not_from_false, or_cases, or_left, or_right, or_parts}
 use Rattle.std.proofs.lemmas.Slice.Eq.{bytes_eq-Decides}
-use Rattle.nfs_xdr.specs.declared.open_owner.OpenOwner.{OpenOwner}
+use Rattle.nfs_forms.specs.declared.open_owner.OpenOwner.{OpenOwner}
 use Rattle.nfs_share.specs.declared.open_state.OpenState.{OpenState}
 use Rattle.nfs_share.specs.declared.share.Share.{Share}
 use Rattle.nfs_share.specs.Laws.{AllAreCompatible, are_compatible}

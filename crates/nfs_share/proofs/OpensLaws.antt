@@ -10,8 +10,8 @@ use Rattle.std.specs.Option.{option_or}
 use Rattle.std.specs.Str.{bytes_eq}
 use Rattle.std.proofs.lemmas.List.Folds.{find-append}
 use Rattle.std.proofs.lemmas.Slice.Eq.{bytes_eq-Decides}
-use Rattle.nfs_xdr.specs.declared.open_owner.OpenOwner.{OpenOwner}
-use Rattle.nfs_xdr.specs.declared.stateid.Stateid.{Stateid}
+use Rattle.nfs_forms.specs.declared.open_owner.OpenOwner.{OpenOwner}
+use Rattle.nfs_forms.specs.declared.stateid.Stateid.{Stateid}
 use Rattle.nfs_share.specs.declared.share.Share.{Share}
 use Rattle.nfs_share.specs.Opens.{first_open, is_of, is_same_client, is_same_owner, next_stateid_of, open_of, stateid_of, with_each}
 

@@ -2,9 +2,9 @@
 use Rattle.std.specs.Prelude.{ℕ, ◌+◌, Bool, ◌&&◌, ◌==◌, not, if◌then◌else◌, List, [], ◌∷◌, ◌++◌, filter, find, map, Option, is_some, IsSomeAnd}
 use Rattle.std.specs.List.{list_any}
 use Rattle.std.specs.Str.{bytes_eq}
-use Rattle.nfs_xdr.specs.declared.client_id.ClientId.{ClientId}
-use Rattle.nfs_xdr.specs.declared.open_owner.OpenOwner.{OpenOwner}
-use Rattle.nfs_xdr.specs.declared.stateid.Stateid.{Stateid}
+use Rattle.nfs_forms.specs.declared.client_id.ClientId.{ClientId}
+use Rattle.nfs_forms.specs.declared.open_owner.OpenOwner.{OpenOwner}
+use Rattle.nfs_forms.specs.declared.stateid.Stateid.{Stateid}
 use Rattle.nfs_share.specs.declared.modes.Modes.{Modes}
 use Rattle.nfs_share.specs.declared.open_state.OpenState.{OpenState}
 use Rattle.nfs_share.specs.declared.share.Share.{Share}

@@ -3,7 +3,7 @@ ghost use Rattle.std.specs.Vec.{vec_capacity};
 ghost use Rattle.nfs_share.specs.Opens.{advanced, downgraded, is_numbered, is_of, joined, with_each};
 
 use crate::{OpenState, Share};
-use nfs_xdr::OpenOwner;
+use nfs_forms::OpenOwner;
 
 /// Adds the share to the owner's open.
 pub(crate) fn join_each(opens: &mut Vec<OpenState>, owner: &OpenOwner, share: Share)

@@ -5,7 +5,7 @@ ghost use Rattle.nfs_share.specs.Opens.{CanDowngrade, advanced, downgraded, is_d
 
 use crate::changes::{advance_each, downgrade_each, join_each};
 use crate::{Modes, OpenState, Share, ShareError};
-use nfs_xdr::{ClientId, OpenOwner, Stateid};
+use nfs_forms::{ClientId, OpenOwner, Stateid};
 use std::alloc::{AllocError, Global};
 use std::marker::Model;
 

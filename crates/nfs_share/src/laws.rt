@@ -1,5 +1,5 @@
 ghost use Rattle.std.specs.Prelude.{ℕ, Bool, List, IsFalse};
-ghost use Rattle.nfs_xdr.specs.declared.open_owner.OpenOwner.{OpenOwner};
+ghost use Rattle.nfs_forms.specs.declared.open_owner.OpenOwner.{OpenOwner};
 ghost use Rattle.nfs_share.specs.Laws.{AllAreCompatible};
 ghost use Rattle.nfs_share.specs.Opens.{advanced, downgraded, is_refused, with_each, with_opening, without};
 ghost use Rattle.nfs_share.specs.declared.open_state.OpenState.{OpenState};

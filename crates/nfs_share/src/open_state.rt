@@ -1,5 +1,5 @@
 use crate::{Share, Shares};
-use nfs_xdr::{ClientId, OpenOwner, Stateid};
+use nfs_forms::{ClientId, OpenOwner, Stateid};
 
 /// An open of a file: all that one owner has opened the file for (RFC 7530, section 9.10).
 #[derive(Debug, Drop)]

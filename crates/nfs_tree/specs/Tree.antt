@@ -10,8 +10,8 @@ use Rattle.nfs_tree.specs.declared.node.NodeKind.TheVariants.{Directory, File}
 use Rattle.nfs_tree.specs.declared.policy.Policy.{Policy}
 use Rattle.nfs_tree.specs.declared.path.TheConstants.{NAME_LIMIT}
 use Rattle.nfs_tree.specs.declared.tree.TheConstants.{FILE_LIMIT, DIRECTORY_LIMIT, HANDLE_LEN, TEXT_LIMIT}
-use Rattle.nfs_xdr.specs.declared.status.Refusal.{Refusal}
-use Rattle.nfs_xdr.specs.declared.status.Refusal.TheVariants as refusals
+use Rattle.nfs_forms.specs.declared.status.Refusal.{Refusal}
+use Rattle.nfs_forms.specs.declared.status.Refusal.TheVariants as refusals
 
 -- The nodes other than the root in order of their numbers, starting with number 1. The root has number 0.
 pub record Files : Type 0 where

@@ -6,14 +6,14 @@ use Rattle.byteorder.specs.Endian.{big_number}
 use Rattle.nfs_xdr.specs.declared.arg_op.ArgOp.{ArgOp}
 use Rattle.nfs_xdr.specs.declared.arg_op.ArgOp.TheVariants.{Run, BadArgs, Unsupported, Illegal}
 use Rattle.nfs_xdr.specs.declared.op.Op.{Op}
-use Rattle.nfs_xdr.specs.declared.operations.Class.TheVariants.{OnNothing}
-use Rattle.nfs_xdr.specs.declared.operations.Opnum.{Opnum}
-use Rattle.nfs_xdr.specs.declared.operations.Opnum.TheVariants as opnums
-use Rattle.nfs_xdr.specs.declared.operations.TheConstants.{OPNUMS}
+use Rattle.nfs_xdr.specs.declared.opnum.Class.TheVariants.{OnNothing}
+use Rattle.nfs_xdr.specs.declared.opnum.Opnum.{Opnum}
+use Rattle.nfs_xdr.specs.declared.opnum.Opnum.TheVariants as opnums
+use Rattle.nfs_xdr.specs.declared.opnum.TheConstants.{OPNUMS}
 use Rattle.nfs_xdr.specs.ArgOp.{LacksOp, IsEncodedAt, or_bad_arguments, by_opnum, arg_op_of, by_number, arg_op_at}
 use Rattle.nfs_xdr.specs.Compound.{OneOperationIsEncoded}
 use Rattle.nfs_xdr.specs.Op.{op, op_case}
-use Rattle.nfs_xdr.specs.operations.{class_of, known, number_of, opnum, opnum_of}
+use Rattle.nfs_xdr.specs.Opnum.{class_of, known, number_of, opnum, opnum_of}
 use Rattle.xdr.specs.declared.wire_error.WireError.{WireError}
 use Rattle.xdr.specs.declared.wire_error.WireError.TheVariants as errors
 use Rattle.xdr.specs.Layout.{U32}

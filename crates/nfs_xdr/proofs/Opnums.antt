@@ -3,11 +3,11 @@ use Rattle.std.proofs.Common.{◌≡◌, ℕ, ◌-◌, eqb, true, Option, Some, 
 use Rattle.std.specs.Prelude.{min, slice_index_or}
 use Rattle.std.specs.Bool.{then_some}
 use Rattle.std.proofs.lemmas.Bool.{eq-eqb, eqb-true}
-use Rattle.nfs_xdr.specs.declared.operations.Opnum.{Opnum}
-use Rattle.nfs_xdr.specs.declared.operations.Opnum.TheVariants as op
-use Rattle.nfs_xdr.specs.declared.operations.Unsupported.TheVariants as without
-use Rattle.nfs_xdr.specs.declared.operations.TheConstants.{OPNUMS}
-use Rattle.nfs_xdr.specs.operations.{known, number_of, opnum_of}
+use Rattle.nfs_xdr.specs.declared.opnum.Opnum.{Opnum}
+use Rattle.nfs_xdr.specs.declared.opnum.Opnum.TheVariants as op
+use Rattle.nfs_xdr.specs.declared.opnum.Unsupported.TheVariants as without
+use Rattle.nfs_xdr.specs.declared.opnum.TheConstants.{OPNUMS}
+use Rattle.nfs_xdr.specs.Opnum.{known, number_of, opnum_of}
 use Rattle.nfs_xdr.proofs.ArgOps.{numbered}
 use Rattle.xdr.specs.laws.Reads.{decided}
 

@@ -1,13 +1,13 @@
 -- The numbers of statuses and operations fit their forms, and the results of unsupported operations are short.
 use Rattle.std.proofs.Common.{◌<◌, ◌≤◌, ◌^◌, length, arith}
 use Rattle.nfs_xdr.specs.declared.op_result.OpResult.TheVariants as results
-use Rattle.nfs_xdr.specs.declared.operations.Unsupported.{Unsupported}
-use Rattle.nfs_xdr.specs.declared.operations.Unsupported.TheVariants as unsupported
-use Rattle.nfs_xdr.specs.declared.status.Refusal.{Refusal}
-use Rattle.nfs_xdr.specs.declared.status.Refusal.TheVariants as refusals
-use Rattle.nfs_xdr.specs.operations.{opnum}
+use Rattle.nfs_xdr.specs.declared.opnum.Unsupported.{Unsupported}
+use Rattle.nfs_xdr.specs.declared.opnum.Unsupported.TheVariants as unsupported
+use Rattle.nfs_forms.specs.declared.status.Refusal.{Refusal}
+use Rattle.nfs_forms.specs.declared.status.Refusal.TheVariants as refusals
+use Rattle.nfs_xdr.specs.Opnum.{opnum}
 use Rattle.nfs_xdr.specs.OpResult.{op_result}
-use Rattle.nfs_xdr.specs.Status.{number_of_refusal}
+use Rattle.nfs_forms.specs.Status.{number_of_refusal}
 use Rattle.xdr.specs.Writing.{written_number}
 
 pub refusal_fits : (r : Refusal) → number_of_refusal r < 2 ^ 32

@@ -4,11 +4,11 @@ use Rattle.std.specs.Prelude.{◌≡◌, ◌≢◌, ℕ, ◌<◌, ◌⊎◌, Boo
 use Rattle.nfs_xdr.specs.declared.arg_op.ArgOp.{ArgOp}
 use Rattle.nfs_xdr.specs.declared.arg_op.ArgOp.TheVariants.{Run, BadArgs, Unsupported, Illegal}
 use Rattle.nfs_xdr.specs.declared.op.Op.{Op}
-use Rattle.nfs_xdr.specs.declared.operations.Class.TheVariants.{OnNothing}
-use Rattle.nfs_xdr.specs.declared.operations.Opnum.{Opnum}
-use Rattle.nfs_xdr.specs.declared.operations.Opnum.TheVariants as opnums
+use Rattle.nfs_xdr.specs.declared.opnum.Class.TheVariants.{OnNothing}
+use Rattle.nfs_xdr.specs.declared.opnum.Opnum.{Opnum}
+use Rattle.nfs_xdr.specs.declared.opnum.Opnum.TheVariants as opnums
 use Rattle.nfs_xdr.specs.Op.{op, op_case}
-use Rattle.nfs_xdr.specs.operations.{class_of, number_of, opnum_of}
+use Rattle.nfs_xdr.specs.Opnum.{class_of, number_of, opnum_of}
 use Rattle.xdr.specs.Layout.{U32}
 use Rattle.xdr.specs.Reading.{Read, Begins, number_at}
 use Rattle.xdr.specs.Switch.{case_at}

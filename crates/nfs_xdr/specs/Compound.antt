@@ -6,10 +6,10 @@ use Rattle.nfs_xdr.specs.declared.compound.Request.{Request}
 use Rattle.nfs_xdr.specs.declared.compound.Request.TheVariants.{MinorVersion, TooMany, Operations}
 use Rattle.nfs_xdr.specs.declared.compound.TheConstants.{OPERATION_LIMIT}
 use Rattle.nfs_xdr.specs.declared.op_result.OpResult.{OpResult}
-use Rattle.nfs_xdr.specs.declared.status.Status.{Status}
+use Rattle.nfs_forms.specs.declared.status.Status.{Status}
 use Rattle.nfs_xdr.specs.ArgOp.{IsEncodedAt, arg_op_at, ends_list}
 use Rattle.nfs_xdr.specs.OpResult.{op_result}
-use Rattle.nfs_xdr.specs.Status.{status}
+use Rattle.nfs_forms.specs.Status.{status}
 use Rattle.xdr.specs.declared.wire_error.WireError.{WireError}
 use Rattle.xdr.specs.Form.{Form, ◌and◌, u32, bytes as opaque_bytes, many}
 use Rattle.xdr.specs.Layout.{NO_LIMIT}

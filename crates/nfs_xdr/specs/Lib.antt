@@ -1,15 +1,4 @@
-pub mod Principal
-pub mod ClientId
-pub mod Stateid
-pub mod OpenOwner
-pub mod Verifier
-pub mod Callback
-pub mod Bitmap
-pub mod Fattr
-pub mod FileHandle
-pub mod Status
-pub mod operations
-pub mod Answer
+pub mod Opnum
 pub mod Op
 pub mod OpResult
 pub mod ArgOp

@@ -3,10 +3,10 @@ use Rattle.std.specs.Prelude.{Bool}
 use Rattle.std.proofs.Common.{refl}
 use Rattle.nfs_xdr.specs.declared.op.Op.{Op}
 use Rattle.nfs_xdr.specs.declared.op.Op.TheVariants as ops
-use Rattle.nfs_xdr.specs.declared.operations.Opnum.{Opnum}
-use Rattle.nfs_xdr.specs.declared.operations.Opnum.TheVariants as opnums
-use Rattle.nfs_xdr.specs.operations as of
-use Rattle.nfs_xdr.specs.operations.{class_of, is_on_state, is_of_tree, opnum}
+use Rattle.nfs_xdr.specs.declared.opnum.Opnum.{Opnum}
+use Rattle.nfs_xdr.specs.declared.opnum.Opnum.TheVariants as opnums
+use Rattle.nfs_forms.specs.operations as of
+use Rattle.nfs_xdr.specs.Opnum.{class_of, is_on_state, is_of_tree, opnum}
 use Rattle.xdr.specs.Form.{Form}
 use Rattle.xdr.specs.Switch.{Case, Content, case, no_case, Arm, arm_in, Agrees, IsRead}
 use Rattle.xdr.specs.Union.{switch}

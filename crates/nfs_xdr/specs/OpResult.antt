@@ -1,20 +1,20 @@
 -- The results of operations (RFC 7530, section 16; RFC 7531, nfs_resop4).
 use Rattle.std.proofs.Common.{refl}
-use Rattle.nfs_xdr.specs.declared.answer.Answer.{Answer}
-use Rattle.nfs_xdr.specs.declared.answer.Answer.TheVariants.{Refused}
+use Rattle.nfs_forms.specs.declared.answer.Answer.{Answer}
+use Rattle.nfs_forms.specs.declared.answer.Answer.TheVariants.{Refused}
 use Rattle.nfs_xdr.specs.declared.op_result.OpResult.{OpResult}
 use Rattle.nfs_xdr.specs.declared.op_result.OpResult.TheVariants as results
-use Rattle.nfs_xdr.specs.declared.operations.Opnum.{Opnum}
-use Rattle.nfs_xdr.specs.declared.operations.Opnum.TheVariants as opnums
-use Rattle.nfs_xdr.specs.declared.operations.Unsupported.{Unsupported as UnsupportedOp}
-use Rattle.nfs_xdr.specs.declared.operations.Unsupported.TheVariants as unsupported
-use Rattle.nfs_xdr.specs.declared.status.Refusal.{Refusal}
-use Rattle.nfs_xdr.specs.declared.status.Refusal.TheVariants as refusals
-use Rattle.nfs_xdr.specs.declared.status.Status.{Status}
-use Rattle.nfs_xdr.specs.declared.status.Status.TheVariants as statuses
-use Rattle.nfs_xdr.specs.Answer as answer
-use Rattle.nfs_xdr.specs.operations as of
-use Rattle.nfs_xdr.specs.operations.{opnum}
+use Rattle.nfs_xdr.specs.declared.opnum.Opnum.{Opnum}
+use Rattle.nfs_xdr.specs.declared.opnum.Opnum.TheVariants as opnums
+use Rattle.nfs_xdr.specs.declared.opnum.Unsupported.{Unsupported as UnsupportedOp}
+use Rattle.nfs_xdr.specs.declared.opnum.Unsupported.TheVariants as unsupported
+use Rattle.nfs_forms.specs.declared.status.Refusal.{Refusal}
+use Rattle.nfs_forms.specs.declared.status.Refusal.TheVariants as refusals
+use Rattle.nfs_forms.specs.declared.status.Status.{Status}
+use Rattle.nfs_forms.specs.declared.status.Status.TheVariants as statuses
+use Rattle.nfs_forms.specs.Answer as answer
+use Rattle.nfs_forms.specs.operations as of
+use Rattle.nfs_xdr.specs.Opnum.{opnum}
 use Rattle.xdr.specs.Form.{Form, ◌and◌, nothing, constant}
 use Rattle.xdr.specs.Switch.{Case, Content, case, Arm, arm_in, Agrees, IsRead}
 use Rattle.xdr.specs.Union.{switch}

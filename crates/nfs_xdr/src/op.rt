@@ -4,7 +4,7 @@ ghost use Rattle.nfs_xdr.specs.Op.{op_case, opnum_of};
 ghost use Rattle.xdr.specs.Reading.{Gives};
 ghost use Rattle.xdr.specs.Switch.{case_at};
 
-use crate::operations::each_operation;
+use crate::opnum::each_operation;
 use crate::{Class, Opnum, operations as of};
 use std::alloc::Global;
 use xdr::{Wire, WireError, write_two};

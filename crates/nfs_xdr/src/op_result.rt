@@ -1,14 +1,14 @@
 ghost use Rattle.std.specs.Prelude.{◌≡◌, ◌≤◌, length};
 ghost use Rattle.nfs_xdr.specs.OpResult as results;
-ghost use Rattle.nfs_xdr.specs.declared.operations.Opnum.TheVariants as opnums;
-ghost use Rattle.nfs_xdr.specs.operations.{opnum};
+ghost use Rattle.nfs_xdr.specs.declared.opnum.Opnum.TheVariants as opnums;
+ghost use Rattle.nfs_xdr.specs.Opnum.{opnum};
 ghost use Rattle.nfs_xdr.specs.OpResult.{opnum_of, refusal_of, result_case, status_of, unsupported_answer};
 ghost use Rattle.xdr.specs.Reading.{Gives};
 ghost use Rattle.xdr.specs.Form.{◌and◌};
 ghost use Rattle.xdr.specs.Switch.{case_at};
 ghost use Rattle.xdr.specs.Writing.{Writes};
 
-use crate::operations::each_operation;
+use crate::opnum::each_operation;
 use crate::{Answer, Opnum, Refusal, Status, Unsupported, operations as of};
 use std::alloc::Global;
 use xdr::{Measure, Wire, WireError, read_constant, write_three, write_two};
@@ -135,7 +135,7 @@ impl OpResult {
 
 impl Opnum {
     /// The result of the operation if it is refused with this status. An unsupported operation has only one result.
-    #[tactic(auto, using(crate::proofs::Refusals::unsupported_fits, crate::proofs::Refusals::unsupported_len, crate::proofs::Refusals::refusal_fits), unfolding(crate::specs::OpResult::op_result, crate::specs::operations::opnum, crate::specs::Answer::answer, crate::specs::Status::status, xdr::specs::Writing::written_number))]
+    #[tactic(auto, using(crate::proofs::Refusals::unsupported_fits, crate::proofs::Refusals::unsupported_len, crate::proofs::Refusals::refusal_fits), unfolding(crate::specs::OpResult::op_result, crate::specs::Opnum::opnum, nfs_forms::specs::Answer::answer, nfs_forms::specs::Status::status, xdr::specs::Writing::written_number))]
     pub fn refusal(self, refusal: Refusal) -> OpResult
         ensures value { result ≡ refusal_of self refusal }
         ensures form { results.op_result.Fits result }
@@ -188,7 +188,7 @@ fn write_unsupported(out: &mut Vec<u8>, op: Unsupported) -> Result<(), WireError
 }
 
 impl Measure for OpResult {
-    #[tactic(auto, unfolding(crate::specs::OpResult::op_result, crate::specs::operations::opnum, xdr::specs::Writing::written_number))]
+    #[tactic(auto, unfolding(crate::specs::OpResult::op_result, crate::specs::Opnum::opnum, xdr::specs::Writing::written_number))]
     fn written_len(&self) -> usize {
         each_operation!(
             of_answer self, answer => 4 + answer.written_len();

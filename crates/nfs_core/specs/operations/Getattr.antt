@@ -6,11 +6,11 @@ use Rattle.nfs_core.specs.State.{State, History, change_of, file_of, size_of}
 use Rattle.nfs_tree.specs.declared.attribute.Subject.{Subject}
 use Rattle.nfs_tree.specs.Attributes.{attributes_of}
 use Rattle.nfs_tree.specs.Tree.{is_directory}
-use Rattle.nfs_xdr.specs.declared.answer.Answer.TheVariants.{Done, Refused}
-use Rattle.nfs_xdr.specs.declared.fattr.Fattr.{Fattr}
+use Rattle.nfs_forms.specs.declared.answer.Answer.TheVariants.{Done, Refused}
+use Rattle.nfs_forms.specs.declared.fattr.Fattr.{Fattr}
 use Rattle.nfs_xdr.specs.declared.op_result.OpResult.TheVariants as results
-use Rattle.nfs_xdr.specs.declared.status.Refusal.TheVariants.{NoFileHandle}
-use Rattle.nfs_xdr.specs.Answer.{PlainAnswer}
+use Rattle.nfs_forms.specs.declared.status.Refusal.TheVariants.{NoFileHandle}
+use Rattle.nfs_forms.specs.Answer.{PlainAnswer}
 
 -- the node with the size and the change number that its file has now
 abbrev pub subject_of : History → State → ℕ → Subject

@@ -4,7 +4,7 @@ ghost use Rattle.nfs_core.specs.operations.Getattr.{attributes, rule};
 ghost use Rattle.nfs_core.specs.Deciding.{Decides};
 ghost use Rattle.nfs_core.specs.Step.{IsFilehandle};
 ghost use Rattle.nfs_core.specs.Room.{state_of};
-ghost use Rattle.nfs_xdr.specs.operations.Getattr as getattr;
+ghost use Rattle.nfs_forms.specs.operations.Getattr as getattr;
 
 use crate::change::Change;
 use crate::decision::Decision;
@@ -15,7 +15,7 @@ use nfs_xdr::{Answer, Bitmap, Fattr, Op, OpResult, Refusal};
 use std::alloc::{AllocError, Global};
 
 /// Decides a GETATTR: its answer, and that it changes nothing.
-#[tactic(auto, unfolding(nfs_xdr::specs::OpResult::op_result, nfs_xdr::specs::operations::opnum, xdr::specs::Writing::written_number))]
+#[tactic(auto, unfolding(nfs_xdr::specs::OpResult::op_result, nfs_xdr::specs::Opnum::opnum, xdr::specs::Writing::written_number))]
 pub(super) fn decide(
     alloc: Global,
     tables: &Tables,
@@ -34,7 +34,7 @@ pub(super) fn decide(
     })
 }
 
-#[tactic(auto, unfolding(nfs_xdr::specs::Answer::answer, nfs_xdr::specs::Status::status, xdr::specs::Writing::written_number))]
+#[tactic(auto, unfolding(nfs_forms::specs::Answer::answer, nfs_forms::specs::Status::status, xdr::specs::Writing::written_number))]
 fn attributes(
     alloc: Global,
     tables: &Tables,

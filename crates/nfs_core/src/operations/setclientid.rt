@@ -12,7 +12,7 @@ use nfs_xdr::operations::setclientid::Setclientid;
 use nfs_xdr::{Op, OpResult};
 
 /// Decides a SETCLIENTID: its answer and its change.
-#[tactic(auto, unfolding(nfs_xdr::specs::OpResult::op_result, nfs_xdr::specs::operations::opnum, nfs_xdr::specs::Status::status, xdr::specs::Writing::written_number, nfs_xdr::specs::Answer::answer, nfs_xdr::specs::operations::SetclientidConfirm::arguments, nfs_xdr::specs::ClientId::client_id, nfs_xdr::specs::Callback::address))]
+#[tactic(auto, unfolding(nfs_xdr::specs::OpResult::op_result, nfs_xdr::specs::Opnum::opnum, nfs_forms::specs::Status::status, xdr::specs::Writing::written_number, nfs_forms::specs::Answer::answer, nfs_forms::specs::operations::SetclientidConfirm::arguments, nfs_forms::specs::ClientId::client_id, nfs_forms::specs::Callback::address))]
 pub(super) fn decide(
     tables: &Tables,
     journal: &Journal,

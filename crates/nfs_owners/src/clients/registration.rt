@@ -1,6 +1,6 @@
 ghost use Rattle.std.specs.Prelude.{◌≡◌, ℕ, ◌-◌, ◌^◌, ◌<◌, ◌≤◌, ◌↔◌, false, true, None, Some, IfOk, IsErrOf, length};
-ghost use Rattle.nfs_xdr.specs.declared.answer.Answer.TheVariants.{ClidInUse};
-ghost use Rattle.nfs_xdr.specs.operations.Setclientid as setclientid;
+ghost use Rattle.nfs_forms.specs.declared.answer.Answer.TheVariants.{ClidInUse};
+ghost use Rattle.nfs_forms.specs.operations.Setclientid as setclientid;
 ghost use Rattle.nfs_owners.specs.Registration.{Arrival, Update, registration, registration_by, unconfirmed_record};
 ghost use Rattle.nfs_owners.specs.ClientRoom.{HasNumbersFor};
 ghost use Rattle.nfs_owners.specs.Addresses.{is_within_limit};
@@ -16,7 +16,7 @@ impl Clients {
     /// The answer of SETCLIENTID (RFC 7530, section 16.33.5) in the server's run `epoch`, and its change of the
     /// clients' records. `has_state` is whether the client of the confirmed record with the id has state. Full if a
     /// limit would be exceeded.
-    #[tactic(auto, unfolding(nfs_xdr::specs::Answer::answer, nfs_xdr::specs::Status::status, nfs_xdr::specs::operations::SetclientidConfirm::arguments, nfs_xdr::specs::ClientId::client_id, xdr::specs::Writing::written_number))]
+    #[tactic(auto, unfolding(nfs_forms::specs::Answer::answer, nfs_forms::specs::Status::status, nfs_forms::specs::operations::SetclientidConfirm::arguments, nfs_forms::specs::ClientId::client_id, xdr::specs::Writing::written_number))]
     pub fn set(
         &self,
         epoch: u32,
@@ -50,7 +50,7 @@ impl Clients {
     }
 
     // A client updates its callback, and keeps its clientid.
-    #[tactic(auto, unfolding(nfs_xdr::specs::Answer::answer, nfs_xdr::specs::Status::status, nfs_xdr::specs::operations::SetclientidConfirm::arguments, nfs_xdr::specs::ClientId::client_id, xdr::specs::Writing::written_number))]
+    #[tactic(auto, unfolding(nfs_forms::specs::Answer::answer, nfs_forms::specs::Status::status, nfs_forms::specs::operations::SetclientidConfirm::arguments, nfs_forms::specs::ClientId::client_id, xdr::specs::Writing::written_number))]
     fn set_update(
         &self,
         principal: Principal,
@@ -73,7 +73,7 @@ impl Clients {
     }
 
     // A client gets a new client number.
-    #[tactic(auto, unfolding(nfs_xdr::specs::Answer::answer, nfs_xdr::specs::Status::status, nfs_xdr::specs::operations::SetclientidConfirm::arguments, nfs_xdr::specs::ClientId::client_id, xdr::specs::Writing::written_number))]
+    #[tactic(auto, unfolding(nfs_forms::specs::Answer::answer, nfs_forms::specs::Status::status, nfs_forms::specs::operations::SetclientidConfirm::arguments, nfs_forms::specs::ClientId::client_id, xdr::specs::Writing::written_number))]
     fn set_arrival(
         &self,
         epoch: u32,
@@ -104,7 +104,7 @@ impl Clients {
 }
 
 // NFS4ERR_CLID_INUSE, with the address at which the client that has the id is called back.
-#[tactic(auto, unfolding(nfs_xdr::specs::Answer::answer, nfs_xdr::specs::Status::status, nfs_xdr::specs::Callback::address, xdr::specs::Form::bytes, xdr::specs::Form::opaque))]
+#[tactic(auto, unfolding(nfs_forms::specs::Answer::answer, nfs_forms::specs::Status::status, nfs_forms::specs::Callback::address, xdr::specs::Form::bytes, xdr::specs::Form::opaque))]
 fn clid_in_use(address: &Address) -> Result<Outcome, AllocError>
     requires { is_within_limit address.now ≡ true }
     ensures ok { IfOk result (λ r. r ≡ ClidInUse address.now) }

@@ -3,10 +3,10 @@ use Rattle.std.specs.Prelude.{ℕ, List, Option, Some, None}
 use Rattle.nfs_tree.specs.declared.filehandles.Filehandles.{Filehandles}
 use Rattle.nfs_tree.specs.Effect.{Effect, stays}
 use Rattle.nfs_tree.specs.Tree.{handle_of}
-use Rattle.nfs_xdr.specs.declared.answer.Answer.TheVariants.{Done, Refused}
+use Rattle.nfs_forms.specs.declared.answer.Answer.TheVariants.{Done, Refused}
 use Rattle.nfs_xdr.specs.declared.op_result.OpResult.TheVariants as results
-use Rattle.nfs_xdr.specs.declared.status.Refusal.TheVariants as refusals
-use Rattle.nfs_xdr.specs.Answer.{PlainAnswer}
+use Rattle.nfs_forms.specs.declared.status.Refusal.TheVariants as refusals
+use Rattle.nfs_forms.specs.Answer.{PlainAnswer}
 
 -- NFS4ERR_NOFILEHANDLE if there is no current filehandle
 abbrev pub filehandle_of : Option ℕ → PlainAnswer (List ℕ)

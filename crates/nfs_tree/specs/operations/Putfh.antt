@@ -3,9 +3,9 @@ use Rattle.std.specs.Prelude.{ℕ, List, Option, Some, None}
 use Rattle.nfs_tree.specs.declared.filehandles.Filehandles.{Filehandles}
 use Rattle.nfs_tree.specs.Effect.{Effect, stays, moves_to}
 use Rattle.nfs_tree.specs.Tree.{Files, node_of}
-use Rattle.nfs_xdr.specs.declared.answer.Answer.TheVariants.{Done, Refused}
+use Rattle.nfs_forms.specs.declared.answer.Answer.TheVariants.{Done, Refused}
 use Rattle.nfs_xdr.specs.declared.op_result.OpResult.TheVariants as results
-use Rattle.nfs_xdr.specs.declared.status.Refusal.TheVariants as refusals
+use Rattle.nfs_forms.specs.declared.status.Refusal.TheVariants as refusals
 
 -- NFS4ERR_BADHANDLE if it is the filehandle of no node
 abbrev pub putfh_at : Filehandles → Option ℕ → Effect

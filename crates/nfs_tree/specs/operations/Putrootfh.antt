@@ -2,7 +2,7 @@
 use Rattle.nfs_tree.specs.declared.filehandles.Filehandles.{Filehandles}
 use Rattle.nfs_tree.specs.declared.tree.TheConstants.{ROOT}
 use Rattle.nfs_tree.specs.Effect.{Effect, moves_to}
-use Rattle.nfs_xdr.specs.declared.answer.Answer.TheVariants.{Done}
+use Rattle.nfs_forms.specs.declared.answer.Answer.TheVariants.{Done}
 use Rattle.nfs_xdr.specs.declared.op_result.OpResult.TheVariants as results
 
 abbrev pub putrootfh : Filehandles → Effect

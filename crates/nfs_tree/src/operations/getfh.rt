@@ -8,7 +8,7 @@ use nfs_xdr::{Answer, FileHandle, OpResult, Refusal};
 
 impl Filehandles {
     /// GETFH (RFC 7530, section 16.8): returns the current filehandle.
-    #[tactic(auto, unfolding(nfs_xdr::specs::OpResult::op_result, nfs_xdr::specs::operations::opnum, nfs_xdr::specs::Answer::answer, nfs_xdr::specs::Status::status, xdr::specs::Writing::written_opaque, xdr::specs::Writing::written_number))]
+    #[tactic(auto, unfolding(nfs_xdr::specs::OpResult::op_result, nfs_xdr::specs::Opnum::opnum, nfs_forms::specs::Answer::answer, nfs_forms::specs::Status::status, xdr::specs::Writing::written_opaque, xdr::specs::Writing::written_number))]
     pub(crate) fn getfh(&self) -> OpResult
         ensures effect { record { answer = result; after = self.now } ≡ getfh self.now }
         ensures short { length (op_result.spelling result) ≤ TREE_ANSWER_LIMIT }

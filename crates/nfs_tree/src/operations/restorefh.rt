@@ -9,7 +9,7 @@ use nfs_xdr::{Answer, OpResult, Refusal};
 
 impl Filehandles {
     /// RESTOREFH (RFC 7530, section 16.29): the saved filehandle becomes the current one.
-    #[tactic(auto, unfolding(nfs_xdr::specs::OpResult::op_result, nfs_xdr::specs::operations::opnum, nfs_xdr::specs::Answer::answer, nfs_xdr::specs::Status::status, xdr::specs::Writing::written_number))]
+    #[tactic(auto, unfolding(nfs_xdr::specs::OpResult::op_result, nfs_xdr::specs::Opnum::opnum, nfs_forms::specs::Answer::answer, nfs_forms::specs::Status::status, xdr::specs::Writing::written_number))]
     pub(crate) fn restorefh(&mut self, tree: &Tree) -> OpResult
         requires nodes { AreNodes tree.now self.old }
         ensures effect { record { answer = result; after = self.new } ≡ restorefh self.old }

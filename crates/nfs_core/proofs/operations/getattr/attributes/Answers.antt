@@ -5,12 +5,12 @@ use Rattle.std.specs.List.{All, flat_map}
 use Rattle.std.proofs.lemmas.List.Elements.{All-nil}
 use Rattle.std.proofs.lemmas.Nat.{and_le_r}
 use Rattle.std.proofs.lemmas.List.{length-append, length-take}
-use Rattle.nfs_xdr.specs.declared.fattr.Fattr.{Fattr}
-use Rattle.nfs_xdr.specs.declared.answer.Answer.TheVariants.{Done}
-use Rattle.nfs_xdr.specs.Answer.{answer}
-use Rattle.nfs_xdr.specs.Fattr.{fattr}
-use Rattle.nfs_xdr.specs.Status.{status}
-use Rattle.nfs_xdr.specs.operations.Getattr as getattr
+use Rattle.nfs_forms.specs.declared.fattr.Fattr.{Fattr}
+use Rattle.nfs_forms.specs.declared.answer.Answer.TheVariants.{Done}
+use Rattle.nfs_forms.specs.Answer.{answer}
+use Rattle.nfs_forms.specs.Fattr.{fattr}
+use Rattle.nfs_forms.specs.Status.{status}
+use Rattle.nfs_forms.specs.operations.Getattr as getattr
 use Rattle.xdr.specs.Layout.{padding_of}
 use Rattle.xdr.specs.Writing.{written_number, written_opaque, written_u32, zeros}
 use Rattle.nfs_tree.specs.declared.attribute.Attribute.{Attribute}

@@ -1,12 +1,12 @@
 -- The greatest length of an address in a reply.
 use Rattle.std.proofs.Common.{rules, ℕ, ◌≤◌, [], ◌∷◌, length, arith}
 use Rattle.std.proofs.lemmas.List.{length-append, length-take}
-use Rattle.nfs_xdr.specs.declared.answer.Answer.TheVariants.{ClidInUse}
-use Rattle.nfs_xdr.specs.declared.callback.Address.{Address}
-use Rattle.nfs_xdr.specs.Answer.{answer}
-use Rattle.nfs_xdr.specs.Callback.{address}
-use Rattle.nfs_xdr.specs.Status.{status}
-use Rattle.nfs_xdr.specs.operations.Setclientid as setclientid
+use Rattle.nfs_forms.specs.declared.answer.Answer.TheVariants.{ClidInUse}
+use Rattle.nfs_forms.specs.declared.callback.Address.{Address}
+use Rattle.nfs_forms.specs.Answer.{answer}
+use Rattle.nfs_forms.specs.Callback.{address}
+use Rattle.nfs_forms.specs.Status.{status}
+use Rattle.nfs_forms.specs.operations.Setclientid as setclientid
 use Rattle.xdr.specs.Layout.{padding_of}
 use Rattle.xdr.specs.Writing.{written_number, written_opaque, zeros}
 use Rattle.nfs_owners.proofs.clients.registration.clid_in_use.Goals as goal

@@ -1,0 +1,11 @@
+-- open_owner4 (RFC 7530, section 9.1.5; RFC 7531): a client, and the name of one of those who open files at it.
+use Rattle.std.proofs.Common.{refl}
+use Rattle.nfs_forms.specs.ClientId.{client_id}
+use Rattle.nfs_forms.specs.declared.open_owner.OpenOwner.{OpenOwner}
+use Rattle.nfs_forms.specs.declared.open_owner.TheConstants.{OWNER_LIMIT}
+use Rattle.xdr.specs.Form.{Form, ◌and◌, of, opaque}
+
+-- struct open_owner4 { clientid4 clientid; opaque owner<NFS4_OPAQUE_LIMIT>; };
+unfoldable pub open_owner : Form OpenOwner
+open_owner = of (λ p. record { client = p.0; name = p.1 }) (λ o. (o.client, o.name)) (λ p. refl) (λ o. refl)
+    (client_id and opaque OWNER_LIMIT)

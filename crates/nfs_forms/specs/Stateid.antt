@@ -1,0 +1,11 @@
+-- stateid4 (RFC 7530, section 9.1.4). This server writes into the 12 bytes of `other` the clientid and the state's
+-- number.
+use Rattle.std.proofs.Common.{refl}
+use Rattle.nfs_forms.specs.ClientId.{client_id}
+use Rattle.nfs_forms.specs.declared.stateid.Stateid.{Stateid}
+use Rattle.xdr.specs.Form.{Form, ◌and◌, of, u32}
+
+-- struct stateid4 { uint32_t seqid; opaque other[NFS4_OTHER_SIZE]; };
+unfoldable pub stateid : Form Stateid
+stateid = of (λ p. record { seqid = p.0; client = p.1.0; number = p.1.1 }) (λ s. (s.seqid, (s.client, s.number)))
+    (λ p. refl) (λ s. refl) (u32 and client_id and u32)

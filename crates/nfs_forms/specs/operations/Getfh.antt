@@ -1,0 +1,14 @@
+-- GETFH (RFC 7530, section 16.8): it has no arguments, and its result is a filehandle.
+use Rattle.std.specs.Prelude.{ℕ, List}
+use Rattle.nfs_forms.specs.Answer.{PlainAnswer, plain_answer}
+use Rattle.nfs_forms.specs.FileHandle.{file_handle}
+use Rattle.xdr.specs.Form.{Form, nothing}
+
+-- void
+abbrev pub arguments : Form (Unit {0})
+arguments = nothing
+
+-- union GETFH4res switch (nfsstat4 status) { case NFS4_OK: GETFH4resok resok4; default: void; };
+-- struct GETFH4resok { nfs_fh4 object; };
+abbrev pub result : Form (PlainAnswer (List ℕ))
+result = plain_answer file_handle

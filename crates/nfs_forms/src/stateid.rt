@@ -1,0 +1,51 @@
+ghost use Rattle.nfs_forms.specs.Stateid as forms;
+ghost use Rattle.xdr.specs.Reading.{Answers};
+
+use crate::ClientId;
+use std::alloc::Global;
+use xdr::{Measure, Wire, WireError, write_three};
+
+/// The server's name for a state, an open for one (stateid4; RFC 7530, section 9.1.4). The 12 bytes after `seqid`, which
+/// the RFC calls `other`, are the epoch, the client's number and the state's number.
+#[derive(Clone, Copy, Debug, PartialEq, Eq)]
+pub struct Stateid {
+    /// How often the state has changed, from 1.
+    pub seqid: u32,
+    /// The client whose state it is.
+    pub client: ClientId,
+    /// The state's number in the server's run, from 1.
+    pub number: u32,
+}
+
+impl Wire for Stateid {
+    ghost form = { forms.stateid };
+
+    #[tactic(auto, unfolding(crate::specs::Stateid::stateid))]
+    fn read(alloc: Global, bytes: &[u8]) -> Result<(Stateid, &[u8]), WireError>
+        ensures { Answers (λ x. (x.0, x.1.now)) result (forms.stateid.at bytes.now) }
+    {
+        let (seqid, rest) = u32::read(alloc, bytes)?;
+        let (client, rest) = ClientId::read(alloc, rest)?;
+        let (number, rest) = u32::read(alloc, rest)?;
+        Ok((
+            Stateid {
+                seqid,
+                client,
+                number,
+            },
+            rest,
+        ))
+    }
+
+    #[tactic(auto, unfolding(crate::specs::Stateid::stateid))]
+    fn write(&self, out: &mut Vec<u8>) -> Result<(), WireError> {
+        write_three(out, &self.seqid, &self.client, &self.number)
+    }
+}
+
+impl Measure for Stateid {
+    #[tactic(auto, unfolding(crate::specs::Stateid::stateid))]
+    fn written_len(&self) -> usize {
+        self.seqid.written_len() + self.client.written_len() + self.number.written_len()
+    }
+}

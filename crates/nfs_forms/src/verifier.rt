@@ -1,0 +1,26 @@
+ghost use Rattle.nfs_forms.specs.Verifier as forms;
+ghost use Rattle.xdr.specs.Reading.{Answers};
+
+use std::alloc::Global;
+use xdr::{Wire, WireError, read_fixed};
+
+/// Eight bytes that distinguish one start of a client from another (verifier4).
+#[derive(Clone, Copy, Debug, PartialEq, Eq)]
+pub struct Verifier(pub [u8; 8]);
+
+impl Wire for Verifier {
+    ghost form = { forms.verifier };
+
+    #[tactic(auto, unfolding(crate::specs::Verifier::verifier))]
+    fn read(alloc: Global, bytes: &[u8]) -> Result<(Verifier, &[u8]), WireError>
+        ensures { Answers (λ x. (x.0, x.1.now)) result (forms.verifier.at bytes.now) }
+    {
+        let (verifier, rest) = read_fixed::<8>(bytes)?;
+        Ok((Verifier(verifier), rest))
+    }
+
+    #[tactic(auto, unfolding(crate::specs::Verifier::verifier))]
+    fn write(&self, out: &mut Vec<u8>) -> Result<(), WireError> {
+        self.0.write(out)
+    }
+}

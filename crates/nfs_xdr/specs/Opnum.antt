@@ -1,0 +1,90 @@
+-- The operations of NFSv4.0: the number of each, what it works on, and the room of its reply (RFC 7530, section 16; RFC
+-- 7531, nfs_opnum4).
+use Rattle.std.specs.Prelude.{◌≡◌, ℕ, Bool, true, false, Option, Some, ◌==◌}
+use Rattle.std.proofs.Common.{refl}
+use Rattle.std.specs.List.{find}
+use Rattle.nfs_xdr.specs.declared.opnum.Class.{Class}
+use Rattle.nfs_xdr.specs.declared.opnum.Class.TheVariants.{OnTree, OnState, OnNothing}
+use Rattle.nfs_xdr.specs.declared.opnum.Opnum.{Opnum}
+use Rattle.nfs_xdr.specs.declared.opnum.Opnum.TheVariants as op
+use Rattle.nfs_xdr.specs.declared.opnum.TheConstants.{OPNUMS}
+use Rattle.nfs_xdr.specs.declared.opnum.Unsupported.{Unsupported}
+use Rattle.nfs_xdr.specs.declared.opnum.Unsupported.TheVariants as without
+use Rattle.xdr.specs.Form.{Form, enumeration}
+
+abbrev pub number_of_unsupported : Unsupported → ℕ
+number_of_unsupported without.Close = 4
+number_of_unsupported without.Commit = 5
+number_of_unsupported without.Create = 6
+number_of_unsupported without.Delegpurge = 7
+number_of_unsupported without.Delegreturn = 8
+number_of_unsupported without.Link = 11
+number_of_unsupported without.Lock = 12
+number_of_unsupported without.Lockt = 13
+number_of_unsupported without.Locku = 14
+number_of_unsupported without.Lookupp = 16
+number_of_unsupported without.Nverify = 17
+number_of_unsupported without.Open = 18
+number_of_unsupported without.Openattr = 19
+number_of_unsupported without.OpenConfirm = 20
+number_of_unsupported without.OpenDowngrade = 21
+number_of_unsupported without.Putpubfh = 23
+number_of_unsupported without.Read = 25
+number_of_unsupported without.Readdir = 26
+number_of_unsupported without.Readlink = 27
+number_of_unsupported without.Remove = 28
+number_of_unsupported without.Rename = 29
+number_of_unsupported without.Renew = 30
+number_of_unsupported without.Secinfo = 33
+number_of_unsupported without.Setattr = 34
+number_of_unsupported without.Verify = 37
+number_of_unsupported without.Write = 38
+number_of_unsupported without.ReleaseLockowner = 39
+
+-- an operation's row in the list: its number, and what it works on
+abbrev pub row_of : Opnum → ℕ × Class
+row_of op.Access = (3, OnTree)
+row_of op.Getattr = (9, OnState)
+row_of op.Getfh = (10, OnTree)
+row_of op.Lookup = (15, OnTree)
+row_of op.Putfh = (22, OnTree)
+row_of op.Putrootfh = (24, OnTree)
+row_of op.Restorefh = (31, OnTree)
+row_of op.Savefh = (32, OnTree)
+row_of op.Setclientid = (35, OnState)
+row_of op.SetclientidConfirm = (36, OnState)
+row_of (op.Unsupported o) = (number_of_unsupported o, OnNothing)
+row_of op.Illegal = (10044, OnNothing)
+
+abbrev pub number_of : Opnum → ℕ
+number_of o = (row_of o).0
+
+abbrev pub class_of : Opnum → Class
+class_of o = (row_of o).1
+
+abbrev pub is_on_state : Class → Bool
+is_on_state OnTree = false
+is_on_state OnState = true
+is_on_state OnNothing = false
+
+abbrev pub is_of_tree : Class → Bool
+is_of_tree OnTree = true
+is_of_tree OnState = false
+is_of_tree OnNothing = false
+
+-- the room that has to be left in the reply for the operation's result
+abbrev pub room_of : Opnum → ℕ
+room_of o = 2_048
+
+-- the operation that has this number, if there is one
+abbrev pub opnum_of : ℕ → Option Opnum
+opnum_of number = find (λ o. number_of o == number) OPNUMS
+
+pub known : (o : Opnum) → opnum_of (number_of o) ≡ Some o
+known op.Illegal = refl
+known (op.Unsupported without.Close) = refl
+known (op.Unsupported o) = refl
+known o = refl
+
+unfoldable pub opnum : Form Opnum
+opnum = enumeration number_of OPNUMS known

@@ -1,0 +1,223 @@
+//! The list of operations: their numbers, what they work on, and the room of their replies.
+
+ghost use Rattle.std.specs.Prelude.{◌≡◌};
+ghost use Rattle.nfs_xdr.specs.Opnum as opnums;
+ghost use Rattle.nfs_xdr.specs.Opnum.{class_of, number_of, number_of_unsupported, opnum_of, room_of};
+ghost use Rattle.xdr.specs.Reading.{Answers};
+
+use std::alloc::Global;
+use xdr::{Wire, WireError, read_u32, write_u32};
+
+// The implemented operations, one row each: the name, the number, and what it works on. Those with arguments come
+// first.
+macro_rules! each_operation {
+    ($then:ident $($given:tt)*) => {
+        $then!(
+            [
+                Access = 3 OnTree,
+                Getattr = 9 OnState,
+                Lookup = 15 OnTree,
+                Putfh = 22 OnTree,
+                Setclientid = 35 OnState,
+                SetclientidConfirm = 36 OnState,
+            ]
+            [
+                Getfh = 10 OnTree,
+                Putrootfh = 24 OnTree,
+                Restorefh = 31 OnTree,
+                Savefh = 32 OnTree,
+            ]
+            $($given)*
+        )
+    };
+}
+
+pub(crate) use each_operation;
+
+/// The operations of NFSv4.0 that this server doesn't implement, with their numbers.
+#[derive(Clone, Copy, Debug, PartialEq, Eq)]
+pub enum Unsupported {
+    Close = 4,
+    Commit = 5,
+    Create = 6,
+    Delegpurge = 7,
+    Delegreturn = 8,
+    Link = 11,
+    Lock = 12,
+    Lockt = 13,
+    Locku = 14,
+    Lookupp = 16,
+    Nverify = 17,
+    Open = 18,
+    Openattr = 19,
+    OpenConfirm = 20,
+    OpenDowngrade = 21,
+    Putpubfh = 23,
+    Read = 25,
+    Readdir = 26,
+    Readlink = 27,
+    Remove = 28,
+    Rename = 29,
+    Renew = 30,
+    Secinfo = 33,
+    Setattr = 34,
+    Verify = 37,
+    Write = 38,
+    ReleaseLockowner = 39,
+}
+
+impl Unsupported {
+    fn number(self) -> u32
+        ensures { result ≡ number_of_unsupported self }
+    {
+        self as u32
+    }
+}
+
+/// The operations of NFSv4.0 (nfs_opnum4).
+#[derive(Clone, Copy, Debug, PartialEq, Eq)]
+pub enum Opnum {
+    Access,
+    Getattr,
+    Getfh,
+    Lookup,
+    Putfh,
+    Putrootfh,
+    Restorefh,
+    Savefh,
+    Setclientid,
+    SetclientidConfirm,
+    /// An operation that this server doesn't implement.
+    Unsupported(Unsupported),
+    /// The operation whose number is written in the answer to an operation that doesn't exist.
+    Illegal,
+}
+
+/// What an operation works on.
+#[derive(Clone, Copy, Debug, PartialEq, Eq)]
+pub enum Class {
+    /// Only the tree of files and the filehandles.
+    OnTree,
+    /// The state: every answer except NFS4ERR_RESOURCE is an entry of the journal.
+    OnState,
+    /// Nothing: this server doesn't implement it, and doesn't run it.
+    OnNothing,
+}
+
+macro_rules! number_of_opnum {
+    ([$($X:ident = $n:literal $c:ident,)*] [$($Y:ident = $m:literal $d:ident,)*] $opnum:expr) => {
+        match $opnum {
+            $(Opnum::$X => $n,)*
+            $(Opnum::$Y => $m,)*
+            Opnum::Unsupported(op) => op.number(),
+            Opnum::Illegal => 10044,
+        }
+    };
+}
+
+macro_rules! class_of_opnum {
+    ([$($X:ident = $n:literal $c:ident,)*] [$($Y:ident = $m:literal $d:ident,)*] $opnum:expr) => {
+        match $opnum {
+            $(Opnum::$X => Class::$c,)*
+            $(Opnum::$Y => Class::$d,)*
+            Opnum::Unsupported(_) | Opnum::Illegal => Class::OnNothing,
+        }
+    };
+}
+
+// The smallest number of an operation.
+const FIRST_NUMBER: u32 = 3;
+
+/// Every operation: those with the numbers from 3 to 39 in this order, and then `Illegal`.
+pub const OPNUMS: [Opnum; 38] = [
+    Opnum::Access,
+    Opnum::Unsupported(Unsupported::Close),
+    Opnum::Unsupported(Unsupported::Commit),
+    Opnum::Unsupported(Unsupported::Create),
+    Opnum::Unsupported(Unsupported::Delegpurge),
+    Opnum::Unsupported(Unsupported::Delegreturn),
+    Opnum::Getattr,
+    Opnum::Getfh,
+    Opnum::Unsupported(Unsupported::Link),
+    Opnum::Unsupported(Unsupported::Lock),
+    Opnum::Unsupported(Unsupported::Lockt),
+    Opnum::Unsupported(Unsupported::Locku),
+    Opnum::Lookup,
+    Opnum::Unsupported(Unsupported::Lookupp),
+    Opnum::Unsupported(Unsupported::Nverify),
+    Opnum::Unsupported(Unsupported::Open),
+    Opnum::Unsupported(Unsupported::Openattr),
+    Opnum::Unsupported(Unsupported::OpenConfirm),
+    Opnum::Unsupported(Unsupported::OpenDowngrade),
+    Opnum::Putfh,
+    Opnum::Unsupported(Unsupported::Putpubfh),
+    Opnum::Putrootfh,
+    Opnum::Unsupported(Unsupported::Read),
+    Opnum::Unsupported(Unsupported::Readdir),
+    Opnum::Unsupported(Unsupported::Readlink),
+    Opnum::Unsupported(Unsupported::Remove),
+    Opnum::Unsupported(Unsupported::Rename),
+    Opnum::Unsupported(Unsupported::Renew),
+    Opnum::Restorefh,
+    Opnum::Savefh,
+    Opnum::Unsupported(Unsupported::Secinfo),
+    Opnum::Unsupported(Unsupported::Setattr),
+    Opnum::Setclientid,
+    Opnum::SetclientidConfirm,
+    Opnum::Unsupported(Unsupported::Verify),
+    Opnum::Unsupported(Unsupported::Write),
+    Opnum::Unsupported(Unsupported::ReleaseLockowner),
+    Opnum::Illegal,
+];
+
+impl Opnum {
+    /// The operation's number on the wire.
+    pub fn number(self) -> u32
+        ensures { result ≡ number_of self }
+    {
+        each_operation!(number_of_opnum self)
+    }
+
+    /// The operation that has this number, if there is one.
+    pub fn from_number(number: u32) -> Option<Opnum>
+        ensures { result ≡ opnum_of number }
+    {
+        let place = number.saturating_sub(FIRST_NUMBER) as usize;
+        let opnum = OPNUMS[place.min(OPNUMS.len() - 1)];
+        (opnum.number() == number).then_some(opnum)
+    }
+
+    /// What the operation works on.
+    pub fn class(self) -> Class
+        ensures { result ≡ class_of self }
+    {
+        each_operation!(class_of_opnum self)
+    }
+
+    /// The room that has to be left in the reply for the operation to be run.
+    pub fn room(self) -> usize
+        ensures { result ≡ room_of self }
+    {
+        2_048
+    }
+}
+
+impl Wire for Opnum {
+    ghost form = { opnums.opnum };
+
+    #[tactic(auto, unfolding(crate::specs::Opnum::opnum, xdr::specs::Reading::value_at))]
+    fn read(alloc: Global, bytes: &[u8]) -> Result<(Opnum, &[u8]), WireError>
+        ensures { Answers (λ x. (x.0, x.1.now)) result (opnums.opnum.at bytes.now) }
+    {
+        let (number, rest) = read_u32(bytes)?;
+        match Opnum::from_number(number) {
+            Some(opnum) => Ok((opnum, rest)),
+            None => Err(WireError::Short),
+        }
+    }
+
+    #[tactic(auto, unfolding(crate::specs::Opnum::opnum))]
+    fn write(&self, out: &mut Vec<u8>) -> Result<(), WireError> {
+        write_u32(out, self.number())
+    }
+}
