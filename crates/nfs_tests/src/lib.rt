@@ -19,6 +19,8 @@ mod peers;
 #[cfg(test)]
 mod refusals;
 #[cfg(test)]
+mod shares;
+#[cfg(test)]
 mod streams;
 #[cfg(test)]
 mod trees;
