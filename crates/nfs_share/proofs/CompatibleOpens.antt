@@ -9,7 +9,7 @@ use Rattle.nfs_forms.specs.declared.open_owner.OpenOwner.{OpenOwner}
 use Rattle.nfs_share.specs.declared.open_state.OpenState.{OpenState}
 use Rattle.nfs_share.specs.declared.share.Share.{Share}
 use Rattle.nfs_share.specs.Laws.{AllAreCompatible, are_compatible}
-use Rattle.nfs_share.specs.Opens.{advanced, downgraded, first_open, is_of, is_refused, is_same_client, is_same_owner, joined, open_of, share_of, with_each, with_opening, without}
+use Rattle.nfs_share.specs.Opens.{with_next_seqid, after_downgrade, first_open, is_of, is_refused, is_same_client, is_same_owner, after_open, open_of, share_of, with_each, with_opening, without}
 use Rattle.nfs_share.specs.Share.{conflicts_with, contains, union}
 use Rattle.nfs_share.proofs.ShareLaws.{conflicts_with-union, conflicts_with_comm, union-none, union-self}
 use Rattle.nfs_share.proofs.SharesLaws.{AllByRecursion-filter, union-some, union_of-with_share}
@@ -106,14 +106,14 @@ each_shrinks test change same inside opens all =
     λ a b h. cond_both (test a) (change a) a (λ x. are_compatible x b ≡ true) (λ _. shrinks a (change a) b (same a) (inside a) h) (λ _. h) in
     each_keeps (λ o. ⊤) f (λ a b _ _ h. compatible_comm (f b) (f a) (one b (f a) (compatible_comm (f a) b (one a b h)))) opens (all_always opens) all
 
-union-self_of : (o : OpenState) → union (share_of o) (share_of (advanced o)) ≡ share_of o
+union-self_of : (o : OpenState) → union (share_of o) (share_of (with_next_seqid o)) ≡ share_of o
 union-self_of o = union-self (share_of o)
 
-pub advancing : (test : OpenState → Bool) (opens : List OpenState) → AllAreCompatible opens → AllAreCompatible (with_each test advanced opens)
-advancing test opens all = each_shrinks test advanced (λ o. refl) union-self_of opens all
+pub advancing : (test : OpenState → Bool) (opens : List OpenState) → AllAreCompatible opens → AllAreCompatible (with_each test with_next_seqid opens)
+advancing test opens all = each_shrinks test with_next_seqid (λ o. refl) union-self_of opens all
 
-pub downgrading : (test : OpenState → Bool) (share : Share) (opens : List OpenState) → AllAreCompatible opens → AllAreCompatible (with_each test (downgraded share) opens)
-downgrading test share opens all = each_shrinks test (downgraded share) (λ o. refl) (λ o. union-some (contains share) o.shares) opens all
+pub downgrading : (test : OpenState → Bool) (share : Share) (opens : List OpenState) → AllAreCompatible opens → AllAreCompatible (with_each test (after_downgrade share) opens)
+downgrading test share opens all = each_shrinks test (after_downgrade share) (λ o. refl) (λ o. union-some (contains share) o.shares) opens all
 
 pub removing : (test : OpenState → Bool) (opens : List OpenState) → AllAreCompatible opens → AllAreCompatible (without test opens)
 removing test opens all =
@@ -127,18 +127,18 @@ not_refused : (owner : OpenOwner) (share : Share) (o : OpenState) → (not (is_o
     → is_of owner o ≡ false → conflicts_with share (share_of o) ≡ false
 not_refused owner share o h other = sym (ap (λ b. not b && conflicts_with share (share_of o)) other) ∙ h
 
--- A joined open stays compatible with what its owner's OPEN doesn't conflict with.
+-- An open that is joined by another OPEN stays compatible with what its owner's OPEN doesn't conflict with.
 join_keeps : (owner : OpenOwner) (share : Share) (a b : OpenState) → is_of owner a ≡ true
     → (is_of owner b ≡ true) ⊎ (conflicts_with share (share_of b) ≡ false)
-    → are_compatible a b ≡ true → are_compatible (joined share a) b ≡ true
+    → are_compatible a b ≡ true → are_compatible (after_open share a) b ≡ true
 join_keeps owner share a b mine other h =
-    let owned : is_of a.owner b ≡ true → are_compatible (joined share a) b ≡ true =
-    λ same. or_left (is_of a.owner b) (not (conflicts_with (share_of (joined share a)) (share_of b))) same in
+    let owned : is_of a.owner b ≡ true → are_compatible (after_open share a) b ≡ true =
+    λ same. or_left (is_of a.owner b) (not (conflicts_with (share_of (after_open share a)) (share_of b))) same in
     elim other [
       | inl same ↦ owned (rw (equal_owners a.owner owner mine) same)
       | inr clear ↦ elim (compatible_cases a b h) [
         | inl same ↦ owned same
-        | inr none ↦ apart (joined share a) b
+        | inr none ↦ apart (after_open share a) b
             (ap (λ s. conflicts_with s (share_of b)) (union_of-with_share share a.shares)
             ∙ conflicts_with-union (share_of a) share (share_of b)
             ∙ or_from (conflicts_with (share_of a) (share_of b)) (conflicts_with share (share_of b)) none clear)
@@ -146,17 +146,17 @@ join_keeps owner share a b mine other h =
     ]
 
 joining : (owner : OpenOwner) (share : Share) (opens : List OpenState) → AllAreCompatible opens → is_refused owner share opens ≡ false
-    → AllAreCompatible (with_each (is_of owner) (joined share) opens)
+    → AllAreCompatible (with_each (is_of owner) (after_open share) opens)
 joining owner share opens all free =
     let Clear = λ (o : OpenState). (not (is_of owner o) && conflicts_with share (share_of o)) ≡ false in
-    let f = λ (o : OpenState). cond (is_of owner o) (joined share o) o in
+    let f = λ (o : OpenState). cond (is_of owner o) (after_open share o) o in
     let other : (b : OpenState) → Clear b → (is_of owner (f b) ≡ true) ⊎ (conflicts_with share (share_of (f b)) ≡ false) =
     λ b clear. elim (cases_Bool (is_of owner b)) [
-      | inl mine ↦ inl (cond_both (is_of owner b) (joined share b) b (λ x. is_of owner x ≡ true) (λ _. mine) (λ _. mine))
-      | inr others ↦ inr (ap (λ x. conflicts_with share (share_of x)) (cond-false (is_of owner b) (joined share b) b others) ∙ not_refused owner share b clear others)
+      | inl mine ↦ inl (cond_both (is_of owner b) (after_open share b) b (λ x. is_of owner x ≡ true) (λ _. mine) (λ _. mine))
+      | inr others ↦ inr (ap (λ x. conflicts_with share (share_of x)) (cond-false (is_of owner b) (after_open share b) b others) ∙ not_refused owner share b clear others)
     ] in
     let one : (a b : OpenState) → (is_of owner b ≡ true) ⊎ (conflicts_with share (share_of b) ≡ false) → are_compatible a b ≡ true → are_compatible (f a) b ≡ true =
-    λ a b clear h. cond_both (is_of owner a) (joined share a) a (λ x. are_compatible x b ≡ true) (λ mine. join_keeps owner share a b mine clear h) (λ _. h) in
+    λ a b clear h. cond_both (is_of owner a) (after_open share a) a (λ x. are_compatible x b ≡ true) (λ mine. join_keeps owner share a b mine clear h) (λ _. h) in
     let plain : (b : OpenState) → Clear b → (is_of owner b ≡ true) ⊎ (conflicts_with share (share_of b) ≡ false) =
     λ b clear. elim (cases_Bool (is_of owner b)) [
       | inl mine ↦ inl mine
@@ -188,5 +188,5 @@ adding owner share number opens all free =
 pub opening : (owner : OpenOwner) (share : Share) (number : ℕ) (opens : List OpenState) → AllAreCompatible opens → is_refused owner share opens ≡ false
     → AllAreCompatible (with_opening owner share number opens)
 opening owner share number opens all free =
-    cond_both (is_some (open_of owner opens)) (with_each (is_of owner) (joined share) opens) (opens ++ first_open owner share number ∷ []) AllAreCompatible
+    cond_both (is_some (open_of owner opens)) (with_each (is_of owner) (after_open share) opens) (opens ++ first_open owner share number ∷ []) AllAreCompatible
     (λ _. joining owner share opens all free) (λ _. adding owner share number opens all free)

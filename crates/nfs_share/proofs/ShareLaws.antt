@@ -3,7 +3,8 @@ use Rattle.std.proofs.Common.{◌≡◌, ◌≤◌, Bool, true, false, ◌&&◌,
 use Rattle.std.proofs.Math.Bool.{or_assoc, or_comm, and_comm}
 use Rattle.std.proofs.lemmas.Bool.{and_parts, and_from}
 use Rattle.std.specs.List.{IsDistinct, list_any, flat_map}
-use Rattle.std.specs.Cmp.{IsEquivalence}
+use Rattle.std.specs.Cmp.{IsEquivalence, bool_eq_equiv, booleans_Decides}
+use Rattle.std.specs.Bool.{beq}
 use Rattle.std.proofs.lemmas.Map.Made.{length-le_from_is_member}
 use Rattle.nfs_share.specs.declared.modes.Modes.{Modes}
 use Rattle.nfs_share.specs.declared.share.Share.{Share}
@@ -84,21 +85,37 @@ part_absorbed s a b h =
 pub rest_absorbed : (s a b : Share) → union s (union a b) ≡ s → union s b ≡ s
 rest_absorbed s a b h = part_absorbed s b a (ap (union s) (union_comm b a) ∙ h)
 
--- two shares that contain one another are equal
+equal_modes : (a b : Modes) → modes.is_same a b ≡ true → a ≡ b
+equal_modes a b same =
+    let each = and_parts (beq a.read b.read) (beq a.write b.write) same in
+    let read = (booleans_Decides a.read b.read).0 each.0 in
+    let write = (booleans_Decides a.write b.write).0 each.1 in
+    λ i. record { read = read i; write = write i }
+
 pub equal_from_is_same : (a b : Share) → is_same a b ≡ true → a ≡ b
 equal_from_is_same a b same =
-    let both = and_parts (contains a b) (contains b a) same in
-    sym (union-contains a b both.0) ∙ union_comm a b ∙ union-contains b a both.1
+    let each = and_parts (modes.is_same a.access b.access) (modes.is_same a.deny b.deny) same in
+    let access = equal_modes a.access b.access each.0 in
+    let deny = equal_modes a.deny b.deny each.1 in
+    λ i. record { access = access i; deny = deny i }
+
+modes_same : (a : Modes) → modes.is_same a a ≡ true
+modes_same a =
+    and_from (beq a.read a.read) (beq a.write a.write) ((booleans_Decides a.read a.read).1 refl) ((booleans_Decides a.write a.write).1 refl)
 
 pub is_same_self : (a : Share) → is_same a a ≡ true
 is_same_self a =
-    let itself = contains_from_union a a (union-self a) in
-    and_from (contains a a) (contains a a) itself itself
+    and_from (modes.is_same a.access a.access) (modes.is_same a.deny a.deny) (modes_same a.access) (modes_same a.deny)
+
+same_both_ways : (a b : Share) → is_same a b ≡ is_same b a
+same_both_ways a b =
+    λ i. (bool_eq_equiv.symm a.access.read b.access.read i && bool_eq_equiv.symm a.access.write b.access.write i)
+    && (bool_eq_equiv.symm a.deny.read b.deny.read i && bool_eq_equiv.symm a.deny.write b.deny.write i)
 
 pub is_same_laws : IsEquivalence is_same
 is_same_laws = record {
   refl = is_same_self;
-  symm = λ a b. and_comm (contains a b) (contains b a);
+  symm = same_both_ways;
   congr = λ a b c same. ap (λ s. is_same s c) (equal_from_is_same a b same);
 }
 

@@ -42,8 +42,8 @@ abbrev pub open_of : OpenOwner → List OpenState → Option OpenState
 open_of owner opens = find (is_of owner) opens
 
 -- the open with this number, if there is one
-abbrev pub numbered : ℕ → List OpenState → Option OpenState
-numbered number opens = find (is_numbered number) opens
+abbrev pub open_with_number : ℕ → List OpenState → Option OpenState
+open_with_number number opens = find (is_numbered number) opens
 
 -- all access of the open, with all that it denies
 abbrev pub share_of : OpenState → Share
@@ -58,7 +58,7 @@ abbrev pub is_refused : OpenOwner → Share → List OpenState → Bool
 is_refused owner share opens =
     list_any (λ o. not (is_of owner o) && conflicts_with share (share_of o)) opens
 
--- the seqid after this one: after the greatest comes 1, as 0 has a meaning of its own (section 9.1.4.2)
+-- the seqid after this one: after 2^32 - 1 comes 1 (section 9.1.4)
 abbrev pub next_seqid : ℕ → ℕ
 next_seqid seqid = if seqid == 4294967295 then 1 else seqid + 1
 
@@ -74,23 +74,23 @@ next_stateid_of o = record {
   number = o.number;
 }
 
--- an owner's first OPEN of the file
+-- the open that an owner's first OPEN of the file makes
 abbrev pub first_open : OpenOwner → Share → ℕ → OpenState
 first_open owner share number =
     record { owner = owner; shares = share ∷ []; number = number; seqid = 1 }
 
 -- the open with its next seqid
-abbrev pub advanced : OpenState → OpenState
-advanced o = record o { seqid = next_seqid o.seqid }
+abbrev pub with_next_seqid : OpenState → OpenState
+with_next_seqid o = record o { seqid = next_seqid o.seqid }
 
 -- the open after one more OPEN of its owner (section 9.11)
-abbrev pub joined : Share → OpenState → OpenState
-joined share o =
+abbrev pub after_open : Share → OpenState → OpenState
+after_open share o =
     record o { shares = with_share share o.shares; seqid = next_seqid o.seqid }
 
 -- the open after OPEN_DOWNGRADE to the share (section 9.11)
-abbrev pub downgraded : Share → OpenState → OpenState
-downgraded share o =
+abbrev pub after_downgrade : Share → OpenState → OpenState
+after_downgrade share o =
     record o { shares = filter (contains share) o.shares; seqid = next_seqid o.seqid }
 
 -- the opens, with a change of each that passes the test
@@ -104,10 +104,10 @@ without test opens = filter (λ o. not (test o)) opens
 -- The opens after an OPEN: it joins the owner's open, or is a new open with this number.
 abbrev pub with_opening : OpenOwner → Share → ℕ → List OpenState → List OpenState
 with_opening owner share number opens =
-    if is_some (open_of owner opens) then with_each (is_of owner) (joined share) opens
+    if is_some (open_of owner opens) then with_each (is_of owner) (after_open share) opens
     else opens ++ first_open owner share number ∷ []
 
 -- There is an open with this number, and OPEN_DOWNGRADE of it to the share is allowed.
 abbrev pub CanDowngrade : ℕ → Share → List OpenState → Type 0
 CanDowngrade number share opens =
-    IsSomeAnd (numbered number opens) (λ o. IsLawfulDowngrade o.shares share)
+    IsSomeAnd (open_with_number number opens) (λ o. IsLawfulDowngrade o.shares share)

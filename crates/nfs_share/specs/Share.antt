@@ -24,4 +24,4 @@ no_share = record {
 
 -- the two are the same
 abbrev pub is_same : Share → Share → Bool
-is_same a b = contains a b && contains b a
+is_same a b = modes.is_same a.access b.access && modes.is_same a.deny b.deny

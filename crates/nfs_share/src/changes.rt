@@ -1,20 +1,21 @@
 ghost use Rattle.std.specs.Prelude.{◌≡◌};
 ghost use Rattle.std.specs.Vec.{vec_capacity};
-ghost use Rattle.nfs_share.specs.Opens.{advanced, downgraded, is_numbered, is_of, joined, with_each};
+ghost use Rattle.nfs_share.specs.Opens.{with_next_seqid, after_downgrade, is_numbered, is_of, after_open, with_each};
 
 use crate::{OpenState, Share};
 use nfs_forms::OpenOwner;
 
 /// Adds the share to the owner's open.
 pub(crate) fn join_each(opens: &mut Vec<OpenState>, owner: &OpenOwner, share: Share)
-    ensures items { opens.new.items ≡ with_each (is_of owner.now) (joined share) opens.old.items }
+    ensures items { opens.new.items
+        ≡ with_each (is_of owner.now) (after_open share) opens.old.items }
     ensures capacity { vec_capacity opens.new ≡ vec_capacity opens.old }
 {
     join_in(opens, owner, share);
 }
 
 fn join_in(opens: &mut [OpenState], owner: &OpenOwner, share: Share)
-    ensures { opens.new ≡ with_each (is_of owner.now) (joined share) opens.old }
+    ensures { opens.new ≡ with_each (is_of owner.now) (after_open share) opens.old }
 {
     for open in opens.iter_mut() {
         if open.is_of(owner) {
@@ -25,14 +26,15 @@ fn join_in(opens: &mut [OpenState], owner: &OpenOwner, share: Share)
 
 /// Gives the open with this number its next seqid.
 pub(crate) fn advance_each(opens: &mut Vec<OpenState>, number: u32)
-    ensures items { opens.new.items ≡ with_each (is_numbered number) advanced opens.old.items }
+    ensures items { opens.new.items
+        ≡ with_each (is_numbered number) with_next_seqid opens.old.items }
     ensures capacity { vec_capacity opens.new ≡ vec_capacity opens.old }
 {
     advance_in(opens, number);
 }
 
 fn advance_in(opens: &mut [OpenState], number: u32)
-    ensures { opens.new ≡ with_each (is_numbered number) advanced opens.old }
+    ensures { opens.new ≡ with_each (is_numbered number) with_next_seqid opens.old }
 {
     for open in opens.iter_mut() {
         if open.number == number {
@@ -44,14 +46,14 @@ fn advance_in(opens: &mut [OpenState], number: u32)
 /// Downgrades the open with this number to the share.
 pub(crate) fn downgrade_each(opens: &mut Vec<OpenState>, number: u32, share: Share)
     ensures items { opens.new.items
-        ≡ with_each (is_numbered number) (downgraded share) opens.old.items }
+        ≡ with_each (is_numbered number) (after_downgrade share) opens.old.items }
     ensures capacity { vec_capacity opens.new ≡ vec_capacity opens.old }
 {
     downgrade_in(opens, number, share);
 }
 
 fn downgrade_in(opens: &mut [OpenState], number: u32, share: Share)
-    ensures { opens.new ≡ with_each (is_numbered number) (downgraded share) opens.old }
+    ensures { opens.new ≡ with_each (is_numbered number) (after_downgrade share) opens.old }
 {
     for open in opens.iter_mut() {
         if open.number == number {

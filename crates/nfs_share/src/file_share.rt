@@ -1,7 +1,7 @@
 ghost use Rattle.std.specs.Prelude.{◌≡◌, ◌≤◌, ◌<◌, ◌+◌, ◌↔◌, IfErr, IfNone, IfOk, IsErrOf, IsOk, IsTrue, OnErr, OnOk, OnSome, Some, [], ◌∷◌, ◌++◌, ◌⊎◌, option_map};
 ghost use Rattle.std.specs.List.{list_any};
 ghost use Rattle.std.specs.Option.{option_copied};
-ghost use Rattle.nfs_share.specs.Opens.{CanDowngrade, advanced, downgraded, is_denied, is_numbered, is_of, is_of_client, is_refused, joined, next_stateid_of, numbered, open_of, share_of, stateid_of, with_each, with_opening, without};
+ghost use Rattle.nfs_share.specs.Opens.{CanDowngrade, with_next_seqid, after_downgrade, is_denied, is_numbered, is_of, is_of_client, is_refused, after_open, next_stateid_of, open_with_number, open_of, share_of, stateid_of, with_each, with_opening, without};
 
 use crate::changes::{advance_each, downgrade_each, join_each};
 use crate::{Modes, OpenState, Share, ShareError};
@@ -48,7 +48,7 @@ impl FileShare {
 
     /// The open whose stateid has this number, if there is one.
     pub fn find(&self, number: u32) -> Option<&OpenState>
-        ensures { option_copied result ≡ numbered number self.now.opens }
+        ensures { option_copied result ≡ open_with_number number self.now.opens }
     {
         self.opens.iter().find(|open| open.number == number)
     }
@@ -129,8 +129,8 @@ impl FileShare {
 
     // Adds the share to the owner's open, if there is one, and returns the open's stateid.
     fn join(&mut self, owner: &OpenOwner, share: Share) -> Option<Stateid>
-        ensures joined { OnSome result (self.new ≡ record self.old {
-          opens = with_each (is_of owner.now) (joined share) self.old.opens;
+        ensures some { OnSome result (self.new ≡ record self.old {
+          opens = with_each (is_of owner.now) (after_open share) self.old.opens;
         }) }
         ensures stateid { result ≡ option_map next_stateid_of (open_of owner.now self.old.opens) }
         ensures none { IfNone result (self.new ≡ self.old) }
@@ -157,7 +157,7 @@ impl FileShare {
     /// OPEN_CONFIRM (RFC 7530, section 16.18): gives the open with this number its next seqid, if there is one.
     pub fn advance(&mut self, number: u32)
         ensures { self.new ≡ record self.old {
-          opens = with_each (is_numbered number) advanced self.old.opens;
+          opens = with_each (is_numbered number) with_next_seqid self.old.opens;
         } }
     {
         advance_each(&mut self.opens, number);
@@ -167,10 +167,10 @@ impl FileShare {
     /// contains. Returns the open's stateid.
     pub fn downgrade(&mut self, number: u32, share: Share) -> Result<Stateid, ShareError>
         ensures ok { OnOk result (self.new ≡ record self.old {
-          opens = with_each (is_numbered number) (downgraded share) self.old.opens;
+          opens = with_each (is_numbered number) (after_downgrade share) self.old.opens;
         }) }
         ensures stateid { IfOk result (λ stateid.
-            option_map stateid_of (numbered number self.new.opens) ≡ Some stateid) }
+            option_map stateid_of (open_with_number number self.new.opens) ≡ Some stateid) }
         ensures allowed { IsOk result ↔ CanDowngrade number share self.old.opens }
         ensures invalid { IfErr result (λ e. e ≡ ShareError.Invalid) }
         ensures err { OnErr result (self.new ≡ self.old) }

@@ -15,7 +15,7 @@ pub struct OpenState {
 
 impl OpenState {
     ghost use Rattle.std.specs.Prelude.{◌≡◌};
-    ghost use Rattle.nfs_share.specs.Opens.{advanced, downgraded, first_open, is_of, is_of_client, joined, next_seqid, next_stateid_of, share_of, stateid_of};
+    ghost use Rattle.nfs_share.specs.Opens.{with_next_seqid, after_downgrade, first_open, is_of, is_of_client, after_open, next_seqid, next_stateid_of, share_of, stateid_of};
 
     /// The open that an owner's first OPEN of the file makes.
     pub fn new(owner: OpenOwner, share: Share, number: u32) -> OpenState
@@ -85,14 +85,14 @@ impl OpenState {
 
     /// Gives the open its next seqid.
     pub(crate) fn advance(&mut self)
-        ensures { self.new ≡ advanced self.old }
+        ensures { self.new ≡ with_next_seqid self.old }
     {
         self.seqid = self.next_seqid();
     }
 
     /// Adds the share of another OPEN.
     pub(crate) fn join(&mut self, share: Share)
-        ensures { self.new ≡ joined share self.old }
+        ensures { self.new ≡ after_open share self.old }
     {
         self.shares.insert(share);
         self.advance();
@@ -100,7 +100,7 @@ impl OpenState {
 
     /// Keeps the shares that this share contains.
     pub(crate) fn downgrade(&mut self, share: Share)
-        ensures { self.new ≡ downgraded share self.old }
+        ensures { self.new ≡ after_downgrade share self.old }
     {
         self.shares.keep_within(share);
         self.advance();

@@ -11,7 +11,7 @@ pub struct Share {
 }
 
 impl Share {
-    ghost use Rattle.nfs_share.specs.Share.{conflicts_with, contains, is_same, union};
+    ghost use Rattle.nfs_share.specs.Share.{conflicts_with, contains, union};
 
     /// The share that has nothing and denies nothing. No OPEN may ask for it.
     pub const NONE: Share = Share {
@@ -56,12 +56,5 @@ impl Share {
             access: self.access.union(other.access),
             deny: self.deny.union(other.deny),
         }
-    }
-
-    /// Whether the two are the same.
-    pub fn is(self, other: Share) -> bool
-        ensures { result ≡ is_same self other }
-    {
-        self.contains(other) && other.contains(self)
     }
 }

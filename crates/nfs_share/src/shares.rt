@@ -62,7 +62,7 @@ impl Shares {
     pub fn has(&self, share: Share) -> bool
         ensures { result ≡ list_any (is_same share) self.now }
     {
-        self.as_slice().iter().any(|pair| share.is(*pair))
+        self.as_slice().iter().any(|pair| share == *pair)
     }
 
     /// Adds the share, unless it is there already.
@@ -79,7 +79,7 @@ impl Shares {
     pub fn can_downgrade_to(&self, share: Share) -> bool
         ensures { IsTrue result ↔ IsLawfulDowngrade self.now share }
     {
-        self.has_within(share) && self.union_within(share).is(share)
+        self.has_within(share) && self.union_within(share) == share
     }
 
     // Whether this share contains one of them.

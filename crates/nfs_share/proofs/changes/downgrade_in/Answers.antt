@@ -1,6 +1,6 @@
 use Rattle.std.proofs.Common.{◌∙◌, arith}
 use Rattle.std.proofs.lemmas.Bool.{eq-eqb, ne_eqb}
-use Rattle.nfs_share.specs.Opens.{downgraded, is_numbered}
+use Rattle.nfs_share.specs.Opens.{after_downgrade, is_numbered}
 use Rattle.nfs_share.proofs.OpensLaws.{changes_one_more, leaves_one_more}
 use Rattle.nfs_share.proofs.changes.downgrade_in.Goals as goal
 use Rattle.nfs_share.proofs.changes.downgrade_in.Goals.{then-open-number, else-open-number}
@@ -11,11 +11,11 @@ loop-open-preserved c = record {
       elim c.if-open-number.branch [
         | then-open-number w ↦
             w.opens-is
-            ∙ changes_one_more (is_numbered c.args.number) (downgraded c.args.share) c.args.opens.now c.loop-open.opens c.loop-open.open-index c.open-item.result w.downgrade.new.self
+            ∙ changes_one_more (is_numbered c.args.number) (after_downgrade c.args.share) c.args.opens.now c.loop-open.opens c.loop-open.open-index c.open-item.result w.downgrade.new.self
             (omega arith) (omega arith) c.loop-open.invariant.opens (eq-eqb _ _ w.if-open-number.true) w.downgrade.ensures
         | else-open-number w ↦
             w.opens-is
-            ∙ leaves_one_more (is_numbered c.args.number) (downgraded c.args.share) c.args.opens.now c.loop-open.opens c.loop-open.open-index c.open-item.result
+            ∙ leaves_one_more (is_numbered c.args.number) (after_downgrade c.args.share) c.args.opens.now c.loop-open.opens c.loop-open.open-index c.open-item.result
             (omega arith) (omega arith) c.loop-open.invariant.opens (ne_eqb _ _ w.if-open-number.false)
       ];
 }

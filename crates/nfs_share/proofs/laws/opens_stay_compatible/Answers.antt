@@ -1,14 +1,14 @@
 use Rattle.nfs_share.proofs.CompatibleOpens.{advancing, downgrading, opening, removing}
 use Rattle.nfs_share.proofs.laws.opens_stay_compatible.Goals as goal
 
-pub returns-clause-opening : goal.returns-clause-opening
-returns-clause-opening c = opening
+pub returns-clause-try_open : goal.returns-clause-try_open
+returns-clause-try_open c = opening
 
-pub returns-clause-advancing : goal.returns-clause-advancing
-returns-clause-advancing c = advancing
+pub returns-clause-advance : goal.returns-clause-advance
+returns-clause-advance c = advancing
 
-pub returns-clause-downgrading : goal.returns-clause-downgrading
-returns-clause-downgrading c = downgrading
+pub returns-clause-downgrade : goal.returns-clause-downgrade
+returns-clause-downgrade c = downgrading
 
-pub returns-clause-removing : goal.returns-clause-removing
-returns-clause-removing c = removing
+pub returns-clause-removal : goal.returns-clause-removal
+returns-clause-removal c = removing

@@ -1,12 +1,12 @@
 use Rattle.std.proofs.Common.{◌∙◌, ◌∷◌, [], ◌++◌, Some, ap, option_map, refl, sym}
-use Rattle.nfs_share.specs.Opens.{FileOpens, first_open, is_of, joined, open_of, stateid_of}
+use Rattle.nfs_share.specs.Opens.{FileOpens, first_open, is_of, after_open, open_of, stateid_of}
 use Rattle.nfs_share.proofs.OpensLaws.{open_of-first, stateid-with_each}
 use Rattle.nfs_share.proofs.file_share.FileShare.try_open.Goals as goal
 
 pub returns-in-Some-clause-stateid : goal.returns-in-Some-clause-stateid
 returns-in-Some-clause-stateid c =
-    ap (λ (f : FileOpens). option_map stateid_of (open_of c.args.owner f.opens)) c.in-Some.ensures.joined
-    ∙ stateid-with_each (is_of c.args.owner) (joined c.args.share) (λ o. refl) (λ o. refl) c.args.self.now.opens
+    ap (λ (f : FileOpens). option_map stateid_of (open_of c.args.owner f.opens)) c.in-Some.ensures.some
+    ∙ stateid-with_each (is_of c.args.owner) (after_open c.args.share) (λ o. refl) (λ o. refl) c.args.self.now.opens
     ∙ sym c.in-Some.ensures.stateid
 
 pub returns-in_ok-add-in-None-clause-stateid : goal.returns-in_ok-add-in-None-clause-stateid

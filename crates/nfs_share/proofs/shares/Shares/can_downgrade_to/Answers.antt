@@ -6,8 +6,8 @@ use Rattle.nfs_share.proofs.shares.Shares.can_downgrade_to.Goals as goal
 
 pub returns-then-has_within : goal.returns-then-has_within
 returns-then-has_within c =
-    lawful true c.is.result c.args.self.now c.args.share (sym c.if-has_within.true ∙ c.has_within.ensures)
-    (c.is.ensures ∙ ap (λ union. is_same union c.args.share) c.union_within.ensures)
+    lawful true c.eq.result c.args.self.now c.args.share (sym c.if-has_within.true ∙ c.has_within.ensures)
+    (c.eq.ensures ∙ ap (λ union. is_same union c.args.share) c.union_within.ensures)
 
 pub returns-else-has_within : goal.returns-else-has_within
 returns-else-has_within c =
