@@ -63,6 +63,8 @@ fn documents_have_policies(rt: HostRuntime) -> Result<(), Fail> {
     assert!(rt; has_policy(rt.alloc(), DEFAULT_TREE, all, probe)?);
     assert!(rt; has_policy(rt.alloc(), "", all, probe)?);
     assert!(rt; has_policy(rt.alloc(), "# none\n[policy]\n", all, probe)?);
+    assert!(rt; has_policy(rt.alloc(), "file = [{ path = \"a/b\" }]\n", all, probe)?);
+    assert!(rt; has_policy(rt.alloc(), "[[directory]]\npath = \"a\"\n", all, probe)?);
     let text = "[policy]\ndelegations = \"none\"\n";
     assert!(rt; has_policy(rt.alloc(), text, Delegations::None, probe)?);
     let text = "policy = { delegations = \"read\" }\n";
@@ -84,22 +86,24 @@ fn nodes_have_filehandles(rt: HostRuntime) -> Result<(), Fail> {
     Ok(())
 }
 
-/// Whether these are the values of the attributes in this mask of the file `a`, where it has been written twice, has 7
-/// bytes, and the lease is 90.
-fn has_attributes(alloc: Global, mask: u32, values: &[u32]) -> Result<bool, Fail> {
+/// Whether these are the values of the attributes in this mask of a node of the default tree, where it has been written
+/// twice, has 7 bytes, and the lease is 90.
+fn has_attributes(alloc: Global, node: u32, mask: u32, values: &[u32]) -> Result<bool, Fail> {
     let tree = Tree::from_toml(alloc, DEFAULT_TREE)?;
-    if tree.len() != 5 {
+    if node >= tree.len() {
         return Ok(false);
     }
-    let attributes = tree.attributes(alloc, 1, &[mask], 2, 7, 90)?;
+    let attributes = tree.attributes(alloc, node, &[mask], 2, 7, 90)?;
     let is_mask = attributes.mask.as_slice() == [mask & 0x0018_0fff].as_slice();
     Ok(is_mask && attributes.values.as_slice() == bytes_of(alloc, values)?.as_slice())
 }
 
-/// Changes and sizes of files that were written to; `tools/try_program` has the other attributes of each node.
+/// Changes and sizes of a file that was written to, of which a directory has none; `tools/try_program` has the other
+/// attributes of each node.
 #[test]
 fn nodes_have_attributes(rt: HostRuntime) -> Result<(), Fail> {
-    assert!(rt; has_attributes(rt.alloc(), 0x1a, &[1, 0, 2, 0, 7])?);
+    assert!(rt; has_attributes(rt.alloc(), 1, 0x1a, &[1, 0, 2, 0, 7])?);
+    assert!(rt; has_attributes(rt.alloc(), 3, 0x1a, &[2, 0, 0, 0, 0])?);
     let all = [
         1,
         0x0018_0fff,
@@ -125,6 +129,32 @@ fn nodes_have_attributes(rt: HostRuntime) -> Result<(), Fail> {
         0,
         2,
     ];
-    assert!(rt; has_attributes(rt.alloc(), u32::MAX, &all)?);
+    assert!(rt; has_attributes(rt.alloc(), 1, u32::MAX, &all)?);
+    let all_of_d = [
+        1,
+        0x0018_0fff,
+        2,
+        0,
+        0,
+        0,
+        0,
+        0,
+        0,
+        0,
+        0,
+        0,
+        1,
+        0,
+        0,
+        1,
+        90,
+        0,
+        8,
+        0x6e66_6831,
+        3,
+        0,
+        4,
+    ];
+    assert!(rt; has_attributes(rt.alloc(), 3, u32::MAX, &all_of_d)?);
     Ok(())
 }
