@@ -1,6 +1,6 @@
 //! The arguments and results of OPEN and of the operations on opens, with their bytes worked out by hand.
 
-use crate::messages::bytes_of;
+use crate::words::bytes_of;
 use nfs_xdr::operations::close::Close;
 use nfs_xdr::operations::open::{Open, OpenOk};
 use nfs_xdr::operations::open_confirm::OpenConfirm;
