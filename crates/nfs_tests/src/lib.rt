@@ -15,6 +15,8 @@ mod faults;
 #[cfg(test)]
 mod messages;
 #[cfg(test)]
+mod owners;
+#[cfg(test)]
 mod peers;
 #[cfg(test)]
 mod refusals;
