@@ -8,6 +8,8 @@ mod errors;
 #[cfg(test)]
 mod opens;
 #[cfg(test)]
+mod owners;
+#[cfg(test)]
 mod shares;
 #[cfg(test)]
 mod streams;

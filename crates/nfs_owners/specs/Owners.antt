@@ -1,5 +1,5 @@
 -- What the calls on owners tell and change.
-use Rattle.std.specs.Prelude.{◌≡◌, ℕ, ◌≤◌, nat_lt, ⊤, Bool, true, not, ◌||◌, IsTrue, IsFalse, List, [], ◌∷◌, ◌++◌, map, filter, length, Option, Some, None, if◌then◌else◌}
+use Rattle.std.specs.Prelude.{◌≡◌, ℕ, ◌≤◌, nat_lt, ⊤, Bool, true, not, ◌||◌, IsFalse, List, [], ◌∷◌, ◌++◌, map, filter, length, Option, Some, None, if◌then◌else◌}
 use Rattle.nfs_owners.specs.declared.kept.Kept.{Kept}
 use Rattle.nfs_owners.specs.declared.kept.KeptRequest.{KeptRequest}
 use Rattle.nfs_owners.specs.declared.kept.Verdict.{Verdict}

@@ -101,6 +101,7 @@ impl Owners {
     pub fn reserve(&mut self, name: &OpenOwner) -> Result<(), OwnersError>
         ensures same { self.new.owners ≡ self.old.owners }
         ensures room { OnOk result (0 < self.new.room) }
+        ensures place { OnOk result (IsTrue (has_place name.now self.new.owners)) }
         ensures full { IsErrOf result OwnersError.Full ↔ has_place name.now self.old.owners ≡ false }
     {
         if !self.has_place(name) {

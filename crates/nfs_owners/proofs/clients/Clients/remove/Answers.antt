@@ -1,7 +1,7 @@
 use Rattle.std.proofs.Common.{ap, ◌∙◌, rules}
 use Rattle.std.proofs.lemmas.Fn.{filter_same}
 use Rattle.nfs_owners.specs.ClientRoom.{RoomyClients}
-use Rattle.nfs_owners.specs.Registry.{Registry, without_client}
+use Rattle.nfs_owners.specs.Registry.{without_client}
 use Rattle.nfs_owners.proofs.clients.Clients.remove.Goals as goal
 
 pub returns-clause-registry : goal.returns-clause-registry

@@ -1,6 +1,5 @@
 use Rattle.std.proofs.Common.{◌≡◌, rules, sym, ap, ◌∙◌, subst}
 use Rattle.std.proofs.lemmas.Fn.{filter_same}
-use Rattle.nfs_owners.specs.Owner.{has_name}
 use Rattle.nfs_owners.specs.Owners.{AreOwners, RoomyOwners, has_place, without_owner}
 use Rattle.nfs_owners.proofs.OwnerLists.{owners_filter, place_without}
 use Rattle.nfs_owners.proofs.owners.Owners.remove.Goals as goal

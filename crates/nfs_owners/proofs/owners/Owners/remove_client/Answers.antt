@@ -1,6 +1,5 @@
 use Rattle.std.proofs.Common.{◌≡◌, rules, sym, ap, ◌∙◌, subst}
 use Rattle.std.proofs.lemmas.Fn.{filter_same}
-use Rattle.nfs_owners.specs.Owner.{has_client}
 use Rattle.nfs_owners.specs.Owners.{AreOwners, without_owners_of}
 use Rattle.nfs_owners.proofs.OwnerLists.{owners_filter}
 use Rattle.nfs_owners.proofs.owners.Owners.remove_client.Goals as goal

@@ -1,0 +1,143 @@
+//! Owners with their last requests, the clients' records, and the numbers of states, each in a short run.
+
+use nfs_owners::{
+    Clients, Kept, KeptRequest, Numbers, OwnerStanding, Owners, PathMark, Verdict, numbers_rise,
+};
+use nfs_xdr::operations::setclientid::Setclientid;
+use nfs_xdr::operations::setclientid_confirm::{Outcome, SetclientidConfirm};
+use nfs_xdr::{
+    Address, Callback, ClientId, Op, OpResult, OpenOwner, Opnum, Principal, Refusal, Verifier,
+};
+use std::alloc::{AllocError, Global};
+use std::test::Fail;
+use xdr::{Bytes, Opaque};
+
+/// The owner `o` of the client with this number.
+fn owner_at(alloc: Global, number: u32) -> Result<OpenOwner, AllocError> {
+    let client = ClientId { epoch: 7, number };
+    let name = Opaque::copy_of(alloc, b"o")?;
+    Ok(OpenOwner { client, name })
+}
+
+/// The answer that is kept: that a file isn't there.
+fn kept_answer() -> OpResult {
+    Opnum::Getattr.refusal(Refusal::NoEnt)
+}
+
+/// The last request, SAVEFH of node 3 with this sequence id.
+fn kept(seqid: u32) -> Kept {
+    let request = KeptRequest {
+        op: Op::Savefh,
+        filehandle: Some(3),
+    };
+    Kept {
+        seqid,
+        request,
+        answer: kept_answer(),
+    }
+}
+
+/// Records the owner of client 1 by the journal's entry 5, a request with this sequence id.
+fn with_owner(alloc: Global, seqid: u32) -> Result<Owners, Fail> {
+    let name = owner_at(alloc, 1)?;
+    let mut owners = Owners::new(alloc);
+    owners.reserve(&name)?;
+    owners.keep(name, 5, kept(seqid));
+    Ok(owners)
+}
+
+#[test]
+fn an_owner_is_recorded_and_confirmed(rt: HostRuntime) -> Result<(), Fail> {
+    let name = owner_at(rt.alloc(), 1)?;
+    let mut owners = with_owner(rt.alloc(), 9)?;
+    assert!(rt; owners.known(&name) == OwnerStanding::Unconfirmed);
+    assert!(rt;
+        owners
+            .find(&name)
+            .is_some_and(|o| o.recorded == 5 && o.number == 5)
+    );
+    owners.confirm(&name);
+    assert!(rt; owners.known(&name) == OwnerStanding::Confirmed);
+    owners.remove(&name);
+    assert!(rt; owners.known(&name) == OwnerStanding::Unknown);
+    Ok(())
+}
+
+#[test]
+fn another_client_has_another_owner_of_the_name(rt: HostRuntime) -> Result<(), Fail> {
+    let name = owner_at(rt.alloc(), 2)?;
+    let mut owners = with_owner(rt.alloc(), 9)?;
+    assert!(rt; owners.known(&name) == OwnerStanding::Unknown);
+    assert!(rt; owners.judge(&name, 9, &Op::Savefh, Some(3)).is_none());
+    owners.reserve(&name)?;
+    owners.keep(name, 6, kept(1));
+    owners.remove_client(ClientId {
+        epoch: 7,
+        number: 1,
+    });
+    assert!(rt; owners.known(&owner_at(rt.alloc(), 1)?) == OwnerStanding::Unknown);
+    assert!(rt; owners.known(&owner_at(rt.alloc(), 2)?) == OwnerStanding::Unconfirmed);
+    Ok(())
+}
+
+#[test]
+fn the_last_request_again_gets_its_answer(rt: HostRuntime) -> Result<(), Fail> {
+    let name = owner_at(rt.alloc(), 1)?;
+    let owners = with_owner(rt.alloc(), u32::MAX)?;
+    let again = owners.judge(&name, u32::MAX, &Op::Savefh, Some(3));
+    assert!(rt; matches!(again, Some(Verdict::Replay(answer)) if *answer == kept_answer()));
+    let next = owners.judge(&name, 0, &Op::Getfh, None);
+    assert!(rt; matches!(next, Some(Verdict::New)));
+    let elsewhere = owners.judge(&name, u32::MAX, &Op::Savefh, Some(4));
+    assert!(rt; matches!(elsewhere, Some(Verdict::Bad)));
+    Ok(())
+}
+
+/// SETCLIENTID of the id `a`.
+fn setclientid(alloc: Global) -> Result<Setclientid, AllocError> {
+    let netid = Bytes::copy_of(alloc, b"tcp")?;
+    let addr = Bytes::copy_of(alloc, b"127.0.0.1.8.1")?;
+    let callback = Callback {
+        program: 0x4000_0000,
+        address: Address { netid, addr },
+        ident: 1,
+    };
+    Ok(Setclientid {
+        verifier: Verifier([1; 8]),
+        id: Opaque::copy_of(alloc, b"a")?,
+        callback,
+    })
+}
+
+#[test]
+fn a_client_lives_from_its_confirmation_on(rt: HostRuntime) -> Result<(), Fail> {
+    let principal = Principal::AuthSys(1);
+    let client = ClientId {
+        epoch: 7,
+        number: 1,
+    };
+    let mut clients = Clients::new(rt.alloc());
+    let (_, arrival) = clients.set(7, principal, &setclientid(rt.alloc())?, false)?;
+    clients.make_room(&arrival)?;
+    clients.commit(arrival);
+    assert!(rt; clients.was_given(1) && !clients.was_given(2) && !clients.live(1));
+    let args = SetclientidConfirm { client, confirm: 1 };
+    let (answer, confirmation) = clients.confirm(principal, &args, false, PathMark::Up)?;
+    assert!(rt; answer == Outcome::Done(()));
+    clients.make_room(&confirmation)?;
+    clients.commit(confirmation);
+    assert!(rt; clients.live(1) && clients.of(client).is_some_and(|c| c.path == PathMark::Up));
+    clients.remove(1);
+    assert!(rt; !clients.live(1) && clients.was_given(1) && clients.of(client).is_none());
+    Ok(())
+}
+
+#[test]
+fn state_numbers_begin_with_1(rt: HostRuntime) -> Result<(), Fail> {
+    let mut numbers = Numbers::new();
+    assert_eq!(rt; numbers.upcoming(), 1);
+    assert_eq!(rt; numbers.next(), 1);
+    assert_eq!(rt; numbers.next(), 2);
+    numbers_rise();
+    Ok(())
+}
