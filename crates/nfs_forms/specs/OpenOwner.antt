@@ -1,6 +1,8 @@
 -- open_owner4 (RFC 7530, section 9.1.5; RFC 7531): a client, and the name of one of those who open files at it.
+use Rattle.std.specs.Prelude.{Bool, ◌&&◌}
+use Rattle.std.specs.Str.{bytes_eq}
 use Rattle.std.proofs.Common.{refl}
-use Rattle.nfs_forms.specs.ClientId.{client_id}
+use Rattle.nfs_forms.specs.ClientId.{client_id, is_same_client}
 use Rattle.nfs_forms.specs.declared.open_owner.OpenOwner.{OpenOwner}
 use Rattle.nfs_forms.specs.declared.open_owner.TheConstants.{OWNER_LIMIT}
 use Rattle.xdr.specs.Form.{Form, ◌and◌, of, opaque}
@@ -9,3 +11,7 @@ use Rattle.xdr.specs.Form.{Form, ◌and◌, of, opaque}
 unfoldable pub open_owner : Form OpenOwner
 open_owner = of (λ p. record { client = p.0; name = p.1 }) (λ o. (o.client, o.name)) (λ p. refl) (λ o. refl)
     (client_id and opaque OWNER_LIMIT)
+
+-- the two owners are the same: one name at one client
+abbrev pub is_same_owner : OpenOwner → OpenOwner → Bool
+is_same_owner a b = is_same_client a.client b.client && bytes_eq a.name b.name

@@ -4,7 +4,8 @@ use Rattle.nfs_owners.specs.declared.client_record.ClientRecord.{ClientRecord}
 use Rattle.nfs_owners.specs.declared.client_record.PathMark.{PathMark}
 use Rattle.nfs_owners.specs.declared.clients.client_change.ClientChange.{ClientChange}
 use Rattle.nfs_owners.specs.declared.clients.client_change.ClientChange.TheVariants.{Nothing, Confirms, Replaces}
-use Rattle.nfs_owners.specs.Registry.{Registry, confirmed_named_by, confirmed_of, is_same_client, unconfirmed_named_by}
+use Rattle.nfs_forms.specs.ClientId.{is_same_client}
+use Rattle.nfs_owners.specs.Registry.{Registry, confirmed_named_by, confirmed_of, unconfirmed_named_by}
 use Rattle.nfs_forms.specs.declared.answer.Answer.TheVariants.{Done, ClidInUse, Refused}
 use Rattle.nfs_forms.specs.declared.operations.setclientid_confirm.SetclientidConfirm.{SetclientidConfirm}
 use Rattle.nfs_forms.specs.declared.principal.Principal.{Principal}

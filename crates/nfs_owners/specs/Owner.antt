@@ -6,7 +6,7 @@ use Rattle.nfs_owners.specs.declared.kept.Kept.{Kept}
 use Rattle.nfs_owners.specs.declared.owner.Owner.{Owner}
 use Rattle.nfs_owners.specs.declared.owner.OwnerStanding.{OwnerStanding}
 use Rattle.nfs_owners.specs.declared.owner.OwnerStanding.TheVariants.{Unknown, Unconfirmed, Confirmed}
-use Rattle.nfs_owners.specs.Registry.{is_same_client}
+use Rattle.nfs_forms.specs.ClientId.{is_same_client}
 use Rattle.nfs_forms.specs.declared.client_id.ClientId.{ClientId}
 use Rattle.nfs_forms.specs.declared.open_owner.OpenOwner.{OpenOwner}
 

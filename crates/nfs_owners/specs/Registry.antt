@@ -2,6 +2,7 @@
 use Rattle.std.specs.Prelude.{ℕ, nat_le, Bool, ◌&&◌, ◌==◌, not, List, [], filter, find, Option}
 use Rattle.std.specs.List.{list_any}
 use Rattle.std.specs.Str.{bytes_eq}
+use Rattle.nfs_forms.specs.ClientId.{is_same_client}
 use Rattle.nfs_forms.specs.declared.client_id.ClientId.{ClientId}
 use Rattle.nfs_forms.specs.declared.operations.setclientid_confirm.SetclientidConfirm.{SetclientidConfirm}
 use Rattle.nfs_owners.specs.declared.client_record.ClientRecord.{ClientRecord}
@@ -16,10 +17,6 @@ pub record Registry : Type 0 where
 -- a registry without clients
 abbrev pub no_clients : Registry
 no_clients = record { records = []; last_number = 0; last_confirm = 0 }
-
--- the two clientids are the same
-abbrev pub is_same_client : ClientId → ClientId → Bool
-is_same_client a b = (a.epoch == b.epoch) && (a.number == b.number)
 
 -- the record has this id
 abbrev pub is_of : List ℕ → ClientRecord → Bool

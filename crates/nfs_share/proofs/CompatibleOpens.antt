@@ -9,7 +9,9 @@ use Rattle.nfs_forms.specs.declared.open_owner.OpenOwner.{OpenOwner}
 use Rattle.nfs_share.specs.declared.open_state.OpenState.{OpenState}
 use Rattle.nfs_share.specs.declared.share.Share.{Share}
 use Rattle.nfs_share.specs.Laws.{AllAreCompatible, are_compatible}
-use Rattle.nfs_share.specs.Opens.{with_next_seqid, after_downgrade, first_open, is_of, is_refused, is_same_client, is_same_owner, after_open, open_of, share_of, with_each, with_opening, without}
+use Rattle.nfs_forms.specs.ClientId.{is_same_client}
+use Rattle.nfs_forms.specs.OpenOwner.{is_same_owner}
+use Rattle.nfs_share.specs.Opens.{with_next_seqid, after_downgrade, first_open, is_of, is_refused, after_open, open_of, share_of, with_each, with_opening, without}
 use Rattle.nfs_share.specs.Share.{conflicts_with, contains, union}
 use Rattle.nfs_share.proofs.ShareLaws.{conflicts_with-union, conflicts_with_comm, union-none, union-self}
 use Rattle.nfs_share.proofs.SharesLaws.{AllByRecursion-filter, union-some, union_of-with_share}

@@ -13,7 +13,9 @@ use Rattle.std.proofs.lemmas.Slice.Eq.{bytes_eq-Decides}
 use Rattle.nfs_forms.specs.declared.open_owner.OpenOwner.{OpenOwner}
 use Rattle.nfs_forms.specs.declared.stateid.Stateid.{Stateid}
 use Rattle.nfs_share.specs.declared.share.Share.{Share}
-use Rattle.nfs_share.specs.Opens.{first_open, is_of, is_same_client, is_same_owner, next_stateid_of, open_of, stateid_of, with_each}
+use Rattle.nfs_forms.specs.ClientId.{is_same_client}
+use Rattle.nfs_forms.specs.OpenOwner.{is_same_owner}
+use Rattle.nfs_share.specs.Opens.{first_open, is_of, next_stateid_of, open_of, stateid_of, with_each}
 
 module _ (test : OpenState → Bool) (change : OpenState → OpenState) where
   each_more : (old new : List OpenState) (i : ℕ) (d next : OpenState) → i < length old → i < length new

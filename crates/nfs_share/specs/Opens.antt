@@ -1,7 +1,8 @@
 -- The opens of a file (RFC 7530, sections 9.9 to 9.11).
 use Rattle.std.specs.Prelude.{ℕ, ◌+◌, Bool, ◌&&◌, ◌==◌, not, if◌then◌else◌, List, [], ◌∷◌, ◌++◌, filter, find, map, Option, is_some, IsSomeAnd}
 use Rattle.std.specs.List.{list_any}
-use Rattle.std.specs.Str.{bytes_eq}
+use Rattle.nfs_forms.specs.ClientId.{is_same_client}
+use Rattle.nfs_forms.specs.OpenOwner.{is_same_owner}
 use Rattle.nfs_forms.specs.declared.client_id.ClientId.{ClientId}
 use Rattle.nfs_forms.specs.declared.open_owner.OpenOwner.{OpenOwner}
 use Rattle.nfs_forms.specs.declared.stateid.Stateid.{Stateid}
@@ -16,14 +17,6 @@ use Rattle.nfs_share.specs.Shares.{IsLawfulDowngrade, union_of, with_share}
 pub record FileOpens : Type 0 where
   pub opens : List OpenState
   pub room : ℕ
-
--- the two clientids are the same
-abbrev pub is_same_client : ClientId → ClientId → Bool
-is_same_client a b = (a.epoch == b.epoch) && (a.number == b.number)
-
--- the two owners are the same: one name at one client (section 9.1.5)
-abbrev pub is_same_owner : OpenOwner → OpenOwner → Bool
-is_same_owner a b = is_same_client a.client b.client && bytes_eq a.name b.name
 
 -- the owner has the open
 abbrev pub is_of : OpenOwner → OpenState → Bool
