@@ -1,12 +1,9 @@
-//! The tests of the upper libraries (`nfs_tree`, `nfs_core`, `nfs_server`), through what is public of them: here, so
-//! that no library is proved twice for its tests. What calls get as their replies is tested by the rows of
-//! `crates/rows/data`, and what a run of the program shows by `tools/try_program`; these tests are for what neither can
-//! show: values, texts, and devices that fail. The expected bytes were worked out by hand, in words of four bytes, from
-//! the XDR of RFC 7531 and the messages of RFC 5531.
+//! The tests of `nfs_server`, through what is public of it: here, so that no library is proved twice for its tests.
+//! What calls get as their replies is tested by the rows of `crates/rows/data`, and what a run of the program shows by
+//! `tools/try_program`; these tests are for what neither can show: texts, and devices that fail. The expected bytes
+//! were worked out by hand, in words of four bytes, from the XDR of RFC 7531 and the messages of RFC 5531.
 #![tactic(auto)]
 
-#[cfg(test)]
-mod cores;
 #[cfg(test)]
 mod devices;
 #[cfg(test)]
@@ -15,5 +12,3 @@ mod errors;
 mod messages;
 #[cfg(test)]
 mod refusals;
-#[cfg(test)]
-mod trees;

@@ -1,6 +1,6 @@
 //! Trees: what no answer of the program shows yet, as texts, policies, changes, and the handles of high numbers.
 
-use crate::messages::bytes_of;
+use crate::words::bytes_of;
 use nfs_tree::{
     Callbacks, DEFAULT_TREE, Delegations, FILE_LIMIT, Policy, TEXT_LIMIT, Tree, TreeError,
     paths_are_joined_names, trees_are_their_entries,

@@ -1,0 +1,13 @@
+//! The tests of the files and the state (`nfs_tree`, `nfs_core`), through what is public of them: for what neither rows
+//! nor runs of the program can show, as texts, policies, and the changes of files. The expected bytes were worked out
+//! by hand, in words of four bytes, from the XDR of RFC 7531.
+#![tactic(auto)]
+
+#[cfg(test)]
+mod cores;
+#[cfg(test)]
+mod errors;
+#[cfg(test)]
+mod trees;
+#[cfg(test)]
+mod words;
