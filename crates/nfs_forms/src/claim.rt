@@ -1,3 +1,4 @@
+ghost use Rattle.std.specs.Prelude.{◌≡◌, ◌≢◌, MatchBool};
 ghost use Rattle.nfs_forms.specs.Claim as forms;
 ghost use Rattle.xdr.specs.Reading.{Answers};
 
@@ -16,6 +17,27 @@ pub enum Claim {
     DelegateCur { stateid: Stateid, name: Bytes },
     /// The file with this name in the current directory, for which the client had a delegation before it restarted.
     DelegatePrev(Bytes),
+}
+
+impl Claim {
+    /// Whether the other is the same claim to the same file.
+    pub fn is_same(&self, other: &Claim) -> bool
+        ensures { MatchBool result (self.now ≡ other.now) (self.now ≢ other.now) }
+    {
+        match (self, other) {
+            (Claim::Null(name), Claim::Null(other)) => name == other,
+            (Claim::Previous(delegation), Claim::Previous(other)) => delegation == other,
+            (
+                Claim::DelegateCur { stateid, name },
+                Claim::DelegateCur {
+                    stateid: other,
+                    name: other_name,
+                },
+            ) => stateid == other && name == other_name,
+            (Claim::DelegatePrev(name), Claim::DelegatePrev(other)) => name == other,
+            _ => false,
+        }
+    }
 }
 
 /// The tag of Claim (open_claim_type4).

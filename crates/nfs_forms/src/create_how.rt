@@ -1,3 +1,4 @@
+ghost use Rattle.std.specs.Prelude.{◌≡◌, ◌≢◌, MatchBool};
 ghost use Rattle.nfs_forms.specs.CreateHow as forms;
 ghost use Rattle.xdr.specs.Reading.{Answers};
 
@@ -14,6 +15,21 @@ pub enum CreateHow {
     Guarded(Fattr),
     /// The verifier distinguishes a retransmission from another client's request.
     Exclusive(Verifier),
+}
+
+impl CreateHow {
+    /// Whether the other creates in the same way.
+    pub fn is_same(&self, other: &CreateHow) -> bool
+        ensures { MatchBool result (self.now ≡ other.now) (self.now ≢ other.now) }
+    {
+        match (self, other) {
+            (CreateHow::Unchecked(attributes), CreateHow::Unchecked(others)) => attributes
+                == others,
+            (CreateHow::Guarded(attributes), CreateHow::Guarded(others)) => attributes == others,
+            (CreateHow::Exclusive(verifier), CreateHow::Exclusive(other)) => verifier == other,
+            _ => false,
+        }
+    }
 }
 
 /// The tag of CreateHow (createmode4).

@@ -1,3 +1,4 @@
+ghost use Rattle.std.specs.Prelude.{◌≡◌, ◌≢◌, MatchBool};
 ghost use Rattle.nfs_forms.specs.OpenHow as forms;
 ghost use Rattle.xdr.specs.Reading.{Answers};
 
@@ -10,6 +11,19 @@ use xdr::{Wire, WireError, read_u32, write_two, write_u32};
 pub enum OpenHow {
     Nocreate,
     Create(CreateHow),
+}
+
+impl OpenHow {
+    /// Whether the other creates the same, or nothing as well.
+    pub fn is_same(&self, other: &OpenHow) -> bool
+        ensures { MatchBool result (self.now ≡ other.now) (self.now ≢ other.now) }
+    {
+        match (self, other) {
+            (OpenHow::Nocreate, OpenHow::Nocreate) => true,
+            (OpenHow::Create(how), OpenHow::Create(other)) => how.is_same(other),
+            _ => false,
+        }
+    }
 }
 
 /// The tag of OpenHow (opentype4).

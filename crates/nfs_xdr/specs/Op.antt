@@ -14,9 +14,13 @@ use Rattle.xdr.specs.Union.{switch}
 -- union nfs_argop4 switch (nfs_opnum4 argop)
 abbrev pub op_case : Opnum → Case Op
 op_case opnums.Access = case of.Access.arguments ops.Access
+op_case opnums.Close = case of.Close.arguments ops.Close
 op_case opnums.Getattr = case of.Getattr.arguments ops.Getattr
 op_case opnums.Getfh = case of.Getfh.arguments (λ v. ops.Getfh)
 op_case opnums.Lookup = case of.Lookup.arguments ops.Lookup
+op_case opnums.Open = case of.Open.arguments ops.Open
+op_case opnums.OpenConfirm = case of.OpenConfirm.arguments ops.OpenConfirm
+op_case opnums.OpenDowngrade = case of.OpenDowngrade.arguments ops.OpenDowngrade
 op_case opnums.Putfh = case of.Putfh.arguments ops.Putfh
 op_case opnums.Putrootfh = case of.Putrootfh.arguments (λ v. ops.Putrootfh)
 op_case opnums.Restorefh = case of.Restorefh.arguments (λ v. ops.Restorefh)
@@ -32,9 +36,13 @@ row o content = (o, arm_in (op_case o) content)
 
 abbrev pub row_of : Op → Opnum × Arm Op
 row_of (ops.Access v) = row opnums.Access v
+row_of (ops.Close v) = row opnums.Close v
 row_of (ops.Getattr v) = row opnums.Getattr v
 row_of ops.Getfh = row opnums.Getfh tt
 row_of (ops.Lookup v) = row opnums.Lookup v
+row_of (ops.Open v) = row opnums.Open v
+row_of (ops.OpenConfirm v) = row opnums.OpenConfirm v
+row_of (ops.OpenDowngrade v) = row opnums.OpenDowngrade v
 row_of (ops.Putfh v) = row opnums.Putfh v
 row_of ops.Putrootfh = row opnums.Putrootfh tt
 row_of ops.Restorefh = row opnums.Restorefh tt

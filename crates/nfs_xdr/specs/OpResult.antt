@@ -35,9 +35,13 @@ outcomes form make = record { read = case form make; refused = λ r. make (Refus
 -- union nfs_resop4 switch (nfs_opnum4 resop). An unsupported operation has only one result.
 abbrev pub outcomes_of : Opnum → Outcomes
 outcomes_of opnums.Access = outcomes of.Access.result results.Access
+outcomes_of opnums.Close = outcomes of.Close.result results.Close
 outcomes_of opnums.Getattr = outcomes of.Getattr.result results.Getattr
 outcomes_of opnums.Getfh = outcomes of.Getfh.result results.Getfh
 outcomes_of opnums.Lookup = outcomes of.Lookup.result results.Lookup
+outcomes_of opnums.Open = outcomes of.Open.result results.Open
+outcomes_of opnums.OpenConfirm = outcomes of.OpenConfirm.result results.OpenConfirm
+outcomes_of opnums.OpenDowngrade = outcomes of.OpenDowngrade.result results.OpenDowngrade
 outcomes_of opnums.Putfh = outcomes of.Putfh.result results.Putfh
 outcomes_of opnums.Putrootfh = outcomes of.Putrootfh.result results.Putrootfh
 outcomes_of opnums.Restorefh = outcomes of.Restorefh.result results.Restorefh
@@ -65,9 +69,13 @@ row o status content = record { opnum = o; status = status; arm = arm_in (result
 
 abbrev pub row_of : OpResult → Row
 row_of (results.Access a) = row opnums.Access (answer.status_of a) a
+row_of (results.Close a) = row opnums.Close (answer.status_of a) a
 row_of (results.Getattr a) = row opnums.Getattr (answer.status_of a) a
 row_of (results.Getfh a) = row opnums.Getfh (answer.status_of a) a
 row_of (results.Lookup a) = row opnums.Lookup (answer.status_of a) a
+row_of (results.Open a) = row opnums.Open (answer.status_of a) a
+row_of (results.OpenConfirm a) = row opnums.OpenConfirm (answer.status_of a) a
+row_of (results.OpenDowngrade a) = row opnums.OpenDowngrade (answer.status_of a) a
 row_of (results.Putfh a) = row opnums.Putfh (answer.status_of a) a
 row_of (results.Putrootfh a) = row opnums.Putrootfh (answer.status_of a) a
 row_of (results.Restorefh a) = row opnums.Restorefh (answer.status_of a) a

@@ -13,7 +13,6 @@ use Rattle.nfs_xdr.specs.declared.opnum.Unsupported.TheVariants as without
 use Rattle.xdr.specs.Form.{Form, enumeration}
 
 abbrev pub number_of_unsupported : Unsupported → ℕ
-number_of_unsupported without.Close = 4
 number_of_unsupported without.Commit = 5
 number_of_unsupported without.Create = 6
 number_of_unsupported without.Delegpurge = 7
@@ -24,10 +23,7 @@ number_of_unsupported without.Lockt = 13
 number_of_unsupported without.Locku = 14
 number_of_unsupported without.Lookupp = 16
 number_of_unsupported without.Nverify = 17
-number_of_unsupported without.Open = 18
 number_of_unsupported without.Openattr = 19
-number_of_unsupported without.OpenConfirm = 20
-number_of_unsupported without.OpenDowngrade = 21
 number_of_unsupported without.Putpubfh = 23
 number_of_unsupported without.Read = 25
 number_of_unsupported without.Readdir = 26
@@ -44,9 +40,13 @@ number_of_unsupported without.ReleaseLockowner = 39
 -- an operation's row in the list: its number, and what it works on
 abbrev pub row_of : Opnum → ℕ × Class
 row_of op.Access = (3, OnTree)
+row_of op.Close = (4, OnState)
 row_of op.Getattr = (9, OnState)
 row_of op.Getfh = (10, OnTree)
 row_of op.Lookup = (15, OnTree)
+row_of op.Open = (18, OnState)
+row_of op.OpenConfirm = (20, OnState)
+row_of op.OpenDowngrade = (21, OnState)
 row_of op.Putfh = (22, OnTree)
 row_of op.Putrootfh = (24, OnTree)
 row_of op.Restorefh = (31, OnTree)
@@ -82,7 +82,7 @@ opnum_of number = find (λ o. number_of o == number) OPNUMS
 
 pub known : (o : Opnum) → opnum_of (number_of o) ≡ Some o
 known op.Illegal = refl
-known (op.Unsupported without.Close) = refl
+known (op.Unsupported without.Commit) = refl
 known (op.Unsupported o) = refl
 known o = refl
 

@@ -53,9 +53,13 @@ macro_rules! write_op_of {
 #[derive(Clone, Debug, PartialEq, Drop)]
 pub enum Op {
     Access(of::access::Arguments),
+    Close(of::close::Arguments),
     Getattr(of::getattr::Arguments),
     Getfh,
     Lookup(of::lookup::Arguments),
+    Open(of::open::Arguments),
+    OpenConfirm(of::open_confirm::Arguments),
+    OpenDowngrade(of::open_downgrade::Arguments),
     Putfh(of::putfh::Arguments),
     Putrootfh,
     Restorefh,
@@ -75,7 +79,10 @@ impl Op {
     pub fn is_same(&self, other: &Op) -> bool
         ensures { MatchBool result (self.now ≡ other.now) (self.now ≢ other.now) }
     {
-        self == other
+        match (self, other) {
+            (Op::Open(open), Op::Open(other)) => open.is_same(other),
+            _ => self == other,
+        }
     }
 
     /// Whether the operation works on the state, so that every answer except NFS4ERR_RESOURCE is an entry of the

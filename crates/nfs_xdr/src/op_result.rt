@@ -88,9 +88,13 @@ macro_rules! refusal_of_opnum {
 #[derive(Clone, Debug, PartialEq, Drop)]
 pub enum OpResult {
     Access(of::access::Outcome),
+    Close(of::close::Outcome),
     Getattr(of::getattr::Outcome),
     Getfh(of::getfh::Outcome),
     Lookup(of::lookup::Outcome),
+    Open(of::open::Outcome),
+    OpenConfirm(of::open_confirm::Outcome),
+    OpenDowngrade(of::open_downgrade::Outcome),
     Putfh(of::putfh::Outcome),
     Putrootfh(of::putrootfh::Outcome),
     Restorefh(of::restorefh::Outcome),

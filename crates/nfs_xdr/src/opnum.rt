@@ -15,8 +15,12 @@ macro_rules! each_operation {
         $then!(
             [
                 Access = 3 OnTree,
+                Close = 4 OnState,
                 Getattr = 9 OnState,
                 Lookup = 15 OnTree,
+                Open = 18 OnState,
+                OpenConfirm = 20 OnState,
+                OpenDowngrade = 21 OnState,
                 Putfh = 22 OnTree,
                 Setclientid = 35 OnState,
                 SetclientidConfirm = 36 OnState,
@@ -37,7 +41,6 @@ pub(crate) use each_operation;
 /// The operations of NFSv4.0 that this server doesn't implement, with their numbers.
 #[derive(Clone, Copy, Debug, PartialEq, Eq)]
 pub enum Unsupported {
-    Close = 4,
     Commit = 5,
     Create = 6,
     Delegpurge = 7,
@@ -48,10 +51,7 @@ pub enum Unsupported {
     Locku = 14,
     Lookupp = 16,
     Nverify = 17,
-    Open = 18,
     Openattr = 19,
-    OpenConfirm = 20,
-    OpenDowngrade = 21,
     Putpubfh = 23,
     Read = 25,
     Readdir = 26,
@@ -78,9 +78,13 @@ impl Unsupported {
 #[derive(Clone, Copy, Debug, PartialEq, Eq)]
 pub enum Opnum {
     Access,
+    Close,
     Getattr,
     Getfh,
     Lookup,
+    Open,
+    OpenConfirm,
+    OpenDowngrade,
     Putfh,
     Putrootfh,
     Restorefh,
@@ -131,7 +135,7 @@ const FIRST_NUMBER: u32 = 3;
 /// Every operation: those with the numbers from 3 to 39 in this order, and then `Illegal`.
 pub const OPNUMS: [Opnum; 38] = [
     Opnum::Access,
-    Opnum::Unsupported(Unsupported::Close),
+    Opnum::Close,
     Opnum::Unsupported(Unsupported::Commit),
     Opnum::Unsupported(Unsupported::Create),
     Opnum::Unsupported(Unsupported::Delegpurge),
@@ -145,10 +149,10 @@ pub const OPNUMS: [Opnum; 38] = [
     Opnum::Lookup,
     Opnum::Unsupported(Unsupported::Lookupp),
     Opnum::Unsupported(Unsupported::Nverify),
-    Opnum::Unsupported(Unsupported::Open),
+    Opnum::Open,
     Opnum::Unsupported(Unsupported::Openattr),
-    Opnum::Unsupported(Unsupported::OpenConfirm),
-    Opnum::Unsupported(Unsupported::OpenDowngrade),
+    Opnum::OpenConfirm,
+    Opnum::OpenDowngrade,
     Opnum::Putfh,
     Opnum::Unsupported(Unsupported::Putpubfh),
     Opnum::Putrootfh,

@@ -1,3 +1,4 @@
+ghost use Rattle.std.specs.Prelude.{◌≡◌, ◌≢◌, MatchBool};
 ghost use Rattle.nfs_forms.specs.operations.Open as forms;
 
 use crate::{Answer, Bitmap, ChangeInfo, Claim, OpenDelegation, OpenHow, OpenOwner, Stateid};
@@ -19,6 +20,20 @@ pub struct Open {
     pub owner: OpenOwner,
     pub how: OpenHow,
     pub claim: Claim,
+}
+
+impl Open {
+    /// Whether the other has the same arguments.
+    pub fn is_same(&self, other: &Open) -> bool
+        ensures { MatchBool result (self.now ≡ other.now) (self.now ≢ other.now) }
+    {
+        self.seqid == other.seqid
+            && self.access == other.access
+            && self.deny == other.deny
+            && self.owner == other.owner
+            && self.how.is_same(&other.how)
+            && self.claim.is_same(&other.claim)
+    }
 }
 
 /// With NFS4_OK, the open that the owner has now.
