@@ -1,11 +1,20 @@
 -- Reading and writing: what an OPEN may do, or what it denies to others (RFC 7530, section 9.9).
-use Rattle.std.specs.Prelude.{ℕ, ◌+◌, Bool, ◌&&◌, ◌||◌, not, if◌then◌else◌}
+use Rattle.std.specs.Prelude.{ℕ, ◌==◌, Bool, true, false, ◌&&◌, ◌||◌, not, Option, Some, None, if◌then◌else◌}
 use Rattle.std.specs.Bool.{beq}
 use Rattle.nfs_share.specs.declared.modes.Modes.{Modes}
 
--- Their number in share_access and share_deny: READ is 1, WRITE is 2, BOTH is 3 (RFC 7531).
-abbrev pub number_of : Modes → ℕ
-number_of m = (if m.read then 1 else 0) + (if m.write then 2 else 0)
+abbrev pub modes : Bool → Bool → Modes
+modes reads writes = record { read = reads; write = writes }
+
+-- The modes that a number stands for in share_access and share_deny: none for 0, READ for 1, WRITE for 2, BOTH for 3
+-- (RFC 7531).
+abbrev pub modes_of_number : ℕ → Option Modes
+modes_of_number n =
+    if n == 0 then Some (modes false false)
+    else if n == 1 then Some (modes true false)
+    else if n == 2 then Some (modes false true)
+    else if n == 3 then Some (modes true true)
+    else None
 
 -- a mode is in both
 abbrev pub meets : Modes → Modes → Bool

@@ -1,4 +1,4 @@
-ghost use Rattle.std.specs.Prelude.{◌≡◌, ◌≤◌, ◌↔◌, IfSome, IsSome};
+ghost use Rattle.std.specs.Prelude.{◌≡◌};
 
 /// Reading and writing: neither, one or both. An OPEN names so what it may do itself (share_access), and what it denies
 /// to others (share_deny; RFC 7530, section 9.9).
@@ -9,7 +9,7 @@ pub struct Modes {
 }
 
 impl Modes {
-    ghost use Rattle.nfs_share.specs.Modes.{contains, meets, number_of, union};
+    ghost use Rattle.nfs_share.specs.Modes.{contains, meets, modes_of_number, union};
 
     /// Neither (OPEN4_SHARE_DENY_NONE).
     pub const NONE: Modes = Modes {
@@ -37,8 +37,7 @@ impl Modes {
 
     /// The modes that this number stands for in an OPEN, if it stands for any.
     pub fn from_number(number: u32) -> Option<Modes>
-        ensures value { IfSome result (λ modes. number_of modes ≡ number) }
-        ensures some { IsSome result ↔ (number ≤ 3) }
+        ensures { result ≡ modes_of_number number }
     {
         match number {
             0 => Some(Modes::NONE),

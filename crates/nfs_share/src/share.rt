@@ -1,5 +1,4 @@
-ghost use Rattle.std.specs.Prelude.{◌≡◌, ◌≤◌, ◌↔◌, IfSome, IsSome};
-ghost use Rattle.nfs_share.specs.Modes.{number_of};
+ghost use Rattle.std.specs.Prelude.{◌≡◌};
 
 use crate::Modes;
 
@@ -11,7 +10,7 @@ pub struct Share {
 }
 
 impl Share {
-    ghost use Rattle.nfs_share.specs.Share.{conflicts_with, contains, union};
+    ghost use Rattle.nfs_share.specs.Share.{conflicts_with, contains, share_of_numbers, union};
 
     /// The share that has nothing and denies nothing. No OPEN may ask for it.
     pub const NONE: Share = Share {
@@ -22,9 +21,7 @@ impl Share {
     /// The share that these numbers for share_access and share_deny stand for, if they stand for one: the access has at
     /// least one mode (RFC 7530, section 16.16.5).
     pub fn from_numbers(access: u32, deny: u32) -> Option<Share>
-        ensures value { IfSome result (λ share.
-            (number_of share.access ≡ access) × (number_of share.deny ≡ deny)) }
-        ensures some { IsSome result ↔ ((1 ≤ access) × (access ≤ 3) × (deny ≤ 3)) }
+        ensures { result ≡ share_of_numbers access deny }
     {
         if access == 0 {
             return None;

@@ -1,0 +1,226 @@
+-- Sequenced operations: OPEN, OPEN_CONFIRM, OPEN_DOWNGRADE and CLOSE go by the sequence id of an owner, so that a
+-- request that comes again is answered as it was (RFC 7530, sections 9.1.7 to 9.1.11). In turn: the filehandle, the
+-- owner, its sequence id, and then the operation's own rule.
+use Rattle.std.specs.Prelude.{◌≡◌, ℕ, ◌==◌, Bool, true, false, not, ◌&&◌, filter, map, find, slice_get, Option, Some, None, option_map, is_some, if◌then◌else◌}
+use Rattle.nfs_core.specs.declared.change.Change.{Change}
+use Rattle.nfs_core.specs.declared.change.Change.TheVariants as changes
+use Rattle.nfs_core.specs.declared.decision.Decision.{Decision}
+use Rattle.nfs_core.specs.declared.entry.Entry.{Entry}
+use Rattle.nfs_core.specs.declared.entry.Entry.TheVariants as entries
+use Rattle.nfs_core.specs.declared.owner_change.OwnerChange.{OwnerChange}
+use Rattle.nfs_core.specs.declared.owner_change.OwnerChange.TheVariants.{Nothing, Keeps, Records, Restarts, Drops}
+use Rattle.nfs_core.specs.declared.passage.Passage.{Passage}
+use Rattle.nfs_core.specs.declared.passage.Passage.TheVariants as passages
+use Rattle.nfs_core.specs.declared.request.Request.{Request}
+use Rattle.nfs_core.specs.Owners.{KnownOwner, owner_of, with_kept_entry, with_record, without_owner}
+use Rattle.nfs_core.specs.Stateids as stateids
+use Rattle.nfs_core.specs.Stateids.{Target, target_of}
+use Rattle.nfs_core.specs.State.{State, History}
+use Rattle.nfs_forms.specs.ClientId.{is_same_client}
+use Rattle.nfs_forms.specs.declared.answer.Answer.TheVariants.{Done}
+use Rattle.nfs_forms.specs.declared.open_owner.OpenOwner.{OpenOwner}
+use Rattle.nfs_forms.specs.declared.stateid.Stateid.{Stateid}
+use Rattle.nfs_forms.specs.declared.status.Refusal.{Refusal}
+use Rattle.nfs_forms.specs.declared.status.Refusal.TheVariants as refusals
+use Rattle.nfs_forms.specs.declared.status.Status.{Status}
+use Rattle.nfs_forms.specs.declared.status.Status.TheVariants as statuses
+use Rattle.nfs_forms.specs.OpenOwner.{is_same_owner}
+use Rattle.nfs_owners.specs.declared.kept.Kept.{Kept}
+use Rattle.nfs_owners.specs.declared.kept.Verdict.{Verdict}
+use Rattle.nfs_owners.specs.declared.kept.Verdict.TheVariants as verdicts
+use Rattle.nfs_owners.specs.Kept.{IsAgain, IsVerdict, request_of}
+use Rattle.nfs_owners.specs.Registry.{record_of}
+use Rattle.nfs_xdr.specs.declared.op.Op.{Op}
+use Rattle.nfs_xdr.specs.declared.op.Op.TheVariants as ops
+use Rattle.nfs_xdr.specs.declared.op_result.OpResult.{OpResult}
+use Rattle.nfs_xdr.specs.declared.op_result.OpResult.TheVariants as results
+use Rattle.nfs_xdr.specs.Op.{opnum_of}
+use Rattle.nfs_xdr.specs.OpResult.{refusal_of, status_of}
+
+-- the sequence id in the operation's arguments
+abbrev pub seqid_of : Op → ℕ
+seqid_of (ops.Open args) = args.seqid
+seqid_of (ops.OpenConfirm args) = args.seqid
+seqid_of (ops.OpenDowngrade args) = args.seqid
+seqid_of (ops.Close args) = args.seqid
+seqid_of op = 0
+
+-- OPEN alone may come from an owner that isn't known, and starts an unconfirmed one anew (section 9.1.11).
+abbrev pub is_open : Op → Bool
+is_open (ops.Open args) = true
+is_open op = false
+
+-- the request and the answer of an entry, as they are kept for an owner
+abbrev pub kept_of : Entry → Kept
+kept_of (entries.Call call) = record {
+  seqid = seqid_of call.request.op;
+  request = request_of call.request.op call.request.filehandle;
+  answer = call.answer;
+}
+
+-- what is kept for the owner
+abbrev pub kept_for : History → KnownOwner → Option Kept
+kept_for journal o = option_map kept_of (slice_get journal.entries o.kept_entry)
+
+-- These statuses leave the owner's sequence id as it is (section 9.1.7, which has NFS4ERR_MOVED as well; this server
+-- never answers it).
+abbrev pub counts_refusal : Refusal → Bool
+counts_refusal refusals.StaleClientId = false
+counts_refusal refusals.StaleStateId = false
+counts_refusal refusals.BadStateId = false
+counts_refusal refusals.BadSeqId = false
+counts_refusal refusals.BadXdr = false
+counts_refusal refusals.Resource = false
+counts_refusal refusals.NoFileHandle = false
+counts_refusal refusal = true
+
+-- the answer with this status moves the owner's sequence id on
+abbrev pub counts : Status → Bool
+counts (statuses.Refused refusal) = counts_refusal refusal
+counts status = true
+
+abbrev pub is_ok_status : Status → Bool
+is_ok_status statuses.Ok = true
+is_ok_status status = false
+
+-- Whose sequence id a request goes by, or why it goes by none.
+pub data Requester : Type 0 where
+  Refused : Refusal → Requester
+  Owner : OpenOwner → Requester
+
+-- The owner in an OPEN's arguments: NFS4ERR_STALE_CLIENTID unless the clientid is that of a known client.
+abbrev pub requester_of_open : State → OpenOwner → Requester
+requester_of_open state owner =
+    if is_some (record_of owner.client state.clients) then Owner owner else Refused refusals.StaleClientId
+
+-- what is kept is a CLOSE of the state that the stateid names, answered NFS4_OK
+abbrev pub is_close_of : Stateid → OpResult → Op → Bool
+is_close_of id (results.Close (Done freed)) (ops.Close args) =
+    is_same_client args.stateid.client id.client && (args.stateid.number == id.number)
+is_close_of id answer op = false
+
+abbrev pub keeps_close_of : Stateid → Option Kept → Bool
+keeps_close_of id None = false
+keeps_close_of id (Some kept) = is_close_of id kept.answer kept.request.op
+
+abbrev pub owner_or_bad : Option KnownOwner → Requester
+owner_or_bad None = Refused refusals.BadStateId
+owner_or_bad (Some o) = Owner o.name
+
+-- The owner that a stateid names: that of its open, no matter which file the open is of, whether its owner is confirmed,
+-- and how old the stateid is; or the owner whose kept request closed the stateid's open.
+abbrev pub requester_of_target : History → State → Stateid → Target → Requester
+requester_of_target journal state id (stateids.Refused refusal) = Refused refusal
+requester_of_target journal state id (stateids.AnOpen at) = Owner at.state.owner
+requester_of_target journal state id stateids.NoOpen =
+    owner_or_bad (find (λ o. keeps_close_of id (kept_for journal o)) state.owners)
+
+abbrev pub requester_of_stateid : History → State → Stateid → Requester
+requester_of_stateid journal state id = requester_of_target journal state id (target_of journal.epoch state id)
+
+-- Whether a request is answered without its own rule, or goes on to it, as one of this owner's.
+pub data Sequence : Type 0 where
+  Answered : OpResult → Sequence
+  GoesOn : Passage → OpenOwner → Sequence
+
+abbrev pub refusal_to : Op → Refusal → Sequence
+refusal_to op refusal = Answered (refusal_of (opnum_of op) refusal)
+
+abbrev pub by_verdict : OpenOwner → Op → Verdict → Sequence
+by_verdict name op verdicts.New = GoesOn passages.Continues name
+by_verdict name op (verdicts.Replay answer) = Answered answer.now
+by_verdict name op verdicts.Bad = refusal_to op refusals.BadSeqId
+
+-- The owner's next request goes on, its last one again is answered as it was, and any other is NFS4ERR_BAD_SEQID.
+abbrev pub IsJudged : Kept → OpenOwner → Request → Sequence → Type 0
+IsJudged kept name request sequence =
+    (verdict : Verdict)
+    × IsVerdict kept (seqid_of request.op) (request_of request.op request.filehandle) verdict
+    × (sequence ≡ by_verdict name request.op verdict)
+
+-- An OPEN of an unconfirmed owner: the last one again is answered as it was. Any other starts the owner anew, whatever
+-- its sequence id.
+abbrev pub IsRestart : Kept → OpenOwner → Request → Sequence → Type 0
+IsRestart kept name request (Answered answer) =
+    IsAgain kept (seqid_of request.op) (request_of request.op request.filehandle) × (answer ≡ kept.answer)
+IsRestart kept name request (GoesOn passage owner) =
+    (IsAgain kept (seqid_of request.op) (request_of request.op request.filehandle) → ⊥)
+    × (passage ≡ passages.Restarts) × (owner ≡ name)
+
+-- An owner that isn't known begins with an OPEN of any sequence id; no other request comes from one.
+abbrev pub IsOfOwner : History → Option KnownOwner → OpenOwner → Request → Sequence → Type 0
+IsOfOwner journal None name request sequence =
+    sequence ≡ (if is_open request.op then GoesOn passages.Begins name
+      else refusal_to request.op refusals.BadStateId)
+IsOfOwner journal (Some o) name request sequence =
+    (kept : Kept)
+    × (kept_for journal o ≡ Some kept)
+    × (if is_open request.op && not o.confirmed then IsRestart kept name request sequence
+      else IsJudged kept name request sequence)
+
+abbrev pub IsSequence : History → State → Requester → Request → Sequence → Type 0
+IsSequence journal state (Refused refusal) request sequence = sequence ≡ refusal_to request.op refusal
+IsSequence journal state (Owner name) request sequence =
+    IsOfOwner journal (owner_of name state.owners) name request sequence
+
+-- an operation's own answer, and what it changes
+pub record Ruling : Type 0 where
+  pub answer : OpResult
+  pub change : Change
+
+-- What an answer means for the owner: it is kept where it counts. A refusal to an owner that isn't known is kept for
+-- nobody, and one to an owner that starts anew leaves it dropped.
+abbrev pub owner_change_of : Passage → OpenOwner → Status → OwnerChange
+owner_change_of passages.Continues name status = if counts status then Keeps name else Nothing
+owner_change_of passages.Begins name status = if is_ok_status status then Records name else Nothing
+owner_change_of passages.Restarts name status = if is_ok_status status then Restarts name else Drops name
+
+abbrev pub decision_of : Passage → OpenOwner → Ruling → Decision
+decision_of passage name ruling = record {
+  answer = ruling.answer;
+  change = ruling.change;
+  owner = owner_change_of passage name (status_of ruling.answer);
+}
+
+-- An operation's own rule: it relates the node of the current filehandle and how the request goes on to what is decided;
+-- `None` if a limit would be exceeded, in which case nothing changes.
+abbrev pub Own : Type 1
+Own = ℕ → Passage → Option Ruling → Type 0
+
+abbrev pub IsDecided : Sequence → ℕ → Own → Option Decision → Type 0
+IsDecided (Answered answer) node own decision =
+    decision ≡ Some (record { answer = answer; change = changes.Nothing; owner = Nothing })
+IsDecided (GoesOn passage name) node own decision =
+    (ruling : Option Ruling) × own node passage ruling × (decision ≡ option_map (decision_of passage name) ruling)
+
+-- what is decided for a sequenced operation: NFS4ERR_NOFILEHANDLE comes first
+abbrev pub IsSequenced : History → State → Requester → Own → Option ℕ → Request → Option Decision → Type 0
+IsSequenced journal state requester own None request decision =
+    IsDecided (refusal_to request.op refusals.NoFileHandle) 0 own decision
+IsSequenced journal state requester own (Some node) request decision =
+    (sequence : Sequence)
+    × IsSequence journal state requester request sequence
+    × IsDecided sequence node own decision
+
+-- the state without an owner and its opens
+abbrev pub without : OpenOwner → State → State
+without name old = record old {
+  owners = without_owner name old.owners;
+  opens = map (λ opens. filter (λ o. not (is_same_owner o.owner name)) opens) old.opens;
+}
+
+-- the state that an OPEN's own rule sees: without the owner that it starts anew
+abbrev pub before_own : Passage → OpenOwner → State → State
+before_own passages.Restarts name old = without name old
+before_own passage name old = old
+
+-- the state after what an entry with this number means for an owner, before the operation's own change
+abbrev pub with_owner_change : OwnerChange → ℕ → State → State
+with_owner_change Nothing number old = old
+with_owner_change (Keeps name) number old =
+    record old { owners = with_kept_entry number name old.owners }
+with_owner_change (Records name) number old = record old { owners = with_record number name old.owners }
+with_owner_change (Restarts name) number old =
+    let fresh = without name old in
+    record fresh { owners = with_record number name fresh.owners }
+with_owner_change (Drops name) number old = without name old
