@@ -22,11 +22,11 @@ pub record IsSendable (op : Op) (answer : OpResult) : Type 0 where
 
 -- In this state, what was decided about the operation is what its rule says. Limit is returned exactly if the rule
 -- gives no decision.
-abbrev pub Decides : Option Decision → State → Op → Result Decision Shortage → Type 0
+abbrev pub Decides : (Option Decision → Type 0) → State → Op → Result Decision Shortage → Type 0
 Decides ruled state op (Ok decision) =
-    (ruled ≡ Some decision) × IsSendable op decision.answer × HasNumbers decision.change state
-Decides ruled state op (Err Limit) = ruled ≡ None
-Decides ruled state op (Err Memory) = ruled ≢ None
+    ruled (Some decision) × IsSendable op decision.answer × HasNumbers decision.change state
+Decides ruled state op (Err Limit) = ruled None
+Decides ruled state op (Err Memory) = ruled None → ⊥
 
 -- No answer to the request may come next in the journal.
 abbrev pub HasNoStep : History → State → Request → Type 0

@@ -1,4 +1,7 @@
+pub mod Owners
 pub mod State
+pub mod Stateids
+pub mod Sequences
 pub mod Stored
 pub mod operations
 pub mod Step

@@ -2,7 +2,6 @@
 use Rattle.std.specs.Prelude.{◌≡◌, ℕ, length, Option, Some, None}
 use Rattle.nfs_core.specs.declared.request.Request.{Request}
 use Rattle.nfs_core.specs.Lawful.{Lawful}
-use Rattle.nfs_core.specs.operations.{rule}
 use Rattle.nfs_core.specs.State.{History}
 use Rattle.nfs_core.specs.Step.{Follows, entry_of, resource, with_entry}
 use Rattle.nfs_core.specs.Stored.{Stored, meaning}
@@ -25,5 +24,5 @@ Applies old new request answer (Some number) =
     let old_state = meaning old.stored in
     (number ≡ length old.journal.entries)
     × (new.journal ≡ with_entry (entry_of request answer) old.journal)
-    × Follows (rule request.op old.journal old_state request) old.journal old_state
-    (record { request = request; answer = answer }) (meaning new.stored)
+    × Follows old.journal old_state (record { request = request; answer = answer })
+    (meaning new.stored)

@@ -1,16 +1,26 @@
 -- The state that the rules of the operations refer to, and the journal of its changes.
-use Rattle.std.specs.Prelude.{ℕ, zero, suc, Bool, false, ◌==◌, List, [], ◌∷◌, ◌++◌, length, find, Option, Some, None}
+use Rattle.std.specs.Prelude.{ℕ, zero, suc, ◌+◌, Bool, false, ◌==◌, List, [], ◌∷◌, ◌++◌, length, find, map, replicate, slice_get, Option, Some, None}
+use Rattle.std.specs.List.{list_any}
 use Rattle.nfs_forms.specs.declared.client_id.ClientId.{ClientId}
 use Rattle.nfs_owners.specs.declared.client_record.ClientRecord.{ClientRecord}
 use Rattle.nfs_core.specs.declared.entry.Entry.{Entry}
 use Rattle.nfs_owners.specs.Registry.{Registry, no_clients}
+use Rattle.nfs_core.specs.Owners.{KnownOwner}
 use Rattle.nfs_core.specs.declared.stored_file.StoredFile.{StoredFile}
+use Rattle.nfs_share.specs.declared.open_state.OpenState.{OpenState}
+use Rattle.nfs_share.specs.Opens.{is_of_client}
 use Rattle.nfs_tree.specs.declared.node.Node.{Node}
 use Rattle.nfs_tree.specs.declared.policy.Policy.{Policy}
 use Rattle.nfs_tree.specs.Tree.{node_count, text_of}
 
 pub record State : Type 0 where
   pub clients : Registry
+  -- in the order in which they were recorded
+  pub owners : List KnownOwner
+  -- those of each node, by its number, in the order in which they came
+  pub opens : List (List OpenState)
+  -- the number that was given to a state last; 0 before the first
+  pub last_state : ℕ
   -- ordered by the numbers of their nodes
   pub files : List StoredFile
 
@@ -42,7 +52,13 @@ size_of (Some f) = length f.bytes
 
 -- a server with these nodes to which no client has come
 abbrev pub empty_server : List Node → State
-empty_server nodes = record { clients = no_clients; files = initial_files nodes }
+empty_server nodes = record {
+  clients = no_clients;
+  owners = [];
+  opens = replicate (node_count nodes) [];
+  last_state = 0;
+  files = initial_files nodes;
+}
 
 -- What the server was started with, and the journal's entries in order, numbered from 0.
 pub record History : Type 0 where
@@ -55,10 +71,22 @@ pub record History : Type 0 where
   pub policy : Policy
   pub entries : List Entry
 
--- whether the client has state (RFC 7530, section 9.1.1); no client does, since there are no opens, locks or
--- delegations yet
+-- the opens of a node
+abbrev pub opens_or_none : Option (List OpenState) → List OpenState
+opens_or_none None = []
+opens_or_none (Some opens) = opens
+
+abbrev pub opens_of : ℕ → List (List OpenState) → List OpenState
+opens_of node opens = opens_or_none (slice_get opens node)
+
+-- how many opens there are
+pub open_count : List (List OpenState) → ℕ
+open_count [] = 0
+open_count (opens ∷ more) = length opens + open_count more
+
+-- whether the client has state (RFC 7530, section 9.1.1): an open, also one of an unconfirmed owner
 abbrev pub has_state : State → ClientId → Bool
-has_state state client = false
+has_state state client = list_any (list_any (is_of_client client)) state.opens
 
 -- whether the client of a record has state, if there is a record
 abbrev pub record_has_state : State → Option ClientRecord → Bool

@@ -1,21 +1,45 @@
 -- The rules of the operations that have an entry in the journal.
-use Rattle.std.specs.Prelude.{Option, None}
+use Rattle.std.specs.Prelude.{◌≡◌, Option, None}
 use Rattle.nfs_core.specs.declared.decision.Decision.{Decision}
 use Rattle.nfs_core.specs.declared.request.Request.{Request}
+use Rattle.nfs_core.specs.operations.Close as close
 use Rattle.nfs_core.specs.operations.Getattr as getattr
+use Rattle.nfs_core.specs.operations.Open as opening
+use Rattle.nfs_core.specs.operations.OpenConfirm as open_confirm
+use Rattle.nfs_core.specs.operations.OpenDowngrade as open_downgrade
 use Rattle.nfs_core.specs.operations.Setclientid as setclientid
 use Rattle.nfs_core.specs.operations.SetclientidConfirm as confirm
+use Rattle.nfs_core.specs.Sequences.{IsSequenced, requester_of_open, requester_of_stateid}
 use Rattle.nfs_core.specs.State.{State, History}
 use Rattle.nfs_xdr.specs.declared.op.Op.{Op}
 use Rattle.nfs_xdr.specs.declared.op.Op.TheVariants as ops
+pub mod Close
 pub mod Getattr
+pub mod Open
+pub mod OpenConfirm
+pub mod OpenDowngrade
 pub mod Setclientid
 pub mod SetclientidConfirm
 
 -- What the rule of an operation decides for a request, given the journal and the state; `None` if a limit would be
 -- exceeded. An operation without an entry in the journal has no rule here.
-abbrev pub rule : Op → History → State → Request → Option Decision
-rule (ops.Getattr mask) journal state request = getattr.rule journal state request.filehandle mask
-rule (ops.Setclientid args) journal state request = setclientid.rule journal state request args
-rule (ops.SetclientidConfirm args) journal state request = confirm.rule journal state request args
-rule op journal state request = None
+abbrev pub IsRuled : Op → History → State → Request → Option Decision → Type 0
+IsRuled (ops.Getattr mask) journal state request decision =
+    decision ≡ getattr.rule journal state request.filehandle mask
+IsRuled (ops.Setclientid args) journal state request decision =
+    decision ≡ setclientid.rule journal state request args
+IsRuled (ops.SetclientidConfirm args) journal state request decision =
+    decision ≡ confirm.rule journal state request args
+IsRuled (ops.Open args) journal state request decision =
+    IsSequenced journal state (requester_of_open state args.owner) (opening.own journal state args)
+    request.filehandle request decision
+IsRuled (ops.OpenConfirm args) journal state request decision =
+    IsSequenced journal state (requester_of_stateid journal state args.stateid)
+    (open_confirm.own journal state args) request.filehandle request decision
+IsRuled (ops.OpenDowngrade args) journal state request decision =
+    IsSequenced journal state (requester_of_stateid journal state args.stateid)
+    (open_downgrade.own journal state args) request.filehandle request decision
+IsRuled (ops.Close args) journal state request decision =
+    IsSequenced journal state (requester_of_stateid journal state args.stateid)
+    (close.own journal state args) request.filehandle request decision
+IsRuled op journal state request decision = decision ≡ None

@@ -2,7 +2,8 @@ ghost use Rattle.std.specs.Prelude.{◌≡◌, IfOk, OnOk};
 
 use crate::change::Change;
 use crate::stored_files::StoredFiles;
-use nfs_owners::{ClientRecord, Clients};
+use nfs_owners::{ClientRecord, Clients, Numbers, Owners};
+use nfs_share::FileShare;
 use nfs_tree::Tree;
 use nfs_xdr::ClientId;
 use std::alloc::{AllocError, Global};
@@ -11,6 +12,11 @@ use std::alloc::{AllocError, Global};
 #[derive(Debug, Drop)]
 pub(crate) struct Tables {
     pub(crate) clients: Clients,
+    pub(crate) owners: Owners,
+    /// The opens of each node, by its number.
+    pub(crate) shares: Vec<FileShare>,
+    /// The numbers of the opens.
+    pub(crate) numbers: Numbers,
     files: StoredFiles,
 }
 

@@ -3,6 +3,7 @@ use Rattle.std.specs.Prelude.{Option, option_map}
 use Rattle.nfs_core.specs.declared.change.Change.TheVariants.{Clients}
 use Rattle.nfs_owners.specs.declared.clients.client_change.ClientChange.{ClientChange}
 use Rattle.nfs_core.specs.declared.decision.Decision.{Decision}
+use Rattle.nfs_core.specs.declared.owner_change.OwnerChange.TheVariants as no_owner
 use Rattle.nfs_core.specs.declared.request.Request.{Request}
 use Rattle.nfs_owners.specs.Registration.{Outcome, registration}
 use Rattle.nfs_owners.specs.Registry.{confirmed_of}
@@ -12,7 +13,7 @@ use Rattle.nfs_forms.specs.declared.operations.setclientid.Setclientid.{Setclien
 
 -- the answer and the change of the clients' records, as a decision
 abbrev pub decision_of : Outcome × ClientChange → Decision
-decision_of outcome = record { answer = results.Setclientid outcome.0; change = Clients outcome.1 }
+decision_of outcome = record { answer = results.Setclientid outcome.0; change = Clients outcome.1; owner = no_owner.Nothing }
 
 -- The rule of SETCLIENTID. It depends on whether the client of the confirmed record with the id has state.
 abbrev pub rule : History → State → Request → Setclientid → Option Decision

@@ -5,6 +5,7 @@ use Rattle.nfs_owners.specs.declared.client_record.PathMark.{PathMark}
 use Rattle.nfs_owners.specs.declared.client_record.PathMark.TheVariants.{Unknown, Up}
 use Rattle.nfs_owners.specs.declared.clients.client_change.ClientChange.{ClientChange}
 use Rattle.nfs_core.specs.declared.decision.Decision.{Decision}
+use Rattle.nfs_core.specs.declared.owner_change.OwnerChange.TheVariants as no_owner
 use Rattle.nfs_core.specs.declared.request.Request.{Request}
 use Rattle.nfs_owners.specs.Confirmation.{Outcome, confirmation, holder_of}
 use Rattle.nfs_owners.specs.Registry.{unconfirmed_named_by}
@@ -21,7 +22,7 @@ path_of Assume = Up
 
 -- the answer and the change of the clients' records, as a decision
 abbrev pub decision_of : Outcome × ClientChange → Decision
-decision_of outcome = record { answer = results.SetclientidConfirm outcome.0; change = Clients outcome.1 }
+decision_of outcome = record { answer = results.SetclientidConfirm outcome.0; change = Clients outcome.1; owner = no_owner.Nothing }
 
 -- The rule of SETCLIENTID_CONFIRM. It depends on whether the client that would be replaced has state.
 abbrev pub rule : History → State → Request → SetclientidConfirm → Option Decision
