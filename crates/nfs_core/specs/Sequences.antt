@@ -16,8 +16,6 @@ use Rattle.nfs_core.specs.Owners.{KnownOwner, owner_of, with_kept_entry, with_re
 use Rattle.nfs_core.specs.Stateids as stateids
 use Rattle.nfs_core.specs.Stateids.{Target, target_of}
 use Rattle.nfs_core.specs.State.{State, History}
-use Rattle.nfs_forms.specs.ClientId.{is_same_client}
-use Rattle.nfs_forms.specs.declared.answer.Answer.TheVariants.{Done}
 use Rattle.nfs_forms.specs.declared.open_owner.OpenOwner.{OpenOwner}
 use Rattle.nfs_forms.specs.declared.stateid.Stateid.{Stateid}
 use Rattle.nfs_forms.specs.declared.status.Refusal.{Refusal}
@@ -28,12 +26,11 @@ use Rattle.nfs_forms.specs.OpenOwner.{is_same_owner}
 use Rattle.nfs_owners.specs.declared.kept.Kept.{Kept}
 use Rattle.nfs_owners.specs.declared.kept.Verdict.{Verdict}
 use Rattle.nfs_owners.specs.declared.kept.Verdict.TheVariants as verdicts
-use Rattle.nfs_owners.specs.Kept.{IsAgain, IsVerdict, request_of}
+use Rattle.nfs_owners.specs.Kept.{IsAgain, IsVerdict, closes, request_of}
 use Rattle.nfs_owners.specs.Registry.{record_of}
 use Rattle.nfs_xdr.specs.declared.op.Op.{Op}
 use Rattle.nfs_xdr.specs.declared.op.Op.TheVariants as ops
 use Rattle.nfs_xdr.specs.declared.op_result.OpResult.{OpResult}
-use Rattle.nfs_xdr.specs.declared.op_result.OpResult.TheVariants as results
 use Rattle.nfs_xdr.specs.Op.{opnum_of}
 use Rattle.nfs_xdr.specs.OpResult.{refusal_of, status_of}
 
@@ -93,15 +90,10 @@ abbrev pub requester_of_open : State → OpenOwner → Requester
 requester_of_open state owner =
     if is_some (record_of owner.client state.clients) then Owner owner else Refused refusals.StaleClientId
 
--- what is kept is a CLOSE of the state that the stateid names, answered NFS4_OK
-abbrev pub is_close_of : Stateid → OpResult → Op → Bool
-is_close_of id (results.Close (Done freed)) (ops.Close args) =
-    is_same_client args.stateid.client id.client && (args.stateid.number == id.number)
-is_close_of id answer op = false
-
-abbrev pub keeps_close_of : Stateid → Option Kept → Bool
-keeps_close_of id None = false
-keeps_close_of id (Some kept) = is_close_of id kept.answer kept.request.op
+-- what is kept for the owner closed the state that the stateid names
+abbrev pub has_closed : Stateid → Option Kept → Bool
+has_closed id None = false
+has_closed id (Some kept) = closes id.client id.number kept
 
 abbrev pub owner_or_bad : Option KnownOwner → Requester
 owner_or_bad None = Refused refusals.BadStateId
@@ -113,7 +105,7 @@ abbrev pub requester_of_target : History → State → Stateid → Target → Re
 requester_of_target journal state id (stateids.Refused refusal) = Refused refusal
 requester_of_target journal state id (stateids.AnOpen at) = Owner at.state.owner
 requester_of_target journal state id stateids.NoOpen =
-    owner_or_bad (find (λ o. keeps_close_of id (kept_for journal o)) state.owners)
+    owner_or_bad (find (λ o. has_closed id (kept_for journal o)) state.owners)
 
 abbrev pub requester_of_stateid : History → State → Stateid → Requester
 requester_of_stateid journal state id = requester_of_target journal state id (target_of journal.epoch state id)

@@ -1,7 +1,7 @@
 ghost use Rattle.std.specs.Prelude.{◌≡◌, ◌≢◌, MatchBool};
-ghost use Rattle.nfs_owners.specs.Kept.{IsVerdict, next_seqid, request_of};
+ghost use Rattle.nfs_owners.specs.Kept.{IsVerdict, closes, is_close, next_seqid, request_of};
 
-use nfs_xdr::{Op, OpResult};
+use nfs_xdr::{Answer, ClientId, Op, OpResult};
 
 /// An owner's last request, with its sequence id, and the answer to it (RFC 7530, section 9.1.8).
 #[derive(Debug, Drop)]
@@ -44,6 +44,16 @@ impl Kept {
             Verdict::Bad
         }
     }
+
+    /// Whether this is a CLOSE of the client's state with this number that was answered NFS4_OK.
+    pub fn closes(&self, client: ClientId, number: u32) -> bool
+        ensures { result ≡ closes client number self.now }
+    {
+        match &self.answer {
+            OpResult::Close(Answer::Done(_)) => self.request.closes(client, number),
+            _ => false,
+        }
+    }
 }
 
 impl KeptRequest {
@@ -53,6 +63,16 @@ impl KeptRequest {
             (self.now ≢ request_of op.now filehandle) }
     {
         self.filehandle == filehandle && self.op.is_same(op)
+    }
+
+    // Whether the operation is a CLOSE of the client's state with this number.
+    fn closes(&self, client: ClientId, number: u32) -> bool
+        ensures { result ≡ is_close client number self.now.op }
+    {
+        match &self.op {
+            Op::Close(args) => args.stateid.client == client && args.stateid.number == number,
+            _ => false,
+        }
     }
 }
 

@@ -1,7 +1,7 @@
-ghost use Rattle.std.specs.Prelude.{◌≡◌, ◌<◌, ◌≤◌, ◌↔◌, false, [], IsErrOf, IsTrue, OnOk};
+ghost use Rattle.std.specs.Prelude.{◌≡◌, ◌<◌, ◌≤◌, ◌+◌, ◌↔◌, false, [], find, IsErrOf, IsFalse, IsOk, IsTrue, OnOk};
 ghost use Rattle.std.specs.List.{position};
 ghost use Rattle.std.specs.Option.{option_copied};
-ghost use Rattle.nfs_owners.specs.Kept.{request_of};
+ghost use Rattle.nfs_owners.specs.Kept.{closes, request_of};
 ghost use Rattle.nfs_forms.specs.declared.open_owner.OpenOwner.{OpenOwner};
 ghost use Rattle.nfs_owners.specs.Owner.{has_name, is_known, owner_of, standing_of};
 ghost use Rattle.nfs_owners.specs.Owners.{IsJudged, has_place, with_confirmed, with_kept, without_owner, without_owners_of};
@@ -61,6 +61,15 @@ impl Owners {
         }
     }
 
+    /// The owner whose kept request closed the client's state with this number, if there is one.
+    pub fn closer_of(&self, client: ClientId, number: u32) -> Option<&Owner>
+        ensures { option_copied result ≡ find (λ o. closes client number o.kept) self.now.owners }
+    {
+        self.owners
+            .iter()
+            .find(|o| o.kept.closes(client, number))
+    }
+
     /// The verdict on a request of the owner with this name, or `None` if the owner is unknown.
     pub fn judge(
         &self,
@@ -100,14 +109,18 @@ impl Owners {
     /// Makes room for the owner. Full if it has no place.
     pub fn reserve(&mut self, name: &OpenOwner) -> Result<(), OwnersError>
         ensures same { self.new.owners ≡ self.old.owners }
-        ensures room { OnOk result (0 < self.new.room) }
+        ensures room { OnOk result (IsFalse (is_known name.now self.new.owners) → 0 < self.new.room) }
+        ensures grows { self.old.room ≤ self.new.room }
+        ensures ready { 0 < self.old.room → IsTrue (has_place name.now self.old.owners) → IsOk result }
         ensures place { OnOk result (IsTrue (has_place name.now self.new.owners)) }
         ensures full { IsErrOf result OwnersError.Full ↔ has_place name.now self.old.owners ≡ false }
     {
         if !self.has_place(name) {
             return Err(OwnersError::Full);
         }
-        self.owners.reserve(1)?;
+        if !self.is_known(name) {
+            self.owners.reserve(1)?;
+        }
         Ok(())
     }
 
@@ -115,8 +128,10 @@ impl Owners {
     /// recorded by it. It takes no memory.
     pub fn keep(&mut self, name: OpenOwner, number: u32, kept: Kept)
         requires place { IsTrue (has_place name self.old.owners) }
-        requires room { 0 < self.old.room }
-        ensures { self.new.owners ≡ with_kept name number kept self.old.owners }
+        requires room { IsFalse (is_known name self.old.owners) → 0 < self.old.room }
+        ensures owners { self.new.owners ≡ with_kept name number kept self.old.owners }
+        ensures room { self.old.room ≤ self.new.room + 1 }
+        ensures known { IsTrue (is_known name self.old.owners) → self.new.room ≡ self.old.room }
     {
         match self.place_of(&name) {
             Some(place) => self.owners[place].keep(number, kept),

@@ -21,8 +21,8 @@ invariant_of-self c = subst AreOwners (sym (found c)) (owners_kept _ _ _ _ c.sel
 pub invariant_of-self-in-None : goal.invariant_of-self-in-None
 invariant_of-self-in-None c = subst AreOwners (sym (added c)) (owners_kept _ _ _ _ c.self.invariant (ap (λ (o : RoomyOwners). has_place c.args.name o.owners) c.self.view_is ∙ c.requires.place))
 
-pub returns-in-Some : goal.returns-in-Some
-returns-in-Some c = found c ∙ ap (λ (o : RoomyOwners). with_kept c.args.name c.args.number c.args.kept o.owners) c.self.view_is
+pub returns-in-Some-clause-owners : goal.returns-in-Some-clause-owners
+returns-in-Some-clause-owners c = found c ∙ ap (λ (o : RoomyOwners). with_kept c.args.name c.args.number c.args.kept o.owners) c.self.view_is
 
-pub returns-in-None : goal.returns-in-None
-returns-in-None c = added c ∙ ap (λ (o : RoomyOwners). with_kept c.args.name c.args.number c.args.kept o.owners) c.self.view_is
+pub returns-in-None-clause-owners : goal.returns-in-None-clause-owners
+returns-in-None-clause-owners c = added c ∙ ap (λ (o : RoomyOwners). with_kept c.args.name c.args.number c.args.kept o.owners) c.self.view_is
