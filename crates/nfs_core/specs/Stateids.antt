@@ -1,13 +1,14 @@
 -- What a stateid names, and the verdict on it (RFC 7530, sections 9.1.4.3 and 9.1.4.4).
-use Rattle.std.specs.Prelude.{ℕ, suc, ◌^◌, ◌-◌, ◌==◌, nat_lt, Bool, not, ◌&&◌, ◌||◌, List, [], ◌∷◌, find, Option, Some, None, is_some, Result, Ok, Err, if◌then◌else◌}
+use Rattle.std.specs.Prelude.{ℕ, ◌^◌, ◌-◌, ◌==◌, nat_lt, Bool, not, ◌&&◌, ◌||◌, List, position, Option, Some, None, is_some, Result, Ok, Err, if◌then◌else◌}
 use Rattle.nfs_core.specs.Owners.{is_confirmed}
-use Rattle.nfs_core.specs.State.{State}
-use Rattle.nfs_forms.specs.ClientId.{is_same_client}
+use Rattle.nfs_core.specs.State.{State, opens_of}
+use Rattle.std.specs.List.{list_any}
 use Rattle.nfs_forms.specs.declared.stateid.Stateid.{Stateid}
 use Rattle.nfs_forms.specs.declared.status.Refusal.{Refusal}
 use Rattle.nfs_forms.specs.declared.status.Refusal.TheVariants as refusals
 use Rattle.nfs_owners.specs.Registry.{record_of, was_given}
 use Rattle.nfs_share.specs.declared.open_state.OpenState.{OpenState}
+use Rattle.nfs_share.specs.Opens.{is_stateid_of, open_named_by}
 
 -- an open, and the node of its file
 pub record OpenAt : Type 0 where
@@ -23,10 +24,6 @@ is_all word id =
 abbrev pub is_special : Stateid → Bool
 is_special id = is_all 0 id || is_all (2 ^ 32 - 1) id
 
--- the stateid is one of the open's, no matter its seqid
-abbrev pub is_stateid_of : Stateid → OpenState → Bool
-is_stateid_of id o = is_same_client o.owner.client id.client && (o.number == id.number)
-
 -- what a stateid names, before its file and its seqid are looked at
 pub data Target : Type 0 where
   -- it can't name an open
@@ -35,16 +32,19 @@ pub data Target : Type 0 where
   -- its client is known, and none of the client's opens has its number
   NoOpen : Target
 
--- the open of this node, if there is one, and otherwise the target among the nodes after it
-abbrev pub target_or : ℕ → Option OpenState → Target → Target
-target_or node (Some o) more = AnOpen (record { node = node; state = o })
-target_or node None more = more
+-- the target, given the open of this node that the stateid names
+abbrev pub target_in : ℕ → Option OpenState → Target
+target_in node None = NoOpen
+target_in node (Some o) = AnOpen (record { node = node; state = o })
 
--- the open that the stateid names among those of the nodes from this one on
-target_from : ℕ → Stateid → List (List OpenState) → Target
-target_from node id [] = NoOpen
-target_from node id (opens ∷ more) =
-    target_or node (find (is_stateid_of id) opens) (target_from (suc node) id more)
+-- the target, given the node that has an open which the stateid names
+abbrev pub target_at : Stateid → List (List OpenState) → Option ℕ → Target
+target_at id opens None = NoOpen
+target_at id opens (Some node) = target_in node (open_named_by id (opens_of node opens))
+
+-- the open that the stateid names
+abbrev pub named_by : Stateid → List (List OpenState) → Target
+named_by id opens = target_at id opens (position (list_any (is_stateid_of id)) opens)
 
 -- What a stateid names: NFS4ERR_BAD_STATEID for a special one, NFS4ERR_STALE_STATEID for one of another run of the
 -- server, NFS4ERR_BAD_STATEID for a client number that was never given out, NFS4ERR_EXPIRED for one whose client is
@@ -55,7 +55,7 @@ target_of epoch state id =
     else if not (id.client.epoch == epoch) then Refused refusals.StaleStateId
     else if not (was_given id.client.number state.clients) then Refused refusals.BadStateId
     else if not (is_some (record_of id.client state.clients)) then Refused refusals.Expired
-    else target_from 0 id state.opens
+    else named_by id state.opens
 
 -- NFS4ERR_OLD_STATEID for a seqid below the open's, NFS4ERR_BAD_STATEID for one above
 abbrev pub by_seqid : Stateid → OpenAt → Result OpenAt Refusal

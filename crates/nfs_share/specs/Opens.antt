@@ -38,6 +38,14 @@ open_of owner opens = find (is_of owner) opens
 abbrev pub open_with_number : ℕ → List OpenState → Option OpenState
 open_with_number number opens = find (is_numbered number) opens
 
+-- the stateid is one of the open's, no matter its seqid (section 9.1.4)
+abbrev pub is_stateid_of : Stateid → OpenState → Bool
+is_stateid_of stateid o = is_of_client stateid.client o && is_numbered stateid.number o
+
+-- the open that the stateid names, if there is one
+abbrev pub open_named_by : Stateid → List OpenState → Option OpenState
+open_named_by stateid opens = find (is_stateid_of stateid) opens
+
 -- all access of the open, with all that it denies
 abbrev pub share_of : OpenState → Share
 share_of o = union_of o.shares

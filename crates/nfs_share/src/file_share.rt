@@ -1,7 +1,7 @@
 ghost use Rattle.std.specs.Prelude.{◌≡◌, ◌≤◌, ◌<◌, ◌+◌, ◌↔◌, IfErr, IfNone, IfOk, IsErrOf, IsOk, IsTrue, OnErr, OnOk, OnSome, Some, [], ◌∷◌, ◌++◌, ◌⊎◌, option_map};
 ghost use Rattle.std.specs.List.{list_any};
 ghost use Rattle.std.specs.Option.{option_copied};
-ghost use Rattle.nfs_share.specs.Opens.{CanDowngrade, with_next_seqid, after_downgrade, is_denied, is_numbered, is_of, is_of_client, is_refused, after_open, next_stateid_of, open_with_number, open_of, share_of, stateid_of, with_each, with_opening, without};
+ghost use Rattle.nfs_share.specs.Opens.{CanDowngrade, with_next_seqid, after_downgrade, is_denied, is_numbered, is_of, is_of_client, is_refused, is_stateid_of, open_named_by, after_open, next_stateid_of, open_with_number, open_of, share_of, stateid_of, with_each, with_opening, without};
 
 use crate::changes::{advance_each, downgrade_each, join_each};
 use crate::{Modes, OpenState, Share, ShareError};
@@ -51,6 +51,20 @@ impl FileShare {
         ensures { option_copied result ≡ open_with_number number self.now.opens }
     {
         self.opens.iter().find(|open| open.number == number)
+    }
+
+    /// The open that the stateid names, no matter its seqid, if there is one.
+    pub fn named_by(&self, stateid: Stateid) -> Option<&OpenState>
+        ensures { option_copied result ≡ open_named_by stateid self.now.opens }
+    {
+        self.opens.iter().find(|open| open.is_named_by(stateid))
+    }
+
+    /// Whether the stateid names an open.
+    pub fn names(&self, stateid: Stateid) -> bool
+        ensures { result ≡ list_any (is_stateid_of stateid) self.now.opens }
+    {
+        self.opens.iter().any(|open| open.is_named_by(stateid))
     }
 
     /// The open of this owner, if there is one.

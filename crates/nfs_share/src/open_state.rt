@@ -15,7 +15,7 @@ pub struct OpenState {
 
 impl OpenState {
     ghost use Rattle.std.specs.Prelude.{◌≡◌};
-    ghost use Rattle.nfs_share.specs.Opens.{with_next_seqid, after_downgrade, first_open, is_of, is_of_client, after_open, next_seqid, next_stateid_of, share_of, stateid_of};
+    ghost use Rattle.nfs_share.specs.Opens.{with_next_seqid, after_downgrade, first_open, is_of, is_of_client, is_stateid_of, after_open, next_seqid, next_stateid_of, share_of, stateid_of};
 
     /// The open that an owner's first OPEN of the file makes.
     pub fn new(owner: OpenOwner, share: Share, number: u32) -> OpenState
@@ -74,6 +74,13 @@ impl OpenState {
         ensures { result ≡ is_of owner.now self.now }
     {
         self.owner == *owner
+    }
+
+    /// Whether the stateid is one of the open's, no matter its seqid.
+    pub fn is_named_by(&self, stateid: Stateid) -> bool
+        ensures { result ≡ is_stateid_of stateid self.now }
+    {
+        self.is_of_client(stateid.client) && self.number == stateid.number
     }
 
     /// Whether an owner of this client has the open.

@@ -1,0 +1,21 @@
+-- What the functions that look up a stateid return, as the rules speak of it; used only in the contracts of this crate's
+-- own functions.
+use Rattle.std.specs.Prelude.{Result, Ok, Err}
+use Rattle.nfs_core.specs.declared.stateids.OpenFound.{OpenFound}
+use Rattle.nfs_core.specs.declared.stateids.Target.{Target}
+use Rattle.nfs_core.specs.declared.stateids.Target.TheVariants as targets
+use Rattle.nfs_core.specs.Stateids as stateids
+use Rattle.nfs_core.specs.Stateids.{OpenAt}
+use Rattle.nfs_forms.specs.declared.status.Refusal.{Refusal}
+
+abbrev pub open_seen : OpenFound → OpenAt
+open_seen found = record { node = found.node; state = found.state.now }
+
+abbrev pub target_seen : Target → stateids.Target
+target_seen (targets.Refused refusal) = stateids.Refused refusal
+target_seen (targets.AnOpen found) = stateids.AnOpen (open_seen found)
+target_seen targets.NoOpen = stateids.NoOpen
+
+abbrev pub open_or_refusal_seen : Result OpenFound Refusal → Result OpenAt Refusal
+open_or_refusal_seen (Ok found) = Ok (open_seen found)
+open_or_refusal_seen (Err refusal) = Err refusal

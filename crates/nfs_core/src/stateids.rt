@@ -1,0 +1,105 @@
+ghost use Rattle.std.specs.Prelude.{◌≡◌};
+ghost use Rattle.nfs_core.specs.Finding.{open_or_refusal_seen, target_seen};
+ghost use Rattle.nfs_core.specs.Room.{state_of};
+ghost use Rattle.nfs_core.specs.Stateids as stateids;
+ghost use Rattle.nfs_core.specs.Stateids.{by_seqid, is_special, named_by, verdict};
+
+use crate::file_shares;
+use crate::tables::Tables;
+use nfs_share::OpenState;
+use nfs_xdr::{Refusal, Stateid};
+
+/// An open, and the node of its file.
+#[derive(Clone, Copy, Debug)]
+pub(crate) struct OpenFound<'a> {
+    pub(crate) node: u32,
+    pub(crate) state: &'a OpenState,
+}
+
+/// What a stateid names, before its file and its seqid are looked at.
+#[derive(Clone, Copy, Debug)]
+pub(crate) enum Target<'a> {
+    /// It can't name an open.
+    Refused(Refusal),
+    AnOpen(OpenFound<'a>),
+    /// Its client is known, and none of the client's opens has its number.
+    NoOpen,
+}
+
+/// What an operation demands of the open that its stateid names.
+#[derive(Clone, Copy, Debug)]
+pub(crate) struct Demand {
+    /// The node of the current filehandle, whose file has to be the open's.
+    pub(crate) node: u32,
+    /// An unconfirmed owner's open is accepted as well.
+    pub(crate) also_unconfirmed: bool,
+}
+
+impl Tables {
+    /// What the stateid names, in the server's run `epoch`.
+    pub(crate) fn target_of(&self, epoch: u32, stateid: Stateid) -> Target<'_>
+        ensures { target_seen result ≡ stateids.target_of epoch (state_of self.now) stateid }
+    {
+        if is_special(stateid) {
+            return Target::Refused(Refusal::BadStateId);
+        }
+        if stateid.client.epoch != epoch {
+            return Target::Refused(Refusal::StaleStateId);
+        }
+        if !self.clients.was_given(stateid.client.number) {
+            return Target::Refused(Refusal::BadStateId);
+        }
+        if self.clients.of(stateid.client).is_none() {
+            return Target::Refused(Refusal::Expired);
+        }
+        self.open_named_by(stateid)
+    }
+
+    // The open that the stateid names, if there is one.
+    fn open_named_by(&self, stateid: Stateid) -> Target<'_>
+        ensures { target_seen result ≡ named_by stateid (state_of self.now).opens }
+    {
+        let Some(node) = file_shares::node_of(&self.shares, stateid) else {
+            return Target::NoOpen;
+        };
+        match self.shares[node].named_by(stateid) {
+            Some(state) => Target::AnOpen(OpenFound {
+                node: node as u32,
+                state,
+            }),
+            None => Target::NoOpen,
+        }
+    }
+
+    /// The open that the stateid names, if it is as the operation demands, or why it isn't.
+    pub(crate) fn verdict(
+        &self,
+        demand: Demand,
+        epoch: u32,
+        stateid: Stateid,
+    ) -> Result<OpenFound<'_>, Refusal>
+        ensures { open_or_refusal_seen result
+            ≡ verdict (stateids.demand_of demand) epoch (state_of self.now) stateid }
+    {
+        match self.target_of(epoch, stateid) {
+            Target::Refused(refusal) => Err(refusal),
+            Target::NoOpen => Err(Refusal::BadStateId),
+            Target::AnOpen(found) => {
+                if found.node != demand.node {
+                    return Err(Refusal::BadStateId);
+                }
+                if !demand.also_unconfirmed && !self.is_confirmed(&found.state.owner) {
+                    return Err(Refusal::BadStateId);
+                }
+                by_seqid(stateid, found)
+            }
+        }
+    }
+}
+
+// Whether all bits of the stateid are zero, or all are one.
+fn is_special(stateid: Stateid) -> bool
+    ensures { result ≡ is_special stateid }
+{
+    is_all(0, stateid) || is_all(u32::MAX, stateid)
+}
