@@ -8,4 +8,5 @@ pub mod Step
 pub mod Lawful
 pub mod Server
 pub mod Room
+pub mod Finding
 pub mod Deciding

@@ -1,5 +1,6 @@
 -- What a stateid names, and the verdict on it (RFC 7530, sections 9.1.4.3 and 9.1.4.4).
 use Rattle.std.specs.Prelude.{ℕ, ◌^◌, ◌-◌, ◌==◌, nat_lt, Bool, not, ◌&&◌, ◌||◌, List, position, Option, Some, None, is_some, Result, Ok, Err, if◌then◌else◌}
+use Rattle.nfs_core.specs.declared.demand.Demand.{Demand}
 use Rattle.nfs_core.specs.Owners.{is_confirmed}
 use Rattle.nfs_core.specs.State.{State, opens_of}
 use Rattle.std.specs.List.{list_any}
@@ -63,13 +64,6 @@ by_seqid id at =
     if nat_lt id.seqid at.state.seqid then Err refusals.OldStateId
     else if nat_lt at.state.seqid id.seqid then Err refusals.BadStateId
     else Ok at
-
--- what an operation demands of the open that its stateid names
-pub record Demand : Type 0 where
-  -- the node of the current filehandle, whose file has to be the open's
-  pub node : ℕ
-  -- an unconfirmed owner's open is accepted as well
-  pub also_unconfirmed : Bool
 
 -- NFS4ERR_BAD_STATEID for no open, for an open of another file, and for one of an unconfirmed owner where the operation
 -- accepts only those of confirmed ones

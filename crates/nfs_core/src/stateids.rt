@@ -1,13 +1,16 @@
 ghost use Rattle.std.specs.Prelude.{◌≡◌};
-ghost use Rattle.nfs_core.specs.Finding.{open_or_refusal_seen, target_seen};
+ghost use Rattle.nfs_core.specs.Finding.{open_or_refusal_seen, open_seen, target_seen};
+ghost use Rattle.nfs_core.specs.Owners.{is_confirmed};
 ghost use Rattle.nfs_core.specs.Room.{state_of};
 ghost use Rattle.nfs_core.specs.Stateids as stateids;
-ghost use Rattle.nfs_core.specs.Stateids.{by_seqid, is_special, named_by, verdict};
+ghost use Rattle.nfs_core.specs.Stateids.{by_seqid, is_all, is_special, named_by, verdict};
 
+use crate::demand::Demand;
 use crate::file_shares;
 use crate::tables::Tables;
+use nfs_owners::OwnerStanding;
 use nfs_share::OpenState;
-use nfs_xdr::{Refusal, Stateid};
+use nfs_xdr::{OpenOwner, Refusal, Stateid};
 
 /// An open, and the node of its file.
 #[derive(Clone, Copy, Debug)]
@@ -24,15 +27,6 @@ pub(crate) enum Target<'a> {
     AnOpen(OpenFound<'a>),
     /// Its client is known, and none of the client's opens has its number.
     NoOpen,
-}
-
-/// What an operation demands of the open that its stateid names.
-#[derive(Clone, Copy, Debug)]
-pub(crate) struct Demand {
-    /// The node of the current filehandle, whose file has to be the open's.
-    pub(crate) node: u32,
-    /// An unconfirmed owner's open is accepted as well.
-    pub(crate) also_unconfirmed: bool,
 }
 
 impl Tables {
@@ -71,6 +65,13 @@ impl Tables {
         }
     }
 
+    // Whether the owner is known and confirmed.
+    fn is_confirmed(&self, owner: &OpenOwner) -> bool
+        ensures { result ≡ is_confirmed owner.now (state_of self.now).owners }
+    {
+        self.owners.known(owner) == OwnerStanding::Confirmed
+    }
+
     /// The open that the stateid names, if it is as the operation demands, or why it isn't.
     pub(crate) fn verdict(
         &self,
@@ -79,7 +80,7 @@ impl Tables {
         stateid: Stateid,
     ) -> Result<OpenFound<'_>, Refusal>
         ensures { open_or_refusal_seen result
-            ≡ verdict (stateids.demand_of demand) epoch (state_of self.now) stateid }
+            ≡ verdict demand epoch (state_of self.now) stateid }
     {
         match self.target_of(epoch, stateid) {
             Target::Refused(refusal) => Err(refusal),
@@ -97,9 +98,34 @@ impl Tables {
     }
 }
 
-// Whether all bits of the stateid are zero, or all are one.
+// NFS4ERR_OLD_STATEID for a seqid below the open's, NFS4ERR_BAD_STATEID for one above.
+fn by_seqid<'a>(stateid: Stateid, found: OpenFound<'a>) -> Result<OpenFound<'a>, Refusal>
+    ensures { open_or_refusal_seen result ≡ by_seqid stateid (open_seen found) }
+{
+    if stateid.seqid < found.state.seqid {
+        Err(Refusal::OldStateId)
+    } else if found.state.seqid < stateid.seqid {
+        Err(Refusal::BadStateId)
+    } else {
+        Ok(found)
+    }
+}
+
+// Whether all bits of the stateid are zero, or all are one (RFC 7530, section 9.1.4.3).
 fn is_special(stateid: Stateid) -> bool
     ensures { result ≡ is_special stateid }
 {
     is_all(0, stateid) || is_all(u32::MAX, stateid)
+}
+
+// Whether each of the four words of the stateid is this number.
+fn is_all(word: u32, stateid: Stateid) -> bool
+    ensures { result ≡ is_all word stateid }
+{
+    let Stateid {
+        seqid,
+        client,
+        number,
+    } = stateid;
+    seqid == word && client.epoch == word && client.number == word && number == word
 }
