@@ -1,9 +1,14 @@
--- What the functions that look up a stateid return, as the rules speak of it; used only in the contracts of this crate's
--- own functions.
+-- What the functions that look up a stateid and an owner return, as the rules speak of it; used only in the contracts of
+-- this crate's own functions.
 use Rattle.std.specs.Prelude.{Result, Ok, Err}
 use Rattle.nfs_core.specs.declared.stateids.OpenFound.{OpenFound}
 use Rattle.nfs_core.specs.declared.stateids.Target.{Target}
 use Rattle.nfs_core.specs.declared.stateids.Target.TheVariants as targets
+use Rattle.nfs_core.specs.declared.sequence.Requester.{Requester}
+use Rattle.nfs_core.specs.declared.sequence.Requester.TheVariants as requesters
+use Rattle.nfs_core.specs.declared.sequence.Sequence.{Sequence}
+use Rattle.nfs_core.specs.declared.sequence.Sequence.TheVariants as found_sequences
+use Rattle.nfs_core.specs.Sequences as sequences
 use Rattle.nfs_core.specs.Stateids as stateids
 use Rattle.nfs_core.specs.Stateids.{OpenAt}
 use Rattle.nfs_forms.specs.declared.status.Refusal.{Refusal}
@@ -19,3 +24,11 @@ target_seen targets.NoOpen = stateids.NoOpen
 abbrev pub open_or_refusal_seen : Result OpenFound Refusal → Result OpenAt Refusal
 open_or_refusal_seen (Ok found) = Ok (open_seen found)
 open_or_refusal_seen (Err refusal) = Err refusal
+
+abbrev pub requester_seen : Requester → sequences.Requester
+requester_seen (requesters.Refused refusal) = sequences.Refused refusal
+requester_seen (requesters.Owner name) = sequences.Owner name.now
+
+abbrev pub sequence_seen : Sequence → sequences.Sequence
+sequence_seen (found_sequences.Answered answer) = sequences.Answered answer
+sequence_seen (found_sequences.GoesOn passage name) = sequences.GoesOn passage name.now

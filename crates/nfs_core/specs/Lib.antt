@@ -9,4 +9,5 @@ pub mod Lawful
 pub mod Server
 pub mod Room
 pub mod Finding
+pub mod Kept
 pub mod Deciding

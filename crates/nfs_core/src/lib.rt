@@ -15,6 +15,7 @@ mod operations;
 mod owner_change;
 mod passage;
 mod request;
+mod sequence;
 mod shortage;
 mod stateids;
 mod stored_file;

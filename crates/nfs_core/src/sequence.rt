@@ -1,0 +1,132 @@
+ghost use Rattle.std.specs.Prelude.{◌≡◌, IfOk, Some};
+ghost use Rattle.nfs_core.specs.Finding.{requester_seen, sequence_seen};
+ghost use Rattle.nfs_core.specs.Kept.{Agrees};
+ghost use Rattle.nfs_core.specs.Room.{state_of};
+ghost use Rattle.nfs_core.specs.Sequences.{IsRestart, IsSequence, by_verdict, is_open, requester_of_open, requester_of_stateid, seqid_of};
+ghost use Rattle.nfs_owners.specs.Kept.{request_of};
+
+use crate::passage::Passage;
+use crate::stateids::Target;
+use crate::tables::Tables;
+use crate::{Journal, Request};
+use nfs_owners::{Owner, Verdict};
+use nfs_xdr::{Op, OpResult, OpenOwner, Refusal, Stateid};
+use std::alloc::AllocError;
+
+/// Whose sequence id a request goes by, or why it goes by none.
+#[derive(Clone, Copy, Debug)]
+pub(crate) enum Requester<'a> {
+    Refused(Refusal),
+    Owner(&'a OpenOwner),
+}
+
+/// Whether a request is answered without its own rule, or goes on to it, as one of this owner's.
+#[derive(Debug, Drop)]
+pub(crate) enum Sequence<'a> {
+    Answered(OpResult),
+    GoesOn(Passage, &'a OpenOwner),
+}
+
+impl Tables {
+    /// The owner in an OPEN's arguments, if its client is known.
+    pub(crate) fn requester_of_open<'a>(&self, owner: &'a OpenOwner) -> Requester<'a>
+        ensures { requester_seen result ≡ requester_of_open (state_of self.now) owner.now }
+    {
+        match self.clients.of(owner.client) {
+            Some(_) => Requester::Owner(owner),
+            None => Requester::Refused(Refusal::StaleClientId),
+        }
+    }
+
+    /// The owner that a stateid names, also by an open that it has closed by its last request.
+    pub(crate) fn requester_of_stateid(&self, journal: &Journal, stateid: Stateid) -> Requester<'_>
+        requires { Agrees journal.now self.now.owners.owners }
+        ensures { requester_seen result
+            ≡ requester_of_stateid journal.now (state_of self.now) stateid }
+    {
+        match self.target_of(journal.epoch(), stateid) {
+            Target::Refused(refusal) => Requester::Refused(refusal),
+            Target::AnOpen(found) => Requester::Owner(&found.state.owner),
+            Target::NoOpen => self.closer_of(stateid),
+        }
+    }
+
+    // The owner whose kept request closed the stateid's open.
+    fn closer_of(&self, stateid: Stateid) -> Requester<'_> {
+        match self.owners.closer_of(stateid.client, stateid.number) {
+            Some(owner) => Requester::Owner(&owner.name),
+            None => Requester::Refused(Refusal::BadStateId),
+        }
+    }
+
+    /// Whether the request is answered already, or goes on to its own rule.
+    pub(crate) fn sequence<'a>(
+        &self,
+        journal: &Journal,
+        request: &Request,
+        requester: Requester<'a>,
+    ) -> Result<Sequence<'a>, AllocError>
+        requires { Agrees journal.now self.now.owners.owners }
+        ensures { IfOk result (λ s. IsSequence journal.now (state_of self.now)
+            (requester_seen requester) request.now (sequence_seen s)) }
+    {
+        let name = match requester {
+            Requester::Refused(refusal) => return Ok(refusal_to(&request.op, refusal)),
+            Requester::Owner(name) => name,
+        };
+        match self.owners.find(name) {
+            None if is_open(&request.op) => Ok(Sequence::GoesOn(Passage::Begins, name)),
+            None => Ok(refusal_to(&request.op, Refusal::BadStateId)),
+            Some(owner) if is_open(&request.op) && !owner.confirmed => restart(owner, request, name),
+            Some(owner) => judge(owner, request, name),
+        }
+    }
+}
+
+// The owner's next request goes on, its last one again is answered as it was, and any other is NFS4ERR_BAD_SEQID.
+fn judge<'a>(
+    owner: &Owner,
+    request: &Request,
+    name: &'a OpenOwner,
+) -> Result<Sequence<'a>, AllocError> {
+    match owner.kept.judge(seqid_of(&request.op), &request.op, request.filehandle) {
+        Verdict::New => Ok(Sequence::GoesOn(Passage::Continues, name)),
+        Verdict::Replay(answer) => Ok(Sequence::Answered(answer.clone()?)),
+        Verdict::Bad => Ok(refusal_to(&request.op, Refusal::BadSeqId)),
+    }
+}
+
+// An OPEN of an unconfirmed owner: the last one again is answered as it was, and any other starts the owner anew.
+fn restart<'a>(
+    owner: &Owner,
+    request: &Request,
+    name: &'a OpenOwner,
+) -> Result<Sequence<'a>, AllocError> {
+    match owner.kept.judge(seqid_of(&request.op), &request.op, request.filehandle) {
+        Verdict::Replay(answer) => Ok(Sequence::Answered(answer.clone()?)),
+        Verdict::New | Verdict::Bad => Ok(Sequence::GoesOn(Passage::Restarts, name)),
+    }
+}
+
+fn refusal_to<'a>(op: &Op, refusal: Refusal) -> Sequence<'a> {
+    Sequence::Answered(op.opnum().refusal(refusal))
+}
+
+// The sequence id in the operation's arguments.
+fn seqid_of(op: &Op) -> u32
+    ensures { result ≡ seqid_of op.now }
+{
+    match op {
+        Op::Open(args) => args.seqid,
+        Op::OpenConfirm(args) => args.seqid,
+        Op::OpenDowngrade(args) => args.seqid,
+        Op::Close(args) => args.seqid,
+        _ => 0,
+    }
+}
+
+fn is_open(op: &Op) -> bool
+    ensures { result ≡ is_open op.now }
+{
+    matches!(op, Op::Open(_))
+}
