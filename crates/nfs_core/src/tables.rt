@@ -58,22 +58,60 @@ impl Tables {
         }
     }
 
-    // Whether the client has state. No client has any yet.
-    fn has_state(&self, _client: ClientId) -> bool
-        ensures { result ≡ has_state (state_of self.now) _client }
+    // Whether the client has state.
+    fn has_state(&self, client: ClientId) -> bool
+        ensures { result ≡ has_state (state_of self.now) client }
     {
-        false
+        file_shares::has_client(self.shares.as_slice(), client)
     }
 
-    /// Makes room for the change.
-    pub(crate) fn make_room(&mut self, change: &Change) -> Result<(), AllocError>
+    /// Makes room for the change, and for what the entry means for an owner.
+    pub(crate) fn make_room(&mut self, change: &Change, owner: &OwnerChange) -> Result<(), Shortage>
         ensures same { stored_of self.new ≡ stored_of self.old }
         ensures room { OnOk result (HasRoom change.now self.new) }
+        ensures owner { OnOk result (HasOwnerRoom owner.now self.new) }
+    {
+        match owner {
+            OwnerChange::Nothing | OwnerChange::Drops(_) => {}
+            OwnerChange::Keeps(name) | OwnerChange::Records(name) | OwnerChange::Restarts(name) => {
+                self.owners.reserve(name)?;
+            }
+        }
+        match change {
+            Change::Clients(change) => self.clients.make_room(change)?,
+            Change::Opens { node, .. } => self.shares[*node as usize].reserve()?,
+            Change::Nothing
+            | Change::Confirms { .. }
+            | Change::Downgrades { .. }
+            | Change::Closes { .. } => {}
+        }
+        Ok(())
+    }
+
+    /// Makes what the entry with this number means for an owner, for which there has to be room. It takes no memory.
+    pub(crate) fn commit_owner(&mut self, change: OwnerChange, number: u32, kept: Kept)
+        requires room { HasOwnerRoom change self.old }
+        ensures { state_of self.new ≡ with_owner_change change number (state_of self.old) }
     {
         match change {
-            Change::Nothing => Ok(()),
-            Change::Clients(change) => self.clients.make_room(change),
+            OwnerChange::Nothing => {}
+            OwnerChange::Keeps(name) | OwnerChange::Records(name) => {
+                self.owners.keep(name, number, kept);
+            }
+            OwnerChange::Restarts(name) => {
+                self.remove_owner(&name);
+                self.owners.keep(name, number, kept);
+            }
+            OwnerChange::Drops(name) => self.remove_owner(&name),
         }
+    }
+
+    // Forgets the owner, and frees its opens.
+    fn remove_owner(&mut self, name: &OpenOwner)
+        ensures { state_of self.new ≡ without name.now (state_of self.old) }
+    {
+        self.owners.remove(name);
+        file_shares::remove_owner(&mut self.shares, name);
     }
 
     /// Makes the change, for which there has to be room. It takes no memory.
@@ -84,7 +122,45 @@ impl Tables {
     {
         match change {
             Change::Nothing => {}
-            Change::Clients(change) => self.clients.commit(change),
+            Change::Clients(change) => self.commit_clients(change),
+            Change::Opens { node, owner, share } => self.commit_open(node, owner, share),
+            Change::Confirms {
+                node,
+                number,
+                owner,
+            } => {
+                self.owners.confirm(&owner);
+                file_shares::advance(&mut self.shares, node, number);
+            }
+            Change::Downgrades {
+                node,
+                number,
+                share,
+            } => file_shares::downgrade(&mut self.shares, node, number, share),
+            Change::Closes { node, number } => file_shares::close(&mut self.shares, node, number),
+        }
+    }
+
+    // Changes the clients' records. A client that is replaced loses its owners and its opens.
+    fn commit_clients(&mut self, change: ClientChange)
+        requires room { HasRoomFor change self.old.clients }
+        requires numbers { HasNumbersFor change self.old.clients.registry }
+        ensures { state_of self.new ≡ changed (Clients change) (state_of self.old) }
+    {
+        if let ClientChange::Replaces(_, client) = &change {
+            self.owners.remove_client(*client);
+            file_shares::remove_client(&mut self.shares, *client);
+        }
+        self.clients.commit(change);
+    }
+
+    // The owner opens the node's file for this share.
+    fn commit_open(&mut self, node: u32, owner: OpenOwner, share: Share) {
+        let has_open = file_shares::has_open(self.shares.as_slice(), node, &owner);
+        let number = self.numbers.upcoming();
+        file_shares::open(&mut self.shares, node, OpenState::new(owner, share, number));
+        if !has_open {
+            self.numbers.next();
         }
     }
 }
