@@ -1,5 +1,5 @@
-/* Refuses one growth of memory of the program that it is loaded into (LD_PRELOAD): the one whose number, from 1 on, is in
-   REFUSED_GROWTH. Where a growth was refused, the file that REFUSED_MARK names is made. */
+/* Refuses one growth of memory of the program that it is loaded into (LD_PRELOAD): the one whose number, from 1 on, is
+   in REFUSED_GROWTH. Where a growth was refused, the file that REFUSED_MARK names is made. */
 #define _GNU_SOURCE
 #include <dlfcn.h>
 #include <errno.h>

@@ -57,17 +57,17 @@ def owners_at_their_limit(limit=OWNERS_LIMIT):
     for owner in range(limit):
         yield opening(owner, 1, 0, number=owner + 1, flags=6)
     yield opening(limit, 1, 0, status=Status.RESOURCE)
-    # An owner that isn't confirmed leaves its own place to itself.
+    # An OPEN of an owner that isn't confirmed begins the owner anew, in the place that it had.
     yield opening(0, 5, 0, number=limit + 1, flags=6) + confirming(6, limit + 1)
     yield opening(limit, 1, 0, status=Status.RESOURCE)
     # A closed owner is still known.
     yield closing(7, 2, limit + 1, 0)
     yield opening(limit, 1, 0, status=Status.RESOURCE)
-    # One that is dropped isn't: its file is missing.
+    # An owner that isn't confirmed leaves its place by an OPEN that begins it anew and fails: there is no such file.
     yield opening(1, 9, FILES, status=Status.NOENT)
     yield opening(limit, 1, 0, number=limit + 2, flags=6)
     yield opening(1, 9, 0, status=Status.RESOURCE)
-    # A client that begins anew takes no place that its old owners had.
+    # When a client has started again, its old owners are gone and their places are free.
     yield introduce(2, 2)
     yield opening(0, 1, 0, client=2, number=limit + 3, flags=6)
 
@@ -83,7 +83,8 @@ def opens_at_their_limit(owners=OWNERS_LIMIT, limit=STATES_LIMIT):
         yield step
     following = files + 2
     yield opening(0, following, files, status=Status.RESOURCE)
-    # An OPEN of a file that its owner has open needs no place, and the id didn't move.
+    # An OPEN of a file that its owner has open needs no place. It has the sequence id of the OPEN before, which was
+    # RESOURCE and so didn't count.
     yield opening(0, following, 0, number=1, state_seqid=3)
     yield opening(0, following + 1, files, status=Status.RESOURCE)
     yield closing(following + 1, 3, 1, 0)

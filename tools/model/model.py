@@ -399,7 +399,7 @@ class Server:
         record.is_confirmed = True
 
     def remove_client(self, number):
-        """Its owners and opens go with it (section 9.1.2)."""
+        """The client's records, owners and opens are gone (section 9.1.2)."""
         self.records = [it for it in self.records if it.number != number]
         self.owners = {name: owner for name, owner in self.owners.items() if name.client != number}
         self.opens = [it for it in self.opens if it.owner.client != number]
@@ -451,7 +451,8 @@ class Server:
     # Sequenced operations (sections 9.1.7 to 9.1.9).
 
     def sequenced(self, request):
-        """No filehandle, the owner, the sequence verdict; then the operation, whose answer is kept where it counts."""
+        """Answers a request of an owner: that a filehandle is missing, then what is wrong with its owner and with its
+        sequence id, then the operation. The answer is kept, but for those in NOT_COUNTED."""
         try:
             expect_filehandle(request.filehandle)
             owner = self.owner_of(request)
@@ -472,7 +473,7 @@ class Server:
         return result
 
     def begin_owner(self, request, owner):
-        """An OPEN of an owner that is unknown, or was not confirmed: it begins anew (section 9.1.11)."""
+        """Answers an OPEN whose owner isn't known or confirmed yet, and so begins with it (section 9.1.11)."""
         before = dict(self.owners), list(self.opens)
         if owner is not None:
             del self.owners[owner.name]
