@@ -4,13 +4,13 @@ use Rattle.std.specs.Str.{bytes_eq}
 use Rattle.std.proofs.Common.{refl}
 use Rattle.nfs_forms.specs.ClientId.{client_id, is_same_client}
 use Rattle.nfs_forms.specs.declared.open_owner.OpenOwner.{OpenOwner}
-use Rattle.nfs_forms.specs.declared.open_owner.TheConstants.{OWNER_LIMIT}
+use Rattle.nfs_forms.specs.declared.open_owner.TheConstants.{OWNER_NAME_LIMIT}
 use Rattle.xdr.specs.Form.{Form, ◌and◌, of, opaque}
 
 -- struct open_owner4 { clientid4 clientid; opaque owner<NFS4_OPAQUE_LIMIT>; };
 unfoldable pub open_owner : Form OpenOwner
 open_owner = of (λ p. record { client = p.0; name = p.1 }) (λ o. (o.client, o.name)) (λ p. refl) (λ o. refl)
-    (client_id and opaque OWNER_LIMIT)
+    (client_id and opaque OWNER_NAME_LIMIT)
 
 -- the two owners are the same: one name at one client
 abbrev pub is_same_owner : OpenOwner → OpenOwner → Bool

@@ -35,7 +35,7 @@ pub use file_handle::{FILE_HANDLE_LIMIT, FileHandle};
 pub use limits::limits_of_forms;
 pub use open_delegation::OpenDelegation;
 pub use open_how::OpenHow;
-pub use open_owner::{OWNER_LIMIT, OpenOwner};
+pub use open_owner::{OWNER_NAME_LIMIT, OpenOwner};
 pub use principal::Principal;
 pub use stateid::Stateid;
 pub use status::{Refusal, STATUSES, Status};

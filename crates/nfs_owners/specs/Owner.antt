@@ -1,12 +1,12 @@
 -- The owners that the server knows (RFC 7530, section 9.1.5).
 use Rattle.std.specs.Prelude.{ℕ, Bool, false, ◌&&◌, List, find, Option, Some, None, if◌then◌else◌}
 use Rattle.std.specs.List.{list_any}
-use Rattle.std.specs.Str.{bytes_eq}
 use Rattle.nfs_owners.specs.declared.kept.Kept.{Kept}
 use Rattle.nfs_owners.specs.declared.owner.Owner.{Owner}
 use Rattle.nfs_owners.specs.declared.owner.OwnerStanding.{OwnerStanding}
 use Rattle.nfs_owners.specs.declared.owner.OwnerStanding.TheVariants.{Unknown, Unconfirmed, Confirmed}
 use Rattle.nfs_forms.specs.ClientId.{is_same_client}
+use Rattle.nfs_forms.specs.OpenOwner.{is_same_owner}
 use Rattle.nfs_forms.specs.declared.client_id.ClientId.{ClientId}
 use Rattle.nfs_forms.specs.declared.open_owner.OpenOwner.{OpenOwner}
 
@@ -16,7 +16,7 @@ has_client client o = is_same_client o.name.client client
 
 -- the owner has this name at this client
 abbrev pub has_name : OpenOwner → Owner → Bool
-has_name name o = has_client name.client o && bytes_eq o.name.name name.name
+has_name name o = is_same_owner o.name name
 
 -- the owner with this name, if it is known
 abbrev pub owner_of : OpenOwner → List Owner → Option Owner

@@ -1,5 +1,5 @@
 ghost use Rattle.std.specs.Prelude.{◌≡◌};
-ghost use Rattle.nfs_owners.specs.Owner.{has_client, has_name, new_owner, standing_of};
+ghost use Rattle.nfs_owners.specs.Owner.{has_client, has_name, new_owner};
 
 use crate::Kept;
 use nfs_xdr::{ClientId, OpenOwner};
@@ -58,6 +58,7 @@ impl Owner {
     {
         self.name.client == client
     }
+
     /// Makes this the last request, in the journal's entry of this number.
     pub fn keep(&mut self, number: u32, kept: Kept)
         ensures { self.new ≡ record self.old { number = number; kept = kept } }

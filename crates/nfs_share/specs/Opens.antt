@@ -61,7 +61,7 @@ is_refused owner share opens =
 
 -- the seqid after this one: after 2^32 - 1 comes 1 (section 9.1.4)
 abbrev pub next_seqid : ℕ → ℕ
-next_seqid seqid = if seqid == 4294967295 then 1 else seqid + 1
+next_seqid seqid = if seqid == 2 ^ 32 - 1 then 1 else seqid + 1
 
 -- the open's stateid (section 9.1.4)
 abbrev pub stateid_of : OpenState → Stateid
