@@ -1,8 +1,9 @@
-use Rattle.std.proofs.Common.{◌≡◌, [], ◌∷◌, ◌++◌, sym, ap, ◌∙◌, subst, slice_set}
+use Rattle.std.proofs.Common.{◌≡◌, false, [], ◌∷◌, ◌++◌, sym, ap, ◌∙◌, subst, slice_set, arith}
+use Rattle.std.specs.Prelude.{IsTrue}
 use Rattle.std.specs.List.{position}
-use Rattle.nfs_owners.specs.Owner.{has_name}
+use Rattle.nfs_owners.specs.Owner.{has_name, is_known}
 use Rattle.nfs_owners.specs.Owners.{AreOwners, RoomyOwners, has_place, with_kept}
-use Rattle.nfs_owners.proofs.OwnerLists.{kept_found, kept_new, owners_kept}
+use Rattle.nfs_owners.proofs.OwnerLists.{kept_found, kept_new, no_place, owners_kept}
 use Rattle.nfs_owners.proofs.owners.Owners.keep.Goals as goal
 
 found : (c : goal.After-drop-name) → slice_set c.self.inside.owners.items c.in-Some.place c.keep.new.self ≡ with_kept c.args.name c.args.number c.args.kept c.self.inside.owners.items
@@ -26,3 +27,13 @@ returns-in-Some-clause-owners c = found c ∙ ap (λ (o : RoomyOwners). with_kep
 
 pub returns-in-None-clause-owners : goal.returns-in-None-clause-owners
 returns-in-None-clause-owners c = added c ∙ ap (λ (o : RoomyOwners). with_kept c.args.name c.args.number c.args.kept o.owners) c.self.view_is
+
+unknown : (c : goal.After-new) → is_known c.args.name c.args.self.now.owners ≡ false
+unknown c = no_place c.args.name c.args.self.now.owners (sym c.place_of.ensures ∙ c.in-None.is)
+
+pub push_reserved-requires : goal.push_reserved-requires
+push_reserved-requires c = omega (arith, c.requires.room (search (unknown c)), ap (λ (o : RoomyOwners). o.room) c.self.view_is)
+
+pub returns-in-None-clause-known : goal.returns-in-None-clause-known
+returns-in-None-clause-known c known =
+    absurd (subst IsTrue (no_place c.args.name c.args.self.now.owners (sym c.place_of.ensures ∙ c.in-None.is)) known)
