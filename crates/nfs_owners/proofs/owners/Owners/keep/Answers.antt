@@ -36,4 +36,5 @@ push_reserved-requires c = omega (arith, c.requires.room (search (unknown c)), a
 
 pub returns-in-None-clause-known : goal.returns-in-None-clause-known
 returns-in-None-clause-known c known =
-    absurd (subst IsTrue (no_place c.args.name c.args.self.now.owners (sym c.place_of.ensures ∙ c.in-None.is)) known)
+    let never = subst IsTrue (no_place c.args.name c.args.self.now.owners (sym c.place_of.ensures ∙ c.in-None.is)) known in
+    absurd cc
