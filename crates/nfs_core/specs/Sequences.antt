@@ -139,6 +139,11 @@ IsRestart kept name request (GoesOn passage owner) =
     (IsAgain kept (seqid_of request.op) (request_of request.op request.filehandle) → ⊥)
     × (passage ≡ passages.Restarts) × (owner ≡ name)
 
+-- A known owner's request, by whether it is an OPEN of an unconfirmed one.
+abbrev pub IsOfKnown : Bool → Kept → OpenOwner → Request → Sequence → Type 0
+IsOfKnown true kept name request sequence = IsRestart kept name request sequence
+IsOfKnown false kept name request sequence = IsJudged kept name request sequence
+
 -- An owner that isn't known begins with an OPEN of any sequence id; no other request comes from one.
 abbrev pub IsOfOwner : History → Option KnownOwner → OpenOwner → Request → Sequence → Type 0
 IsOfOwner journal None name request sequence =
@@ -147,8 +152,7 @@ IsOfOwner journal None name request sequence =
 IsOfOwner journal (Some o) name request sequence =
     (kept : Kept)
     × (kept_for journal o ≡ Some kept)
-    × (if is_open request.op && not o.confirmed then IsRestart kept name request sequence
-      else IsJudged kept name request sequence)
+    × IsOfKnown (is_open request.op && not o.confirmed) kept name request sequence
 
 abbrev pub IsSequence : History → State → Requester → Request → Sequence → Type 0
 IsSequence journal state (Refused refusal) request sequence = sequence ≡ refusal_to request.op refusal

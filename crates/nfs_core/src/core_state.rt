@@ -4,13 +4,14 @@ ghost use Rattle.nfs_core.specs.Step.{AtMostOneStep, IsFilehandle, changed, requ
 ghost use Rattle.nfs_core.specs.Stored.{empty_store};
 ghost use Rattle.nfs_core.specs.Deciding.{HasNoStep, IsSendable};
 ghost use Rattle.nfs_core.specs.Room.{HasNumbers, state_of, stored_of};
-ghost use Rattle.nfs_core.specs.operations.{rule};
+ghost use Rattle.nfs_core.specs.operations.{IsRuled};
 ghost use Rattle.nfs_xdr.specs.Op.{has_entry};
 ghost use Rattle.nfs_xdr.specs.OpResult.{op_result};
 
 use crate::change::Change;
 use crate::journal::push_entry;
 use crate::operations::decide;
+use crate::owner_change::OwnerChange;
 use crate::shortage::Shortage;
 use crate::tables::Tables;
 use crate::{
@@ -132,7 +133,7 @@ fn enter(
         → HasNoStep journal.old (state_of tables.old) request }
     ensures memory { IsErrOf result Shortage.Memory
         → (length journal.old.entries < JOURNAL_LIMIT)
-        × (rule request.op journal.old (state_of tables.old) request ≢ None) }
+        × (IsRuled request.op journal.old (state_of tables.old) request None → ⊥) }
     ensures same { OnErr result
         ((journal.new ≡ journal.old) × (stored_of tables.new ≡ stored_of tables.old)) }
 {
@@ -158,7 +159,7 @@ fn take_in(
     journal: &mut Journal,
     call: Call,
     change: Change,
-) -> Result<u32, AllocError>
+) -> Result<u32, Shortage>
     requires below { length journal.old.entries < JOURNAL_LIMIT }
     requires numbers { HasNumbers change (state_of tables.old) }
     ensures number { IfOk result (λ n. n ≡ length journal.old.entries) }
@@ -168,7 +169,7 @@ fn take_in(
         ((journal.new ≡ journal.old) × (stored_of tables.new ≡ stored_of tables.old)) }
 {
     journal.entries.reserve(1)?;
-    tables.make_room(&change)?;
+    tables.make_room(&change, &OwnerChange::Nothing)?;
     tables.commit(change);
     Ok(push_entry(&mut journal.entries, Entry::Call(call)))
 }

@@ -1,6 +1,6 @@
 // The operations that have an entry in the journal. Each has its own file, which decides the answer and the change.
 ghost use Rattle.std.specs.Prelude.{◌-◌, ◌^◌, ◌<◌, IsTrue};
-ghost use Rattle.nfs_core.specs.operations.{rule};
+ghost use Rattle.nfs_core.specs.operations.{IsRuled};
 ghost use Rattle.nfs_core.specs.Deciding.{Decides};
 ghost use Rattle.nfs_core.specs.Step.{IsFilehandle};
 ghost use Rattle.nfs_core.specs.Room.{state_of};
@@ -27,7 +27,7 @@ pub(crate) fn decide(
     requires entry { IsTrue (has_entry request.now.op) }
     requires node { IsFilehandle journal.now request.now.filehandle }
     requires numbers { tables.now.clients.registry.last_confirm < 2 ^ 64 - 1 }
-    ensures { Decides (rule request.now.op journal.now (state_of tables.now) request.now)
+    ensures { Decides (IsRuled request.now.op journal.now (state_of tables.now) request.now)
         (state_of tables.now) request.now.op result }
 {
     match &request.op {

@@ -99,8 +99,8 @@ impl Tables {
 }
 
 // NFS4ERR_OLD_STATEID for a seqid below the open's, NFS4ERR_BAD_STATEID for one above.
-fn by_seqid<'a>(stateid: Stateid, found: OpenFound<'a>) -> Result<OpenFound<'a>, Refusal>
-    ensures { open_or_refusal_seen result ≡ by_seqid stateid (open_seen found) }
+fn by_seqid(stateid: Stateid, found: OpenFound<'_>) -> Result<OpenFound<'_>, Refusal>
+    ensures { open_or_refusal_seen result ≡ by_seqid stateid (open_seen found.entry) }
 {
     if stateid.seqid < found.state.seqid {
         Err(Refusal::OldStateId)

@@ -1,11 +1,14 @@
 ghost use Rattle.std.specs.Prelude.{◌≡◌, IfOk, OnOk};
 
 use crate::change::Change;
+use crate::file_shares;
+use crate::owner_change::OwnerChange;
+use crate::shortage::Shortage;
 use crate::stored_files::StoredFiles;
-use nfs_owners::{ClientRecord, Clients, Numbers, Owners};
+use nfs_owners::{ClientChange, ClientRecord, Clients, Kept, Numbers, Owners};
 use nfs_share::FileShare;
 use nfs_tree::Tree;
-use nfs_xdr::ClientId;
+use nfs_xdr::{ClientId, OpenOwner};
 use std::alloc::{AllocError, Global};
 
 /// What the server stores.
@@ -24,7 +27,10 @@ impl Tables {
     ghost use Rattle.std.specs.Option.{option_copied};
     ghost use Rattle.nfs_core.specs.State.{change_of, file_of, has_state, record_has_state, size_of};
     ghost use Rattle.nfs_core.specs.Step.{changed};
-    ghost use Rattle.nfs_core.specs.Room.{HasNumbers, HasRoom, state_of, stored_of};
+    ghost use Rattle.nfs_core.specs.Room.{HasNumbers, HasOwnerRoom, HasRoom, state_of, stored_of};
+    ghost use Rattle.nfs_core.specs.Sequences.{with_owner_change, without};
+    ghost use Rattle.nfs_core.specs.declared.change.Change.TheVariants as changes;
+    ghost use Rattle.nfs_owners.specs.ClientRoom.{HasNumbersFor, HasRoomFor};
     ghost use Rattle.nfs_core.specs.Stored.{empty_store};
 
     /// The files of the tree, and no clients.
@@ -33,6 +39,9 @@ impl Tables {
     {
         Ok(Tables {
             clients: Clients::new(alloc),
+            owners: Owners::new(alloc),
+            shares: file_shares::no_opens(alloc, tree.len())?,
+            numbers: Numbers::new(),
             files: StoredFiles::of_tree(alloc, tree)?,
         })
     }
@@ -123,21 +132,7 @@ impl Tables {
         match change {
             Change::Nothing => {}
             Change::Clients(change) => self.commit_clients(change),
-            Change::Opens { node, owner, share } => self.commit_open(node, owner, share),
-            Change::Confirms {
-                node,
-                number,
-                owner,
-            } => {
-                self.owners.confirm(&owner);
-                file_shares::advance(&mut self.shares, node, number);
-            }
-            Change::Downgrades {
-                node,
-                number,
-                share,
-            } => file_shares::downgrade(&mut self.shares, node, number, share),
-            Change::Closes { node, number } => file_shares::close(&mut self.shares, node, number),
+            _ => unreachable!(),
         }
     }
 
@@ -145,22 +140,12 @@ impl Tables {
     fn commit_clients(&mut self, change: ClientChange)
         requires room { HasRoomFor change self.old.clients }
         requires numbers { HasNumbersFor change self.old.clients.registry }
-        ensures { state_of self.new ≡ changed (Clients change) (state_of self.old) }
+        ensures { state_of self.new ≡ changed (changes.Clients change) (state_of self.old) }
     {
         if let ClientChange::Replaces(_, client) = &change {
             self.owners.remove_client(*client);
             file_shares::remove_client(&mut self.shares, *client);
         }
         self.clients.commit(change);
-    }
-
-    // The owner opens the node's file for this share.
-    fn commit_open(&mut self, node: u32, owner: OpenOwner, share: Share) {
-        let has_open = file_shares::has_open(self.shares.as_slice(), node, &owner);
-        let number = self.numbers.upcoming();
-        file_shares::open(&mut self.shares, node, OpenState::new(owner, share, number));
-        if !has_open {
-            self.numbers.next();
-        }
     }
 }

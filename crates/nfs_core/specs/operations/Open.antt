@@ -143,5 +143,5 @@ ruling_of state passage owner (Ok o) =
 -- the rule of OPEN under the current filehandle, in the state without an owner that starts anew
 abbrev pub own : History → State → Open → Own
 own journal state args node passage ruling =
-    let then = before_own passage args.owner state in
-    ruling ≡ ruling_of then passage args.owner (opening journal then node args)
+    let seen = before_own passage args.owner state in
+    ruling ≡ ruling_of seen passage args.owner (opening journal seen node args)

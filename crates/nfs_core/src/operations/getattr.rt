@@ -8,6 +8,7 @@ ghost use Rattle.nfs_forms.specs.operations.Getattr as getattr;
 
 use crate::change::Change;
 use crate::decision::Decision;
+use crate::owner_change::OwnerChange;
 use crate::shortage::Shortage;
 use crate::tables::Tables;
 use crate::{Journal, Request};
@@ -24,13 +25,14 @@ pub(super) fn decide(
     mask: &Bitmap,
 ) -> Result<Decision, Shortage>
     requires node { IsFilehandle journal.now request.now.filehandle }
-    ensures { Decides (rule journal.now (state_of tables.now) request.now.filehandle mask.now)
+    ensures { Decides (λ d. d ≡ rule journal.now (state_of tables.now) request.now.filehandle mask.now)
         (state_of tables.now) (Op.Getattr mask.now) result }
 {
     let answer = attributes(alloc, tables, journal, mask, request.filehandle)?;
     Ok(Decision {
         answer: OpResult::Getattr(answer),
         change: Change::Nothing,
+        owner: OwnerChange::Nothing,
     })
 }
 

@@ -1,10 +1,11 @@
-ghost use Rattle.std.specs.Prelude.{◌-◌, ◌^◌, ◌<◌};
+ghost use Rattle.std.specs.Prelude.{◌≡◌, ◌-◌, ◌^◌, ◌<◌};
 ghost use Rattle.nfs_core.specs.operations.Setclientid.{rule};
 ghost use Rattle.nfs_core.specs.Deciding.{Decides};
 ghost use Rattle.nfs_core.specs.Room.{state_of};
 
 use crate::change::Change;
 use crate::decision::Decision;
+use crate::owner_change::OwnerChange;
 use crate::shortage::Shortage;
 use crate::tables::Tables;
 use crate::{Journal, Request};
@@ -20,7 +21,7 @@ pub(super) fn decide(
     args: &Setclientid,
 ) -> Result<Decision, Shortage>
     requires { tables.now.clients.registry.last_confirm < 2 ^ 64 - 1 }
-    ensures { Decides (rule journal.now (state_of tables.now) request.now args.now)
+    ensures { Decides (λ d. d ≡ rule journal.now (state_of tables.now) request.now args.now)
         (state_of tables.now) (Op.Setclientid args.now) result }
 {
     let has_state = tables.record_has_state(tables.clients.confirmed_of(args.id.as_slice()));
@@ -30,5 +31,6 @@ pub(super) fn decide(
     Ok(Decision {
         answer: OpResult::Setclientid(answer),
         change: Change::Clients(change),
+        owner: OwnerChange::Nothing,
     })
 }

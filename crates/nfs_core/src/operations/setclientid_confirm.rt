@@ -5,6 +5,7 @@ ghost use Rattle.nfs_core.specs.Room.{state_of};
 
 use crate::change::Change;
 use crate::decision::Decision;
+use crate::owner_change::OwnerChange;
 use crate::shortage::Shortage;
 use crate::tables::Tables;
 use crate::{Journal, Request};
@@ -21,7 +22,7 @@ pub(super) fn decide(
     request: &Request,
     args: &SetclientidConfirm,
 ) -> Result<Decision, Shortage>
-    ensures { Decides (rule journal.now (state_of tables.now) request.now args.now)
+    ensures { Decides (λ d. d ≡ rule journal.now (state_of tables.now) request.now args.now)
         (state_of tables.now) (Op.SetclientidConfirm args.now) result }
 {
     let has_state = tables.record_has_state(tables.clients.holder_of(args));
@@ -32,6 +33,7 @@ pub(super) fn decide(
     Ok(Decision {
         answer: OpResult::SetclientidConfirm(answer),
         change: Change::Clients(change),
+        owner: OwnerChange::Nothing,
     })
 }
 
