@@ -68,7 +68,7 @@ impl Tables {
     ) -> Result<Sequence<'a>, AllocError>
         requires { Agrees journal.now self.now.owners.owners }
         ensures { IfOk result (λ s. IsSequence journal.now (state_of self.now)
-            (requester_seen requester) request.now (sequence_seen s)) }
+            (requester_seen requester.entry) request.now (sequence_seen s)) }
     {
         let name = match requester {
             Requester::Refused(refusal) => return Ok(refusal_to(&request.op, refusal)),
