@@ -3,7 +3,12 @@ use Rattle.std.proofs.Common.{◌≡◌, ◌≢◌, ℕ, ◌<◌, ◌≤◌, ◌
 use Rattle.nfs_core.specs.declared.entry.Call.{Call}
 use Rattle.nfs_core.specs.declared.entry.TheConstants.{JOURNAL_LIMIT}
 use Rattle.nfs_core.specs.declared.request.Request.{Request}
-use Rattle.nfs_core.specs.operations.{rule}
+use Rattle.nfs_core.specs.operations.{IsRuled}
+use Rattle.nfs_core.proofs.Uniqueness.{ruled_once}
+use Rattle.nfs_core.specs.declared.owner_change.OwnerChange.{OwnerChange}
+use Rattle.nfs_core.specs.declared.owner_change.OwnerChange.TheVariants.{Nothing}
+use Rattle.nfs_core.specs.Sequences.{with_owner_change}
+use Rattle.nfs_owners.specs.Registry.{Registry}
 use Rattle.nfs_core.specs.Stored.{Stored, meaning}
 use Rattle.nfs_xdr.specs.declared.op_result.OpResult.{OpResult}
 use Rattle.nfs_core.specs.declared.change.Change.{Change}
@@ -32,15 +37,12 @@ pub Lawful-step : (journal : History) (old new : State) (entry : Entry) → Lawf
 Lawful-step journal old new entry lawful step =
     Leads-append (record journal { entries = [] }) (empty_server journal.nodes) old new journal.entries entry lawful step
 
--- a call may come next in the journal if its rule decides its answer and its change
-pub Follows-decided : (ruled : Option Decision) (decision : Decision) (journal : History) (old : State) (call : Call) (new : State) → ruled ≡ Some decision → length journal.entries < JOURNAL_LIMIT → call.answer ≢ resource call.request.op → call.answer ≡ decision.answer → new ≡ changed decision.change old → IsFilehandle journal call.request.filehandle → Follows ruled journal old call new
-Follows-decided ruled decision journal old call new ruled_so below other answered moved node = rw ruled_so (below, other, answered, moved, node)
-
 -- if the rule gives no decision, or the journal is full, no call may come next
-pub none_follows : (ruled : Option Decision) (journal : History) (old : State) (call : Call) (new : State) → (ruled ≡ None) ⊎ (JOURNAL_LIMIT ≤ length journal.entries) → Follows ruled journal old call new → ⊥
-none_follows None journal old call new limit follows = follows
-none_follows (Some decision) journal old call new (inl none) follows = cc
-none_follows (Some decision) journal old call new (inr full) follows = omega (arith, follows.0)
+pub none_follows : (journal : History) (old : State) (call : Call) (new : State) → IsRuled call.request.op journal old call.request None ⊎ (JOURNAL_LIMIT ≤ length journal.entries) → Follows journal old call new → ⊥
+none_follows journal old call new (inl none) follows =
+    let same = ruled_once call.request.op journal old call.request None (Some follows.0) none follows.1 in
+    cc
+none_follows journal old call new (inr full) follows = omega (arith, follows.2.below)
 
 -- a lawful core that answers a call stays lawful
 pub Lawful-applies : (old new : Server) (request : Request) (answer : OpResult) (number : ℕ) → IsLawful old → Applies old new request answer (Some number) → IsLawful new
@@ -48,12 +50,10 @@ Lawful-applies old new request answer number lawful applies =
     let P : History → Type 0 = λ journal. Lawful journal (meaning new.stored) in
     subst P (sym applies.1) (Lawful-step old.journal (meaning old.stored) (meaning new.stored) (entry_of request answer) lawful applies.2)
 
-Follows-unique : (ruled : Option Decision) (journal : History) (old : State) (call call' : Call) (new new' : State) → Follows ruled journal old call new → Follows ruled journal old call' new' → (call.answer ≡ call'.answer) × (new ≡ new')
-Follows-unique None journal old call call' new new' f f' = absurd f
-Follows-unique (Some decision) journal old call call' new new' f f' = (f.2 ∙ sym f'.2, f.3 ∙ sym f'.3)
-
 pub Step-unique : AtMostOneStep
-Step-unique journal old request answer answer' new new' s s' = Follows-unique (rule request.op journal old request) journal old (record { request = request; answer = answer }) (record { request = request; answer = answer' }) new new' s s'
+Step-unique journal old request answer answer' new new' s s' =
+    let same : Some s.0 ≡ Some s'.0 = ruled_once request.op journal old request (Some s.0) (Some s'.0) s.1 s'.1 in
+    search (same, s.2.answer, s'.2.answer, s.2.state, s'.2.state)
 
 -- a core that hasn't changed is as lawful as before
 pub Lawful-same : (journal journal' : History) (stored stored' : Stored) → journal' ≡ journal → stored' ≡ stored → Lawful journal (meaning stored) → Lawful journal' (meaning stored')
@@ -65,13 +65,17 @@ changed_confirm changes.Nothing old = omega arith
 changed_confirm (changes.Clients client_changes.Nothing) old = omega arith
 changed_confirm change old = omega arith
 
-Follows-confirm : (ruled : Option Decision) (journal : History) (old : State) (call : Call) (new : State) → Follows ruled journal old call new → new.clients.last_confirm ≤ old.clients.last_confirm + 1
-Follows-confirm None journal old call new follows = absurd follows
-Follows-confirm (Some decision) journal old call new follows =
-    omega (arith, changed_confirm decision.change old, ap (λ (s : State). s.clients.last_confirm) follows.3)
+owner_change_confirm : (change : OwnerChange) (number : ℕ) (old : State) → (with_owner_change change number old).clients ≡ old.clients
+owner_change_confirm Nothing number old = refl
+owner_change_confirm change number old = refl
+
+Follows-confirm : (journal : History) (old : State) (call : Call) (new : State) → Follows journal old call new → new.clients.last_confirm ≤ old.clients.last_confirm + 1
+Follows-confirm journal old call new follows =
+    let number = length journal.entries in
+    omega (arith, changed_confirm follows.0.change (with_owner_change follows.0.owner number old), ap (λ (r : Registry). r.last_confirm) (owner_change_confirm follows.0.owner number old), ap (λ (s : State). s.clients.last_confirm) follows.2.state)
 
 Step-confirm : (journal : History) (old : State) (entry : Entry) (new : State) → Step journal old entry new → new.clients.last_confirm ≤ old.clients.last_confirm + 1
-Step-confirm journal old (entries.Call call) new step = Follows-confirm (rule call.request.op journal old call.request) journal old call new step
+Step-confirm journal old (entries.Call call) new step = Follows-confirm journal old call new step
 
 Leads-confirm : (journal : History) (old new : State) (entries : List Entry) → Leads journal old entries new → new.clients.last_confirm ≤ old.clients.last_confirm + length entries
 Leads-confirm journal old new [] leads = omega (arith, ap (λ (s : State). s.clients.last_confirm) leads)

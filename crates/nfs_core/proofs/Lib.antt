@@ -1,2 +1,3 @@
 pub mod Journals
 pub mod OpenedFiles
+pub mod Uniqueness
