@@ -1,4 +1,3 @@
 pub mod Journals
 pub mod OpenedFiles
 pub mod Uniqueness
-pub mod FileShares

@@ -11,8 +11,10 @@ use Rattle.nfs_core.specs.operations.Open as opening
 use Rattle.nfs_core.specs.operations.OpenConfirm as open_confirm
 use Rattle.nfs_core.specs.operations.OpenDowngrade as open_downgrade
 use Rattle.nfs_core.specs.operations.OpenDowngrade.{IsDowngrade, IsFound}
-use Rattle.nfs_core.specs.Stateids.{OpenAt, verdict}
-use Rattle.nfs_core.specs.Sequences.{IsDecided, IsJudged, IsOfKnown, IsOfOwner, IsRestart, IsSequence, IsSequenced, Own, Requester, Ruling, Sequence, Answered, GoesOn, Refused, Owner, by_verdict, decision_of, is_open, kept_for, requester_of_open, requester_of_stateid, seqid_of}
+use Rattle.nfs_core.specs.Stateids.{verdict}
+use Rattle.nfs_share.specs.AllOpens.{OpenAt}
+use Rattle.nfs_core.specs.declared.ruling.Ruling.{Ruling}
+use Rattle.nfs_core.specs.Sequences.{IsDecided, IsJudged, IsOfKnown, IsOfOwner, IsRestart, IsSequence, IsSequenced, Own, Requester, Sequence, Answered, GoesOn, Refused, Owner, by_verdict, decision_of, is_open, kept_for, requester_of_open, requester_of_stateid, seqid_of}
 use Rattle.nfs_core.specs.State.{State, History}
 use Rattle.nfs_forms.specs.declared.open_owner.OpenOwner.{OpenOwner}
 use Rattle.nfs_owners.specs.declared.kept.Kept.{Kept}

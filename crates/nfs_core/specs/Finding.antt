@@ -1,7 +1,8 @@
 -- What the functions that look up a stateid and an owner return, as the rules speak of it; used only in the contracts of
 -- this crate's own functions.
 use Rattle.std.specs.Prelude.{Result, Ok, Err}
-use Rattle.nfs_core.specs.declared.stateids.OpenFound.{OpenFound}
+use Rattle.nfs_share.specs.declared.opens.OpenFound.{OpenFound}
+use Rattle.nfs_share.specs.OpenFound.{open_seen}
 use Rattle.nfs_core.specs.declared.stateids.Target.{Target}
 use Rattle.nfs_core.specs.declared.stateids.Target.TheVariants as targets
 use Rattle.nfs_core.specs.declared.sequence.Requester.{Requester}
@@ -10,11 +11,8 @@ use Rattle.nfs_core.specs.declared.sequence.Sequence.{Sequence}
 use Rattle.nfs_core.specs.declared.sequence.Sequence.TheVariants as found_sequences
 use Rattle.nfs_core.specs.Sequences as sequences
 use Rattle.nfs_core.specs.Stateids as stateids
-use Rattle.nfs_core.specs.Stateids.{OpenAt}
+use Rattle.nfs_share.specs.AllOpens.{OpenAt}
 use Rattle.nfs_forms.specs.declared.status.Refusal.{Refusal}
-
-abbrev pub open_seen : OpenFound → OpenAt
-open_seen found = record { node = found.node; state = found.state.now }
 
 abbrev pub target_seen : Target → stateids.Target
 target_seen (targets.Refused refusal) = stateids.Refused refusal

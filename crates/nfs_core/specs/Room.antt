@@ -1,26 +1,30 @@
 -- What a change of the state needs; used only in the contracts of this crate's own functions.
-use Rattle.std.specs.Prelude.{◌≡◌, ◌<◌, ◌-◌, ◌^◌, ⊤, true, List, map, slice_get, IsSomeAnd}
+use Rattle.std.specs.Prelude.{◌<◌, ◌-◌, ◌^◌, ⊤, Bool, IsFalse, IsTrue, is_some, length}
 use Rattle.nfs_core.specs.declared.change.Change.{Change}
 use Rattle.nfs_core.specs.declared.change.Change.TheVariants as changes
 use Rattle.nfs_core.specs.declared.owner_change.OwnerChange.{OwnerChange}
 use Rattle.nfs_core.specs.declared.owner_change.OwnerChange.TheVariants as owner_changes
+use Rattle.nfs_core.specs.declared.passage.Passage.{Passage}
+use Rattle.nfs_core.specs.declared.passage.Passage.TheVariants as passages
 use Rattle.nfs_core.specs.declared.tables.Tables.{Tables}
+use Rattle.nfs_core.specs.declared.owner_update.OwnerUpdate.{OwnerUpdate}
+use Rattle.nfs_core.specs.declared.owner_update.OwnerUpdate.TheVariants as updates
+use Rattle.nfs_core.specs.Owners.{owner_of}
+use Rattle.nfs_owners.specs.Owner as owners
+use Rattle.nfs_owners.specs.Owners.{has_place}
+use Rattle.nfs_forms.specs.declared.open_owner.OpenOwner.{OpenOwner}
+use Rattle.nfs_owners.specs.declared.owner.TheConstants.{OWNER_LIMIT}
 use Rattle.nfs_core.specs.State.{State}
 use Rattle.nfs_core.specs.Stored.{Stored, meaning}
 use Rattle.nfs_owners.specs.ClientRoom.{HasNumbersFor, HasRoomFor}
-use Rattle.nfs_share.specs.declared.open_state.OpenState.{OpenState}
-use Rattle.nfs_share.specs.Opens.{FileOpens}
-
--- the opens of each file, no matter how much room it has
-abbrev pub opens_in : List FileOpens → List (List OpenState)
-opens_in shares = map (λ f. f.opens) shares
+use Rattle.nfs_share.specs.AllOpens.{HasRoomAt, opens_in}
 
 -- what the tables store, no matter how much room they have
 abbrev pub stored_of : Tables → Stored
 stored_of tables = record {
   clients = tables.clients.registry;
   owners = tables.owners.owners;
-  opens = opens_in tables.shares.items;
+  opens = opens_in tables.opens;
   last_state = tables.numbers;
   files = tables.files;
 }
@@ -33,7 +37,7 @@ state_of tables = meaning (stored_of tables)
 abbrev pub HasRoom : Change → Tables → Type 0
 HasRoom changes.Nothing tables = ⊤
 HasRoom (changes.Clients change) tables = HasRoomFor change tables.clients
-HasRoom (changes.Opens node owner share) tables = IsSomeAnd (slice_get tables.shares.items node) (λ f. 0 < f.room)
+HasRoom (changes.Opens node owner share) tables = HasRoomAt node tables.opens
 HasRoom (changes.Confirms node number owner) tables = ⊤
 HasRoom (changes.Downgrades node number share) tables = ⊤
 HasRoom (changes.Closes node number) tables = ⊤
@@ -42,7 +46,36 @@ HasRoom (changes.Closes node number) tables = ⊤
 abbrev pub HasOwnerRoom : OwnerChange → Tables → Type 0
 HasOwnerRoom owner_changes.Nothing tables = ⊤
 HasOwnerRoom (owner_changes.Drops name) tables = ⊤
+HasOwnerRoom (owner_changes.Keeps name) tables = ⊤
 HasOwnerRoom change tables = 0 < tables.owners.room
+
+-- the stored owners can keep it without taking memory
+abbrev pub HasUpdateRoom : OwnerUpdate → Tables → Type 0
+HasUpdateRoom updates.Nothing tables = ⊤
+HasUpdateRoom (updates.Keeps name kept) tables =
+    IsTrue (has_place name tables.owners.owners)
+    × (IsFalse (owners.is_known name tables.owners.owners) → 0 < tables.owners.room)
+HasUpdateRoom (updates.Restarts name kept) tables =
+    IsTrue (has_place name tables.owners.owners) × (0 < tables.owners.room)
+HasUpdateRoom (updates.Drops name) tables = ⊤
+
+-- the owner is known
+abbrev pub is_known : OpenOwner → State → Bool
+is_known name state = is_some (owner_of name state.owners)
+
+-- The owner that keeps an entry is known, and there is a place for one that is recorded, which isn't.
+abbrev pub HasOwnerPlace : OwnerChange → State → Type 0
+HasOwnerPlace owner_changes.Nothing state = ⊤
+HasOwnerPlace (owner_changes.Keeps name) state = IsTrue (is_known name state)
+HasOwnerPlace (owner_changes.Records name) state =
+    IsFalse (is_known name state) × (length state.owners < OWNER_LIMIT)
+HasOwnerPlace (owner_changes.Restarts name) state = IsTrue (is_known name state)
+HasOwnerPlace (owner_changes.Drops name) state = ⊤
+
+-- How the owner's request goes on fits what is known of the owner.
+abbrev pub IsPassage : Passage → OpenOwner → State → Type 0
+IsPassage passages.Begins name state = IsFalse (is_known name state)
+IsPassage passage name state = IsTrue (is_known name state)
 
 -- the numbers that the change uses exist: the next client number, the next confirm value, the next state's number
 abbrev pub HasNumbers : Change → State → Type 0

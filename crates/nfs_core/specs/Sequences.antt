@@ -2,7 +2,6 @@
 -- request that comes again is answered as it was (RFC 7530, sections 9.1.7 to 9.1.11). In turn: the filehandle, the
 -- owner, its sequence id, and then the operation's own rule.
 use Rattle.std.specs.Prelude.{◌≡◌, ℕ, ◌==◌, Bool, true, false, not, ◌&&◌, filter, map, find, slice_get, Option, Some, None, option_map, is_some, if◌then◌else◌}
-use Rattle.nfs_core.specs.declared.change.Change.{Change}
 use Rattle.nfs_core.specs.declared.change.Change.TheVariants as changes
 use Rattle.nfs_core.specs.declared.decision.Decision.{Decision}
 use Rattle.nfs_core.specs.declared.entry.Entry.{Entry}
@@ -12,6 +11,7 @@ use Rattle.nfs_core.specs.declared.owner_change.OwnerChange.TheVariants.{Nothing
 use Rattle.nfs_core.specs.declared.passage.Passage.{Passage}
 use Rattle.nfs_core.specs.declared.passage.Passage.TheVariants as passages
 use Rattle.nfs_core.specs.declared.request.Request.{Request}
+use Rattle.nfs_core.specs.declared.ruling.Ruling.{Ruling}
 use Rattle.nfs_core.specs.Owners.{KnownOwner, owner_of, with_kept_entry, with_record, without_owner}
 use Rattle.nfs_core.specs.Stateids as stateids
 use Rattle.nfs_core.specs.Stateids.{Target, target_of}
@@ -46,6 +46,14 @@ seqid_of op = 0
 abbrev pub is_open : Op → Bool
 is_open (ops.Open args) = true
 is_open op = false
+
+-- the operations that go by a sequence id
+abbrev pub is_sequenced : Op → Bool
+is_sequenced (ops.Open args) = true
+is_sequenced (ops.OpenConfirm args) = true
+is_sequenced (ops.OpenDowngrade args) = true
+is_sequenced (ops.Close args) = true
+is_sequenced op = false
 
 -- the request and the answer of an entry, as they are kept for an owner
 abbrev pub kept_of : Entry → Kept
@@ -158,11 +166,6 @@ abbrev pub IsSequence : History → State → Requester → Request → Sequence
 IsSequence journal state (Refused refusal) request sequence = sequence ≡ refusal_to request.op refusal
 IsSequence journal state (Owner name) request sequence =
     IsOfOwner journal (owner_of name state.owners) name request sequence
-
--- an operation's own answer, and what it changes
-pub record Ruling : Type 0 where
-  pub answer : OpResult
-  pub change : Change
 
 -- What an answer means for the owner: it is kept where it counts. A refusal to an owner that isn't known is kept for
 -- nobody, and one to an owner that starts anew leaves it dropped.

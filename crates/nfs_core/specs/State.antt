@@ -1,5 +1,5 @@
 -- The state that the rules of the operations refer to, and the journal of its changes.
-use Rattle.std.specs.Prelude.{ℕ, zero, suc, ◌+◌, Bool, false, ◌==◌, List, [], ◌∷◌, ◌++◌, length, find, map, replicate, slice_get, Option, Some, None}
+use Rattle.std.specs.Prelude.{ℕ, zero, suc, Bool, false, ◌==◌, List, [], ◌∷◌, ◌++◌, length, find, replicate, Option, Some, None}
 use Rattle.std.specs.List.{list_any}
 use Rattle.nfs_forms.specs.declared.client_id.ClientId.{ClientId}
 use Rattle.nfs_owners.specs.declared.client_record.ClientRecord.{ClientRecord}
@@ -70,19 +70,6 @@ pub record History : Type 0 where
   pub lease : ℕ
   pub policy : Policy
   pub entries : List Entry
-
--- the opens of a node
-abbrev pub opens_or_none : Option (List OpenState) → List OpenState
-opens_or_none None = []
-opens_or_none (Some opens) = opens
-
-abbrev pub opens_of : ℕ → List (List OpenState) → List OpenState
-opens_of node opens = opens_or_none (slice_get opens node)
-
--- how many opens there are
-pub open_count : List (List OpenState) → ℕ
-open_count [] = 0
-open_count (opens ∷ more) = length opens + open_count more
 
 -- whether the client has state (RFC 7530, section 9.1.1): an open, also one of an unconfirmed owner
 abbrev pub has_state : State → ClientId → Bool

@@ -1,20 +1,13 @@
 -- What a stateid names, and the verdict on it (RFC 7530, sections 9.1.4.3 and 9.1.4.4).
-use Rattle.std.specs.Prelude.{ℕ, ◌^◌, ◌-◌, ◌==◌, nat_lt, Bool, not, ◌&&◌, ◌||◌, List, position, Option, Some, None, is_some, Result, Ok, Err, if◌then◌else◌}
+use Rattle.std.specs.Prelude.{ℕ, ◌^◌, ◌-◌, ◌==◌, nat_lt, Bool, not, ◌&&◌, ◌||◌, Option, Some, None, is_some, Result, Ok, Err, if◌then◌else◌}
 use Rattle.nfs_core.specs.declared.demand.Demand.{Demand}
 use Rattle.nfs_core.specs.Owners.{is_confirmed}
-use Rattle.nfs_core.specs.State.{State, opens_of}
-use Rattle.std.specs.List.{list_any}
+use Rattle.nfs_core.specs.State.{State}
 use Rattle.nfs_forms.specs.declared.stateid.Stateid.{Stateid}
 use Rattle.nfs_forms.specs.declared.status.Refusal.{Refusal}
 use Rattle.nfs_forms.specs.declared.status.Refusal.TheVariants as refusals
 use Rattle.nfs_owners.specs.Registry.{record_of, was_given}
-use Rattle.nfs_share.specs.declared.open_state.OpenState.{OpenState}
-use Rattle.nfs_share.specs.Opens.{is_stateid_of, open_named_by}
-
--- an open, and the node of its file
-pub record OpenAt : Type 0 where
-  pub node : ℕ
-  pub state : OpenState
+use Rattle.nfs_share.specs.AllOpens.{OpenAt, named_in}
 
 -- each of the four words of the stateid is this number
 abbrev pub is_all : ℕ → Stateid → Bool
@@ -33,19 +26,10 @@ pub data Target : Type 0 where
   -- its client is known, and none of the client's opens has its number
   NoOpen : Target
 
--- the target, given the open of this node that the stateid names
-abbrev pub target_in : ℕ → Option OpenState → Target
-target_in node None = NoOpen
-target_in node (Some o) = AnOpen (record { node = node; state = o })
-
--- the target, given the node that has an open which the stateid names
-abbrev pub target_at : Stateid → List (List OpenState) → Option ℕ → Target
-target_at id opens None = NoOpen
-target_at id opens (Some node) = target_in node (open_named_by id (opens_of node opens))
-
--- the open that the stateid names
-abbrev pub named_by : Stateid → List (List OpenState) → Target
-named_by id opens = target_at id opens (position (list_any (is_stateid_of id)) opens)
+-- the target, given the open that the stateid names
+abbrev pub target_in : Option OpenAt → Target
+target_in None = NoOpen
+target_in (Some at) = AnOpen at
 
 -- What a stateid names: NFS4ERR_BAD_STATEID for a special one, NFS4ERR_STALE_STATEID for one of another run of the
 -- server, NFS4ERR_BAD_STATEID for a client number that was never given out, NFS4ERR_EXPIRED for one whose client is
@@ -56,7 +40,7 @@ target_of epoch state id =
     else if not (id.client.epoch == epoch) then Refused refusals.StaleStateId
     else if not (was_given id.client.number state.clients) then Refused refusals.BadStateId
     else if not (is_some (record_of id.client state.clients)) then Refused refusals.Expired
-    else named_by id state.opens
+    else target_in (named_in id state.opens)
 
 -- NFS4ERR_OLD_STATEID for a seqid below the open's, NFS4ERR_BAD_STATEID for one above
 abbrev pub by_seqid : Stateid → OpenAt → Result OpenAt Refusal

@@ -1,5 +1,5 @@
 -- How one entry of the journal leads from a state to the next.
-use Rattle.std.specs.Prelude.{◌≡◌, ◌≢◌, ℕ, ◌+◌, ◌<◌, Bool, not, List, [], ◌∷◌, ◌++◌, filter, length, map, slice_set, Option, Some, None, IfSome, is_some, if◌then◌else◌}
+use Rattle.std.specs.Prelude.{◌≡◌, ◌≢◌, ℕ, ◌+◌, ◌<◌, Bool, not, List, [], ◌∷◌, ◌++◌, filter, length, map, Option, Some, None, IfSome, is_some, if◌then◌else◌}
 use Rattle.nfs_core.specs.declared.change.Change.{Change}
 use Rattle.nfs_core.specs.declared.change.Change.TheVariants as changes
 use Rattle.nfs_core.specs.declared.decision.Decision.{Decision}
@@ -11,14 +11,14 @@ use Rattle.nfs_core.specs.declared.request.Request.{Request}
 use Rattle.nfs_owners.specs.ClientChange.{with_change}
 use Rattle.nfs_owners.specs.declared.clients.client_change.ClientChange.{ClientChange}
 use Rattle.nfs_owners.specs.declared.clients.client_change.ClientChange.TheVariants as client_changes
-use Rattle.nfs_share.specs.declared.open_state.OpenState.{OpenState}
+use Rattle.nfs_share.specs.AllOpens.{opens_of, with_opens}
 use Rattle.nfs_share.specs.Opens.{after_downgrade, is_numbered, is_of_client, open_of, with_each, with_next_seqid, with_opening, without}
 use Rattle.nfs_forms.specs.ClientId.{is_same_client}
 use Rattle.nfs_forms.specs.declared.client_id.ClientId.{ClientId}
 use Rattle.nfs_core.specs.operations.{IsRuled}
 use Rattle.nfs_core.specs.Owners.{with_confirmation}
 use Rattle.nfs_core.specs.Sequences.{with_owner_change}
-use Rattle.nfs_core.specs.State.{State, History, opens_of}
+use Rattle.nfs_core.specs.State.{State, History}
 use Rattle.nfs_tree.specs.Tree.{node_count}
 use Rattle.nfs_xdr.specs.declared.op.Op.{Op}
 use Rattle.nfs_xdr.specs.declared.op_result.OpResult.{OpResult}
@@ -26,10 +26,6 @@ use Rattle.nfs_forms.specs.declared.principal.Principal.{Principal}
 use Rattle.nfs_forms.specs.declared.status.Refusal.TheVariants.{Resource}
 use Rattle.nfs_xdr.specs.Op.{opnum_of}
 use Rattle.nfs_xdr.specs.OpResult.{refusal_of}
-
--- the opens, with a change of those of one node
-abbrev pub with_opens : ℕ → (List OpenState → List OpenState) → List (List OpenState) → List (List OpenState)
-with_opens node change opens = slice_set opens node (change (opens_of node opens))
 
 -- The state without the owners and the opens of a client that a confirmation replaces.
 abbrev pub without_client : ClientId → State → State

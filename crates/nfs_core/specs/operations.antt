@@ -9,7 +9,7 @@ use Rattle.nfs_core.specs.operations.OpenConfirm as open_confirm
 use Rattle.nfs_core.specs.operations.OpenDowngrade as open_downgrade
 use Rattle.nfs_core.specs.operations.Setclientid as setclientid
 use Rattle.nfs_core.specs.operations.SetclientidConfirm as confirm
-use Rattle.nfs_core.specs.Sequences.{IsSequenced, requester_of_open, requester_of_stateid}
+use Rattle.nfs_core.specs.Sequences.{IsSequenced, Own, requester_of_open, requester_of_stateid}
 use Rattle.nfs_core.specs.State.{State, History}
 use Rattle.nfs_xdr.specs.declared.op.Op.{Op}
 use Rattle.nfs_xdr.specs.declared.op.Op.TheVariants as ops
@@ -20,6 +20,14 @@ pub mod OpenConfirm
 pub mod OpenDowngrade
 pub mod Setclientid
 pub mod SetclientidConfirm
+
+-- the own rule of a sequenced operation
+abbrev pub own_of : Op → History → State → Own
+own_of (ops.Open args) journal state = opening.own journal state args
+own_of (ops.OpenConfirm args) journal state = open_confirm.own journal state args
+own_of (ops.OpenDowngrade args) journal state = open_downgrade.own journal state args
+own_of (ops.Close args) journal state = close.own journal state args
+own_of op journal state node passage ruling = ⊥
 
 -- What the rule of an operation decides for a request, given the journal and the state; `None` if a limit would be
 -- exceeded. An operation without an entry in the journal has no rule here.

@@ -27,5 +27,8 @@ pub(crate) enum Change {
         share: Share,
     },
     /// The open with this number is freed.
-    Closes { node: u32, number: u32 },
+    Closes {
+        node: u32,
+        number: u32,
+    },
 }

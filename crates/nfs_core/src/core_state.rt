@@ -1,9 +1,11 @@
-ghost use Rattle.std.specs.Prelude.{◌≡◌, None, ◌≢◌, ◌≤◌, ◌<◌, [], IfOk, OnOk, OnErr, IsErrOf, IsTrue, Some, length};
+ghost use Rattle.std.specs.Prelude.{◌≡◌, None, ◌≢◌, ◌≤◌, ◌<◌, [], IfErr, IfOk, OnOk, OnErr, IsErrOf, IsTrue, Some, length};
 ghost use Rattle.nfs_core.specs.Server.{Applies, IsLawful};
 ghost use Rattle.nfs_core.specs.Step.{AtMostOneStep, IsFilehandle, changed, request_of, with_entry};
 ghost use Rattle.nfs_core.specs.Stored.{empty_store};
 ghost use Rattle.nfs_core.specs.Deciding.{HasNoStep, IsSendable};
-ghost use Rattle.nfs_core.specs.Room.{HasNumbers, state_of, stored_of};
+ghost use Rattle.nfs_core.specs.Kept.{Agrees};
+ghost use Rattle.nfs_core.specs.Room.{HasNumbers, HasOwnerPlace, state_of, stored_of};
+ghost use Rattle.nfs_core.specs.Sequences.{with_owner_change};
 ghost use Rattle.nfs_core.specs.operations.{IsRuled};
 ghost use Rattle.nfs_xdr.specs.Op.{has_entry};
 ghost use Rattle.nfs_xdr.specs.OpResult.{op_result};
@@ -12,6 +14,7 @@ use crate::change::Change;
 use crate::journal::push_entry;
 use crate::operations::decide;
 use crate::owner_change::OwnerChange;
+use crate::owner_update::OwnerUpdate;
 use crate::shortage::Shortage;
 use crate::tables::Tables;
 use crate::{
@@ -34,6 +37,7 @@ pub struct Core {
 }
 
 impl Model for Core {
+    ghost use Rattle.nfs_core.specs.Kept.{Agrees};
     ghost use Rattle.nfs_core.specs.Lawful.{Lawful};
     ghost use Rattle.nfs_core.specs.Server.{Server};
     ghost use Rattle.nfs_core.specs.Room.{state_of, stored_of};
@@ -42,7 +46,8 @@ impl Model for Core {
 
     ghost view = { λ c. record { journal = c.journal; stored = stored_of c.tables } };
 
-    ghost invariant = { λ c. Lawful c.journal (state_of c.tables) };
+    ghost invariant = { λ c.
+        Lawful c.journal (state_of c.tables) × Agrees c.journal c.tables.owners.owners };
 }
 
 impl Core {
@@ -124,10 +129,13 @@ fn enter(
     requires entry { IsTrue (has_entry request.op) }
     requires node { IsFilehandle journal.old request.filehandle }
     requires numbers { tables.old.clients.registry.last_confirm ≤ length journal.old.entries }
+    requires states { tables.old.numbers ≤ length journal.old.entries }
+    requires kept { Agrees journal.old tables.old.owners.owners }
     ensures entered { IfOk result (λ r. Applies
         (record { journal = journal.old; stored = stored_of tables.old })
         (record { journal = journal.new; stored = stored_of tables.new })
         request r.0 (Some r.1)) }
+    ensures kept { Agrees journal.new tables.new.owners.owners }
     ensures sendable { IfOk result (λ r. IsSendable request.op r.0) }
     ensures limit { IsErrOf result Shortage.Limit
         → HasNoStep journal.old (state_of tables.old) request }
@@ -143,7 +151,7 @@ fn enter(
     let decision = decide(alloc, tables, journal, &request)?;
     let answer = copy_of(&decision.answer)?;
     let call = Call { request, answer };
-    let number = take_in(tables, journal, call, decision.change)?;
+    let number = take_in(tables, journal, call, decision.change, decision.owner)?;
     Ok((decision.answer, number))
 }
 
@@ -153,23 +161,32 @@ fn copy_of(answer: &OpResult) -> Result<OpResult, AllocError>
     answer.clone()
 }
 
-// Makes room for the change and for the entry, then makes the change and adds the call to the journal.
+// Makes room for the entry and for all that it changes, then makes the changes and adds the call to the journal.
 fn take_in(
     tables: &mut Tables,
     journal: &mut Journal,
     call: Call,
     change: Change,
+    owner: OwnerChange,
 ) -> Result<u32, Shortage>
     requires below { length journal.old.entries < JOURNAL_LIMIT }
     requires numbers { HasNumbers change (state_of tables.old) }
+    requires place { HasOwnerPlace owner (state_of tables.old) }
+    requires kept { Agrees journal.old tables.old.owners.owners }
+    requires sendable { IsSendable call.request.op call.answer }
     ensures number { IfOk result (λ n. n ≡ length journal.old.entries) }
     ensures entry { OnOk result (journal.new ≡ with_entry (Entry.Call call) journal.old) }
-    ensures change { OnOk result (state_of tables.new ≡ changed change (state_of tables.old)) }
+    ensures state { OnOk result (state_of tables.new
+        ≡ changed change (with_owner_change owner (length journal.old.entries) (state_of tables.old))) }
+    ensures kept { OnOk result (Agrees journal.new tables.new.owners.owners) }
+    ensures memory { IfErr result (λ e. e ≡ Shortage.Memory) }
     ensures same { OnErr result
         ((journal.new ≡ journal.old) × (stored_of tables.new ≡ stored_of tables.old)) }
 {
     journal.entries.reserve(1)?;
-    tables.make_room(&change, &OwnerChange::Nothing)?;
+    tables.make_room(&change, &owner)?;
+    let update = OwnerUpdate::of(owner, &call)?;
+    tables.commit_owner(update, journal.entries.len() as u32);
     tables.commit(change);
     Ok(push_entry(&mut journal.entries, Entry::Call(call)))
 }

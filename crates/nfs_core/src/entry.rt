@@ -1,5 +1,11 @@
+ghost use Rattle.std.specs.Prelude.{◌≡◌, IfOk};
+ghost use Rattle.nfs_core.specs.Sequences.{kept_of};
+
 use crate::Request;
+use crate::sequence::seqid_of;
+use nfs_owners::{Kept, KeptRequest};
 use nfs_xdr::OpResult;
+use std::alloc::AllocError;
 
 /// One event that the journal records.
 #[derive(Debug, Drop)]
@@ -17,3 +23,19 @@ pub struct Call {
 
 /// How many entries a journal can have.
 pub const JOURNAL_LIMIT: usize = 1_000_000;
+
+impl Call {
+    /// The request and the answer, as they are kept for an owner.
+    pub(crate) fn kept(&self) -> Result<Kept, AllocError>
+        ensures { IfOk result (λ k. k ≡ kept_of (Entry.Call self.now)) }
+    {
+        Ok(Kept {
+            seqid: seqid_of(&self.request.op),
+            request: KeptRequest {
+                op: self.request.op.clone()?,
+                filehandle: self.request.filehandle,
+            },
+            answer: self.answer.clone()?,
+        })
+    }
+}

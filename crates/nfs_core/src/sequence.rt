@@ -1,5 +1,6 @@
 ghost use Rattle.std.specs.Prelude.{◌≡◌, IfOk, Some};
 ghost use Rattle.nfs_core.specs.Finding.{requester_seen, sequence_seen};
+ghost use Rattle.nfs_core.specs.Deciding.{HasPassage, IsSendableSequence};
 ghost use Rattle.nfs_core.specs.Kept.{Agrees};
 ghost use Rattle.nfs_core.specs.Room.{state_of};
 ghost use Rattle.nfs_core.specs.Sequences.{IsRestart, IsSequence, by_verdict, is_open, requester_of_open, requester_of_stateid, seqid_of};
@@ -67,8 +68,10 @@ impl Tables {
         requester: Requester<'a>,
     ) -> Result<Sequence<'a>, AllocError>
         requires { Agrees journal.now self.now.owners.owners }
-        ensures { IfOk result (λ s. IsSequence journal.now (state_of self.now)
+        ensures sequence { IfOk result (λ s. IsSequence journal.now (state_of self.now)
             (requester_seen requester.entry) request.now (sequence_seen s)) }
+        ensures sendable { IfOk result (λ s. IsSendableSequence request.now.op (sequence_seen s)) }
+        ensures passage { IfOk result (λ s. HasPassage (state_of self.now) (sequence_seen s)) }
     {
         let name = match requester {
             Requester::Refused(refusal) => return Ok(refusal_to(&request.op, refusal)),
@@ -77,7 +80,9 @@ impl Tables {
         match self.owners.find(name) {
             None if is_open(&request.op) => Ok(Sequence::GoesOn(Passage::Begins, name)),
             None => Ok(refusal_to(&request.op, Refusal::BadStateId)),
-            Some(owner) if is_open(&request.op) && !owner.confirmed => restart(owner, request, name),
+            Some(owner) if is_open(&request.op) && !owner.confirmed => restart(
+                owner, request, name,
+            ),
             Some(owner) => judge(owner, request, name),
         }
     }
@@ -89,7 +94,10 @@ fn judge<'a>(
     request: &Request,
     name: &'a OpenOwner,
 ) -> Result<Sequence<'a>, AllocError> {
-    match owner.kept.judge(seqid_of(&request.op), &request.op, request.filehandle) {
+    match owner
+        .kept
+        .judge(seqid_of(&request.op), &request.op, request.filehandle)
+    {
         Verdict::New => Ok(Sequence::GoesOn(Passage::Continues, name)),
         Verdict::Replay(answer) => Ok(Sequence::Answered(answer.clone()?)),
         Verdict::Bad => Ok(refusal_to(&request.op, Refusal::BadSeqId)),
@@ -102,7 +110,10 @@ fn restart<'a>(
     request: &Request,
     name: &'a OpenOwner,
 ) -> Result<Sequence<'a>, AllocError> {
-    match owner.kept.judge(seqid_of(&request.op), &request.op, request.filehandle) {
+    match owner
+        .kept
+        .judge(seqid_of(&request.op), &request.op, request.filehandle)
+    {
         Verdict::Replay(answer) => Ok(Sequence::Answered(answer.clone()?)),
         Verdict::New | Verdict::Bad => Ok(Sequence::GoesOn(Passage::Restarts, name)),
     }
@@ -113,7 +124,7 @@ fn refusal_to<'a>(op: &Op, refusal: Refusal) -> Sequence<'a> {
 }
 
 // The sequence id in the operation's arguments.
-fn seqid_of(op: &Op) -> u32
+pub(crate) fn seqid_of(op: &Op) -> u32
     ensures { result ≡ seqid_of op.now }
 {
     match op {

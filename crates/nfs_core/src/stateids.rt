@@ -1,23 +1,16 @@
 ghost use Rattle.std.specs.Prelude.{◌≡◌};
-ghost use Rattle.nfs_core.specs.Finding.{open_or_refusal_seen, open_seen, target_seen};
+ghost use Rattle.nfs_core.specs.Finding.{open_or_refusal_seen, target_seen};
 ghost use Rattle.nfs_core.specs.Owners.{is_confirmed};
 ghost use Rattle.nfs_core.specs.Room.{state_of};
 ghost use Rattle.nfs_core.specs.Stateids as stateids;
-ghost use Rattle.nfs_core.specs.Stateids.{by_seqid, is_all, is_special, named_by, verdict};
+ghost use Rattle.nfs_core.specs.Stateids.{by_seqid, is_all, is_special, verdict};
+ghost use Rattle.nfs_share.specs.OpenFound.{open_seen};
 
 use crate::demand::Demand;
-use crate::file_shares;
 use crate::tables::Tables;
 use nfs_owners::OwnerStanding;
-use nfs_share::OpenState;
+use nfs_share::OpenFound;
 use nfs_xdr::{OpenOwner, Refusal, Stateid};
-
-/// An open, and the node of its file.
-#[derive(Clone, Copy, Debug)]
-pub(crate) struct OpenFound<'a> {
-    pub(crate) node: u32,
-    pub(crate) state: &'a OpenState,
-}
 
 /// What a stateid names, before its file and its seqid are looked at.
 #[derive(Clone, Copy, Debug)]
@@ -46,27 +39,14 @@ impl Tables {
         if self.clients.of(stateid.client).is_none() {
             return Target::Refused(Refusal::Expired);
         }
-        self.open_named_by(stateid)
-    }
-
-    // The open that the stateid names, if there is one.
-    fn open_named_by(&self, stateid: Stateid) -> Target<'_>
-        ensures { target_seen result ≡ named_by stateid (state_of self.now).opens }
-    {
-        let Some(node) = file_shares::node_of(&self.shares, stateid) else {
-            return Target::NoOpen;
-        };
-        match self.shares[node].named_by(stateid) {
-            Some(state) => Target::AnOpen(OpenFound {
-                node: node as u32,
-                state,
-            }),
+        match self.opens.find(stateid) {
+            Some(found) => Target::AnOpen(found),
             None => Target::NoOpen,
         }
     }
 
-    // Whether the owner is known and confirmed.
-    fn is_confirmed(&self, owner: &OpenOwner) -> bool
+    /// Whether the owner is known and confirmed.
+    pub(crate) fn is_confirmed(&self, owner: &OpenOwner) -> bool
         ensures { result ≡ is_confirmed owner.now (state_of self.now).owners }
     {
         self.owners.known(owner) == OwnerStanding::Confirmed

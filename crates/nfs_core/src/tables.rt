@@ -1,12 +1,12 @@
-ghost use Rattle.std.specs.Prelude.{◌≡◌, IfOk, OnOk};
+ghost use Rattle.std.specs.Prelude.{◌≡◌, ◌<◌, ◌≤◌, ◌-◌, ◌^◌, IfErr, IfOk, OnOk, map};
 
 use crate::change::Change;
-use crate::file_shares;
 use crate::owner_change::OwnerChange;
+use crate::owner_update::OwnerUpdate;
 use crate::shortage::Shortage;
 use crate::stored_files::StoredFiles;
-use nfs_owners::{ClientChange, ClientRecord, Clients, Kept, Numbers, Owners};
-use nfs_share::FileShare;
+use nfs_owners::{ClientChange, ClientRecord, Clients, Numbers, Owners};
+use nfs_share::{Opens, Share};
 use nfs_tree::Tree;
 use nfs_xdr::{ClientId, OpenOwner};
 use std::alloc::{AllocError, Global};
@@ -16,8 +16,7 @@ use std::alloc::{AllocError, Global};
 pub(crate) struct Tables {
     pub(crate) clients: Clients,
     pub(crate) owners: Owners,
-    /// The opens of each node, by its number.
-    pub(crate) shares: Vec<FileShare>,
+    pub(crate) opens: Opens,
     /// The numbers of the opens.
     pub(crate) numbers: Numbers,
     files: StoredFiles,
@@ -26,9 +25,17 @@ pub(crate) struct Tables {
 impl Tables {
     ghost use Rattle.std.specs.Option.{option_copied};
     ghost use Rattle.nfs_core.specs.State.{change_of, file_of, has_state, record_has_state, size_of};
+    ghost use Rattle.nfs_core.specs.Kept.{Agrees, owners_after, update_of};
+    ghost use Rattle.nfs_core.specs.Sequences.{with_owner_change};
+    ghost use Rattle.nfs_core.specs.State.{History};
     ghost use Rattle.nfs_core.specs.Step.{changed};
-    ghost use Rattle.nfs_core.specs.Room.{HasNumbers, HasOwnerRoom, HasRoom, state_of, stored_of};
-    ghost use Rattle.nfs_core.specs.Sequences.{with_owner_change, without};
+    ghost use Rattle.nfs_core.specs.Room.{HasNumbers, HasOwnerPlace, HasOwnerRoom, HasRoom, HasUpdateRoom, state_of, stored_of};
+    ghost use Rattle.nfs_core.specs.declared.owner_change.OwnerChange.{OwnerChange};
+    ghost use Rattle.nfs_owners.specs.declared.kept.Kept.{Kept};
+    ghost use Rattle.nfs_core.specs.declared.change.Change.{Change};
+    ghost use Rattle.nfs_owners.specs.Owners.{without_owner};
+    ghost use Rattle.nfs_share.specs.AllOpens.{HasRoomAt, opens_in};
+    ghost use Rattle.nfs_share.specs.Opens.{is_of, without};
     ghost use Rattle.nfs_core.specs.declared.change.Change.TheVariants as changes;
     ghost use Rattle.nfs_owners.specs.ClientRoom.{HasNumbersFor, HasRoomFor};
     ghost use Rattle.nfs_core.specs.Stored.{empty_store};
@@ -40,7 +47,7 @@ impl Tables {
         Ok(Tables {
             clients: Clients::new(alloc),
             owners: Owners::new(alloc),
-            shares: file_shares::no_opens(alloc, tree.len())?,
+            opens: Opens::new(alloc, tree.len())?,
             numbers: Numbers::new(),
             files: StoredFiles::of_tree(alloc, tree)?,
         })
@@ -71,24 +78,20 @@ impl Tables {
     fn has_state(&self, client: ClientId) -> bool
         ensures { result ≡ has_state (state_of self.now) client }
     {
-        file_shares::has_client(self.shares.as_slice(), client)
+        self.opens.has_client(client)
     }
 
-    /// Makes room for the change, and for what the entry means for an owner.
+    /// Makes room for the change, and for what the entry means for an owner. Fails for want of memory alone.
     pub(crate) fn make_room(&mut self, change: &Change, owner: &OwnerChange) -> Result<(), Shortage>
+        requires place { HasOwnerPlace owner.now (state_of self.old) }
         ensures same { stored_of self.new ≡ stored_of self.old }
-        ensures room { OnOk result (HasRoom change.now self.new) }
-        ensures owner { OnOk result (HasOwnerRoom owner.now self.new) }
+        ensures room { OnOk result (HasRoom change.now self.new × HasOwnerRoom owner.now self.new) }
+        ensures memory { IfErr result (λ e. e ≡ Shortage.Memory) }
     {
-        match owner {
-            OwnerChange::Nothing | OwnerChange::Drops(_) => {}
-            OwnerChange::Keeps(name) | OwnerChange::Records(name) | OwnerChange::Restarts(name) => {
-                self.owners.reserve(name)?;
-            }
-        }
+        self.make_owner_room(owner)?;
         match change {
             Change::Clients(change) => self.clients.make_room(change)?,
-            Change::Opens { node, .. } => self.shares[*node as usize].reserve()?,
+            Change::Opens { node, .. } => self.opens.reserve(*node)?,
             Change::Nothing
             | Change::Confirms { .. }
             | Change::Downgrades { .. }
@@ -97,54 +100,110 @@ impl Tables {
         Ok(())
     }
 
-    /// Makes what the entry with this number means for an owner, for which there has to be room. It takes no memory.
-    pub(crate) fn commit_owner(&mut self, change: OwnerChange, number: u32, kept: Kept)
-        requires room { HasOwnerRoom change self.old }
-        ensures { state_of self.new ≡ with_owner_change change number (state_of self.old) }
+    // Makes room for what the entry means for an owner.
+    fn make_owner_room(&mut self, change: &OwnerChange) -> Result<(), Shortage>
+        requires place { HasOwnerPlace change.now (state_of self.old) }
+        ensures same { stored_of self.new ≡ stored_of self.old }
+        ensures room { OnOk result (HasOwnerRoom change.now self.new) }
+        ensures memory { IfErr result (λ e. e ≡ Shortage.Memory) }
     {
         match change {
-            OwnerChange::Nothing => {}
-            OwnerChange::Keeps(name) | OwnerChange::Records(name) => {
-                self.owners.keep(name, number, kept);
+            OwnerChange::Nothing | OwnerChange::Keeps(_) | OwnerChange::Drops(_) => Ok(()),
+            OwnerChange::Records(name) | OwnerChange::Restarts(name) => {
+                Ok(self.owners.reserve(name)?)
             }
-            OwnerChange::Restarts(name) => {
+        }
+    }
+
+    /// Makes what the entry with this number means for an owner, for which there has to be room. It takes no memory.
+    pub(crate) fn commit_owner(&mut self, update: OwnerUpdate, number: u32)
+        requires room { HasUpdateRoom update self.old }
+        ensures state { (change : OwnerChange) (kept : Kept) → update ≡ update_of change kept
+            → HasOwnerPlace change (state_of self.old)
+            → state_of self.new ≡ with_owner_change change number (state_of self.old) }
+        ensures owners { self.new.owners.owners ≡ owners_after update number self.old.owners.owners }
+        ensures room { (change : Change) → HasRoom change self.old → HasRoom change self.new }
+    {
+        match update {
+            OwnerUpdate::Nothing => {}
+            OwnerUpdate::Keeps(name, kept) => self.owners.keep(name, number, kept),
+            OwnerUpdate::Restarts(name, kept) => {
                 self.remove_owner(&name);
                 self.owners.keep(name, number, kept);
             }
-            OwnerChange::Drops(name) => self.remove_owner(&name),
+            OwnerUpdate::Drops(name) => self.remove_owner(&name),
         }
     }
 
     // Forgets the owner, and frees its opens.
     fn remove_owner(&mut self, name: &OpenOwner)
-        ensures { state_of self.new ≡ without name.now (state_of self.old) }
+        ensures owners { self.new.owners.owners ≡ without_owner name.now self.old.owners.owners }
+        ensures opens { opens_in self.new.opens ≡ map (without (is_of name.now)) (opens_in self.old.opens) }
+        ensures same { stored_of self.new ≡ record (stored_of self.old) {
+          owners = self.new.owners.owners;
+          opens = opens_in self.new.opens;
+        } }
+        ensures room { (change : Change) → HasRoom change self.old → HasRoom change self.new }
+        ensures owner_room { self.old.owners.room ≤ self.new.owners.room }
     {
         self.owners.remove(name);
-        file_shares::remove_owner(&mut self.shares, name);
+        self.opens.remove_owner(name);
     }
 
     /// Makes the change, for which there has to be room. It takes no memory.
     pub(crate) fn commit(&mut self, change: Change)
         requires room { HasRoom change self.old }
         requires numbers { HasNumbers change (state_of self.old) }
-        ensures { state_of self.new ≡ changed change (state_of self.old) }
+        ensures state { state_of self.new ≡ changed change (state_of self.old) }
+        ensures kept { (journal : History)
+            → Agrees journal self.old.owners.owners → Agrees journal self.new.owners.owners }
     {
         match change {
             Change::Nothing => {}
             Change::Clients(change) => self.commit_clients(change),
-            _ => unreachable!(),
+            Change::Opens { node, owner, share } => self.commit_open(node, owner, share),
+            Change::Confirms {
+                node,
+                number,
+                owner,
+            } => {
+                self.owners.confirm(&owner);
+                self.opens.advance(node, number);
+            }
+            Change::Downgrades {
+                node,
+                number,
+                share,
+            } => self.opens.keep_within(node, number, share),
+            Change::Closes { node, number } => self.opens.close(node, number),
         }
+    }
+
+    // Adds the share to the owner's open, or makes an open with the next number.
+    fn commit_open(&mut self, node: u32, owner: OpenOwner, share: Share)
+        requires room { HasRoomAt node self.old.opens }
+        requires numbers { self.old.numbers < 2 ^ 32 - 1 }
+        ensures state { state_of self.new ≡ changed (changes.Opens node owner share) (state_of self.old) }
+        ensures owners { self.new.owners ≡ self.old.owners }
+    {
+        let number = self.numbers.upcoming();
+        if self.opens.open_of(node, &owner).is_none() {
+            self.numbers.next();
+        }
+        self.opens.grant(node, owner, share, number);
     }
 
     // Changes the clients' records. A client that is replaced loses its owners and its opens.
     fn commit_clients(&mut self, change: ClientChange)
         requires room { HasRoomFor change self.old.clients }
         requires numbers { HasNumbersFor change self.old.clients.registry }
-        ensures { state_of self.new ≡ changed (changes.Clients change) (state_of self.old) }
+        ensures state { state_of self.new ≡ changed (changes.Clients change) (state_of self.old) }
+        ensures kept { (journal : History)
+            → Agrees journal self.old.owners.owners → Agrees journal self.new.owners.owners }
     {
         if let ClientChange::Replaces(_, client) = &change {
             self.owners.remove_client(*client);
-            file_shares::remove_client(&mut self.shares, *client);
+            self.opens.remove_client(*client);
         }
         self.clients.commit(change);
     }

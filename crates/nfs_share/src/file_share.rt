@@ -1,4 +1,4 @@
-ghost use Rattle.std.specs.Prelude.{◌≡◌, ◌≤◌, ◌<◌, ◌+◌, ◌↔◌, IfErr, IfNone, IfOk, IsErrOf, IsOk, IsTrue, OnErr, OnOk, OnSome, Some, [], ◌∷◌, ◌++◌, ◌⊎◌, option_map};
+ghost use Rattle.std.specs.Prelude.{◌≡◌, ◌≤◌, ◌<◌, ◌+◌, ◌↔◌, IfErr, IfNone, IfOk, IsErrOf, IsOk, IsTrue, OnErr, OnOk, OnSome, Some, length, [], ◌∷◌, ◌++◌, ◌⊎◌, option_map};
 ghost use Rattle.std.specs.List.{list_any};
 ghost use Rattle.std.specs.Option.{option_copied};
 ghost use Rattle.nfs_share.specs.Opens.{CanDowngrade, with_next_seqid, after_downgrade, is_denied, is_numbered, is_of, is_of_client, is_refused, is_stateid_of, open_named_by, after_open, next_stateid_of, open_with_number, open_of, share_of, stateid_of, with_each, with_opening, without};
@@ -103,6 +103,13 @@ impl FileShare {
         self.opens.iter().any(|open| open.is_of_client(client))
     }
 
+    /// How many opens there are of other owners.
+    pub fn count_without(&self, owner: &OpenOwner) -> usize
+        ensures { result ≡ length (without (is_of owner.now) self.now.opens) }
+    {
+        self.opens.iter().filter(|open| !open.is_of(owner)).count()
+    }
+
     /// Makes room, so that the next change takes no memory.
     pub fn reserve(&mut self) -> Result<(), AllocError>
         ensures opens { self.new.opens ≡ self.old.opens }
@@ -138,6 +145,17 @@ impl FileShare {
         match self.join(&owner, share) {
             Some(stateid) => Ok(stateid),
             None => Ok(self.add(OpenState::new(owner, share, number))?),
+        }
+    }
+
+    /// OPEN, no matter what others deny: as `try_open`, where there is room. It takes no memory.
+    pub fn grant(&mut self, owner: OpenOwner, share: Share, number: u32)
+        requires room { 0 < self.old.room }
+        ensures { self.new.opens ≡ with_opening owner share number self.old.opens }
+    {
+        if self.join(&owner, share).is_none() {
+            self.opens
+                .push_reserved(OpenState::new(owner, share, number));
         }
     }
 
@@ -197,6 +215,16 @@ impl FileShare {
             }
             _ => Err(ShareError::Invalid),
         }
+    }
+
+    /// OPEN_DOWNGRADE, no matter whether it is allowed: keeps of the open with this number the shares that this share
+    /// contains.
+    pub fn keep_within(&mut self, number: u32, share: Share)
+        ensures { self.new ≡ record self.old {
+          opens = with_each (is_numbered number) (after_downgrade share) self.old.opens;
+        } }
+    {
+        downgrade_each(&mut self.opens, number, share);
     }
 
     /// CLOSE (RFC 7530, section 16.2): removes the open with this number, if there is one.

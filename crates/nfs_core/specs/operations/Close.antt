@@ -1,9 +1,11 @@
 -- CLOSE (RFC 7530, section 16.2): frees an open.
 use Rattle.std.specs.Prelude.{◌≡◌, ℕ, false, Some, Result, Ok, Err}
 use Rattle.nfs_core.specs.declared.change.Change.TheVariants.{Nothing, Closes}
-use Rattle.nfs_core.specs.Sequences.{Own, Ruling}
-use Rattle.nfs_core.specs.Stateids.{OpenAt, verdict}
+use Rattle.nfs_core.specs.declared.ruling.Ruling.{Ruling}
+use Rattle.nfs_core.specs.Sequences.{Own}
+use Rattle.nfs_core.specs.Stateids.{verdict}
 use Rattle.nfs_core.specs.State.{State, History}
+use Rattle.nfs_share.specs.AllOpens.{OpenAt}
 use Rattle.nfs_share.specs.Opens.{next_stateid_of}
 use Rattle.nfs_forms.specs.declared.answer.Answer.TheVariants.{Done, Refused}
 use Rattle.nfs_xdr.specs.declared.op_result.OpResult.TheVariants as results

@@ -4,13 +4,15 @@ use Rattle.nfs_core.specs.declared.change.Change.TheVariants.{Nothing, Opens}
 use Rattle.nfs_core.specs.declared.passage.Passage.{Passage}
 use Rattle.nfs_core.specs.declared.passage.Passage.TheVariants.{Continues}
 use Rattle.nfs_core.specs.declared.limits.TheConstants.{OPEN_LIMIT}
-use Rattle.nfs_core.specs.Sequences.{Own, Ruling, before_own}
+use Rattle.nfs_core.specs.declared.ruling.Ruling.{Ruling}
+use Rattle.nfs_core.specs.Sequences.{Own, before_own}
 use Rattle.nfs_core.specs.Stateids as stateids
 use Rattle.nfs_core.specs.Stateids.{Target, target_of}
-use Rattle.nfs_core.specs.State.{State, History, open_count, opens_of}
+use Rattle.nfs_core.specs.State.{State, History}
 use Rattle.nfs_owners.specs.declared.owner.TheConstants.{OWNER_LIMIT}
 use Rattle.nfs_share.specs.declared.open_state.OpenState.{OpenState}
 use Rattle.nfs_share.specs.declared.share.Share.{Share}
+use Rattle.nfs_share.specs.AllOpens.{open_count, opens_of}
 use Rattle.nfs_share.specs.Opens.{first_open, is_refused, next_stateid_of, open_of, stateid_of}
 use Rattle.nfs_share.specs.Share.{share_of_numbers}
 use Rattle.nfs_tree.specs.Tree.{is_directory, resolved}

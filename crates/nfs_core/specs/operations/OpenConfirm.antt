@@ -2,9 +2,11 @@
 use Rattle.std.specs.Prelude.{◌≡◌, ℕ, true, Some, Result, Ok, Err, if◌then◌else◌}
 use Rattle.nfs_core.specs.declared.change.Change.TheVariants.{Nothing, Confirms}
 use Rattle.nfs_core.specs.Owners.{is_confirmed}
-use Rattle.nfs_core.specs.Sequences.{Own, Ruling}
-use Rattle.nfs_core.specs.Stateids.{OpenAt, verdict}
+use Rattle.nfs_core.specs.declared.ruling.Ruling.{Ruling}
+use Rattle.nfs_core.specs.Sequences.{Own}
+use Rattle.nfs_core.specs.Stateids.{verdict}
 use Rattle.nfs_core.specs.State.{State, History}
+use Rattle.nfs_share.specs.AllOpens.{OpenAt}
 use Rattle.nfs_share.specs.Opens.{next_stateid_of}
 use Rattle.nfs_forms.specs.declared.answer.Answer.TheVariants.{Done, Refused}
 use Rattle.nfs_xdr.specs.declared.op_result.OpResult.TheVariants as results

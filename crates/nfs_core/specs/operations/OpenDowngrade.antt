@@ -1,10 +1,12 @@
 -- OPEN_DOWNGRADE (RFC 7530, section 16.19): gives up a part of an open's access, and of what it denies to others.
 use Rattle.std.specs.Prelude.{◌≡◌, ◌⊎◌, ℕ, false, Option, Some, None, Result, Ok, Err}
 use Rattle.nfs_core.specs.declared.change.Change.TheVariants.{Nothing, Downgrades}
-use Rattle.nfs_core.specs.Sequences.{Own, Ruling}
-use Rattle.nfs_core.specs.Stateids.{OpenAt, verdict}
+use Rattle.nfs_core.specs.declared.ruling.Ruling.{Ruling}
+use Rattle.nfs_core.specs.Sequences.{Own}
+use Rattle.nfs_core.specs.Stateids.{verdict}
 use Rattle.nfs_core.specs.State.{State, History}
 use Rattle.nfs_share.specs.declared.share.Share.{Share}
+use Rattle.nfs_share.specs.AllOpens.{OpenAt}
 use Rattle.nfs_share.specs.Opens.{next_stateid_of}
 use Rattle.nfs_share.specs.Share.{share_of_numbers}
 use Rattle.nfs_share.specs.Shares.{IsLawfulDowngrade}

@@ -1,0 +1,47 @@
+-- The opens of all files: those of each node of the tree, by its number.
+use Rattle.std.specs.Prelude.{◌<◌, ℕ, ◌+◌, List, [], ◌∷◌, length, map, option_map, position, slice_get, slice_set, IfSome, Option, Some, None}
+use Rattle.std.specs.List.{list_any}
+use Rattle.nfs_forms.specs.declared.client_id.ClientId.{ClientId}
+use Rattle.nfs_forms.specs.declared.stateid.Stateid.{Stateid}
+use Rattle.nfs_share.specs.Opens.{FileOpens, is_stateid_of, open_named_by}
+use Rattle.nfs_share.specs.declared.open_state.OpenState.{OpenState}
+
+-- an open, and the node of its file
+pub record OpenAt : Type 0 where
+  pub node : ℕ
+  pub state : OpenState
+
+-- the opens of each file, no matter how much room it has
+abbrev pub opens_in : List FileOpens → List (List OpenState)
+opens_in files = map (λ f. f.opens) files
+
+-- the opens of a node; none where there is no such node
+abbrev pub opens_or_none : Option (List OpenState) → List OpenState
+opens_or_none None = []
+opens_or_none (Some opens) = opens
+
+abbrev pub opens_of : ℕ → List (List OpenState) → List OpenState
+opens_of node opens = opens_or_none (slice_get opens node)
+
+-- how many opens there are
+pub open_count : List (List OpenState) → ℕ
+open_count [] = 0
+open_count (opens ∷ more) = length opens + open_count more
+
+-- the opens, with a change of those of one node
+abbrev pub with_opens : ℕ → (List OpenState → List OpenState) → List (List OpenState) → List (List OpenState)
+with_opens node change opens = slice_set opens node (change (opens_of node opens))
+
+-- the open that the stateid names, given the node that has one
+abbrev pub named_at : Stateid → List (List OpenState) → Option ℕ → Option OpenAt
+named_at id opens None = None
+named_at id opens (Some node) =
+    option_map (λ o. record { node = node; state = o }) (open_named_by id (opens_of node opens))
+
+-- the open that the stateid names, no matter its seqid, if there is one
+abbrev pub named_in : Stateid → List (List OpenState) → Option OpenAt
+named_in id opens = named_at id opens (position (list_any (is_stateid_of id)) opens)
+
+-- an open of the node takes no memory
+abbrev pub HasRoomAt : ℕ → List FileOpens → Type 0
+HasRoomAt node files = IfSome (slice_get files node) (λ f. 0 < f.room)

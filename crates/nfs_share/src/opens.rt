@@ -1,0 +1,181 @@
+ghost use Rattle.std.specs.Prelude.{◌≡◌, ℕ, [], IfOk, OnOk, map, option_map, replicate};
+ghost use Rattle.std.specs.List.{list_any};
+ghost use Rattle.std.specs.Option.{option_copied};
+ghost use Rattle.nfs_share.specs.AllOpens.{HasRoomAt, named_in, open_count, opens_in, opens_of, with_opens};
+ghost use Rattle.nfs_share.specs.OpenFound.{open_seen};
+ghost use Rattle.nfs_share.specs.Opens.{after_downgrade, is_numbered, is_of, is_of_client, is_refused, open_of, with_each, with_next_seqid, with_opening, without};
+
+use crate::{FileShare, OpenState, Share};
+use nfs_forms::{ClientId, OpenOwner, Stateid};
+use std::alloc::{AllocError, Global};
+use std::marker::Model;
+
+/// The opens of all files, by the numbers of their nodes. A node that there isn't has no opens, and a change of its opens
+/// changes nothing.
+#[derive(Debug, Drop)]
+pub struct Opens {
+    files: Vec<FileShare>,
+}
+
+/// An open, and the node of its file.
+#[derive(Clone, Copy, Debug)]
+pub struct OpenFound<'a> {
+    pub node: u32,
+    pub state: &'a OpenState,
+}
+
+impl Model for Opens {
+    ghost use Rattle.std.specs.Prelude.{◌<◌, ◌^◌, List, length};
+    ghost use Rattle.nfs_share.specs.Opens.{FileOpens};
+
+    ghost Value = { List FileOpens };
+
+    ghost view = { λ o. o.files.items };
+
+    ghost invariant = { λ o. length o.files.items < 2 ^ 32 };
+}
+
+impl Opens {
+    /// No opens of any of these nodes.
+    pub fn new(alloc: Global, nodes: u32) -> Result<Opens, AllocError>
+        ensures { IfOk result (λ opens. opens_in opens ≡ replicate nodes []) }
+    {
+        let mut files = Vec::new(alloc);
+        files.reserve(nodes as usize)?;
+        for _ in 0..nodes {
+            files.push_reserved(FileShare::new(alloc));
+        }
+        Ok(Opens { files })
+    }
+
+    /// The open that the stateid names, no matter its seqid, if there is one.
+    pub fn find(&self, stateid: Stateid) -> Option<OpenFound<'_>>
+        ensures { option_map open_seen result ≡ named_in stateid (opens_in self.now) }
+    {
+        let node = self.files.iter().position(|file| file.names(stateid))?;
+        let state = self.files.get(node)?.named_by(stateid)?;
+        Some(OpenFound {
+            node: node as u32,
+            state,
+        })
+    }
+
+    /// The open that this owner has of the node's file, if there is one.
+    pub fn open_of(&self, node: u32, owner: &OpenOwner) -> Option<&OpenState>
+        ensures { option_copied result ≡ open_of owner.now (opens_of node (opens_in self.now)) }
+    {
+        self.files.get(node as usize)?.open_of(owner)
+    }
+
+    /// Whether an open of the node's file by another owner conflicts with the share.
+    pub fn refuses(&self, node: u32, owner: &OpenOwner, share: Share) -> bool
+        ensures { result ≡ is_refused owner.now share (opens_of node (opens_in self.now)) }
+    {
+        match self.files.get(node as usize) {
+            Some(file) => file.refuses(owner, share),
+            None => false,
+        }
+    }
+
+    /// Whether an owner of the client has an open.
+    pub fn has_client(&self, client: ClientId) -> bool
+        ensures { result ≡ list_any (list_any (is_of_client client)) (opens_in self.now) }
+    {
+        self.files.iter().any(|file| file.has_client(client))
+    }
+
+    /// How many opens there are.
+    pub fn count(&self) -> usize
+        ensures { result ≡ open_count (opens_in self.now) }
+    {
+        let mut count = 0;
+        for file in self.files.iter() {
+            count += file.opens().len();
+        }
+        count
+    }
+
+    /// How many opens there are of other owners.
+    pub fn count_without(&self, owner: &OpenOwner) -> usize
+        ensures { result ≡ open_count (map (without (is_of owner.now)) (opens_in self.now)) }
+    {
+        let mut count = 0;
+        for file in self.files.iter() {
+            count += file.count_without(owner);
+        }
+        count
+    }
+
+    /// Makes room for an open of the node's file.
+    pub fn reserve(&mut self, node: u32) -> Result<(), AllocError>
+        ensures opens { opens_in self.new ≡ opens_in self.old }
+        ensures room { OnOk result (HasRoomAt node self.new) }
+    {
+        match self.files.get_mut(node as usize) {
+            Some(file) => file.reserve(),
+            None => Ok(()),
+        }
+    }
+
+    /// OPEN of the node's file, no matter what others deny: adds the share to the owner's open, or makes an open with this
+    /// number. It takes no memory.
+    pub fn grant(&mut self, node: u32, owner: OpenOwner, share: Share, number: u32)
+        requires room { HasRoomAt node self.old }
+        ensures { opens_in self.new
+            ≡ with_opens node (with_opening owner share number) (opens_in self.old) }
+    {
+        if let Some(file) = self.files.get_mut(node as usize) {
+            file.grant(owner, share, number);
+        }
+    }
+
+    /// OPEN_CONFIRM: gives the open of the node's file with this number its next seqid.
+    pub fn advance(&mut self, node: u32, number: u32)
+        ensures { opens_in self.new
+            ≡ with_opens node (with_each (is_numbered number) with_next_seqid) (opens_in self.old) }
+    {
+        if let Some(file) = self.files.get_mut(node as usize) {
+            file.advance(number);
+        }
+    }
+
+    /// OPEN_DOWNGRADE, no matter whether it is allowed: keeps of the open of the node's file with this number the shares
+    /// that this share contains.
+    pub fn keep_within(&mut self, node: u32, number: u32, share: Share)
+        ensures { opens_in self.new
+            ≡ with_opens node (with_each (is_numbered number) (after_downgrade share)) (opens_in self.old) }
+    {
+        if let Some(file) = self.files.get_mut(node as usize) {
+            file.keep_within(number, share);
+        }
+    }
+
+    /// CLOSE: removes the open of the node's file with this number.
+    pub fn close(&mut self, node: u32, number: u32)
+        ensures { opens_in self.new
+            ≡ with_opens node (without (is_numbered number)) (opens_in self.old) }
+    {
+        if let Some(file) = self.files.get_mut(node as usize) {
+            file.close(number);
+        }
+    }
+
+    /// Removes the opens of the owner.
+    pub fn remove_owner(&mut self, owner: &OpenOwner)
+        ensures opens { opens_in self.new ≡ map (without (is_of owner.now)) (opens_in self.old) }
+        ensures room { (node : ℕ) → HasRoomAt node self.old → HasRoomAt node self.new }
+    {
+        for file in self.files.iter_mut() {
+            file.remove_owner(owner);
+        }
+    }
+
+    /// Removes the opens of all owners of this client.
+    pub fn remove_client(&mut self, client: ClientId)
+        ensures { opens_in self.new ≡ map (without (is_of_client client)) (opens_in self.old) }
+    {
+        for file in self.files.iter_mut() {
+            file.remove_client(client);
+        }
+    }
+}
