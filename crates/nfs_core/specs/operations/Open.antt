@@ -4,6 +4,7 @@ use Rattle.nfs_core.specs.declared.change.Change.TheVariants.{Nothing, Opens}
 use Rattle.nfs_core.specs.declared.passage.Passage.{Passage}
 use Rattle.nfs_core.specs.declared.passage.Passage.TheVariants.{Continues}
 use Rattle.nfs_core.specs.declared.limits.TheConstants.{OPEN_LIMIT}
+use Rattle.nfs_core.specs.declared.operations.«open».Opening.{Opening}
 use Rattle.nfs_core.specs.declared.ruling.Ruling.{Ruling}
 use Rattle.nfs_core.specs.Sequences.{Own, before_own}
 use Rattle.nfs_core.specs.Stateids as stateids
@@ -77,11 +78,6 @@ abbrev pub unless_delegated : History → State → Claim → ℕ → Result ℕ
 unless_delegated journal state (claims.DelegateCur id name) node =
     Err (refusal_of_target (target_of journal.epoch state id))
 unless_delegated journal state claim node = Ok node
-
--- what is opened, and for which share
-pub record Opening : Type 0 where
-  pub node : ℕ
-  pub share : Share
 
 -- NFS4ERR_SHARE_DENIED if an open of another owner conflicts with the share of this OPEN alone (section 9.9)
 abbrev pub unless_denied : State → OpenOwner → Share → ℕ → Result Opening Refusal

@@ -40,7 +40,7 @@ pub(super) fn rule(
     ensures { Rules (own journal.now (state_of tables.now) args.now directory passage)
         (state_of tables.now) (Op.Open args.now) result }
 {
-    match opening(tables, journal, directory, args) {
+    match find_opening(tables, journal, directory, args) {
         Ok(opening) => grant(alloc, tables, passage, &args.owner, opening),
         Err(refusal) => Ok(Ruling {
             answer: OpResult::Open(Answer::Refused(refusal)),
@@ -51,7 +51,7 @@ pub(super) fn rule(
 
 // What the OPEN opens, or the first of its refusals. An owner that starts anew has the same, since its own opens refuse
 // it nothing.
-fn opening(
+fn find_opening(
     tables: &Tables,
     journal: &Journal,
     directory: u32,

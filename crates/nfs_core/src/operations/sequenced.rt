@@ -76,7 +76,7 @@ fn rule(
 {
     match op {
         Op::Open(args) => open::rule(alloc, tables, journal, node, passage, args),
-        Op::OpenConfirm(args) => open_confirm::rule(tables, journal, node, args),
+        Op::OpenConfirm(args) => Ok(open_confirm::rule(tables, journal, node, args)?),
         Op::OpenDowngrade(args) => Ok(open_downgrade::rule(tables, journal, node, args)),
         Op::Close(args) => Ok(close::rule(tables, journal, node, args)),
         _ => unreachable!(),
