@@ -111,10 +111,11 @@ impl Opens {
         ensures opens { opens_in self.new ≡ opens_in self.old }
         ensures room { OnOk result (HasRoomAt node self.new) }
     {
-        match self.files.get_mut(node as usize) {
-            Some(file) => file.reserve(),
-            None => Ok(()),
+        let node = node as usize;
+        if node < self.files.len() {
+            self.files[node].reserve()?;
         }
+        Ok(())
     }
 
     /// OPEN of the node's file, no matter what others deny: adds the share to the owner's open, or makes an open with this
@@ -124,8 +125,9 @@ impl Opens {
         ensures { opens_in self.new
             ≡ with_opens node (with_opening owner share number) (opens_in self.old) }
     {
-        if let Some(file) = self.files.get_mut(node as usize) {
-            file.grant(owner, share, number);
+        let node = node as usize;
+        if node < self.files.len() {
+            self.files[node].grant(owner, share, number);
         }
     }
 
@@ -134,8 +136,9 @@ impl Opens {
         ensures { opens_in self.new
             ≡ with_opens node (with_each (is_numbered number) with_next_seqid) (opens_in self.old) }
     {
-        if let Some(file) = self.files.get_mut(node as usize) {
-            file.advance(number);
+        let node = node as usize;
+        if node < self.files.len() {
+            self.files[node].advance(number);
         }
     }
 
@@ -145,8 +148,9 @@ impl Opens {
         ensures { opens_in self.new
             ≡ with_opens node (with_each (is_numbered number) (after_downgrade share)) (opens_in self.old) }
     {
-        if let Some(file) = self.files.get_mut(node as usize) {
-            file.keep_within(number, share);
+        let node = node as usize;
+        if node < self.files.len() {
+            self.files[node].keep_within(number, share);
         }
     }
 
@@ -155,8 +159,9 @@ impl Opens {
         ensures { opens_in self.new
             ≡ with_opens node (without (is_numbered number)) (opens_in self.old) }
     {
-        if let Some(file) = self.files.get_mut(node as usize) {
-            file.close(number);
+        let node = node as usize;
+        if node < self.files.len() {
+            self.files[node].close(number);
         }
     }
 

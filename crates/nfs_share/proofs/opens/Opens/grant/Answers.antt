@@ -1,0 +1,11 @@
+use Rattle.std.proofs.Common.{ap, ◌∙◌, arith}
+use Rattle.nfs_share.specs.AllOpens.{opens_in, with_opens}
+use Rattle.nfs_share.specs.Opens.{with_opening}
+use Rattle.nfs_share.proofs.OneFile.{changed_at}
+use Rattle.nfs_share.proofs.opens.Opens.grant.Goals as goal
+
+pub returns-then-node-len : goal.returns-then-node-len
+returns-then-node-len c =
+    let change = with_opening c.args.owner c.args.share c.args.number in
+    changed_at change c.self.inside.files.items c.args.node c.index_mut.result.now c.grant.new.self (omega (arith, c.if-node-len.true, c.len.ensures)) c.index_mut.ensures.value c.grant.ensures
+    ∙ ap (λ files. with_opens c.args.node change (opens_in files)) c.self.view_is
