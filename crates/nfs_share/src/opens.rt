@@ -1,9 +1,9 @@
-ghost use Rattle.std.specs.Prelude.{◌≡◌, ℕ, [], IfOk, OnOk, map, option_map, replicate};
+ghost use Rattle.std.specs.Prelude.{◌≡◌, ◌<◌, ℕ, [], IfOk, IfSome, length, position, OnOk, map, option_map, replicate};
 ghost use Rattle.std.specs.List.{list_any};
 ghost use Rattle.std.specs.Option.{option_copied};
 ghost use Rattle.nfs_share.specs.AllOpens.{HasRoomAt, named_in, open_count, opens_in, opens_of, with_opens};
 ghost use Rattle.nfs_share.specs.OpenFound.{open_seen};
-ghost use Rattle.nfs_share.specs.Opens.{after_downgrade, is_numbered, is_of, is_of_client, is_refused, open_of, with_each, with_next_seqid, with_opening, without};
+ghost use Rattle.nfs_share.specs.Opens.{after_downgrade, is_numbered, is_of, is_of_client, is_refused, is_stateid_of, open_of, with_each, with_next_seqid, with_opening, without};
 
 use crate::{FileShare, OpenState, Share};
 use nfs_forms::{ClientId, OpenOwner, Stateid};
@@ -52,12 +52,20 @@ impl Opens {
     pub fn find(&self, stateid: Stateid) -> Option<OpenFound<'_>>
         ensures { option_map open_seen result ≡ named_in stateid (opens_in self.now) }
     {
-        let node = self.files.iter().position(|file| file.names(stateid))?;
-        let state = self.files.get(node)?.named_by(stateid)?;
+        let node = self.node_of(stateid)?;
+        let state = self.files[node].named_by(stateid)?;
         Some(OpenFound {
             node: node as u32,
             state,
         })
+    }
+
+    // The node with an open that the stateid names.
+    fn node_of(&self, stateid: Stateid) -> Option<usize>
+        ensures node { result ≡ position (list_any (is_stateid_of stateid)) (opens_in self.now) }
+        ensures below { IfSome result (λ node. node < length self.now) }
+    {
+        self.files.iter().position(|file| file.names(stateid))
     }
 
     /// The open that this owner has of the node's file, if there is one.

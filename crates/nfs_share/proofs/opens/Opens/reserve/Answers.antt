@@ -1,0 +1,22 @@
+use Rattle.std.proofs.Common.{ap, subst, ◌∙◌, arith, ◌<◌, length}
+use Rattle.nfs_share.specs.AllOpens.{HasRoomAt, opens_in}
+use Rattle.nfs_share.proofs.OneFile.{no_room_at, room_at, same_at}
+use Rattle.nfs_share.proofs.opens.Opens.reserve.Goals as goal
+
+pub returns-in_err-reserve-clause-opens : goal.returns-in_err-reserve-clause-opens
+returns-in_err-reserve-clause-opens c =
+    same_at c.self.inside.files.items c.args.node c.index_mut.result.now c.reserve.new.self (omega (arith, c.if-node-len.true, c.len.ensures)) c.index_mut.ensures.value c.reserve.ensures.opens
+    ∙ ap opens_in c.self.view_is
+
+pub returns-in_ok-reserve-clause-opens : goal.returns-in_ok-reserve-clause-opens
+returns-in_ok-reserve-clause-opens c =
+    same_at c.self.inside.files.items c.args.node c.index_mut.result.now c.reserve.new.self (omega (arith, c.if-node-len.true, c.len.ensures)) c.index_mut.ensures.value c.reserve.ensures.opens
+    ∙ ap opens_in c.self.view_is
+
+pub returns-in_ok-reserve-clause-room : goal.returns-in_ok-reserve-clause-room
+returns-in_ok-reserve-clause-room c =
+    room_at c.self.inside.files.items c.args.node c.reserve.new.self (omega (arith, c.if-node-len.true, c.len.ensures)) c.in_ok-reserve.ensures.room
+
+pub returns-else-node-len-clause-room : goal.returns-else-node-len-clause-room
+returns-else-node-len-clause-room c =
+    subst (HasRoomAt c.args.node) c.self.view_is (no_room_at c.self.inside.files.items c.args.node (omega (arith, c.if-node-len.false, c.len.ensures)))
