@@ -3,3 +3,4 @@ pub mod SharesLaws
 pub mod OpensLaws
 pub mod CompatibleOpens
 pub mod OneFile
+pub mod Names

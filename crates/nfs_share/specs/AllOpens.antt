@@ -32,11 +32,14 @@ open_count (opens ∷ more) = length opens + open_count more
 abbrev pub with_opens : ℕ → (List OpenState → List OpenState) → List (List OpenState) → List (List OpenState)
 with_opens node change opens = slice_set opens node (change (opens_of node opens))
 
+-- the open, if there is one, as one of this node's file
+abbrev pub at_node : ℕ → Option OpenState → Option OpenAt
+at_node node found = option_map (λ o. record { node = node; state = o }) found
+
 -- the open that the stateid names, given the node that has one
 abbrev pub named_at : Stateid → List (List OpenState) → Option ℕ → Option OpenAt
 named_at id opens None = None
-named_at id opens (Some node) =
-    option_map (λ o. record { node = node; state = o }) (open_named_by id (opens_of node opens))
+named_at id opens (Some node) = at_node node (open_named_by id (opens_of node opens))
 
 -- the open that the stateid names, no matter its seqid, if there is one
 abbrev pub named_in : Stateid → List (List OpenState) → Option OpenAt

@@ -1,7 +1,7 @@
 ghost use Rattle.std.specs.Prelude.{◌≡◌, ◌<◌, ℕ, [], IfOk, IfSome, length, position, OnOk, map, option_map, replicate};
 ghost use Rattle.std.specs.List.{list_any};
 ghost use Rattle.std.specs.Option.{option_copied};
-ghost use Rattle.nfs_share.specs.AllOpens.{HasRoomAt, named_in, open_count, opens_in, opens_of, with_opens};
+ghost use Rattle.nfs_share.specs.AllOpens.{HasRoomAt, at_node, named_in, open_count, opens_in, opens_of, with_opens};
 ghost use Rattle.nfs_share.specs.OpenFound.{open_seen};
 ghost use Rattle.nfs_share.specs.Opens.{after_downgrade, is_numbered, is_of, is_of_client, is_refused, is_stateid_of, open_of, with_each, with_next_seqid, with_opening, without};
 
@@ -52,17 +52,15 @@ impl Opens {
     pub fn find(&self, stateid: Stateid) -> Option<OpenFound<'_>>
         ensures { option_map open_seen result ≡ named_in stateid (opens_in self.now) }
     {
-        let node = self.node_of(stateid)?;
-        let state = self.files[node].named_by(stateid)?;
-        Some(OpenFound {
-            node: node as u32,
-            state,
-        })
+        match self.node_of(stateid) {
+            Some(node) => found_at(node as u32, self.files[node].named_by(stateid)),
+            None => None,
+        }
     }
 
     // The node with an open that the stateid names.
     fn node_of(&self, stateid: Stateid) -> Option<usize>
-        ensures node { result ≡ position (list_any (is_stateid_of stateid)) (opens_in self.now) }
+        ensures node { result ≡ position (λ f. list_any (is_stateid_of stateid) f.opens) self.now }
         ensures below { IfSome result (λ node. node < length self.now) }
     {
         self.files.iter().position(|file| file.names(stateid))
@@ -190,5 +188,15 @@ impl Opens {
         for file in self.files.iter_mut() {
             file.remove_client(client);
         }
+    }
+}
+
+// The open, if there is one, as one of this node's file.
+fn found_at(node: u32, open: Option<&OpenState>) -> Option<OpenFound<'_>>
+    ensures { option_map open_seen result ≡ at_node node (option_copied open.entry) }
+{
+    match open {
+        Some(state) => Some(OpenFound { node, state }),
+        None => None,
     }
 }
