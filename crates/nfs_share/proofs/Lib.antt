@@ -2,3 +2,4 @@ pub mod ShareLaws
 pub mod SharesLaws
 pub mod OpensLaws
 pub mod CompatibleOpens
+pub mod AllOpens
