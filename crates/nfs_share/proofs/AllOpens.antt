@@ -1,9 +1,9 @@
 -- Lemmas on the opens of all files.
-use Rattle.std.proofs.Common.{◌≡◌, ℕ, zero, suc, ◌+◌, ◌-◌, ◌<◌, ◌≤◌, Bool, true, false, ◌||◌, List, [], ◌∷◌, ◌++◌, drop, length, get_or, map, set, take, refl, sym, ◌∙◌, ap, arith}
+use Rattle.std.proofs.Common.{◌≡◌, ℕ, zero, suc, ◌+◌, ◌-◌, ◌<◌, ◌≤◌, Bool, true, false, ◌||◌, List, [], ◌∷◌, ◌++◌, drop, length, get_or, map, replicate, set, take, refl, sym, ◌∙◌, ap, arith}
 use Rattle.std.specs.Prelude.{nat_lt}
 use Rattle.std.specs.List.{list_any}
 use Rattle.std.proofs.lemmas.Bool.{le-ltb, lt-ltb, ltb-true, ltb_from_iff}
-use Rattle.std.proofs.lemmas.List.{append-nil, drop_all, get_or-map, length-map, map-set, take_all}
+use Rattle.std.proofs.lemmas.List.{append-nil, drop_all, get_or-map, length-map, map-append, map-set, replicate_more, take_all}
 use Rattle.std.proofs.lemmas.List.Edits.{map_over_more}
 use Rattle.nfs_share.specs.AllOpens.{HasRoomAt, open_count, opens_in}
 use Rattle.nfs_share.specs.Opens.{FileOpens}
@@ -74,3 +74,35 @@ all_changed f old new i past so_far =
     ∙ ap (λ front. map f front ++ drop i (opens_in old)) (take_all i (opens_in old) end)
     ∙ ap (λ back. map f (opens_in old) ++ back) (drop_all i (opens_in old) end)
     ∙ append-nil (map f (opens_in old))
+
+-- the opens of a file among those of all files
+pub opens_at : (f : List OpenState → List OpenState) (files : List FileOpens) (i : ℕ) (d : FileOpens) (e : List OpenState) → i < length files
+    → f (get_or files i d).opens ≡ get_or (map f (opens_in files)) i e
+opens_at f files i d e below =
+    sym (get_or-map f (opens_in files) i (get_or files i d).opens e (omega (arith, length-map files (λ (g : FileOpens). g.opens)))
+    ∙ ap f (get_or-map (λ (g : FileOpens). g.opens) files i d (get_or files i d).opens below))
+
+-- the loop has passed all files
+pub none_remain : (all : List (List OpenState)) (i left : ℕ) (whole : Bool) → length all ≤ i
+    → nat_lt (open_count (drop i all)) left ≡ whole → nat_lt 0 left ≡ whole
+none_remain all i left whole past so_far =
+    ap (λ rest. nat_lt (open_count rest) left) (sym (drop_all i all past)) ∙ so_far
+
+pub opens_seen : (files : List FileOpens) (i : ℕ) (d : FileOpens) (e : List OpenState) → i < length files
+    → (get_or files i d).opens ≡ get_or (opens_in files) i e
+opens_seen files i d e below = sym (get_or-map (λ (g : FileOpens). g.opens) files i d e below)
+
+pub as_many : (files : List FileOpens) → length (opens_in files) ≡ length files
+as_many files = length-map files (λ (g : FileOpens). g.opens)
+
+pub as_many_changed : (f : List OpenState → List OpenState) (files : List FileOpens) → length (map f (opens_in files)) ≡ length files
+as_many_changed f files = length-map (opens_in files) f ∙ as_many files
+
+-- a loop adds one more file without opens
+pub one_more_empty : (files new : List FileOpens) (added : FileOpens) (n : ℕ) → new ≡ files ++ added ∷ [] → added.opens ≡ []
+    → opens_in files ≡ replicate n [] → opens_in new ≡ replicate (n + 1) []
+one_more_empty files new added n is empty so_far =
+    ap opens_in is
+    ∙ map-append (λ (g : FileOpens). g.opens) files (added ∷ [])
+    ∙ (λ k. so_far k ++ empty k ∷ [])
+    ∙ replicate_more n []
