@@ -1,9 +1,9 @@
 -- Lemmas on the opens of all files.
-use Rattle.std.proofs.Common.{◌≡◌, ℕ, zero, suc, ◌+◌, ◌-◌, ◌<◌, ◌≤◌, Bool, true, false, ◌||◌, List, [], ◌∷◌, ◌++◌, drop, length, get_or, map, replicate, set, take, refl, sym, ◌∙◌, ap, arith}
+use Rattle.std.proofs.Common.{◌≡◌, ℕ, zero, suc, ◌+◌, ◌-◌, ◌<◌, ◌≤◌, Bool, false, ◌||◌, List, [], ◌∷◌, ◌++◌, drop, length, get_or, map, set, take, refl, sym, ◌∙◌, ap, arith}
 use Rattle.std.specs.Prelude.{nat_lt}
 use Rattle.std.specs.List.{list_any}
 use Rattle.std.proofs.lemmas.Bool.{le-ltb, lt-ltb, ltb-true, ltb_from_iff}
-use Rattle.std.proofs.lemmas.List.{append-nil, drop_all, get_or-map, length-map, map-append, map-set, replicate_more, take_all}
+use Rattle.std.proofs.lemmas.List.{append-nil, drop_all, get_or-map, length-map, map-set, take_all}
 use Rattle.std.proofs.lemmas.List.Edits.{map_over_more}
 use Rattle.nfs_share.specs.AllOpens.{HasRoomAt, open_count, opens_in}
 use Rattle.nfs_share.specs.Opens.{FileOpens}
@@ -97,12 +97,3 @@ as_many files = length-map files (λ (g : FileOpens). g.opens)
 
 pub as_many_changed : (f : List OpenState → List OpenState) (files : List FileOpens) → length (map f (opens_in files)) ≡ length files
 as_many_changed f files = length-map (opens_in files) f ∙ as_many files
-
--- a loop adds one more file without opens
-pub one_more_empty : (files new : List FileOpens) (added : FileOpens) (n : ℕ) → new ≡ files ++ added ∷ [] → added.opens ≡ []
-    → opens_in files ≡ replicate n [] → opens_in new ≡ replicate (n + 1) []
-one_more_empty files new added n is empty so_far =
-    ap opens_in is
-    ∙ map-append (λ (g : FileOpens). g.opens) files (added ∷ [])
-    ∙ (λ k. so_far k ++ empty k ∷ [])
-    ∙ replicate_more n []

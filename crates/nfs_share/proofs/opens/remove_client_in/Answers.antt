@@ -1,6 +1,6 @@
-use Rattle.std.proofs.Common.{ap, arith}
-use Rattle.nfs_share.specs.Opens.{is_of, is_of_client, without}
-use Rattle.nfs_share.proofs.AllOpens.{all_changed, changes_one_more, keeps_room}
+use Rattle.std.proofs.Common.{arith}
+use Rattle.nfs_share.specs.Opens.{is_of_client, without}
+use Rattle.nfs_share.proofs.AllOpens.{all_changed, changes_one_more}
 use Rattle.nfs_share.proofs.opens.remove_client_in.Goals as goal
 
 pub loop-file-preserved : goal.loop-file-preserved

@@ -1,6 +1,6 @@
-use Rattle.std.proofs.Common.{◌≡◌, ℕ, ◌++◌, drop, map, take}
-use Rattle.nfs_share.specs.AllOpens.{HasRoomAt, opens_in}
-use Rattle.nfs_share.specs.Opens.{is_of, is_of_client, without}
+use Rattle.std.proofs.Common.{◌≡◌, ◌++◌, drop, map, take}
+use Rattle.nfs_share.specs.AllOpens.{opens_in}
+use Rattle.nfs_share.specs.Opens.{is_of_client, without}
 use Rattle.nfs_share.proofs.opens.remove_client_in.Given as goal
 
 -- the files visited so far are changed

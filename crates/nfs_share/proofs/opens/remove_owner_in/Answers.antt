@@ -1,5 +1,5 @@
-use Rattle.std.proofs.Common.{ap, arith}
-use Rattle.nfs_share.specs.Opens.{is_of, is_of_client, without}
+use Rattle.std.proofs.Common.{arith}
+use Rattle.nfs_share.specs.Opens.{is_of, without}
 use Rattle.nfs_share.proofs.AllOpens.{all_changed, changes_one_more, keeps_room}
 use Rattle.nfs_share.proofs.opens.remove_owner_in.Goals as goal
 
