@@ -1,3 +1,5 @@
 pub mod Journals
 pub mod OpenedFiles
+pub mod SafeLists
+pub mod Sound
 pub mod Uniqueness
