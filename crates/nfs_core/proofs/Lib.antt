@@ -2,4 +2,5 @@ pub mod Journals
 pub mod OpenedFiles
 pub mod SafeLists
 pub mod Sound
+pub mod SoundSteps
 pub mod Uniqueness
