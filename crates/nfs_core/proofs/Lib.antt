@@ -2,5 +2,6 @@ pub mod Journals
 pub mod OpenedFiles
 pub mod SafeLists
 pub mod Sound
+pub mod SoundRules
 pub mod SoundSteps
 pub mod Uniqueness

@@ -1,5 +1,5 @@
 use Rattle.nfs_core.proofs.laws.lawful_is_safe.Goals as goal
-use Rattle.nfs_core.proofs.SoundSteps.{sound_after}
+use Rattle.nfs_core.proofs.SoundRules.{confirms}
 
 pub returns : goal.returns
 returns c = ?
