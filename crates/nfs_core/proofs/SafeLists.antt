@@ -117,3 +117,11 @@ found_map p f same (x ∷ xs) found = elim (found_cases p x xs found) [
       | inl first ↦ found_first p (f x) (map f xs) (same x first)
       | inr behind ↦ found_behind p (f x) (map f xs) (found_map p f same xs behind)
     ]
+
+-- where something is found, there is an element that passes the test, and what holds of each holds of it
+pub found_holds : {X : Type 0} (P : X → Type 0) (p : X → Bool) (xs : List X) → is_some (find p xs) ≡ true → AllByRecursion P xs → (x : X) × P x × (p x ≡ true)
+found_holds P p [] found h = absurd cc
+found_holds P p (x ∷ xs) found h = elim (found_cases p x xs found) [
+      | inl first ↦ (x, h.0, first)
+      | inr behind ↦ found_holds P p xs behind h.1
+    ]

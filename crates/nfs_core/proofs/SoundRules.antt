@@ -24,14 +24,17 @@ use Rattle.nfs_core.specs.operations.OpenConfirm as open_confirm
 use Rattle.nfs_core.specs.operations.OpenDowngrade as open_downgrade
 use Rattle.nfs_core.specs.operations.Setclientid as setclientid
 use Rattle.nfs_core.specs.operations.SetclientidConfirm as confirm
-use Rattle.nfs_core.specs.Owners.{KnownOwner, has_name, is_confirmed, owner_of}
+use Rattle.nfs_core.specs.Owners.{KnownOwner, has_name, is_confirmed, owner_of, without_owner}
 use Rattle.nfs_core.specs.Sequences.{IsDecided, IsOfKnown, IsOfOwner, IsSequence, IsSequenced, Own, Requester, Sequence, Answered, GoesOn, Refused, Owner, before_own, by_verdict, counts, decision_of, is_ok_status, is_open, kept_for, owner_change_of, refusal_to, requester_of_open, requester_of_stateid, with_owner_change}
 use Rattle.nfs_core.specs.Stateids.{verdict}
 use Rattle.nfs_core.specs.State.{State, History, record_has_state}
-use Rattle.nfs_core.proofs.SafeLists.{all_find, all_none, all_weaken}
-use Rattle.nfs_core.proofs.Sound.{AreSingle, HasSameClient, IsOnlyOf, IsSound, is_live_in}
+use Rattle.nfs_core.proofs.SafeLists.{all_find, all_none, all_weaken, found_last, found_map}
+use Rattle.nfs_core.proofs.Sound.{AreSingle, HasSameClient, IsOnlyOf, IsSound, is_live_in, name_kept, same_owner_self}
 use Rattle.nfs_core.proofs.SoundSteps.{IsChangeReady, IsClientReady, IsOwnerReady, IsReady}
 use Rattle.nfs_forms.specs.ClientId.{is_same_client}
+use Rattle.nfs_forms.specs.OpenOwner.{is_same_owner}
+use Rattle.nfs_forms.specs.declared.answer.Answer.TheVariants.{Done}
+use Rattle.nfs_xdr.specs.declared.op_result.OpResult.TheVariants as results
 use Rattle.nfs_forms.specs.Principal.{is_same_principal}
 use Rattle.nfs_forms.specs.declared.open_owner.OpenOwner.{OpenOwner}
 use Rattle.nfs_forms.specs.declared.operations.setclientid.Setclientid.{Setclientid}
@@ -58,6 +61,7 @@ use Rattle.nfs_share.specs.AllOpens.{OpenAt, opens_of}
 use Rattle.nfs_share.specs.Opens.{is_refused}
 use Rattle.nfs_share.specs.Share.{share_of_numbers}
 use Rattle.nfs_share.specs.declared.share.Share.{Share}
+use Rattle.nfs_tree.specs.Tree.{resolved}
 use Rattle.nfs_xdr.specs.OpResult.{status_of}
 use Rattle.nfs_xdr.specs.declared.op.Op.{Op}
 use Rattle.nfs_xdr.specs.declared.op.Op.TheVariants as ops
@@ -263,5 +267,127 @@ bound : {A : Type 0} (P : Type 0) (r : Result A Refusal) (next : A → Result Op
 bound P (Err refusal) next o from is = absurd cc
 bound P (Ok x) next o from is = from x is
 
-ok_equal : (x y : Opening) → Result.Ok {T = Opening} {E = Refusal} x ≡ Ok y → x ≡ y
-ok_equal x y same = search same
+opened_at : (x o : Opening) (r : Result Opening Refusal) → r ≡ Ok x → r ≡ Ok o → x ≡ o
+opened_at x o r a b = search (a, b)
+
+-- What may be opened isn't refused.
+allowed : (state : State) (owner : OpenOwner) (share : Share) (node : ℕ) (o : Opening) → opening.unless_denied state owner share node ≡ Ok o → is_refused owner o.share (opens_of o.node state.opens) ≡ false
+allowed state owner share node o is =
+    let denied = is_refused owner share (opens_of node state.opens) in
+    let new : Opening = record { node = node; share = share } in
+    let result : Result Opening Refusal = opening.unless_denied state owner share node in
+    elim (cases_Bool denied) [
+      | inl refused ↦
+        let err : result ≡ Err refusals.ShareDenied = cond-true denied (Err refusals.ShareDenied) (Ok new) refused in
+        absurd cc
+      | inr free ↦
+        let ok : result ≡ Ok new = cond-false denied (Err refusals.ShareDenied) (Ok new) free in
+        subst (λ (x : Opening). is_refused owner x.share (opens_of x.node state.opens) ≡ false) (opened_at new o result ok is) free
+    ]
+
+opening_allowed : (journal : History) (state : State) (node : ℕ) (args : Open) (o : Opening) → opening.opening journal state node args ≡ Ok o → is_refused args.owner o.share (opens_of o.node state.opens) ≡ false
+opening_allowed journal state node args o is =
+    let P : Type 0 = is_refused args.owner o.share (opens_of o.node state.opens) ≡ false in
+    bound P (opening.name_of args.claim) _ o (λ name.
+    bound P (opening.share_asked (share_of_numbers args.access args.deny)) _ o (λ share.
+    bound P (opening.found_by args.how (resolved journal.nodes node name)) _ o (λ found.
+    bound P (opening.file_at journal args.how found) _ o (λ file.
+    bound P (opening.unless_delegated journal state args.claim file) _ o (λ at. allowed state args.owner share at o))))) is
+
+-- After what its entry means for the owner, the owner of an OPEN is known, and the opens are those that the OPEN saw.
+opens_ready : (number : ℕ) (state : State) (op : Op) (name : OpenOwner) (passage : Passage) (status : Status) (node : ℕ) (share : Share) → is_ok_status status ≡ true → counts status ≡ true → IsFit state op name passage
+    → is_refused name share (opens_of node (before_own passage name state).opens) ≡ false
+    → IsChangeReady (changes.Opens node name share) (with_owner_change (owner_change_of passage name status) number state)
+opens_ready number state op name passages.Continues status node share ok counted fit free =
+    subst (λ c. IsChangeReady (changes.Opens node name share) (with_owner_change c number state))
+    (sym (cond-true (counts status) (owner_changes.Keeps name) owner_changes.Nothing counted))
+    (found_map (has_name name) (λ o. if has_name name o then record o { kept_entry = number } else o)
+    (λ o has. ap (λ n. is_same_owner n name) (name_kept (λ k. record k { kept_entry = number }) (λ k. refl) (has_name name o) o) ∙ has) state.owners fit, free)
+opens_ready number state op name passages.Begins status node share ok counted fit free =
+    let new : KnownOwner = record { name = name; confirmed = false; recording_entry = number; kept_entry = number } in
+    subst (λ c. IsChangeReady (changes.Opens node name share) (with_owner_change c number state))
+    (sym (cond-true (is_ok_status status) (owner_changes.Records name) owner_changes.Nothing ok))
+    (found_last (has_name name) state.owners new (same_owner_self name), free)
+opens_ready number state op name passages.Restarts status node share ok counted fit free =
+    let new : KnownOwner = record { name = name; confirmed = false; recording_entry = number; kept_entry = number } in
+    subst (λ c. IsChangeReady (changes.Opens node name share) (with_owner_change c number state))
+    (sym (cond-true (is_ok_status status) (owner_changes.Restarts name) (owner_changes.Drops name) ok))
+    (found_last (has_name name) (without_owner name state.owners) new (same_owner_self name), free)
+
+-- the rule of OPEN, by what it opens or why it opens nothing
+ruling_ready : (number : ℕ) (journal : History) (state : State) (op : Op) (args : Open) (passage : Passage) (directory : ℕ) (ruling : Ruling) (result : Result Opening Refusal)
+    → is_live_in state.clients.records args.owner.client ≡ true → IsFit state op args.owner passage
+    → opening.opening journal (before_own passage args.owner state) directory args ≡ result
+    → Some ruling ≡ opening.ruling_of (before_own passage args.owner state) passage args.owner result
+    → IsReady number state (decision_of passage args.owner ruling)
+ruling_ready number journal state op args passage directory ruling (Err refusal) live fit is rules =
+    subst (λ r. IsReady number state (decision_of passage args.owner r)) (sym (some_equal ruling _ rules))
+    (owner_ready state args.owner passage _ live, tt)
+ruling_ready number journal state op args passage directory ruling (Ok o) live fit is rules =
+    let seen = before_own passage args.owner state in
+    let places = opening.has_owner_place passage seen && opening.has_open_place seen args.owner o.node in
+    let given : Ruling = record {
+      answer = results.Open (Done (opening.answer_of seen passage args.owner o.node));
+      change = changes.Opens o.node args.owner o.share;
+    } in
+    elim (cases_Bool places) [
+      | inl has ↦ subst (λ r. IsReady number state (decision_of passage args.owner r))
+          (sym (some_equal ruling given (rules ∙ cond-true places (Some given) None has)))
+          (owner_ready state args.owner passage (status_of given.answer) live,
+          opens_ready number state op args.owner passage (status_of given.answer) o.node o.share refl refl fit (opening_allowed journal seen directory args o is))
+      | inr full ↦
+        let none : Some ruling ≡ None = rules ∙ cond-false places (Some given) None full in
+        absurd cc
+    ]
+
+-- the owner of an OPEN is the one in its arguments, whose client is live
+requests_open : (state : State) (name owner : OpenOwner) → requester_of_open state name ≡ Owner owner → (owner ≡ name) × (is_live_in state.clients.records name.client ≡ true)
+requests_open state name owner is =
+    let live = is_live_in state.clients.records name.client in
+    elim (cases_Bool live) [
+      | inl there ↦
+        let same : Owner name ≡ Owner owner = sym (cond-true live (Owner name) (Refused refusals.StaleClientId) there) ∙ is in
+        (search same, there)
+      | inr gone ↦
+        let same : Refused refusals.StaleClientId ≡ Owner owner = sym (cond-false live (Owner name) (Refused refusals.StaleClientId) gone) ∙ is in
+        absurd cc
+    ]
+
+open_ready : (number : ℕ) (journal : History) (state : State) (op : Op) (args : Open) → IsOwnReady number state (requester_of_open state args.owner) op (opening.own journal state args)
+open_ready number journal state op args node passage owner ruling of fit h =
+    let asked = requests_open state args.owner owner of in
+    let fits : IsFit state op args.owner passage = subst (λ n. IsFit state op n passage) asked.0 fit in
+    subst (λ n. IsReady number state (decision_of passage n ruling)) (sym asked.0)
+    (ruling_ready number journal state op args passage node ruling (opening.opening journal (before_own passage args.owner state) node args) asked.1 fits refl h)
+
+-- what a rule decides is ready to keep the state sound
+pub ruled_ready : (number : ℕ) (journal : History) (state : State) (op : Op) (request : Request) (d : Decision) → request.op ≡ op → IsSound state → IsRuled op journal state request (Some d) → IsReady number state d
+ruled_ready number journal state (ops.Getattr mask) request d same sound is =
+    as_decided number state d _ is (tt, tt)
+ruled_ready number journal state (ops.Setclientid args) request d same sound is =
+    let has_state = record_has_state state (confirmed_of state.clients args.id) in
+    registers number state d (registrations.registration journal.epoch has_state state.clients request.principal args)
+    (registered (registrations.finding (confirmed_of state.clients args.id) has_state request.principal args) journal.epoch state.clients request.principal args) is
+ruled_ready number journal state (ops.SetclientidConfirm args) request d same sound is =
+    let path = confirm.path_of journal.policy.callbacks in
+    let named = unconfirmed_named_by args state.clients in
+    let has_state = record_has_state state (confirmations.holder_of named state.clients) in
+    as_decided number state d _ is
+    (tt, confirms state.clients (confirmations.finding named state.clients has_state request.principal args) path sound.single
+    (finding_fits state.clients named has_state request.principal args))
+ruled_ready number journal state (ops.Open args) request d same sound is =
+    sequenced_ready number journal state (requester_of_open state args.owner) request (opening.own journal state args)
+    (open_ready number journal state request.op args) request.filehandle d is
+ruled_ready number journal state (ops.OpenConfirm args) request d same sound is =
+    sequenced_ready number journal state (requester_of_stateid journal state args.stateid) request (open_confirm.own journal state args)
+    (quiet_ready number state (requester_of_stateid journal state args.stateid) request.op (open_confirm.own journal state args) (ap is_open same)
+    (λ node passage ruling h. as_ruled ruling _ h (confirmation_quiet state (verdict (record { node = node; also_unconfirmed = true }) journal.epoch state args.stateid)))) request.filehandle d is
+ruled_ready number journal state (ops.OpenDowngrade args) request d same sound is =
+    sequenced_ready number journal state (requester_of_stateid journal state args.stateid) request (open_downgrade.own journal state args)
+    (quiet_ready number state (requester_of_stateid journal state args.stateid) request.op (open_downgrade.own journal state args) (ap is_open same)
+    (λ node passage ruling h. found_quiet (verdict (record { node = node; also_unconfirmed = false }) journal.epoch state args.stateid) args ruling h)) request.filehandle d is
+ruled_ready number journal state (ops.Close args) request d same sound is =
+    sequenced_ready number journal state (requester_of_stateid journal state args.stateid) request (close.own journal state args)
+    (quiet_ready number state (requester_of_stateid journal state args.stateid) request.op (close.own journal state args) (ap is_open same)
+    (λ node passage ruling h. as_ruled ruling _ h (closing_quiet (verdict (record { node = node; also_unconfirmed = false }) journal.epoch state args.stateid)))) request.filehandle d is
+ruled_ready number journal state op request d same sound is = absurd cc
