@@ -1,7 +1,7 @@
 -- Lists: what holds of each element, and what a search finds.
-use Rattle.std.proofs.Common.{◌≡◌, ◌⊎◌, inl, inr, ℕ, zero, suc, Bool, true, false, cond, Option, Some, None, List, [], ◌∷◌, ◌++◌, map, filter, slice_set, refl, sym, ap, ◌∙◌, subst}
-use Rattle.std.specs.Prelude.{⊤, find, is_some, replicate, slice_get}
-use Rattle.std.specs.List.{AllByRecursion, list_any}
+use Rattle.std.proofs.Common.{◌≡◌, ◌⊎◌, inl, inr, ℕ, zero, suc, Bool, true, false, Some, None, List, [], ◌∷◌, ◌++◌, map, filter, slice_set, refl, sym, ap, ◌∙◌, subst}
+use Rattle.std.specs.Prelude.{⊤, find, is_some, replicate}
+use Rattle.std.specs.List.{AllByRecursion}
 use Rattle.std.proofs.lemmas.Bool.{cond-true, cond-false, cond_both, cases_Bool}
 
 pub all_weaken : {X : Type 0} (P Q : X → Type 0) → ((x : X) → P x → Q x) → (xs : List X) → AllByRecursion P xs → AllByRecursion Q xs
@@ -43,9 +43,9 @@ all_find P p [] x is h = absurd cc
 all_find P p (y ∷ xs) x is h =
     elim (cases_Bool (p y)) [
       | inl passes ↦
-        let same : Some y ≡ Some x = sym (cond-true (p y) (Some y) (find p xs) passes) ∙ is in
-        let equal : y ≡ x = search same in
-        (subst P equal h.0, subst (λ z. p z ≡ true) equal passes)
+          let same : Some y ≡ Some x = sym (cond-true (p y) (Some y) (find p xs) passes) ∙ is in
+          let equal : y ≡ x = search same in
+          (subst P equal h.0, subst (λ z. p z ≡ true) equal passes)
       | inr fails ↦ all_find P p xs x (sym (cond-false (p y) (Some y) (find p xs) fails) ∙ is) h.1
     ]
 
@@ -55,17 +55,17 @@ all_none p [] none = tt
 all_none p (y ∷ xs) none =
     elim (cases_Bool (p y)) [
       | inl passes ↦
-        let same : Some y ≡ None = sym (cond-true (p y) (Some y) (find p xs) passes) ∙ none in
-        absurd cc
+          let same : Some y ≡ None = sym (cond-true (p y) (Some y) (find p xs) passes) ∙ none in
+          absurd cc
       | inr fails ↦ (fails, all_none p xs (sym (cond-false (p y) (Some y) (find p xs) fails) ∙ none))
     ]
 
 -- what is found first, or else behind the first element
 found_cases : {X : Type 0} (p : X → Bool) (x : X) (xs : List X) → is_some (find p (x ∷ xs)) ≡ true → (p x ≡ true) ⊎ (is_some (find p xs) ≡ true)
 found_cases p x xs found = elim (cases_Bool (p x)) [
-      | inl passes ↦ inl passes
-      | inr fails ↦ inr (sym (ap is_some (cond-false (p x) (Some x) (find p xs) fails)) ∙ found)
-    ]
+  | inl passes ↦ inl passes
+  | inr fails ↦ inr (sym (ap is_some (cond-false (p x) (Some x) (find p xs) fails)) ∙ found)
+]
 
 pub found_first : {X : Type 0} (p : X → Bool) (x : X) (xs : List X) → p x ≡ true → is_some (find p (x ∷ xs)) ≡ true
 found_first p x xs passes = ap is_some (cond-true (p x) (Some x) (find p xs) passes)
@@ -77,9 +77,9 @@ found_behind p x xs found = cond_both (p x) (Some x) (find p xs) (λ o. is_some 
 pub found_more : {X : Type 0} (p : X → Bool) (xs ys : List X) → is_some (find p xs) ≡ true → is_some (find p (xs ++ ys)) ≡ true
 found_more p [] ys found = absurd cc
 found_more p (x ∷ xs) ys found = elim (found_cases p x xs found) [
-      | inl first ↦ found_first p x (xs ++ ys) first
-      | inr behind ↦ found_behind p x (xs ++ ys) (found_more p xs ys behind)
-    ]
+  | inl first ↦ found_first p x (xs ++ ys) first
+  | inr behind ↦ found_behind p x (xs ++ ys) (found_more p xs ys behind)
+]
 
 pub found_last : {X : Type 0} (p : X → Bool) (xs : List X) (y : X) → p y ≡ true → is_some (find p (xs ++ y ∷ [])) ≡ true
 found_last p [] y passes = found_first p y [] passes
@@ -90,38 +90,38 @@ pub found_filtered : {X : Type 0} (P : X → Type 0) (p q : X → Bool) → ((x 
     → (xs : List X) → AllByRecursion P xs → is_some (find p xs) ≡ true → is_some (find p (filter q xs)) ≡ true
 found_filtered P p q keep [] h found = absurd cc
 found_filtered P p q keep (x ∷ xs) h found = elim (found_cases p x xs found) [
-      | inl first ↦ subst (λ zs. is_some (find p zs) ≡ true) (sym (cond-true (q x) (x ∷ filter q xs) (filter q xs) (keep x h.0 first))) (found_first p x (filter q xs) first)
-      | inr behind ↦ cond_both (q x) (x ∷ filter q xs) (filter q xs) (λ zs. is_some (find p zs) ≡ true)
-          (λ _. found_behind p x (filter q xs) (found_filtered P p q keep xs h.1 behind))
-          (λ _. found_filtered P p q keep xs h.1 behind)
-    ]
+  | inl first ↦ subst (λ zs. is_some (find p zs) ≡ true) (sym (cond-true (q x) (x ∷ filter q xs) (filter q xs) (keep x h.0 first))) (found_first p x (filter q xs) first)
+  | inr behind ↦ cond_both (q x) (x ∷ filter q xs) (filter q xs) (λ zs. is_some (find p zs) ≡ true)
+      (λ _. found_behind p x (filter q xs) (found_filtered P p q keep xs h.1 behind))
+      (λ _. found_filtered P p q keep xs h.1 behind)
+]
 
 -- Something is found still where a filter keeps what is found, or the element that is added would be found too.
 pub found_kept : {X : Type 0} (P : X → Type 0) (p q : X → Bool) (y : X) → ((x : X) → P x → p x ≡ true → (q x ≡ true) ⊎ (p y ≡ true))
     → (xs : List X) → AllByRecursion P xs → is_some (find p xs) ≡ true → is_some (find p (filter q xs ++ y ∷ [])) ≡ true
 found_kept P p q y keep xs h found = elim (cases_Bool (p y)) [
-      | inl passes ↦ found_last p (filter q xs) y passes
-      | inr fails ↦
-        let keeps : (x : _) → P x → p x ≡ true → q x ≡ true =
-        λ x has passes. elim (keep x has passes) [
-          | inl kept ↦ kept
-          | inr last ↦ absurd cc
-        ] in
-        found_more p (filter q xs) (y ∷ []) (found_filtered P p q keeps xs h found)
-    ]
+  | inl passes ↦ found_last p (filter q xs) y passes
+  | inr fails ↦
+      let keeps : (x : _) → P x → p x ≡ true → q x ≡ true =
+      λ x has passes. elim (keep x has passes) [
+        | inl kept ↦ kept
+        | inr last ↦ absurd cc
+      ] in
+      found_more p (filter q xs) (y ∷ []) (found_filtered P p q keeps xs h found)
+]
 
 -- A change of each element that the test can't see leaves what is found.
 pub found_map : {X : Type 0} (p : X → Bool) (f : X → X) → ((x : X) → p x ≡ true → p (f x) ≡ true) → (xs : List X) → is_some (find p xs) ≡ true → is_some (find p (map f xs)) ≡ true
 found_map p f same [] found = absurd cc
 found_map p f same (x ∷ xs) found = elim (found_cases p x xs found) [
-      | inl first ↦ found_first p (f x) (map f xs) (same x first)
-      | inr behind ↦ found_behind p (f x) (map f xs) (found_map p f same xs behind)
-    ]
+  | inl first ↦ found_first p (f x) (map f xs) (same x first)
+  | inr behind ↦ found_behind p (f x) (map f xs) (found_map p f same xs behind)
+]
 
 -- where something is found, there is an element that passes the test, and what holds of each holds of it
 pub found_holds : {X : Type 0} (P : X → Type 0) (p : X → Bool) (xs : List X) → is_some (find p xs) ≡ true → AllByRecursion P xs → (x : X) × P x × (p x ≡ true)
 found_holds P p [] found h = absurd cc
 found_holds P p (x ∷ xs) found h = elim (found_cases p x xs found) [
-      | inl first ↦ (x, h.0, first)
-      | inr behind ↦ found_holds P p xs behind h.1
-    ]
+  | inl first ↦ (x, h.0, first)
+  | inr behind ↦ found_holds P p xs behind h.1
+]

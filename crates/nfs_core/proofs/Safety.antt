@@ -1,6 +1,5 @@
 -- Each state that a lawful journal leads to is safe.
-use Rattle.std.proofs.Common.{◌≡◌, ℕ, true, List, [], ◌∷◌, length, refl, sym, ap, ◌∙◌, subst}
-use Rattle.std.specs.Prelude.{⊤, find, is_some, replicate}
+use Rattle.std.proofs.Common.{◌≡◌, true, List, [], ◌∷◌, length, refl, sym, ap, ◌∙◌, subst}
 use Rattle.std.specs.List.{AllByRecursion}
 use Rattle.nfs_core.specs.declared.entry.Call.{Call}
 use Rattle.nfs_core.specs.declared.entry.Entry.{Entry}
@@ -51,7 +50,7 @@ safe state sound = record {
   compatible = sound.compatible;
   known = sound.known;
   live = all_weaken (AllByRecursion (HasKnownOwner state)) (AllByRecursion (HasLiveClient state))
-    (λ opens known. all_weaken (HasKnownOwner state) (HasLiveClient state) (live_open state sound) opens known) state.opens sound.known;
+      (λ opens known. all_weaken (HasKnownOwner state) (HasLiveClient state) (live_open state sound) opens known) state.opens sound.known;
 }
 
 pub Lawful-safe : OpensStay → (journal : History) (state : State) → Lawful journal state → IsSafe state

@@ -1,13 +1,13 @@
 -- What holds of the state after each entry of a lawful journal, and that it stays.
-use Rattle.std.proofs.Common.{◌≡◌, ◌⊎◌, inl, inr, ℕ, zero, suc, Bool, true, false, cond, Option, Some, None, List, [], ◌∷◌, ◌++◌, map, filter, slice_set, refl, sym, ap, ◌∙◌, subst}
-use Rattle.std.specs.Prelude.{⊤, ◌==◌, ◌+◌, ◌&&◌, not, find, is_some, IsFalse, slice_get}
+use Rattle.std.proofs.Common.{◌≡◌, inl, inr, ℕ, zero, suc, Bool, true, false, cond, List, [], ◌∷◌, ◌++◌, map, filter, refl, sym, ap, ◌∙◌, subst}
+use Rattle.std.specs.Prelude.{⊤, ◌==◌, ◌&&◌, not, find, is_some, IsFalse}
 use Rattle.std.specs.List.{AllByRecursion}
 use Rattle.std.specs.Str.{bytes_eq}
 use Rattle.std.proofs.lemmas.Bool.{and_parts, and_from, cond_both, cases_Bool, eqb-true, eq-eqb, not-true, not_from_false}
 use Rattle.std.proofs.lemmas.Slice.Eq.{bytes_eq-Decides}
-use Rattle.nfs_core.specs.Owners.{KnownOwner, has_name, with_confirmation, with_kept_entry, with_record, without_owner}
+use Rattle.nfs_core.specs.Owners.{KnownOwner, has_name}
 use Rattle.nfs_core.specs.State.{State}
-use Rattle.nfs_core.proofs.SafeLists.{all_always, all_filter, all_map, all_push, all_set, all_weaken, found_filtered, found_kept, found_last, found_map, found_more}
+use Rattle.nfs_core.proofs.SafeLists.{all_always, all_filter, all_map, all_push, all_set, all_weaken, found_filtered, found_kept, found_map, found_more}
 use Rattle.nfs_forms.specs.ClientId.{is_same_client}
 use Rattle.nfs_forms.specs.OpenOwner.{is_same_owner}
 use Rattle.nfs_forms.specs.declared.client_id.ClientId.{ClientId}
@@ -167,18 +167,20 @@ single_after q r self beside records single =
     (all_filter (λ b. ⊤) (HasSameClient r) q (λ b _ kept. (beside b kept).0) records (all_always records)) self)
 
 never : (b : Bool) → b ≡ false → b ≡ true → ⊥
-never b isnt is_set = cc
+never b unset is_set = cc
 
 pub single_unconfirmed : (r : ClientRecord) → r.confirmed ≡ false → (records : List ClientRecord) → AreSingle records → AreSingle (with_unconfirmed r records)
-single_unconfirmed r isnt records single =
-    single_after (λ s. not (is_unconfirmed_of r.id s)) r (λ is_set _ _. absurd (never r.confirmed isnt is_set))
-    (λ s _. ((λ is_set _ _. absurd (never r.confirmed isnt is_set)), (λ _ is_set _. absurd (never r.confirmed isnt is_set)))) records single
+single_unconfirmed r unset records single =
+    single_after (λ s. not (is_unconfirmed_of r.id s)) r (λ is_set _ _. absurd (never r.confirmed unset is_set))
+    (λ s _. ((λ is_set _ _. absurd (never r.confirmed unset is_set)), (λ _ is_set _. absurd (never r.confirmed unset is_set)))) records single
 
 pub single_confirmed : (r : ClientRecord) → (records : List ClientRecord) → AreSingle records → AreSingle (with_confirmed r records)
 single_confirmed r records single =
     single_after (λ s. not (is_of r.id s)) r (λ _ _ _. same_client_self r.client)
-    (λ s other. ((λ _ _ same. absurd (never (bytes_eq s.id r.id) (not-true (bytes_eq s.id r.id) other) same)),
-    (λ _ _ same. absurd (never (bytes_eq s.id r.id) (not-true (bytes_eq s.id r.id) other) ((bytes_eq-Decides s.id r.id).1 (sym ((bytes_eq-Decides r.id s.id).0 same))))))) records single
+    (λ s other. (
+      (λ _ _ same. absurd (never (bytes_eq s.id r.id) (not-true (bytes_eq s.id r.id) other) same)),
+      (λ _ _ same. absurd (never (bytes_eq s.id r.id) (not-true (bytes_eq s.id r.id) other) ((bytes_eq-Decides s.id r.id).1 (sym ((bytes_eq-Decides r.id s.id).0 same))))),
+    )) records single
 
 -- An unconfirmed record that comes or goes leaves who is live.
 

@@ -1,15 +1,13 @@
 -- What the rules of the operations decide is ready to keep the state sound.
-use Rattle.std.proofs.Common.{◌≡◌, ◌⊎◌, inl, inr, ℕ, Bool, true, false, cond, Option, Some, None, Result, Ok, Err, List, [], refl, sym, ap, ◌∙◌, subst}
-use Rattle.std.specs.Prelude.{⊤, ◌&&◌, not, find, is_some, IfSome, option_map, if◌then◌else◌}
+use Rattle.std.proofs.Common.{◌≡◌, inl, inr, ℕ, Bool, true, false, Option, Some, None, Result, Ok, Err, refl, sym, ap, ◌∙◌, subst}
+use Rattle.std.specs.Prelude.{⊤, ◌&&◌, not, is_some, IfSome, option_map, if◌then◌else◌}
 use Rattle.std.specs.List.{AllByRecursion}
 use Rattle.std.specs.Str.{bytes_eq}
 use Rattle.std.proofs.lemmas.Bool.{and_from, cases_Bool, cond-false, cond-true, cond_both, and_parts}
 use Rattle.std.proofs.lemmas.Slice.Eq.{bytes_eq-Decides}
-use Rattle.nfs_core.specs.declared.change.Change.{Change}
 use Rattle.nfs_core.specs.declared.change.Change.TheVariants as changes
 use Rattle.nfs_core.specs.declared.decision.Decision.{Decision}
 use Rattle.nfs_core.specs.declared.operations.«open».Opening.{Opening}
-use Rattle.nfs_core.specs.declared.owner_change.OwnerChange.{OwnerChange}
 use Rattle.nfs_core.specs.declared.owner_change.OwnerChange.TheVariants as owner_changes
 use Rattle.nfs_core.specs.declared.passage.Passage.{Passage}
 use Rattle.nfs_core.specs.declared.passage.Passage.TheVariants as passages
@@ -17,7 +15,6 @@ use Rattle.nfs_core.specs.declared.request.Request.{Request}
 use Rattle.nfs_core.specs.declared.ruling.Ruling.{Ruling}
 use Rattle.nfs_core.specs.operations.{IsRuled}
 use Rattle.nfs_core.specs.operations.Close as close
-use Rattle.nfs_core.specs.operations.Getattr as getattr
 use Rattle.nfs_core.specs.operations.Open as opening
 use Rattle.nfs_core.specs.operations.Open.{◌>>=◌}
 use Rattle.nfs_core.specs.operations.OpenConfirm as open_confirm
@@ -25,7 +22,7 @@ use Rattle.nfs_core.specs.operations.OpenDowngrade as open_downgrade
 use Rattle.nfs_core.specs.operations.Setclientid as setclientid
 use Rattle.nfs_core.specs.operations.SetclientidConfirm as confirm
 use Rattle.nfs_core.specs.Owners.{KnownOwner, has_name, is_confirmed, owner_of, without_owner}
-use Rattle.nfs_core.specs.Sequences.{IsDecided, IsOfKnown, IsOfOwner, IsSequence, IsSequenced, Own, Requester, Sequence, Answered, GoesOn, Refused, Owner, before_own, by_verdict, counts, decision_of, is_ok_status, is_open, kept_for, owner_change_of, refusal_to, requester_of_open, requester_of_stateid, with_owner_change}
+use Rattle.nfs_core.specs.Sequences.{IsDecided, IsOfKnown, IsOfOwner, IsSequence, IsSequenced, Own, Requester, Sequence, Answered, GoesOn, Refused, Owner, before_own, by_verdict, counts, decision_of, is_ok_status, is_open, owner_change_of, refusal_to, requester_of_open, requester_of_stateid, with_owner_change}
 use Rattle.nfs_core.specs.Stateids.{verdict}
 use Rattle.nfs_core.specs.State.{State, History, record_has_state}
 use Rattle.nfs_core.proofs.SafeLists.{all_find, all_none, all_weaken, found_last, found_map}
@@ -117,16 +114,18 @@ finding_fits registry (Some r) has_state principal args =
 finding_fits registry None has_state principal args = before_fits registry (confirmed_named_by args registry) principal
 
 never : (b : Bool) → b ≡ false → b ≡ true → ⊥
-never b isnt is_set = cc
+never b unset is_set = cc
 
 pub confirms : (registry : Registry) (case : Confirmation) (path : PathMark) → AreSingle registry.records → IsFitting registry case → IsClientReady (confirmation_by case path).1 registry
 confirms registry Stale path single fits = tt
 confirms registry InUse path single fits = tt
 confirms registry Retransmission path single fits = tt
-confirms registry (First r) path single fits =
-    (refl, all_weaken (λ s. is_confirmed_of r.id s ≡ false) (IsOnlyOf r.client r.id)
-    (λ s none is_set same. absurd (never (is_confirmed_of r.id s) none (and_from s.confirmed (is_of r.id s) is_set same))) registry.records
-    (all_none (is_confirmed_of r.id) registry.records fits))
+confirms registry (First r) path single fits = (
+  refl,
+  all_weaken (λ s. is_confirmed_of r.id s ≡ false) (IsOnlyOf r.client r.id)
+      (λ s none is_set same. absurd (never (is_confirmed_of r.id s) none (and_from s.confirmed (is_of r.id s) is_set same))) registry.records
+      (all_none (is_confirmed_of r.id) registry.records fits),
+)
 confirms registry (Update old r) path single fits =
     let found = all_find (λ r. AllByRecursion (HasSameClient r) registry.records) (is_confirmed_of r.id) registry.records old fits single in
     let both = and_parts old.confirmed (is_of r.id old) found.1 in
@@ -169,12 +168,12 @@ owner_fits journal state None name request passage owner is h =
     let refuses = refusal_to request.op refusals.BadStateId in
     elim (cases_Bool (is_open request.op)) [
       | inl opens ↦
-        let same = going passage passages.Begins owner name (h ∙ cond-true (is_open request.op) begins refuses opens) in
-        let fit : IsFit state request.op owner passages.Begins = opens in
-        (same.1, subst (IsFit state request.op owner) (sym same.0) fit)
+          let same = going passage passages.Begins owner name (h ∙ cond-true (is_open request.op) begins refuses opens) in
+          let fit : IsFit state request.op owner passages.Begins = opens in
+          (same.1, subst (IsFit state request.op owner) (sym same.0) fit)
       | inr others ↦
-        let same : GoesOn passage owner ≡ refuses = h ∙ cond-false (is_open request.op) begins refuses others in
-        absurd cc
+          let same : GoesOn passage owner ≡ refuses = h ∙ cond-false (is_open request.op) begins refuses others in
+          absurd cc
     ]
 owner_fits journal state (Some o) name request passage owner is h =
     fits_known state (is_open request.op && not o.confirmed) h.0 name request passage owner (ap is_some is)
@@ -237,8 +236,11 @@ quiet_ready number state requester op own closed quiet node passage owner ruling
     let decision = decision_of passage owner ruling in
     (continues_ready state op owner passage (status_of ruling.answer) closed fit, quiet node passage ruling h (with_owner_change decision.owner number state))
 
+same_ruling : (r u : Ruling) → r ≡ u → (s : State) → IsChangeReady u.change s → IsChangeReady r.change s
+same_ruling r u same s ready = subst (λ (x : Ruling). IsChangeReady x.change s) (sym same) ready
+
 as_ruled : (r u : Ruling) → Some r ≡ Some u → ((s : State) → IsChangeReady u.change s) → (s : State) → IsChangeReady r.change s
-as_ruled r u same ready = subst (λ (x : Ruling). (s : State) → IsChangeReady x.change s) (sym (some_equal r u same)) ready
+as_ruled r u same ready s = same_ruling r u (some_equal r u same) s (ready s)
 
 closing_quiet : (found : Result OpenAt Refusal) (s : State) → IsChangeReady (close.closing found).change s
 closing_quiet (Err refusal) s = tt
@@ -249,16 +251,13 @@ confirmation_quiet state (Err refusal) s = tt
 confirmation_quiet state (Ok at) s =
     cond_both (is_confirmed at.state.owner state.owners) (open_confirm.refusal_of refusals.BadStateId) _ (λ (r : Ruling). IsChangeReady r.change s) (λ _. tt) (λ _. tt)
 
-as_downgraded : (r u : Ruling) → r ≡ u → (s : State) → IsChangeReady u.change s → IsChangeReady r.change s
-as_downgraded r u same s ready = subst (λ (x : Ruling). IsChangeReady x.change s) (sym same) ready
-
 downgrade_quiet : (at : OpenAt) (share : Option Share) (ruling : Ruling) → open_downgrade.IsDowngrade at share ruling → (s : State) → IsChangeReady ruling.change s
-downgrade_quiet at None ruling is s = as_downgraded ruling _ is s tt
-downgrade_quiet at (Some share) ruling (inl is) s = as_downgraded ruling _ is.1 s tt
-downgrade_quiet at (Some share) ruling (inr is) s = as_downgraded ruling _ is.1 s tt
+downgrade_quiet at None ruling is s = same_ruling ruling _ is s tt
+downgrade_quiet at (Some share) ruling (inl is) s = same_ruling ruling _ is.1 s tt
+downgrade_quiet at (Some share) ruling (inr is) s = same_ruling ruling _ is.1 s tt
 
 found_quiet : (found : Result OpenAt Refusal) (args : OpenDowngrade) (ruling : Ruling) → open_downgrade.IsFound found args ruling → (s : State) → IsChangeReady ruling.change s
-found_quiet (Err refusal) args ruling is s = as_downgraded ruling _ is s tt
+found_quiet (Err refusal) args ruling is s = same_ruling ruling _ is s tt
 found_quiet (Ok at) args ruling is s = downgrade_quiet at (share_of_numbers args.access args.deny) ruling is s
 
 -- OPEN
@@ -278,11 +277,11 @@ allowed state owner share node o is =
     let result : Result Opening Refusal = opening.unless_denied state owner share node in
     elim (cases_Bool denied) [
       | inl refused ↦
-        let err : result ≡ Err refusals.ShareDenied = cond-true denied (Err refusals.ShareDenied) (Ok new) refused in
-        absurd cc
+          let err : result ≡ Err refusals.ShareDenied = cond-true denied (Err refusals.ShareDenied) (Ok new) refused in
+          absurd cc
       | inr free ↦
-        let ok : result ≡ Ok new = cond-false denied (Err refusals.ShareDenied) (Ok new) free in
-        subst (λ (x : Opening). is_refused owner x.share (opens_of x.node state.opens) ≡ false) (opened_at new o result ok is) free
+          let ok : result ≡ Ok new = cond-false denied (Err refusals.ShareDenied) (Ok new) free in
+          subst (λ (x : Opening). is_refused owner x.share (opens_of x.node state.opens) ≡ false) (opened_at new o result ok is) free
     ]
 
 opening_allowed : (journal : History) (state : State) (node : ℕ) (args : Open) (o : Opening) → opening.opening journal state node args ≡ Ok o → is_refused args.owner o.share (opens_of o.node state.opens) ≡ false
@@ -300,9 +299,11 @@ opens_ready : (number : ℕ) (state : State) (op : Op) (name : OpenOwner) (passa
     → IsChangeReady (changes.Opens node name share) (with_owner_change (owner_change_of passage name status) number state)
 opens_ready number state op name passages.Continues status node share ok counted fit free =
     subst (λ c. IsChangeReady (changes.Opens node name share) (with_owner_change c number state))
-    (sym (cond-true (counts status) (owner_changes.Keeps name) owner_changes.Nothing counted))
-    (found_map (has_name name) (λ o. if has_name name o then record o { kept_entry = number } else o)
-    (λ o has. ap (λ n. is_same_owner n name) (name_kept (λ k. record k { kept_entry = number }) (λ k. refl) (has_name name o) o) ∙ has) state.owners fit, free)
+    (sym (cond-true (counts status) (owner_changes.Keeps name) owner_changes.Nothing counted)) (
+      found_map (has_name name) (λ o. if has_name name o then record o { kept_entry = number } else o)
+          (λ o has. ap (λ n. is_same_owner n name) (name_kept (λ k. record k { kept_entry = number }) (λ k. refl) (has_name name o) o) ∙ has) state.owners fit,
+      free,
+    )
 opens_ready number state op name passages.Begins status node share ok counted fit free =
     let new : KnownOwner = record { name = name; confirmed = false; recording_entry = number; kept_entry = number } in
     subst (λ c. IsChangeReady (changes.Opens node name share) (with_owner_change c number state))
@@ -332,12 +333,13 @@ ruling_ready number journal state op args passage directory ruling (Ok o) live f
     } in
     elim (cases_Bool places) [
       | inl has ↦ subst (λ r. IsReady number state (decision_of passage args.owner r))
-          (sym (some_equal ruling given (rules ∙ cond-true places (Some given) None has)))
-          (owner_ready state args.owner passage (status_of given.answer) live,
-          opens_ready number state op args.owner passage (status_of given.answer) o.node o.share refl refl fit (opening_allowed journal seen directory args o is))
+          (sym (some_equal ruling given (rules ∙ cond-true places (Some given) None has))) (
+            owner_ready state args.owner passage (status_of given.answer) live,
+            opens_ready number state op args.owner passage (status_of given.answer) o.node o.share refl refl fit (opening_allowed journal seen directory args o is),
+          )
       | inr full ↦
-        let none : Some ruling ≡ None = rules ∙ cond-false places (Some given) None full in
-        absurd cc
+          let none : Some ruling ≡ None = rules ∙ cond-false places (Some given) None full in
+          absurd cc
     ]
 
 -- the owner of an OPEN is the one in its arguments, whose client is live
@@ -346,11 +348,11 @@ requests_open state name owner is =
     let live = is_live_in state.clients.records name.client in
     elim (cases_Bool live) [
       | inl there ↦
-        let same : Owner name ≡ Owner owner = sym (cond-true live (Owner name) (Refused refusals.StaleClientId) there) ∙ is in
-        (search same, there)
+          let same : Owner name ≡ Owner owner = sym (cond-true live (Owner name) (Refused refusals.StaleClientId) there) ∙ is in
+          (search same, there)
       | inr gone ↦
-        let same : Refused refusals.StaleClientId ≡ Owner owner = sym (cond-false live (Owner name) (Refused refusals.StaleClientId) gone) ∙ is in
-        absurd cc
+          let same : Refused refusals.StaleClientId ≡ Owner owner = sym (cond-false live (Owner name) (Refused refusals.StaleClientId) gone) ∙ is in
+          absurd cc
     ]
 
 open_ready : (number : ℕ) (journal : History) (state : State) (op : Op) (args : Open) → IsOwnReady number state (requester_of_open state args.owner) op (opening.own journal state args)
@@ -372,9 +374,11 @@ ruled_ready number journal state (ops.SetclientidConfirm args) request d same so
     let path = confirm.path_of journal.policy.callbacks in
     let named = unconfirmed_named_by args state.clients in
     let has_state = record_has_state state (confirmations.holder_of named state.clients) in
-    as_decided number state d _ is
-    (tt, confirms state.clients (confirmations.finding named state.clients has_state request.principal args) path sound.single
-    (finding_fits state.clients named has_state request.principal args))
+    as_decided number state d _ is (
+      tt,
+      confirms state.clients (confirmations.finding named state.clients has_state request.principal args) path sound.single
+          (finding_fits state.clients named has_state request.principal args),
+    )
 ruled_ready number journal state (ops.Open args) request d same sound is =
     sequenced_ready number journal state (requester_of_open state args.owner) request (opening.own journal state args)
     (open_ready number journal state request.op args) request.filehandle d is

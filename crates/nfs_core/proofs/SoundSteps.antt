@@ -1,5 +1,5 @@
 -- An entry's changes keep the state sound, given what its rule makes sure of.
-use Rattle.std.proofs.Common.{◌≡◌, ℕ, Bool, true, false, Option, Some, None, List, [], map, refl, ap, ◌∙◌}
+use Rattle.std.proofs.Common.{◌≡◌, ℕ, true, false, refl}
 use Rattle.std.specs.Prelude.{⊤, ◌+◌, find, is_some, not, if◌then◌else◌}
 use Rattle.std.specs.List.{AllByRecursion}
 use Rattle.nfs_core.specs.declared.change.Change.{Change}
@@ -7,23 +7,22 @@ use Rattle.nfs_core.specs.declared.change.Change.TheVariants as changes
 use Rattle.nfs_core.specs.declared.decision.Decision.{Decision}
 use Rattle.nfs_core.specs.declared.owner_change.OwnerChange.{OwnerChange}
 use Rattle.nfs_core.specs.declared.owner_change.OwnerChange.TheVariants as owner_changes
-use Rattle.nfs_core.specs.Owners.{KnownOwner, has_name, with_confirmation, with_kept_entry, with_record, without_owner}
+use Rattle.nfs_core.specs.Owners.{has_name, with_confirmation, with_record}
 use Rattle.nfs_core.specs.Sequences.{with_owner_change}
 use Rattle.nfs_core.specs.Sequences as sequences
 use Rattle.nfs_core.specs.State.{State}
-use Rattle.nfs_core.specs.Step.{after, changed, left_by}
+use Rattle.nfs_core.specs.Step.{after, changed}
 use Rattle.nfs_core.proofs.SafeLists.{all_filter, all_push, all_set}
-use Rattle.nfs_core.proofs.Sound.{AreCompatible, AreKnown, AreLive, IsKnownIn, IsOnlyOf, IsSound, OpensStay, at_node, dropped_compatible, dropped_known, dropped_live, each_known, is_live_in, live_confirmed, live_replaced, live_unconfirmed, mapped_known, mapped_live, name_kept, opening_known, recorded_known, set_node, single_confirmed, single_unconfirmed}
+use Rattle.nfs_core.proofs.Sound.{IsKnownIn, IsOnlyOf, IsSound, OpensStay, at_node, dropped_compatible, dropped_known, dropped_live, each_known, is_live_in, live_confirmed, live_replaced, live_unconfirmed, mapped_known, mapped_live, name_kept, opening_known, recorded_known, set_node, single_confirmed, single_unconfirmed}
 use Rattle.nfs_forms.specs.ClientId.{is_same_client}
 use Rattle.nfs_forms.specs.OpenOwner.{is_same_owner}
 use Rattle.nfs_forms.specs.declared.open_owner.OpenOwner.{OpenOwner}
 use Rattle.nfs_owners.specs.Registry.{Registry}
 use Rattle.nfs_owners.specs.declared.clients.client_change.ClientChange.{ClientChange}
 use Rattle.nfs_owners.specs.declared.clients.client_change.ClientChange.TheVariants as client_changes
-use Rattle.nfs_share.specs.AllOpens.{opens_of, with_opens}
+use Rattle.nfs_share.specs.AllOpens.{opens_of}
 use Rattle.nfs_share.specs.Laws.{AllAreCompatible}
 use Rattle.nfs_share.specs.Opens.{after_downgrade, is_numbered, is_refused, with_each, with_next_seqid, with_opening, without}
-use Rattle.nfs_share.specs.declared.open_state.OpenState.{OpenState}
 
 -- the client of an owner that becomes known is live
 abbrev pub IsOwnerReady : OwnerChange → State → Type 0
@@ -73,9 +72,9 @@ sound_owner : OpensStay → (change : OwnerChange) (number : ℕ) (old : State) 
 sound_owner law owner_changes.Nothing number old ready sound = sound
 sound_owner law (owner_changes.Keeps name) number old ready sound = record {
   live = mapped_live (λ o. if has_name name o then record o { kept_entry = number } else o)
-    (λ o. name_kept (λ k. record k { kept_entry = number }) (λ k. refl) (has_name name o) o) old.clients.records old.owners sound.live;
+      (λ o. name_kept (λ k. record k { kept_entry = number }) (λ k. refl) (has_name name o) o) old.clients.records old.owners sound.live;
   known = mapped_known (λ o. if has_name name o then record o { kept_entry = number } else o)
-    (λ o. name_kept (λ k. record k { kept_entry = number }) (λ k. refl) (has_name name o) o) old.owners old.opens sound.known;
+      (λ o. name_kept (λ k. record k { kept_entry = number }) (λ k. refl) (has_name name o) o) old.owners old.opens sound.known;
   compatible = sound.compatible;
   single = sound.single;
 }
@@ -124,32 +123,32 @@ sound_changed law (changes.Clients change) old ready sound = sound_clients law c
 sound_changed law (changes.Opens node owner share) old ready sound = record {
   live = sound.live;
   known = set_node (AllByRecursion (IsKnownIn old.owners)) tt (with_opening owner share (old.last_state + 1))
-    (opening_known old.owners owner share (old.last_state + 1) ready.0) node old.opens sound.known;
+      (opening_known old.owners owner share (old.last_state + 1) ready.0) node old.opens sound.known;
   compatible = all_set AllAreCompatible old.opens node (with_opening owner share (old.last_state + 1) (opens_of node old.opens)) sound.compatible
-    (law.try_open owner share (old.last_state + 1) (opens_of node old.opens) (at_node AllAreCompatible tt node old.opens sound.compatible) ready.1);
+      (law.try_open owner share (old.last_state + 1) (opens_of node old.opens) (at_node AllAreCompatible tt node old.opens sound.compatible) ready.1);
   single = sound.single;
 }
 sound_changed law (changes.Confirms node number owner) old ready sound = record {
   live = mapped_live (λ o. if has_name owner o then record o { confirmed = true } else o)
-    (λ o. name_kept (λ k. record k { confirmed = true }) (λ k. refl) (has_name owner o) o) old.clients.records old.owners sound.live;
+      (λ o. name_kept (λ k. record k { confirmed = true }) (λ k. refl) (has_name owner o) o) old.clients.records old.owners sound.live;
   known = set_node (AllByRecursion (IsKnownIn (with_confirmation owner old.owners))) tt (with_each (is_numbered number) with_next_seqid)
-    (each_known (with_confirmation owner old.owners) (is_numbered number) with_next_seqid (λ o. refl)) node old.opens
-    (mapped_known (λ o. if has_name owner o then record o { confirmed = true } else o)
-    (λ o. name_kept (λ k. record k { confirmed = true }) (λ k. refl) (has_name owner o) o) old.owners old.opens sound.known);
+      (each_known (with_confirmation owner old.owners) (is_numbered number) with_next_seqid (λ o. refl)) node old.opens
+      (mapped_known (λ o. if has_name owner o then record o { confirmed = true } else o)
+      (λ o. name_kept (λ k. record k { confirmed = true }) (λ k. refl) (has_name owner o) o) old.owners old.opens sound.known);
   compatible = set_node AllAreCompatible tt (with_each (is_numbered number) with_next_seqid) (law.advance (is_numbered number)) node old.opens sound.compatible;
   single = sound.single;
 }
 sound_changed law (changes.Downgrades node number share) old ready sound = record {
   live = sound.live;
   known = set_node (AllByRecursion (IsKnownIn old.owners)) tt (with_each (is_numbered number) (after_downgrade share))
-    (each_known old.owners (is_numbered number) (after_downgrade share) (λ o. refl)) node old.opens sound.known;
+      (each_known old.owners (is_numbered number) (after_downgrade share) (λ o. refl)) node old.opens sound.known;
   compatible = set_node AllAreCompatible tt (with_each (is_numbered number) (after_downgrade share)) (law.downgrade (is_numbered number) share) node old.opens sound.compatible;
   single = sound.single;
 }
 sound_changed law (changes.Closes node number) old ready sound = record {
   live = sound.live;
   known = set_node (AllByRecursion (IsKnownIn old.owners)) tt (without (is_numbered number))
-    (λ xs h. all_filter (IsKnownIn old.owners) (IsKnownIn old.owners) (λ o. not (is_numbered number o)) (λ o known _. known) xs h) node old.opens sound.known;
+      (λ xs h. all_filter (IsKnownIn old.owners) (IsKnownIn old.owners) (λ o. not (is_numbered number o)) (λ o known _. known) xs h) node old.opens sound.known;
   compatible = set_node AllAreCompatible tt (without (is_numbered number)) (law.removal (is_numbered number)) node old.opens sound.compatible;
   single = sound.single;
 }

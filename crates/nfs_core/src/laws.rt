@@ -1,6 +1,7 @@
 ghost use Rattle.nfs_core.specs.Lawful.{Lawful};
 ghost use Rattle.nfs_core.specs.Safe.{IsSafe};
 ghost use Rattle.nfs_core.specs.State.{State, History};
+
 use nfs_share::opens_stay_compatible;
 
 /// The law that each state which a lawful journal leads to is safe.
