@@ -1,6 +1,6 @@
 ghost use Rattle.std.specs.Prelude.{◌≡◌, IfOk, Some};
 ghost use Rattle.nfs_core.specs.Finding.{requester_seen, sequence_seen};
-ghost use Rattle.nfs_core.specs.Deciding.{HasPassage, IsSendableSequence};
+ghost use Rattle.nfs_core.specs.Deciding.{HasOtherRefusal, HasPassage, IsSendableSequence};
 ghost use Rattle.nfs_core.specs.Kept.{Agrees};
 ghost use Rattle.nfs_core.specs.Room.{state_of};
 ghost use Rattle.nfs_core.specs.Sequences.{IsRestart, IsSequence, by_verdict, is_open, requester_of_open, requester_of_stateid, seqid_of};
@@ -31,7 +31,8 @@ pub(crate) enum Sequence<'a> {
 impl Tables {
     /// The owner in an OPEN's arguments, if its client is known.
     pub(crate) fn requester_of_open<'a>(&self, owner: &'a OpenOwner) -> Requester<'a>
-        ensures { requester_seen result ≡ requester_of_open (state_of self.now) owner.now }
+        ensures requester { requester_seen result ≡ requester_of_open (state_of self.now) owner.now }
+        ensures refusal { HasOtherRefusal (requester_seen result) }
     {
         match self.clients.of(owner.client) {
             Some(_) => Requester::Owner(owner),
@@ -42,8 +43,9 @@ impl Tables {
     /// The owner that a stateid names, also by an open that it has closed by its last request.
     pub(crate) fn requester_of_stateid(&self, journal: &Journal, stateid: Stateid) -> Requester<'_>
         requires { Agrees journal.now self.now.owners.owners }
-        ensures { requester_seen result
+        ensures requester { requester_seen result
             ≡ requester_of_stateid journal.now (state_of self.now) stateid }
+        ensures refusal { HasOtherRefusal (requester_seen result) }
     {
         match self.target_of(journal.epoch(), stateid) {
             Target::Refused(refusal) => Requester::Refused(refusal),
@@ -67,7 +69,8 @@ impl Tables {
         request: &Request,
         requester: Requester<'a>,
     ) -> Result<Sequence<'a>, AllocError>
-        requires { Agrees journal.now self.now.owners.owners }
+        requires kept { Agrees journal.now self.now.owners.owners }
+        requires refusal { HasOtherRefusal (requester_seen requester.entry) }
         ensures sequence { IfOk result (λ s. IsSequence journal.now (state_of self.now)
             (requester_seen requester.entry) request.now (sequence_seen s)) }
         ensures sendable { IfOk result (λ s. IsSendableSequence request.now.op (sequence_seen s)) }
