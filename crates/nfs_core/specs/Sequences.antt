@@ -153,10 +153,14 @@ IsOfKnown true kept name request sequence = IsRestart kept name request sequence
 IsOfKnown false kept name request sequence = IsJudged kept name request sequence
 
 -- An owner that isn't known begins with an OPEN of any sequence id; no other request comes from one.
-abbrev pub IsOfOwner : History → Option KnownOwner → OpenOwner → Request → Sequence → Type 0
-IsOfOwner journal None name request sequence =
+abbrev pub IsOfUnknown : OpenOwner → Request → Sequence → Type 0
+IsOfUnknown name request sequence =
     sequence ≡ (if is_open request.op then GoesOn passages.Begins name
       else refusal_to request.op refusals.BadStateId)
+
+-- A request of this owner, by whether it is known.
+abbrev pub IsOfOwner : History → Option KnownOwner → OpenOwner → Request → Sequence → Type 0
+IsOfOwner journal None name request sequence = IsOfUnknown name request sequence
 IsOfOwner journal (Some o) name request sequence =
     (kept : Kept)
     × (kept_for journal o ≡ Some kept)
