@@ -21,10 +21,8 @@ use Rattle.nfs_owners.specs.declared.kept.KeptRequest.{KeptRequest}
 use Rattle.nfs_owners.specs.declared.kept.Verdict.{Verdict}
 use Rattle.nfs_owners.specs.declared.kept.Verdict.TheVariants as verdicts
 use Rattle.nfs_owners.specs.declared.owner.Owner.{Owner}
-use Rattle.nfs_owners.specs.declared.owner.OwnerStanding.{OwnerStanding}
 use Rattle.nfs_owners.specs.Kept.{IsAgain, closes, request_of}
 use Rattle.nfs_owners.specs.Owner as owners
-use Rattle.nfs_owners.specs.Owner.{standing_of}
 use Rattle.nfs_xdr.specs.declared.op.Op.{Op}
 use Rattle.nfs_xdr.specs.declared.op.Op.TheVariants as ops
 use Rattle.nfs_xdr.specs.declared.op_result.OpResult.{OpResult}
