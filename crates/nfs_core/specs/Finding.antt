@@ -29,7 +29,7 @@ abbrev pub requester_seen : Requester → sequences.Requester
 requester_seen (requesters.Refused refusal) = sequences.Refused refusal
 requester_seen (requesters.Owner name) = sequences.Owner name.now
 
--- the owner that was found, as it is stored
+-- the owner that was found among the stored ones, or NFS4ERR_BAD_STATEID
 abbrev pub stored_or_bad : Option Owner → sequences.Requester
 stored_or_bad None = sequences.Refused refusals.BadStateId
 stored_or_bad (Some o) = sequences.Owner o.name

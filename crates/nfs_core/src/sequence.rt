@@ -31,7 +31,8 @@ pub(crate) enum Sequence<'a> {
 impl Tables {
     /// The owner in an OPEN's arguments, if its client is known.
     pub(crate) fn requester_of_open<'a>(&self, owner: &'a OpenOwner) -> Requester<'a>
-        ensures requester { requester_seen result ≡ requester_of_open (state_of self.now) owner.now }
+        ensures requester { requester_seen result
+            ≡ requester_of_open (state_of self.now) owner.now }
         ensures refusal { HasOtherRefusal (requester_seen result) }
     {
         match self.clients.of(owner.client) {
@@ -57,7 +58,8 @@ impl Tables {
     // The owner whose kept request closed the stateid's open.
     fn closer_of(&self, stateid: Stateid) -> Requester<'_>
         ensures { requester_seen result
-            ≡ stored_or_bad (find (λ o. closes stateid.client stateid.number o.kept) self.now.owners.owners) }
+            ≡ stored_or_bad (find (λ o. closes stateid.client stateid.number o.kept)
+            self.now.owners.owners) }
     {
         match self.owners.closer_of(stateid.client, stateid.number) {
             Some(owner) => Requester::Owner(&owner.name),
@@ -109,7 +111,8 @@ fn resume<'a>(
     name: &'a OpenOwner,
 ) -> Result<Sequence<'a>, AllocError>
     requires { IsSendable owner.now.kept.request.op owner.now.kept.answer }
-    ensures sequence { IfOk result (λ s. IsOfKnown (is_open request.now.op && not owner.now.confirmed)
+    ensures sequence { IfOk result (λ s. IsOfKnown
+        (is_open request.now.op && not owner.now.confirmed)
         owner.now.kept name.now request.now (sequence_seen s)) }
     ensures sendable { IfOk result (λ s. IsSendableSequence request.now.op (sequence_seen s)) }
 {
@@ -144,7 +147,8 @@ fn restart<'a>(
     name: &'a OpenOwner,
 ) -> Result<Sequence<'a>, AllocError>
     requires { IsSendable kept.now.request.op kept.now.answer }
-    ensures sequence { IfOk result (λ s. IsRestart kept.now name.now request.now (sequence_seen s)) }
+    ensures sequence { IfOk result (λ s.
+        IsRestart kept.now name.now request.now (sequence_seen s)) }
     ensures sendable { IfOk result (λ s. IsSendableSequence request.now.op (sequence_seen s)) }
 {
     match kept.judge(seqid_of(&request.op), &request.op, request.filehandle) {

@@ -1,4 +1,4 @@
-use Rattle.std.proofs.Common.{◌≡◌, ap, ◌∙◌}
+use Rattle.std.proofs.Common.{ap, ◌∙◌}
 use Rattle.nfs_core.proofs.Sequencing.{refusal_sendable}
 use Rattle.nfs_xdr.specs.OpResult.{refusal_of}
 use Rattle.nfs_core.proofs.sequence.refusal_to.Goals as goal

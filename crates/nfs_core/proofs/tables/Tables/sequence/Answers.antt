@@ -3,7 +3,6 @@ use Rattle.std.specs.Option.{option_copied}
 use Rattle.std.proofs.lemmas.Result.{IfOk-weaker}
 use Rattle.nfs_core.specs.declared.sequence.Requester.{Requester}
 use Rattle.nfs_core.specs.declared.sequence.Sequence.{Sequence}
-use Rattle.nfs_core.specs.Deciding.{HasPassage}
 use Rattle.nfs_core.specs.Finding.{requester_seen, sequence_seen}
 use Rattle.nfs_core.specs.Room.{state_of}
 use Rattle.nfs_core.specs.Sequences.{IsSequence}
