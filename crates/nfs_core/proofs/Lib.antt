@@ -5,4 +5,5 @@ pub mod Safety
 pub mod Sound
 pub mod SoundRules
 pub mod SoundSteps
+pub mod Sequencing
 pub mod Uniqueness
