@@ -1,5 +1,5 @@
 -- What an OPEN opens, in the state without an owner that starts anew.
-use Rattle.std.proofs.Common.{◌≡◌, ◌≢◌, ℕ, zero, suc, ◌<◌, ◌≤◌, Bool, true, false, Option, Some, None, Result, Ok, Err, List, [], ◌∷◌, length, refl, sym, ap, ◌∙◌, arith}
+use Rattle.std.proofs.Common.{◌≡◌, ◌≢◌, ℕ, zero, suc, ◌<◌, Bool, true, false, Option, Some, None, Result, Ok, Err, List, [], ◌∷◌, length, refl, sym, ap, ◌∙◌, arith}
 use Rattle.std.specs.Prelude.{◌&&◌, ◌||◌, ◌==◌, IsTrue, map, not, nat_lt, is_some, option_map, if◌then◌else◌}
 use Rattle.std.proofs.lemmas.Bool.{lt-ltb}
 use Rattle.std.proofs.lemmas.List.{length-map}
@@ -190,7 +190,7 @@ pub ruled_by : (passage : Passage) (state : State) (owner : OpenOwner) (o : Open
 ruled_by passage state owner o = by (has_owner_place passage state && has_open_place state owner o.node)
   where
     by : (b : Bool) → option_map {U = Ruling} (λ id. record { answer = granted passage id; change = Opens o.node owner o.share }) (if b then Some (stateid_after state owner (open_of owner (opens_of o.node state.opens))) else None)
-      ≡ (if b then Some (record { answer = results.Open (Done (answer_of state passage owner o.node)); change = Opens o.node owner o.share }) else None)
+        ≡ (if b then Some (record { answer = results.Open (Done (answer_of state passage owner o.node)); change = Opens o.node owner o.share }) else None)
     by true = refl
     by false = refl
 

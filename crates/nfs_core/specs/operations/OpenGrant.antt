@@ -16,7 +16,8 @@ use Rattle.nfs_xdr.specs.declared.op_result.OpResult.TheVariants as results
 -- the stateid of a new open, if there is a place for one
 abbrev pub new_stateid : State → OpenOwner → Option Stateid
 new_stateid state owner =
-    if nat_lt (open_count state.opens) OPEN_LIMIT then Some (stateid_after state owner None) else None
+    if nat_lt (open_count state.opens) OPEN_LIMIT then Some (stateid_after state owner None)
+    else None
 
 -- the stateid that the owner gets for the file, unless a limit would be exceeded
 abbrev pub granted_stateid : Passage → State → OpenOwner → ℕ → Option Stateid

@@ -132,9 +132,7 @@ fn unless_delegated(
     let Claim::DelegateCur { stateid, .. } = claim else {
         return Ok(node);
     };
-    Err(refusal_of_target(
-        tables.target_of(journal.epoch(), *stateid),
-    ))
+    Err(refusal_of_target(tables.target_of(journal.epoch(), *stateid)))
 }
 
 // Why a stateid names no delegation.
@@ -172,8 +170,9 @@ fn grant(
 ) -> Result<Ruling, Shortage>
     requires states { tables.now.numbers < 2 ^ 32 - 1 }
     requires passage { IsPassage passage args.now.owner (state_of tables.now) }
-    ensures { Rules (λ ruling. ruling ≡ ruling_of (before_own passage args.now.owner (state_of tables.now))
-          passage args.now.owner (Ok opening))
+    ensures { Rules (λ ruling. ruling ≡ ruling_of
+        (before_own passage args.now.owner (state_of tables.now))
+        passage args.now.owner (Ok opening))
         (state_of tables.now) (Op.Open args.now) result }
 {
     let Some(stateid) = stateid_for(tables, passage, &args.owner, opening.node) else {
@@ -190,12 +189,7 @@ fn grant(
 }
 
 // The stateid that the owner gets for the file; `None` if a limit would be exceeded.
-fn stateid_for(
-    tables: &Tables,
-    passage: Passage,
-    owner: &OpenOwner,
-    node: u32,
-) -> Option<Stateid>
+fn stateid_for(tables: &Tables, passage: Passage, owner: &OpenOwner, node: u32) -> Option<Stateid>
     requires states { tables.now.numbers < 2 ^ 32 - 1 }
     requires passage { IsPassage passage owner.now (state_of tables.now) }
     ensures { result ≡ granted_stateid passage
@@ -213,7 +207,8 @@ fn stateid_for(
 // Whether there is a place for the owner. One that starts anew has left its own.
 fn has_owner_place(tables: &Tables, passage: Passage, owner: &OpenOwner) -> bool
     requires passage { IsPassage passage owner.now (state_of tables.now) }
-    ensures { result ≡ has_owner_place passage (before_own passage owner.now (state_of tables.now)) }
+    ensures { result
+        ≡ has_owner_place passage (before_own passage owner.now (state_of tables.now)) }
 {
     tables.owners.has_place(owner)
 }
@@ -251,7 +246,8 @@ fn new_stateid(tables: &Tables, passage: Passage, owner: &OpenOwner) -> Option<S
 
 // Whether there is a place for one more open. An owner that starts anew leaves its own places.
 fn has_open_place(tables: &Tables, passage: Passage, owner: &OpenOwner) -> bool
-    ensures { result ≡ nat_lt (open_count (before_own passage owner.now (state_of tables.now)).opens) OPEN_LIMIT }
+    ensures { result ≡ nat_lt
+        (open_count (before_own passage owner.now (state_of tables.now)).opens) OPEN_LIMIT }
 {
     match passage {
         Passage::Restarts => tables.opens.has_place_without(owner, OPEN_LIMIT),

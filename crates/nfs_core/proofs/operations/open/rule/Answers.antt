@@ -17,7 +17,7 @@ returns-in-Ok c =
     let seen = before_own c.args.passage args.owner state in
     let rules : Option Ruling → Type 0 = λ r. Rules (λ ruling. ruling ≡ r) state (ops.Open args) c.grant.result in
     let same : Ok c.in-Ok.opening ≡ opening c.args.journal.now seen c.args.directory args =
-      sym c.in-Ok.is ∙ c.find_opening.ensures ∙ sym (opening_same c.args.passage c.args.journal.now state c.args.directory args) in
+    sym c.in-Ok.is ∙ c.find_opening.ensures ∙ sym (opening_same c.args.passage c.args.journal.now state c.args.directory args) in
     subst rules (ap (ruling_of seen c.args.passage args.owner) same) c.grant.ensures
 
 pub returns-in-Err : goal.returns-in-Err
@@ -27,7 +27,7 @@ returns-in-Err c =
     let state = state_of c.args.tables.now in
     let seen = before_own c.args.passage args.owner state in
     let same : Err c.in-Err.refusal ≡ opening journal seen c.args.directory args =
-      sym c.in-Err.is ∙ c.find_opening.ensures ∙ sym (opening_same c.args.passage journal state c.args.directory args) in (
+    sym c.in-Err.is ∙ c.find_opening.ensures ∙ sym (opening_same c.args.passage journal state c.args.directory args) in (
       ap (λ a. Some (record { answer = a; change = Nothing })) c.refused.ensures.value ∙ ap (ruling_of seen c.args.passage args.owner) same,
       record {
         not_resource = not_resource journal seen c.args.directory args c.in-Err.refusal c.refused.result (sym same) c.refused.ensures.value;
