@@ -6,4 +6,5 @@ pub mod Sound
 pub mod SoundRules
 pub mod SoundSteps
 pub mod Sequencing
+pub mod Opening
 pub mod Uniqueness
