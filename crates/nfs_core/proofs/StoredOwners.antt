@@ -9,7 +9,7 @@ use Rattle.nfs_core.specs.Owners.{KnownOwner}
 use Rattle.nfs_core.specs.Room.{HasOwnerPlace}
 use Rattle.nfs_core.specs.Sequences.{with_owner_change, without}
 use Rattle.nfs_core.specs.State.{History, State}
-use Rattle.nfs_core.specs.Step.{changed}
+use Rattle.nfs_core.specs.Step.{changed, left_by, without_client}
 use Rattle.nfs_core.specs.declared.change.Change.{Change}
 use Rattle.nfs_core.specs.declared.change.Change.TheVariants as own_changes
 use Rattle.nfs_core.specs.Stored.{Stored, known_owner, meaning}
@@ -19,6 +19,9 @@ use Rattle.nfs_core.specs.declared.owner_update.OwnerUpdate.TheVariants as updat
 use Rattle.nfs_forms.specs.declared.client_id.ClientId.{ClientId}
 use Rattle.nfs_forms.specs.declared.open_owner.OpenOwner.{OpenOwner}
 use Rattle.nfs_forms.specs.ClientId.{is_same_client}
+use Rattle.nfs_owners.specs.declared.client_record.ClientRecord.{ClientRecord}
+use Rattle.nfs_owners.specs.declared.clients.client_change.ClientChange.{ClientChange}
+use Rattle.nfs_owners.specs.declared.clients.client_change.ClientChange.TheVariants as client_changes
 use Rattle.nfs_owners.specs.declared.kept.Kept.{Kept}
 use Rattle.nfs_owners.specs.declared.owner.Owner.{Owner}
 use Rattle.nfs_owners.specs.declared.owner.TheConstants.{OWNER_LIMIT}
@@ -159,3 +162,13 @@ confirms_seen old node number name new opened confirmed advanced change is =
     ap (λ (owners : List KnownOwner). record (meaning old) { owners = owners; opens = opened }) (ap (map known_owner) confirmed ∙ confirmed_seen name old.owners)
     ∙ ap (λ (all : List (List OpenState)). record (meaning old) { owners = known.with_confirmation name (map known_owner old.owners); opens = all }) advanced
     ∙ ap (λ ch. changed ch (meaning old)) (sym is)
+
+-- what is stored without the owners and the opens of a client that is replaced
+pub left_seen : (old : Stored) (client : ClientId) (new : List Owner) (opened : List (List OpenState)) → new ≡ without_owners_of client old.owners
+    → opened ≡ map (opens.without (opens.is_of_client client)) old.opens
+    → (change : ClientChange) (r : ClientRecord) → change ≡ client_changes.Replaces r client
+    → meaning (record old { owners = new; opens = opened }) ≡ left_by change (meaning old)
+left_seen old client new opened fewer closed change r is =
+    ap (λ (owners : List KnownOwner). record (meaning old) { owners = owners; opens = opened }) (ap (map known_owner) fewer ∙ without_client_seen client old.owners)
+    ∙ ap (λ (all : List (List OpenState)). record (without_client client (meaning old)) { opens = all }) closed
+    ∙ ap (λ ch. left_by ch (meaning old)) (sym is)
