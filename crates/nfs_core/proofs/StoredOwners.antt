@@ -1,5 +1,5 @@
 -- What is stored of the owners, and the owners as the rules see them.
-use Rattle.std.proofs.Common.{◌≡◌, ℕ, ◌<◌, Bool, true, false, List, [], ◌∷◌, ◌++◌, length, map, refl, sym, ap, ◌∙◌, arith}
+use Rattle.std.proofs.Common.{◌≡◌, ℕ, ◌<◌, Bool, true, false, List, [], ◌∷◌, ◌++◌, length, map, ◌⊎◌, inl, inr, refl, sym, ap, subst, ◌∙◌, arith}
 use Rattle.std.specs.Prelude.{filter, find, is_some, not, nat_lt, if◌then◌else◌}
 use Rattle.std.specs.List.{AllByRecursion}
 use Rattle.std.proofs.lemmas.List.{length-map, map-append}
@@ -172,3 +172,13 @@ left_seen old client new opened fewer closed change r is =
     ap (λ (owners : List KnownOwner). record (meaning old) { owners = owners; opens = opened }) (ap (map known_owner) fewer ∙ without_client_seen client old.owners)
     ∙ ap (λ (all : List (List OpenState)). record (without_client client (meaning old)) { opens = all }) closed
     ∙ ap (λ ch. left_by ch (meaning old)) (sym is)
+
+-- A change for which there is an owner's place has a place among the stored owners.
+pub records_place : (old : Stored) (name : OpenOwner) (change : OwnerChange) → (change ≡ changes.Records name) ⊎ (change ≡ changes.Restarts name)
+    → HasOwnerPlace change (meaning old) → has_place name old.owners ≡ true
+records_place old name change (inl records) place =
+    let place_here = subst (λ c. HasOwnerPlace c (meaning old)) records place in
+    place_below name old.owners place_here.1
+records_place old name change (inr restarts) place =
+    let place_here = subst (λ c. HasOwnerPlace c (meaning old)) restarts place in
+    place_known name old.owners (sym (known_seen name old.owners) ∙ place_here)
