@@ -156,7 +156,7 @@ IsOfKnown false kept name request sequence = IsJudged kept name request sequence
 abbrev pub IsOfOwner : History → Option KnownOwner → OpenOwner → Request → Sequence → Type 0
 IsOfOwner journal None name request sequence =
     sequence ≡ (if is_open request.op then GoesOn passages.Begins name
-    else refusal_to request.op refusals.BadStateId)
+      else refusal_to request.op refusals.BadStateId)
 IsOfOwner journal (Some o) name request sequence =
     (kept : Kept)
     × (kept_for journal o ≡ Some kept)

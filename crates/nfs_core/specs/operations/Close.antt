@@ -24,4 +24,4 @@ closing (Ok at) = record {
 abbrev pub own : History → State → Close → Own
 own journal state args node passage ruling =
     ruling ≡ Some (closing
-    (verdict (record { node = node; also_unconfirmed = false }) journal.epoch state args.stateid))
+      (verdict (record { node = node; also_unconfirmed = false }) journal.epoch state args.stateid))

@@ -32,4 +32,4 @@ confirmation state (Ok at) =
 abbrev pub own : History → State → OpenConfirm → Own
 own journal state args node passage ruling =
     ruling ≡ Some (confirmation state
-    (verdict (record { node = node; also_unconfirmed = true }) journal.epoch state args.stateid))
+      (verdict (record { node = node; also_unconfirmed = true }) journal.epoch state args.stateid))
