@@ -65,9 +65,7 @@ impl Owners {
     pub fn closer_of(&self, client: ClientId, number: u32) -> Option<&Owner>
         ensures { option_copied result ≡ find (λ o. closes client number o.kept) self.now.owners }
     {
-        self.owners
-            .iter()
-            .find(|o| o.kept.closes(client, number))
+        self.owners.iter().find(|o| o.kept.closes(client, number))
     }
 
     /// The verdict on a request of the owner with this name, or `None` if the owner is unknown.

@@ -1,4 +1,4 @@
-use Rattle.std.proofs.Common.{◌≡◌, ap, sym, subst}
+use Rattle.std.proofs.Common.{sym, subst}
 use Rattle.nfs_core.specs.Kept.{Agrees}
 use Rattle.nfs_core.specs.Room.{stored_of}
 use Rattle.nfs_core.proofs.StoredOwners.{agrees_confirmed, confirms_seen}

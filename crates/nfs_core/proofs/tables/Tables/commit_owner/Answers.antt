@@ -1,7 +1,6 @@
-use Rattle.std.proofs.Common.{◌≡◌, ap, sym, ◌∙◌}
+use Rattle.std.proofs.Common.{sym, ◌∙◌}
 use Rattle.nfs_core.specs.Room.{stored_of}
-use Rattle.nfs_core.specs.Stored.{Stored}
-use Rattle.nfs_core.proofs.StoredOwners.{drops_seen, keeps_seen, restarts_seen, stored_without}
+use Rattle.nfs_core.proofs.StoredOwners.{drops_seen, keeps_seen, restarts_seen}
 use Rattle.nfs_core.proofs.tables.Tables.commit_owner.Goals as goal
 
 pub returns-in-Keeps-clause-state : goal.returns-in-Keeps-clause-state

@@ -1,4 +1,4 @@
-use Rattle.std.proofs.Common.{◌≡◌, sym, subst}
+use Rattle.std.proofs.Common.{sym, subst}
 use Rattle.std.specs.Prelude.{not}
 use Rattle.nfs_core.specs.Kept.{Agrees}
 use Rattle.nfs_core.specs.Room.{stored_of}
