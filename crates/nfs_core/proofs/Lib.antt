@@ -7,4 +7,5 @@ pub mod SoundRules
 pub mod SoundSteps
 pub mod Sequencing
 pub mod Opening
+pub mod StoredOwners
 pub mod Uniqueness

@@ -1,4 +1,4 @@
-ghost use Rattle.std.specs.Prelude.{◌≡◌, ◌<◌, ◌≤◌, ◌-◌, ◌^◌, IfErr, IfOk, OnOk, map};
+ghost use Rattle.std.specs.Prelude.{◌≡◌, ◌<◌, ◌≤◌, ◌-◌, ◌^◌, IfErr, IfOk, IsTrue, OnOk, map};
 
 use crate::change::Change;
 use crate::owner_change::OwnerChange;
@@ -28,12 +28,13 @@ impl Tables {
     ghost use Rattle.nfs_core.specs.Kept.{Agrees, owners_after, update_of};
     ghost use Rattle.nfs_core.specs.Sequences.{with_owner_change};
     ghost use Rattle.nfs_core.specs.State.{History};
-    ghost use Rattle.nfs_core.specs.Step.{changed};
+    ghost use Rattle.nfs_core.specs.Step.{changed, left_by};
     ghost use Rattle.nfs_core.specs.Room.{HasNumbers, HasOwnerPlace, HasOwnerRoom, HasRoom, HasUpdateRoom, state_of, stored_of};
     ghost use Rattle.nfs_core.specs.declared.owner_change.OwnerChange.{OwnerChange};
     ghost use Rattle.nfs_owners.specs.declared.kept.Kept.{Kept};
     ghost use Rattle.nfs_core.specs.declared.change.Change.{Change};
-    ghost use Rattle.nfs_owners.specs.Owners.{without_owner};
+    ghost use Rattle.nfs_forms.specs.declared.open_owner.OpenOwner.{OpenOwner};
+    ghost use Rattle.nfs_owners.specs.Owners.{has_place, without_owner};
     ghost use Rattle.nfs_share.specs.AllOpens.{HasRoomAt, opens_in};
     ghost use Rattle.nfs_share.specs.Opens.{is_of, without};
     ghost use Rattle.nfs_core.specs.declared.change.Change.TheVariants as changes;
@@ -137,14 +138,14 @@ impl Tables {
 
     // Forgets the owner, and frees its opens.
     fn remove_owner(&mut self, name: &OpenOwner)
-        ensures owners { self.new.owners.owners ≡ without_owner name.now self.old.owners.owners }
-        ensures opens { opens_in self.new.opens ≡ map (without (is_of name.now)) (opens_in self.old.opens) }
-        ensures same { stored_of self.new ≡ record (stored_of self.old) {
-          owners = self.new.owners.owners;
-          opens = opens_in self.new.opens;
+        ensures stored { stored_of self.new ≡ record (stored_of self.old) {
+          owners = without_owner name.now self.old.owners.owners;
+          opens = map (without (is_of name.now)) (opens_in self.old.opens);
         } }
         ensures room { (change : Change) → HasRoom change self.old → HasRoom change self.new }
         ensures owner_room { self.old.owners.room ≤ self.new.owners.room }
+        ensures owner_places { (other : OpenOwner) → IsTrue (has_place other self.old.owners.owners)
+            → IsTrue (has_place other self.new.owners.owners) }
     {
         self.owners.remove(name);
         self.opens.remove_owner(name);
@@ -201,10 +202,20 @@ impl Tables {
         ensures kept { (journal : History)
             → Agrees journal self.old.owners.owners → Agrees journal self.new.owners.owners }
     {
-        if let ClientChange::Replaces(_, client) = &change {
+        self.leave(&change);
+        self.clients.commit(change);
+    }
+
+    // Forgets the owners and the opens of a client that is replaced.
+    fn leave(&mut self, change: &ClientChange)
+        ensures state { state_of self.new ≡ left_by change.now (state_of self.old) }
+        ensures clients { self.new.clients ≡ self.old.clients }
+        ensures kept { (journal : History)
+            → Agrees journal self.old.owners.owners → Agrees journal self.new.owners.owners }
+    {
+        if let ClientChange::Replaces(_, client) = change {
             self.owners.remove_client(*client);
             self.opens.remove_client(*client);
         }
-        self.clients.commit(change);
     }
 }

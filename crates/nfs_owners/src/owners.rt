@@ -65,9 +65,7 @@ impl Owners {
     pub fn closer_of(&self, client: ClientId, number: u32) -> Option<&Owner>
         ensures { option_copied result ≡ find (λ o. closes client number o.kept) self.now.owners }
     {
-        self.owners
-            .iter()
-            .find(|o| o.kept.closes(client, number))
+        self.owners.iter().find(|o| o.kept.closes(client, number))
     }
 
     /// The verdict on a request of the owner with this name, or `None` if the owner is unknown.
@@ -107,10 +105,10 @@ impl Owners {
         self.owners.iter().position(|o| o.has_name(name))
     }
 
-    /// Makes room for the owner. Full if it has no place.
+    /// Makes room for one more owner, also where the owner is known. Full if it has no place.
     pub fn reserve(&mut self, name: &OpenOwner) -> Result<(), OwnersError>
         ensures same { self.new.owners ≡ self.old.owners }
-        ensures room { OnOk result (IsFalse (is_known name.now self.new.owners) → 0 < self.new.room) }
+        ensures room { OnOk result (0 < self.new.room) }
         ensures grows { self.old.room ≤ self.new.room }
         ensures ready { 0 < self.old.room → IsTrue (has_place name.now self.old.owners) → IsOk result }
         ensures place { OnOk result (IsTrue (has_place name.now self.new.owners)) }
@@ -119,10 +117,7 @@ impl Owners {
         if !self.has_place(name) {
             return Err(OwnersError::Full);
         }
-        if !self.is_known(name) {
-            self.owners.reserve(1)?;
-        }
-        Ok(())
+        Ok(self.owners.reserve(1)?)
     }
 
     /// Makes this the last request of the owner with this name, in the journal's entry `number`; an unknown owner is
