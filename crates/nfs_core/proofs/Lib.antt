@@ -1,3 +1,4 @@
 pub mod Journals
 pub mod OpenedFiles
+pub mod Sendable
 pub mod Uniqueness
