@@ -33,7 +33,7 @@ pub(super) fn decide(
     requires sequenced { IsTrue (is_sequenced request.now.op) }
     requires states { tables.now.numbers < 2 ^ 32 - 1 }
     requires kept { Agrees journal.now tables.now.owners.owners }
-    requires owner { IsRequesterOf request.now.op (requester_seen requester.entry) }
+    requires owner { IsRequesterOf request.now.op (requester_seen requester) }
     ensures { Decides (IsSequenced journal.now (state_of tables.now) (requester_seen requester.entry)
         (own_of request.now.op journal.now (state_of tables.now)) request.now.filehandle request.now)
         (state_of tables.now) request.now.op result }
