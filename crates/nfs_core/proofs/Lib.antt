@@ -1,4 +1,5 @@
 pub mod Journals
 pub mod OpenedFiles
 pub mod Sendable
+pub mod Sequenced
 pub mod Uniqueness
