@@ -90,8 +90,13 @@ place_by : (owners limit : ℕ) (place more : Bool) (r : Option Ruling) (ruling 
 place_by owners limit true more r ruling is same = search (arith, is)
 place_by owners limit false more r ruling is same = absurd cc
 
+-- the ruling's answer is NFS4_OK
+abbrev is_done : Option Ruling → Bool
+is_done None = false
+is_done (Some ruling) = is_ok_status (status_of ruling.answer)
+
 ruling_place : (state : State) (owner : OpenOwner) (found : Result Opening Refusal) (ruling : Ruling) → Some ruling ≡ ruling_of state passages.Begins owner found → is_ok_status (status_of ruling.answer) ≡ true → length state.owners < OWNER_LIMIT
-ruling_place state owner (Err refusal) ruling same ok = absurd (search (same, ok))
+ruling_place state owner (Err refusal) ruling same ok = let never : false ≡ true = sym (ap is_done same) ∙ ok in absurd cc
 ruling_place state owner (Ok o) ruling same ok =
     place_by (length state.owners) OWNER_LIMIT (nat_lt (length state.owners) OWNER_LIMIT) (has_open_place state owner o.node) _ ruling refl same
 

@@ -1,28 +1,40 @@
-use Rattle.std.proofs.Common.{rules, ◌≡◌, ◌<◌, ◌-◌, ◌^◌, IfOk, IsTrue, ℕ, ◌+◌, ◌*◌, ◌≤◌, length, ◌/◌, ◌%◌, Bool, true, false, nat_eq, nat_lt, List, [], ◌∷◌, ◌++◌, slice_index_or, slice_set, bit_and, bit_or, Fits, w8, w32, w64, Bor, MutBor}
-use Rattle.nfs_core.specs.Deciding.{Decides, IsPassageOf, IsRequesterOf, Rules}
-use Rattle.nfs_core.specs.Finding.{requester_seen}
-use Rattle.nfs_core.specs.Kept.{Agrees}
+use Rattle.nfs_core.proofs.Sequenced.{answered, goes_on, ruled_has_room, without_filehandle}
+use Rattle.nfs_core.specs.Finding.{requester_seen, sequence_seen}
 use Rattle.nfs_core.specs.Room.{state_of}
-use Rattle.nfs_core.specs.Sequences.{IsSequenced, decision_of, counts, is_sequenced, owner_change_of}
 use Rattle.nfs_core.specs.operations.{own_of}
 use Rattle.nfs_core.proofs.operations.sequenced.decide.Goals as goal
+use Rattle.std.proofs.Common.{◌∙◌, ap}
+use Rattle.nfs_forms.specs.declared.status.Refusal.TheVariants.{NoFileHandle}
+use Rattle.nfs_xdr.specs.declared.op_result.OpResult.{OpResult}
+use Rattle.nfs_xdr.specs.declared.opnum.Opnum.{Opnum}
+use Rattle.nfs_xdr.specs.OpResult.{refusal_of}
 
--- src/operations/sequenced.rt:42:9
 pub returns-in_default : goal.returns-in_default
-returns-in_default c = ?
+returns-in_default c =
+    let request = c.args.request.now in
+    let journal = c.args.journal.now in
+    let state = state_of c.args.tables.now in
+    let refused : Opnum → OpResult = λ o. refusal_of o NoFileHandle in
+    without_filehandle (own_of request.op journal state) journal state (requester_seen c.args.requester) request request.filehandle c.refusal.result c.unsequenced.result c.in_default.not-Some (c.refusal.ensures.value ∙ ap refused c.opnum.ensures) c.refusal.ensures.form c.refusal.ensures.short c.unsequenced.ensures
 
--- src/operations/sequenced.rt:44:11
 pub returns-in_err-answer : goal.returns-in_err-answer
 returns-in_err-answer c = ?
 
--- src/operations/sequenced.rt:48:16
 pub returns-in_err-decision_of-in-GoesOn : goal.returns-in_err-decision_of-in-GoesOn
 returns-in_err-decision_of-in-GoesOn c = ?
 
--- src/operations/sequenced.rt:26:1
 pub returns-in-Answered : goal.returns-in-Answered
-returns-in-Answered c = ?
+returns-in-Answered c =
+    let request = c.args.request.now in
+    let journal = c.args.journal.now in
+    let state = state_of c.args.tables.now in
+    let found = c.in_ok-answer in
+    answered (own_of request.op journal state) journal state (requester_seen c.args.requester) request request.filehandle c.in-Some.node (sequence_seen found.field-0) c.in-Answered.answer c.unsequenced-in-Answered.result c.in-Some.is (ap sequence_seen c.in-Answered.is) found.ensures.sequence found.ensures.sendable c.unsequenced-in-Answered.ensures
 
--- src/operations/sequenced.rt:26:1
 pub returns-in_ok-decision_of-in-GoesOn : goal.returns-in_ok-decision_of-in-GoesOn
-returns-in_ok-decision_of-in-GoesOn c = ?
+returns-in_ok-decision_of-in-GoesOn c =
+    let request = c.args.request.now in
+    let journal = c.args.journal.now in
+    let state = state_of c.args.tables.now in
+    let found = c.in_ok-answer in
+    goes_on journal state (requester_seen c.args.requester) request request.filehandle c.in-Some.node (sequence_seen found.field-0) c.in-GoesOn.passage c.in-GoesOn.name.now c.in_ok-ruling-in-GoesOn.ruling c.in_ok-decision_of-in-GoesOn.field-0 c.in-Some.is (ap sequence_seen c.in-GoesOn.is) found.ensures.sequence found.ensures.passage c.in_ok-ruling-in-GoesOn.ensures c.in_ok-decision_of-in-GoesOn.ensures
