@@ -1,7 +1,9 @@
 -- What is decided for a sequenced operation, from whether it is answered without its own rule, and from that rule.
 use Rattle.std.proofs.Common.{◌≡◌, ◌≢◌, ℕ, ◌<◌, ◌≤◌, Bool, true, false, nat_lt, Option, Some, None, Result, Ok, Err, length, refl, sym, ap, ◌∙◌, subst, arith}
+use Rattle.std.specs.Result.{IsErr, IsErrAnd}
 use Rattle.std.specs.Prelude.{IsTrue, IsFalse, not, ◌&&◌, if◌then◌else◌}
-use Rattle.nfs_core.proofs.Uniqueness.{Once, downgrades_once, sequenced_once}
+use Rattle.nfs_owners.specs.Kept.{IsAgain, request_of}
+use Rattle.nfs_core.proofs.Uniqueness.{Once, downgrades_once, next_differs, sequenced_once}
 use Rattle.nfs_core.specs.declared.change.Change.TheVariants as changes
 use Rattle.nfs_core.specs.declared.decision.Decision.{Decision}
 use Rattle.nfs_core.specs.declared.operations.«open».Opening.{Opening}
@@ -10,13 +12,14 @@ use Rattle.nfs_core.specs.declared.passage.Passage.{Passage}
 use Rattle.nfs_core.specs.declared.passage.Passage.TheVariants as passages
 use Rattle.nfs_core.specs.declared.request.Request.{Request}
 use Rattle.nfs_core.specs.declared.ruling.Ruling.{Ruling}
-use Rattle.nfs_core.specs.declared.shortage.Shortage.TheVariants.{Memory}
+use Rattle.nfs_core.specs.declared.shortage.Shortage.{Shortage}
+use Rattle.nfs_core.specs.declared.shortage.Shortage.TheVariants.{Limit, Memory}
 use Rattle.nfs_core.specs.Deciding.{Decides, HasPassage, IsSendable, IsSendableSequence, Rules}
 use Rattle.nfs_core.specs.operations.{own_of}
 use Rattle.nfs_core.specs.operations.Open.{has_open_place, opening, ruling_of}
 use Rattle.nfs_core.specs.Owners.{KnownOwner, owner_of}
 use Rattle.nfs_core.specs.Room.{HasOwnerPlace, IsPassage, is_known}
-use Rattle.nfs_core.specs.Sequences.{Answered, GoesOn, IsDecided, IsJudged, IsOfKnown, IsOfOwner, IsSequence, IsSequenced, Own, Owner, Refused, Requester, Sequence, counts, decision_of, is_ok_status, is_open, owner_change_of}
+use Rattle.nfs_core.specs.Sequences.{Answered, GoesOn, IsDecided, IsJudged, IsOfKnown, IsOfOwner, IsSequence, IsSequenced, Own, Owner, Refused, Requester, Sequence, counts, decision_of, is_ok_status, is_open, owner_change_of, seqid_of}
 use Rattle.nfs_core.specs.State.{State, History}
 use Rattle.nfs_core.specs.Step.{resource}
 use Rattle.nfs_forms.specs.declared.open_owner.OpenOwner.{OpenOwner}
@@ -170,3 +173,15 @@ answered_has_room own journal state requester request None node has stays none =
 answered_has_room own journal state requester request (Some at) node has stays none =
     let Q : Sequence → Type 0 = λ s. IsSequence journal state requester request s in
     no_decision none.0 at own (λ passage name is. stays passage name (subst Q is none.1)) none.2
+
+-- want of memory, where the limits leave room
+pub memory_decides : (ruled : Option Decision → Type 0) (state : State) (op : Op) (result : Result Decision Shortage) → IsErr result → IsErrAnd result (λ e. e ≡ Memory) → (ruled None → ⊥) → Decides ruled state op result
+memory_decides ruled state op (Ok decision) err memory room = absurd cc
+memory_decides ruled state op (Err Limit) err memory room = absurd cc
+memory_decides ruled state op (Err Memory) err memory room = room
+
+-- the last request again doesn't go on as the next one
+pub judged_stays : (kept : Kept) (name : OpenOwner) (request : Request) → IsAgain kept (seqid_of request.op) (request_of request.op request.filehandle) → (passage : Passage) (owner : OpenOwner) → IsJudged kept name request (GoesOn passage owner) → ⊥
+judged_stays kept name request again passage owner (verdicts.New, is, same) = next_differs kept.seqid (sym again.0 ∙ is)
+judged_stays kept name request again passage owner (verdicts.Replay answer, is, same) = absurd cc
+judged_stays kept name request again passage owner (verdicts.Bad, is, same) = absurd cc

@@ -29,7 +29,7 @@ use Rattle.nfs_share.specs.Share.{share_of_numbers}
 use Rattle.nfs_xdr.specs.declared.op.Op.{Op}
 use Rattle.nfs_xdr.specs.declared.op.Op.TheVariants as ops
 
-next_differs : (seqid : ℕ) → seqid ≡ next_seqid seqid → ⊥
+pub next_differs : (seqid : ℕ) → seqid ≡ next_seqid seqid → ⊥
 next_differs seqid same = by (seqid == 2 ^ 32 - 1) refl
   where
     by : (b : Bool) → (seqid == 2 ^ 32 - 1) ≡ b → ⊥
