@@ -5,6 +5,8 @@ pub mod Safety
 pub mod Sound
 pub mod SoundRules
 pub mod SoundSteps
+pub mod Sendable
+pub mod Sequenced
 pub mod Sequencing
 pub mod Opening
 pub mod StoredOwners

@@ -29,7 +29,7 @@ use Rattle.nfs_share.specs.Share.{share_of_numbers}
 use Rattle.nfs_xdr.specs.declared.op.Op.{Op}
 use Rattle.nfs_xdr.specs.declared.op.Op.TheVariants as ops
 
-next_differs : (seqid : ℕ) → seqid ≡ next_seqid seqid → ⊥
+pub next_differs : (seqid : ℕ) → seqid ≡ next_seqid seqid → ⊥
 next_differs seqid same = by (seqid == 2 ^ 32 - 1) refl
   where
     by : (b : Bool) → (seqid == 2 ^ 32 - 1) ≡ b → ⊥
@@ -75,14 +75,14 @@ owner_once journal (Some o) name request s t a b =
     let is_known : Kept → Type 0 = λ kept. IsOfKnown (is_open request.op && not o.confirmed) kept name request s in
     known_once (is_open request.op && not o.confirmed) b.0 name request s t (subst is_known same a.2) b.2
 
-sequence_once : (journal : History) (state : State) (requester : Requester) (request : Request) (s t : Sequence) → IsSequence journal state requester request s → IsSequence journal state requester request t → s ≡ t
+pub sequence_once : (journal : History) (state : State) (requester : Requester) (request : Request) (s t : Sequence) → IsSequence journal state requester request s → IsSequence journal state requester request t → s ≡ t
 sequence_once journal state (Refused refusal) request s t a b = a ∙ sym b
 sequence_once journal state (Owner name) request s t a b = owner_once journal (owner_of name state.owners) name request s t a b
 
-abbrev Once : Own → Type 0
+abbrev pub Once : Own → Type 0
 Once own = (node : ℕ) (passage : Passage) (r u : Option Ruling) → own node passage r → own node passage u → r ≡ u
 
-sequenced_once : (journal : History) (state : State) (requester : Requester) (own : Own) → Once own → (filehandle : Option ℕ) (request : Request) (d e : Option Decision) → IsSequenced journal state requester own filehandle request d → IsSequenced journal state requester own filehandle request e → d ≡ e
+pub sequenced_once : (journal : History) (state : State) (requester : Requester) (own : Own) → Once own → (filehandle : Option ℕ) (request : Request) (d e : Option Decision) → IsSequenced journal state requester own filehandle request d → IsSequenced journal state requester own filehandle request e → d ≡ e
 sequenced_once journal state requester own once None request d e a b = a ∙ sym b
 sequenced_once journal state requester own once (Some node) request d e a b =
     let same = sequence_once journal state requester request a.0 b.0 a.1 b.1 in
@@ -100,7 +100,7 @@ found_once : (found : Result OpenAt Refusal) (args : OpenDowngrade) (r u : Rulin
 found_once (Err refusal) args r u a b = a ∙ sym b
 found_once (Ok at) args r u a b = downgrade_once at (share_of_numbers args.access args.deny) r u a b
 
-downgrades_once : (journal : History) (state : State) (args : OpenDowngrade) → Once (open_downgrade.own journal state args)
+pub downgrades_once : (journal : History) (state : State) (args : OpenDowngrade) → Once (open_downgrade.own journal state args)
 downgrades_once journal state args node passage None u a b = absurd a
 downgrades_once journal state args node passage (Some r) None a b = absurd b
 downgrades_once journal state args node passage (Some r) (Some u) a b =

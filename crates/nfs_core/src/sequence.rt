@@ -1,9 +1,11 @@
-ghost use Rattle.std.specs.Prelude.{◌≡◌, ◌≢◌, ◌&&◌, not, IfOk, find};
+ghost use Rattle.std.specs.Prelude.{◌≡◌, ◌≢◌, ◌&&◌, not, IfOk, OnErr, find};
 ghost use Rattle.nfs_core.specs.Finding.{requester_seen, sequence_seen, stored_or_bad};
 ghost use Rattle.nfs_core.specs.Deciding.{HasOtherRefusal, HasPassage, IsSendable, IsSendableSequence};
 ghost use Rattle.nfs_core.specs.Kept.{Agrees};
 ghost use Rattle.nfs_core.specs.Room.{state_of};
-ghost use Rattle.nfs_core.specs.Sequences.{IsJudged, IsOfKnown, IsOfUnknown, IsRestart, IsSequence, is_open, refusal_to, requester_of_open, requester_of_stateid, seqid_of};
+ghost use Rattle.nfs_core.specs.declared.passage.Passage.{Passage};
+ghost use Rattle.nfs_forms.specs.declared.open_owner.OpenOwner.{OpenOwner};
+ghost use Rattle.nfs_core.specs.Sequences.{GoesOn, IsJudged, IsOfKnown, IsOfUnknown, IsRestart, IsSequence, is_open, refusal_to, requester_of_open, requester_of_stateid, seqid_of};
 ghost use Rattle.nfs_owners.specs.Kept.{closes};
 
 use crate::passage::Passage;
@@ -80,6 +82,9 @@ impl Tables {
             (requester_seen requester.entry) request.now (sequence_seen s)) }
         ensures sendable { IfOk result (λ s. IsSendableSequence request.now.op (sequence_seen s)) }
         ensures passage { IfOk result (λ s. HasPassage (state_of self.now) (sequence_seen s)) }
+        ensures memory { OnErr result ((passage : Passage) (owner : OpenOwner)
+            → IsSequence journal.now (state_of self.now) (requester_seen requester.entry)
+            request.now (GoesOn passage owner) → ⊥) }
     {
         let name = match requester {
             Requester::Refused(refusal) => return Ok(refusal_to(&request.op, refusal)),
@@ -115,6 +120,9 @@ fn resume<'a>(
         (is_open request.now.op && not owner.now.confirmed)
         owner.now.kept name.now request.now (sequence_seen s)) }
     ensures sendable { IfOk result (λ s. IsSendableSequence request.now.op (sequence_seen s)) }
+    ensures memory { OnErr result ((passage : Passage) (other : OpenOwner)
+        → IsOfKnown (is_open request.now.op && not owner.now.confirmed)
+        owner.now.kept name.now request.now (GoesOn passage other) → ⊥) }
 {
     if is_open(&request.op) && !owner.confirmed {
         restart(&owner.kept, request, name)
@@ -132,6 +140,8 @@ fn judge<'a>(
     requires { IsSendable kept.now.request.op kept.now.answer }
     ensures sequence { IfOk result (λ s. IsJudged kept.now name.now request.now (sequence_seen s)) }
     ensures sendable { IfOk result (λ s. IsSendableSequence request.now.op (sequence_seen s)) }
+    ensures memory { OnErr result ((passage : Passage) (owner : OpenOwner)
+        → IsJudged kept.now name.now request.now (GoesOn passage owner) → ⊥) }
 {
     match kept.judge(seqid_of(&request.op), &request.op, request.filehandle) {
         Verdict::New => Ok(Sequence::GoesOn(Passage::Continues, name)),
@@ -150,6 +160,8 @@ fn restart<'a>(
     ensures sequence { IfOk result (λ s.
         IsRestart kept.now name.now request.now (sequence_seen s)) }
     ensures sendable { IfOk result (λ s. IsSendableSequence request.now.op (sequence_seen s)) }
+    ensures memory { OnErr result ((passage : Passage) (owner : OpenOwner)
+        → IsRestart kept.now name.now request.now (GoesOn passage owner) → ⊥) }
 {
     match kept.judge(seqid_of(&request.op), &request.op, request.filehandle) {
         Verdict::Replay(answer) => Ok(Sequence::Answered(answer.clone()?)),

@@ -6,6 +6,8 @@ ghost use Rattle.nfs_core.specs.Finding.{requester_seen};
 ghost use Rattle.nfs_core.specs.Kept.{Agrees};
 ghost use Rattle.nfs_core.specs.Room.{state_of};
 ghost use Rattle.nfs_core.specs.Sequences.{IsSequenced, decision_of, counts, is_sequenced, owner_change_of};
+ghost use Rattle.nfs_core.specs.declared.change.Change.TheVariants as changes;
+ghost use Rattle.nfs_core.specs.declared.owner_change.OwnerChange.TheVariants as owner_changes;
 ghost use Rattle.nfs_core.specs.operations.{own_of};
 
 use super::{close, open, open_confirm, open_downgrade};
@@ -52,7 +54,10 @@ pub(super) fn decide(
 }
 
 // An answer without the operation's own rule. It changes nothing.
-fn unsequenced(answer: OpResult) -> Decision {
+fn unsequenced(answer: OpResult) -> Decision
+    ensures { result
+        ≡ record { answer = answer; change = changes.Nothing; owner = owner_changes.Nothing } }
+{
     Decision {
         answer,
         change: Change::Nothing,
