@@ -1,3 +1,4 @@
 pub mod Journals
+pub mod KeptOwners
 pub mod OpenedFiles
 pub mod Uniqueness
