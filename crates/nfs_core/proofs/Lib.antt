@@ -1,4 +1,5 @@
 pub mod Journals
 pub mod KeptOwners
 pub mod OpenedFiles
+pub mod OwnerRoom
 pub mod Uniqueness
