@@ -13,6 +13,7 @@ use Rattle.nfs_core.specs.declared.owner_change.OwnerChange.TheVariants.{Nothing
 use Rattle.nfs_core.specs.Sequences.{with_owner_change}
 use Rattle.nfs_owners.specs.Registry.{Registry}
 use Rattle.nfs_core.specs.Stored.{Stored, meaning}
+use Rattle.nfs_xdr.specs.declared.op.Op.{Op}
 use Rattle.nfs_xdr.specs.declared.op_result.OpResult.{OpResult}
 use Rattle.nfs_core.specs.declared.change.Change.{Change}
 use Rattle.nfs_core.specs.declared.change.Change.TheVariants as changes
@@ -40,11 +41,16 @@ pub Lawful-step : (journal : History) (old new : State) (entry : Entry) → Lawf
 Lawful-step journal old new entry lawful step =
     Leads-append (record journal { entries = [] }) (empty_server journal.nodes) old new journal.entries entry lawful step
 
+-- a rule that gives a decision doesn't also give none
+pub decides_something : (op : Op) (journal : History) (old : State) (request : Request) (decision : Decision) → IsRuled op journal old request (Some decision) → IsRuled op journal old request None → ⊥
+decides_something op journal old request decision is none =
+    let same = ruled_once op journal old request None (Some decision) none is in
+    cc
+
 -- if the rule gives no decision, or the journal is full, no call may come next
 pub none_follows : (journal : History) (old : State) (call : Call) (new : State) → IsRuled call.request.op journal old call.request None ⊎ (JOURNAL_LIMIT ≤ length journal.entries) → Follows journal old call new → ⊥
 none_follows journal old call new (inl none) follows =
-    let same = ruled_once call.request.op journal old call.request None (Some follows.0) none follows.1 in
-    cc
+    decides_something call.request.op journal old call.request follows.0 follows.1 none
 none_follows journal old call new (inr full) follows = omega (arith, follows.2.below)
 
 -- a lawful core that answers a call stays lawful
