@@ -1,8 +1,11 @@
 -- Lawful journals: those whose entries the rules allow.
-use Rattle.std.proofs.Common.{◌≡◌, ◌≢◌, ℕ, ◌<◌, ◌≤◌, ◌⊎◌, inl, inr, Option, Some, None, List, [], ◌∷◌, ◌++◌, length, refl, sym, ap, ◌∙◌, ◌+◌, subst, append_assoc, append-nil, arith}
+use Rattle.std.proofs.Common.{◌≡◌, ◌≢◌, Bool, true, false, ℕ, ◌<◌, ◌≤◌, ◌⊎◌, inl, inr, Option, Some, None, List, [], ◌∷◌, ◌++◌, length, refl, sym, ap, ◌∙◌, ◌+◌, subst, append_assoc, append-nil, arith}
 use Rattle.nfs_core.specs.declared.entry.Call.{Call}
 use Rattle.nfs_core.specs.declared.entry.TheConstants.{JOURNAL_LIMIT}
+use Rattle.std.specs.Prelude.{is_some}
 use Rattle.nfs_core.specs.declared.request.Request.{Request}
+use Rattle.nfs_share.specs.AllOpens.{opens_of}
+use Rattle.nfs_share.specs.Opens.{open_of}
 use Rattle.nfs_core.specs.operations.{IsRuled}
 use Rattle.nfs_core.proofs.Uniqueness.{ruled_once}
 use Rattle.nfs_core.specs.declared.owner_change.OwnerChange.{OwnerChange}
@@ -10,6 +13,7 @@ use Rattle.nfs_core.specs.declared.owner_change.OwnerChange.TheVariants.{Nothing
 use Rattle.nfs_core.specs.Sequences.{with_owner_change}
 use Rattle.nfs_owners.specs.Registry.{Registry}
 use Rattle.nfs_core.specs.Stored.{Stored, meaning}
+use Rattle.nfs_xdr.specs.declared.op.Op.{Op}
 use Rattle.nfs_xdr.specs.declared.op_result.OpResult.{OpResult}
 use Rattle.nfs_core.specs.declared.change.Change.{Change}
 use Rattle.nfs_core.specs.declared.change.Change.TheVariants as changes
@@ -20,7 +24,7 @@ use Rattle.nfs_core.specs.declared.entry.Entry.TheVariants as entries
 use Rattle.nfs_core.specs.Lawful.{Leads, Lawful}
 use Rattle.nfs_core.specs.Server.{Server, Applies, IsLawful}
 use Rattle.nfs_core.specs.State.{State, History, empty_server}
-use Rattle.nfs_core.specs.Step.{Follows, IsFilehandle, Step, AtMostOneStep, entry_of, changed, resource, with_entry}
+use Rattle.nfs_core.specs.Step.{Follows, Step, AtMostOneStep, entry_of, changed, last_state_after, with_entry}
 
 -- entries that lead to a state, and one more entry that leads on from there
 Leads-append : (journal : History) (old mid new : State) (entries : List Entry) (entry : Entry) → Leads journal old entries mid → Step (record journal { entries = journal.entries ++ entries }) mid entry new → Leads journal old (entries ++ entry ∷ []) new
@@ -37,11 +41,16 @@ pub Lawful-step : (journal : History) (old new : State) (entry : Entry) → Lawf
 Lawful-step journal old new entry lawful step =
     Leads-append (record journal { entries = [] }) (empty_server journal.nodes) old new journal.entries entry lawful step
 
+-- a rule that gives a decision doesn't also give none
+pub decides_something : (op : Op) (journal : History) (old : State) (request : Request) (decision : Decision) → IsRuled op journal old request (Some decision) → IsRuled op journal old request None → ⊥
+decides_something op journal old request decision is none =
+    let same = ruled_once op journal old request None (Some decision) none is in
+    cc
+
 -- if the rule gives no decision, or the journal is full, no call may come next
 pub none_follows : (journal : History) (old : State) (call : Call) (new : State) → IsRuled call.request.op journal old call.request None ⊎ (JOURNAL_LIMIT ≤ length journal.entries) → Follows journal old call new → ⊥
 none_follows journal old call new (inl none) follows =
-    let same = ruled_once call.request.op journal old call.request None (Some follows.0) none follows.1 in
-    cc
+    decides_something call.request.op journal old call.request follows.0 follows.1 none
 none_follows journal old call new (inr full) follows = omega (arith, follows.2.below)
 
 -- a lawful core that answers a call stays lawful
@@ -85,3 +94,37 @@ Leads-confirm journal old new (entry ∷ entries) leads =
 -- no more confirm values were given out than the journal has entries
 pub Lawful-confirm : (journal : History) (state : State) → Lawful journal state → state.clients.last_confirm ≤ length journal.entries
 Lawful-confirm journal state lawful = omega (arith, Leads-confirm (record journal { entries = [] }) (empty_server journal.nodes) state journal.entries lawful)
+
+-- a change uses at most one number of a state
+last_after : (has_open : Bool) (last : ℕ) → last_state_after has_open last ≤ last + 1
+last_after true last = omega arith
+last_after false last = omega arith
+
+changed_state : (change : Change) (old : State) → (changed change old).last_state ≤ old.last_state + 1
+changed_state changes.Nothing old = omega arith
+changed_state (changes.Clients (client_changes.Replaces r client)) old = omega arith
+changed_state (changes.Clients change) old = omega arith
+changed_state (changes.Opens node owner share) old =
+    last_after (is_some (open_of owner (opens_of node old.opens))) old.last_state
+changed_state change old = omega arith
+
+owner_change_state : (change : OwnerChange) (number : ℕ) (old : State) → (with_owner_change change number old).last_state ≡ old.last_state
+owner_change_state Nothing number old = refl
+owner_change_state change number old = refl
+
+Follows-state : (journal : History) (old : State) (call : Call) (new : State) → Follows journal old call new → new.last_state ≤ old.last_state + 1
+Follows-state journal old call new follows =
+    let number = length journal.entries in
+    omega (arith, changed_state follows.0.change (with_owner_change follows.0.owner number old), owner_change_state follows.0.owner number old, ap (λ (s : State). s.last_state) follows.2.state)
+
+Step-state : (journal : History) (old : State) (entry : Entry) (new : State) → Step journal old entry new → new.last_state ≤ old.last_state + 1
+Step-state journal old (entries.Call call) new step = Follows-state journal old call new step
+
+Leads-state : (journal : History) (old new : State) (entries : List Entry) → Leads journal old entries new → new.last_state ≤ old.last_state + length entries
+Leads-state journal old new [] leads = omega (arith, ap (λ (s : State). s.last_state) leads)
+Leads-state journal old new (entry ∷ entries) leads =
+    omega (arith, Step-state journal old entry leads.0 leads.1, Leads-state (with_entry entry journal) leads.0 new entries leads.2)
+
+-- no more numbers were given to states than the journal has entries
+pub Lawful-state : (journal : History) (state : State) → Lawful journal state → state.last_state ≤ length journal.entries
+Lawful-state journal state lawful = omega (arith, Leads-state (record journal { entries = [] }) (empty_server journal.nodes) state journal.entries lawful)

@@ -1,4 +1,5 @@
 pub mod Journals
+pub mod KeptOwners
 pub mod OpenedFiles
 pub mod SafeLists
 pub mod Safety
@@ -10,4 +11,5 @@ pub mod Sequenced
 pub mod Sequencing
 pub mod Opening
 pub mod StoredOwners
+pub mod OwnerRoom
 pub mod Uniqueness

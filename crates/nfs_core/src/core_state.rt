@@ -4,9 +4,10 @@ ghost use Rattle.nfs_core.specs.Step.{AtMostOneStep, IsFilehandle, changed, requ
 ghost use Rattle.nfs_core.specs.Safe.{IsSafe};
 ghost use Rattle.nfs_core.specs.Stored.{empty_store, meaning};
 ghost use Rattle.nfs_core.specs.Deciding.{HasNoStep, IsSendable};
-ghost use Rattle.nfs_core.specs.Kept.{Agrees};
+ghost use Rattle.nfs_core.specs.Kept.{Agrees, owners_after, update_of};
 ghost use Rattle.nfs_core.specs.Room.{HasNumbers, HasOwnerPlace, state_of, stored_of};
-ghost use Rattle.nfs_core.specs.Sequences.{with_owner_change};
+ghost use Rattle.nfs_core.specs.Sequences.{kept_of, with_owner_change};
+ghost use Rattle.nfs_core.specs.State.{History};
 ghost use Rattle.nfs_core.specs.operations.{IsRuled};
 ghost use Rattle.nfs_xdr.specs.Op.{has_entry};
 ghost use Rattle.nfs_xdr.specs.OpResult.{op_result};
@@ -188,11 +189,34 @@ fn take_in(
         ((journal.new ≡ journal.old) × (stored_of tables.new ≡ stored_of tables.old)) }
 {
     journal.entries.reserve(1)?;
-    tables.make_room(&change, &owner)?;
-    let update = OwnerUpdate::of(owner, &call)?;
-    tables.commit_owner(update, journal.entries.len() as u32);
-    tables.commit(change);
+    let number = journal.entries.len() as u32;
+    make_changes(tables, &call, change, owner, number)?;
     Ok(push_entry(&mut journal.entries, Entry::Call(call)))
+}
+
+// Makes room for the changes of the call, which becomes the entry with this number, and then makes them.
+fn make_changes(
+    tables: &mut Tables,
+    call: &Call,
+    change: Change,
+    owner: OwnerChange,
+    number: u32,
+) -> Result<(), Shortage>
+    requires numbers { HasNumbers change (state_of tables.old) }
+    requires place { HasOwnerPlace owner (state_of tables.old) }
+    ensures state { OnOk result (state_of tables.new
+        ≡ changed change (with_owner_change owner number (state_of tables.old))) }
+    ensures kept { OnOk result ((journal : History) → Agrees journal (owners_after
+        (update_of owner (kept_of (Entry.Call call.now))) number tables.old.owners.owners)
+        → Agrees journal tables.new.owners.owners) }
+    ensures memory { IfErr result (λ e. e ≡ Shortage.Memory) }
+    ensures same { OnErr result (stored_of tables.new ≡ stored_of tables.old) }
+{
+    tables.make_room(&change, &owner)?;
+    let update = OwnerUpdate::of(owner, call)?;
+    tables.commit_owner(update, number);
+    tables.commit(change);
+    Ok(())
 }
 
 /// The law that a request has at most one answer in a state, and leads to at most one state.

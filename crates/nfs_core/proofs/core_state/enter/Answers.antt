@@ -1,7 +1,5 @@
 use Rattle.std.proofs.Common.{rules, ◌∙◌, ap, refl}
 use Rattle.nfs_core.specs.Step.{entry_of, with_entry}
-use Rattle.nfs_core.specs.Room.{state_of}
-use Rattle.nfs_core.proofs.Journals.{Follows-decided}
 use Rattle.nfs_core.proofs.core_state.enter.Goals as goal
 
 pub returns-clause-sendable : goal.returns-clause-sendable
@@ -15,6 +13,11 @@ returns-clause-entered c =
     let entered = c.in_ok-number.ensures in (
       entered.number,
       entered.entry ∙ ap (λ a. with_entry (entry_of request a) journal) answer.ensures,
-      Follows-decided _ c.in_ok-decision.decision journal (state_of c.args.tables.now) (record { request = request; answer = c.in_ok-decision.decision.answer }) (state_of c.take_in.new.tables)
-          c.in_ok-decision.ensures.0 (search rules) (returns-clause-sendable c).not_resource refl entered.change c.requires.node,
+      (c.in_ok-decision.decision, c.in_ok-decision.ensures.0, record {
+        below = search rules;
+        other = (returns-clause-sendable c).not_resource;
+        answer = refl;
+        state = entered.state;
+        node = c.requires.node;
+      }),
     )

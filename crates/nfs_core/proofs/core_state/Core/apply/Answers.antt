@@ -1,19 +1,22 @@
 use Rattle.nfs_core.specs.Room.{state_of, stored_of}
-use Rattle.nfs_core.proofs.Journals.{Lawful-applies, Lawful-confirm, Lawful-same}
+use Rattle.nfs_core.proofs.Journals.{Lawful-applies, Lawful-confirm, Lawful-same, Lawful-state}
 use Rattle.nfs_core.proofs.core_state.Core.apply.Goals as goal
 use Rattle.nfs_core.proofs.core_state.Core.apply.Goals.{in-Ok-enter, in-Err}
 
 pub enter-requires-clause-numbers : goal.enter-requires-clause-numbers
-enter-requires-clause-numbers c = Lawful-confirm c.self.inside.journal (state_of c.self.inside.tables) c.self.invariant
+enter-requires-clause-numbers c = Lawful-confirm c.self.inside.journal (state_of c.self.inside.tables) c.self.invariant.0
+
+pub enter-requires-clause-states : goal.enter-requires-clause-states
+enter-requires-clause-states c = Lawful-state c.self.inside.journal (state_of c.self.inside.tables) c.self.invariant.0
 
 pub invariant_of-self-2 : goal.invariant_of-self-2
 invariant_of-self-2 c =
     let before = c.self.inside in
     let after = c.enter.new in
     elim c.match-enter.branch [
-      | in-Ok-enter w ↦ Lawful-applies (record { journal = before.journal; stored = stored_of before.tables }) (record { journal = after.journal; stored = stored_of after.tables }) c.in-Ok.request _ _ c.self.invariant w.in-Ok-enter.ensures.entered
-      | in-Err w ↦ Lawful-same before.journal after.journal (stored_of before.tables) (stored_of after.tables) w.in-Err.ensures.same.0 w.in-Err.ensures.same.1 c.self.invariant
+      | in-Ok-enter w ↦ (Lawful-applies (record { journal = before.journal; stored = stored_of before.tables }) (record { journal = after.journal; stored = stored_of after.tables }) c.in-Ok.request _ _ c.self.invariant.0 w.in-Ok-enter.ensures.entered, w.in-Ok-enter.ensures.kept)
+      | in-Err w ↦ (Lawful-same before.journal after.journal (stored_of before.tables) (stored_of after.tables) w.in-Err.ensures.same.0 w.in-Err.ensures.same.1 c.self.invariant.0, w.in-Err.ensures.kept)
     ]
 
 pub returns-clause-lawful : goal.returns-clause-lawful
-returns-clause-lawful c = invariant_of-self-2 c
+returns-clause-lawful c = (invariant_of-self-2 c).0
