@@ -1,9 +1,14 @@
 -- What is decided for a sequenced operation, from whether it is answered without its own rule, and from that rule.
-use Rattle.std.proofs.Common.{◌≡◌, ◌≢◌, ℕ, ◌<◌, ◌≤◌, Bool, true, false, nat_lt, Option, Some, None, Result, Ok, Err, length, refl, sym, ap, ◌∙◌, subst, arith}
+use Rattle.std.proofs.Common.{◌≡◌, ◌≢◌, ℕ, ◌<◌, ◌≤◌, Bool, true, false, nat_lt, List, map, option_map, Option, Some, None, Result, Ok, Err, length, refl, sym, ap, ◌∙◌, subst, arith}
 use Rattle.std.specs.Result.{IsErr, IsErrAnd}
 use Rattle.std.specs.Prelude.{IsTrue, IsFalse, not, ◌&&◌, if◌then◌else◌}
 use Rattle.nfs_owners.specs.Kept.{IsAgain, request_of}
-use Rattle.nfs_core.proofs.Uniqueness.{Once, downgrades_once, next_differs, sequenced_once}
+use Rattle.nfs_owners.specs.Owner as owners
+use Rattle.nfs_owners.specs.declared.owner.Owner as stored_owner
+use Rattle.nfs_core.specs.Kept.{Agrees}
+use Rattle.nfs_core.specs.Stored.{known_owner}
+use Rattle.nfs_core.proofs.Sequencing.{kept_found, owner_known}
+use Rattle.nfs_core.proofs.Uniqueness.{Once, downgrades_once, next_differs, some_once, sequenced_once}
 use Rattle.nfs_core.specs.declared.change.Change.TheVariants as changes
 use Rattle.nfs_core.specs.declared.decision.Decision.{Decision}
 use Rattle.nfs_core.specs.declared.operations.«open».Opening.{Opening}
@@ -19,7 +24,7 @@ use Rattle.nfs_core.specs.operations.{own_of}
 use Rattle.nfs_core.specs.operations.Open.{has_open_place, opening, ruling_of}
 use Rattle.nfs_core.specs.Owners.{KnownOwner, owner_of}
 use Rattle.nfs_core.specs.Room.{HasOwnerPlace, IsPassage, is_known}
-use Rattle.nfs_core.specs.Sequences.{Answered, GoesOn, IsDecided, IsJudged, IsOfKnown, IsOfOwner, IsSequence, IsSequenced, Own, Owner, Refused, Requester, Sequence, counts, decision_of, is_ok_status, is_open, owner_change_of, seqid_of}
+use Rattle.nfs_core.specs.Sequences.{Answered, GoesOn, IsDecided, IsJudged, IsOfKnown, IsOfOwner, IsSequence, IsSequenced, kept_for, Own, Owner, Refused, Requester, Sequence, counts, decision_of, is_ok_status, is_open, owner_change_of, seqid_of}
 use Rattle.nfs_core.specs.State.{State, History}
 use Rattle.nfs_core.specs.Step.{resource}
 use Rattle.nfs_forms.specs.declared.open_owner.OpenOwner.{OpenOwner}
@@ -185,3 +190,25 @@ pub judged_stays : (kept : Kept) (name : OpenOwner) (request : Request) → IsAg
 judged_stays kept name request again passage owner (verdicts.New, is, same) = next_differs kept.seqid (sym again.0 ∙ is)
 judged_stays kept name request again passage owner (verdicts.Replay answer, is, same) = absurd cc
 judged_stays kept name request again passage owner (verdicts.Bad, is, same) = absurd cc
+
+-- Only the stored kept request decides on a known owner's next one.
+pub known_back : (journal : History) (name : OpenOwner) (stored : List stored_owner.Owner) (o : stored_owner.Owner) (request : Request) (s : Sequence) → Agrees journal stored → owners.owner_of name stored ≡ Some o → IsOfOwner journal (owner_of name (map known_owner stored)) name request s → IsOfKnown (is_open request.op && not o.confirmed) o.kept name request s
+known_back journal name stored o request s agrees found is =
+    let of_owner : Option KnownOwner → Type 0 = λ known. IsOfOwner journal known name request s in
+    let of_kept : Kept → Type 0 = λ kept. IsOfKnown (is_open request.op && not o.confirmed) kept name request s in
+    let of_known : IsOfOwner journal (Some (known_owner o)) name request s = subst of_owner (owner_known name stored ∙ ap (option_map known_owner) found) is in
+    subst of_kept (some_once (kept_for journal (known_owner o)) of_known.0 o.kept of_known.1 (kept_found journal name stored o agrees found).entry) of_known.2
+
+pub known_stays : (b : Bool) (kept : Kept) (name : OpenOwner) (request : Request) → b ≡ false → ((passage : Passage) (owner : OpenOwner) → IsJudged kept name request (GoesOn passage owner) → ⊥) → (passage : Passage) (owner : OpenOwner) → IsOfKnown b kept name request (GoesOn passage owner) → ⊥
+known_stays true kept name request off stays passage owner is = absurd cc
+known_stays false kept name request off stays passage owner is = stays passage owner is
+
+pub left_false : (a b : Bool) → a ≡ false → (a && b) ≡ false
+left_false true b off = absurd cc
+left_false false b off = refl
+
+pub right_false : (a b : Bool) → b ≡ true → (a && not b) ≡ false
+right_false true true on = refl
+right_false false true on = refl
+right_false true false on = absurd cc
+right_false false false on = refl

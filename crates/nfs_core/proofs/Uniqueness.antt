@@ -60,7 +60,7 @@ known_once : (is_restart : Bool) (kept : Kept) (name : OpenOwner) (request : Req
 known_once true kept name request s t a b = restarted_once kept name request s t a b
 known_once false kept name request s t a b = judged_once kept name request s t a b
 
-some_once : {A : Type 0} (o : Option A) (x y : A) → o ≡ Some x → o ≡ Some y → x ≡ y
+pub some_once : {A : Type 0} (o : Option A) (x y : A) → o ≡ Some x → o ≡ Some y → x ≡ y
 some_once None x y a b = absurd cc
 some_once (Some z) x y a b = search (a, b)
 

@@ -1,9 +1,9 @@
 // The operations that have an entry in the journal. Each has its own file, which decides the answer and the change.
-ghost use Rattle.std.specs.Prelude.{◌-◌, ◌^◌, ◌<◌, IsTrue};
+ghost use Rattle.std.specs.Prelude.{◌-◌, ◌^◌, ◌<◌, IsFalse, IsTrue};
 ghost use Rattle.nfs_core.specs.operations.{IsRuled, own_of};
 ghost use Rattle.nfs_core.specs.Deciding.{Decides};
 ghost use Rattle.nfs_core.specs.Kept.{Agrees};
-ghost use Rattle.nfs_core.specs.Sequences.{IsSequenced, is_sequenced, requester_of_stateid};
+ghost use Rattle.nfs_core.specs.Sequences.{IsSequenced, is_open, is_sequenced, requester_of_stateid};
 ghost use Rattle.nfs_core.specs.Step.{IsFilehandle};
 ghost use Rattle.nfs_core.specs.Room.{state_of};
 ghost use Rattle.nfs_xdr.specs.Op.{has_entry};
@@ -63,6 +63,7 @@ fn by_stateid(
     stateid: Stateid,
 ) -> Result<Decision, Shortage>
     requires sequenced { IsTrue (is_sequenced request.now.op) }
+    requires other { IsFalse (is_open request.now.op) }
     requires states { tables.now.numbers < 2 ^ 32 - 1 }
     requires kept { Agrees journal.now tables.now.owners.owners }
     ensures { Decides (IsSequenced journal.now (state_of tables.now)
