@@ -1,5 +1,5 @@
 -- What is stored of the owners agrees with the journal, entry after entry.
-use Rattle.std.proofs.Common.{◌≡◌, ℕ, zero, suc, Bool, true, false, Some, List, [], ◌∷◌, ◌++◌, length, map, refl}
+use Rattle.std.proofs.Common.{◌≡◌, ℕ, zero, suc, Bool, true, false, Some, List, [], ◌∷◌, ◌++◌, length, map, refl, subst, sym}
 use Rattle.std.specs.Prelude.{not, option_map, slice_get, if◌then◌else◌}
 use Rattle.nfs_core.specs.declared.entry.Entry.{Entry}
 use Rattle.nfs_core.specs.declared.owner_change.OwnerChange.{OwnerChange}
@@ -84,3 +84,11 @@ after_update journal (owner_changes.Drops name) number kept owners is agrees = A
 pub Agrees-after : (journal : History) (entry : Entry) (change : OwnerChange) (owners : List Owner) → IsSendable (kept_of entry).request.op (kept_of entry).answer → Agrees journal owners → Agrees (with_entry entry journal) (owners_after (update_of change (kept_of entry)) (length journal.entries) owners)
 Agrees-after journal entry change owners sendable agrees =
     after_update (with_entry entry journal) change (length journal.entries) (kept_of entry) owners (record { entry = kept_last journal.entries entry; sendable = sendable }) (Agrees-longer journal entry owners agrees)
+
+-- the same where the journal, the number and the owners after the operation's own change have names of their own
+pub Agrees-changed : (old new : History) (entry : Entry) (change : OwnerChange) (number : ℕ) (owners after : List Owner) → ((journal : History) → Agrees journal (owners_after (update_of change (kept_of entry)) number owners) → Agrees journal after) → new ≡ with_entry entry old → number ≡ length old.entries → IsSendable (kept_of entry).request.op (kept_of entry).answer → Agrees old owners → Agrees new after
+Agrees-changed old new entry change number owners after keeps is at sendable agrees =
+    let kept = kept_of entry in
+    let with_number : ℕ → Type 0 = λ n. Agrees (with_entry entry old) (owners_after (update_of change kept) n owners) in
+    let with_journal : History → Type 0 = λ journal. Agrees journal after in
+    subst with_journal (sym is) (keeps (with_entry entry old) (subst with_number (sym at) (Agrees-after old entry change owners sendable agrees)))
