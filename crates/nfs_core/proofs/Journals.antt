@@ -21,6 +21,10 @@ use Rattle.nfs_owners.specs.declared.clients.client_change.ClientChange.TheVaria
 use Rattle.nfs_core.specs.declared.decision.Decision.{Decision}
 use Rattle.nfs_core.specs.declared.entry.Entry.{Entry}
 use Rattle.nfs_core.specs.declared.entry.Entry.TheVariants as entries
+use Rattle.nfs_core.specs.Deciding.{Decides}
+use Rattle.nfs_core.specs.declared.shortage.Shortage.{Shortage}
+use Rattle.nfs_core.specs.declared.shortage.Shortage.TheVariants.{Limit, Memory}
+use Rattle.std.specs.Prelude.{IsErrOf, Result, Ok, Err}
 use Rattle.nfs_core.specs.Lawful.{Leads, Lawful}
 use Rattle.nfs_core.specs.Server.{Server, Applies, IsLawful}
 use Rattle.nfs_core.specs.State.{State, History, empty_server}
@@ -128,3 +132,9 @@ Leads-state journal old new (entry ∷ entries) leads =
 -- no more numbers were given to states than the journal has entries
 pub Lawful-state : (journal : History) (state : State) → Lawful journal state → state.last_state ≤ length journal.entries
 Lawful-state journal state lawful = omega (arith, Leads-state (record journal { entries = [] }) (empty_server journal.nodes) state journal.entries lawful)
+
+-- where a decision fails for a limit, the rule gives none
+pub limited : (ruled : Option Decision → Type 0) (state : State) (op : Op) (result : Result Decision Shortage) → Decides ruled state op result → IsErrOf result Limit → ruled None
+limited ruled state op (Ok decision) decides is_limit = absurd cc
+limited ruled state op (Err Limit) decides is_limit = decides
+limited ruled state op (Err Memory) decides is_limit = absurd cc

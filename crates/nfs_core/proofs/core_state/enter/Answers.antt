@@ -1,5 +1,9 @@
 use Rattle.std.proofs.Common.{rules, ◌∙◌, ap, refl}
+use Rattle.std.proofs.Common.{inl}
+use Rattle.nfs_core.specs.Room.{state_of}
 use Rattle.nfs_core.specs.Step.{entry_of, with_entry}
+use Rattle.nfs_core.specs.operations.{IsRuled}
+use Rattle.nfs_core.proofs.Journals.{decides_something, limited, none_follows}
 use Rattle.nfs_core.proofs.core_state.enter.Goals as goal
 
 pub returns-clause-sendable : goal.returns-clause-sendable
@@ -21,3 +25,19 @@ returns-clause-entered c =
         node = c.requires.node;
       }),
     )
+
+pub returns-in_err-decision-clause-limit : goal.returns-in_err-decision-clause-limit
+returns-in_err-decision-clause-limit c is_limit answer new follows =
+    let journal = c.args.journal.now in
+    let state = state_of c.args.tables.now in
+    let request = c.args.request in
+    let none = limited (IsRuled request.op journal state request) state request.op c.decide.result c.decide.ensures (search (rules, is_limit)) in
+    none_follows journal state (record { request = request; answer = answer }) new (inl none) follows
+
+pub returns-in_err-answer-clause-memory : goal.returns-in_err-answer-clause-memory
+returns-in_err-answer-clause-memory c is_memory =
+    (search rules, decides_something c.args.request.op c.args.journal.now (state_of c.args.tables.now) c.args.request c.in_ok-decision.decision c.in_ok-decision.ensures.0)
+
+pub returns-in_err-number-clause-memory : goal.returns-in_err-number-clause-memory
+returns-in_err-number-clause-memory c is_memory =
+    (search rules, decides_something c.args.request.op c.args.journal.now (state_of c.args.tables.now) c.args.request c.in_ok-decision.decision c.in_ok-decision.ensures.0)
