@@ -6,6 +6,7 @@ pub mod Stored
 pub mod operations
 pub mod Step
 pub mod Lawful
+pub mod Safe
 pub mod Server
 pub mod Room
 pub mod Finding

@@ -27,7 +27,7 @@ own_of (ops.Open args) journal state = opening.own journal state args
 own_of (ops.OpenConfirm args) journal state = open_confirm.own journal state args
 own_of (ops.OpenDowngrade args) journal state = open_downgrade.own journal state args
 own_of (ops.Close args) journal state = close.own journal state args
-own_of op journal state node passage ruling = ⊥
+own_of op journal state = λ node passage ruling. ⊥
 
 -- What the rule of an operation decides for a request, given the journal and the state; `None` if a limit would be
 -- exceeded. An operation without an entry in the journal has no rule here.

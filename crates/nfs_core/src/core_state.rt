@@ -1,7 +1,8 @@
 ghost use Rattle.std.specs.Prelude.{◌≡◌, None, ◌≢◌, ◌≤◌, ◌<◌, [], IfErr, IfOk, OnOk, OnErr, IsErrOf, IsTrue, Some, length};
 ghost use Rattle.nfs_core.specs.Server.{Applies, IsLawful};
 ghost use Rattle.nfs_core.specs.Step.{AtMostOneStep, IsFilehandle, changed, request_of, with_entry};
-ghost use Rattle.nfs_core.specs.Stored.{empty_store};
+ghost use Rattle.nfs_core.specs.Safe.{IsSafe};
+ghost use Rattle.nfs_core.specs.Stored.{empty_store, meaning};
 ghost use Rattle.nfs_core.specs.Deciding.{HasNoStep, IsSendable};
 ghost use Rattle.nfs_core.specs.Kept.{Agrees};
 ghost use Rattle.nfs_core.specs.Room.{HasNumbers, HasOwnerPlace, state_of, stored_of};
@@ -12,6 +13,7 @@ ghost use Rattle.nfs_xdr.specs.OpResult.{op_result};
 
 use crate::change::Change;
 use crate::journal::push_entry;
+use crate::laws::lawful_is_safe;
 use crate::operations::decide;
 use crate::owner_change::OwnerChange;
 use crate::owner_update::OwnerUpdate;
@@ -113,7 +115,9 @@ impl Core {
     pub fn journal(&self) -> &Journal
         ensures journal { result.now ≡ self.now.journal }
         ensures lawful { IsLawful self.now }
+        ensures safe { IsSafe (meaning self.now.stored) }
     {
+        lawful_is_safe();
         &self.journal
     }
 }

@@ -1,22 +1,14 @@
 -- The entries that the journal of a core gains when the core is asked questions as a service.
-use Rattle.std.proofs.Common.{◌≡◌, ◌≢◌, ℕ, Option, Some, None, List, [], ◌∷◌, ◌++◌, refl, sym, ap, ◌∙◌, inl, inr, append_assoc}
+use Rattle.std.proofs.Common.{◌≡◌, ℕ, Option, Some, None, List, [], ◌∷◌, ◌++◌, refl, sym, ap, ◌∙◌, inl, inr, append_assoc}
 use Rattle.std.proofs.lemmas.List.{append-nil}
-use Rattle.nfs_core.specs.declared.entry.Call.{Call}
 use Rattle.nfs_core.specs.declared.entry.Entry.{Entry}
-use Rattle.nfs_core.specs.operations.{rule}
 use Rattle.nfs_core.specs.Server.{Server, Applies}
-use Rattle.nfs_core.specs.State.{State, History}
-use Rattle.nfs_core.specs.Step.{Follows, entry_of, resource}
-use Rattle.nfs_core.specs.Stored.{meaning}
+use Rattle.nfs_core.specs.State.{History}
+use Rattle.nfs_core.specs.Step.{entry_of}
 use Rattle.nfs_server.specs.Asking.{Question}
 use Rattle.nfs_server.specs.Entries.{AreEntries, QuestionsAreEntries}
 use Rattle.nfs_server.specs.declared.service.Lent.{Lent}
 use Rattle.nfs_xdr.specs.declared.op_result.OpResult.{OpResult}
-
--- the answer in an entry is not NFS4ERR_RESOURCE
-follows_not_resource : (decided : _) (journal : History) (old : State) (call : Call) (new : State) → Follows decided journal old call new → call.answer ≢ resource call.request.op
-follows_not_resource None journal old call new follows = absurd follows
-follows_not_resource (Some decision) journal old call new follows = follows.1
 
 -- the entries of one question and the following ones: its own entry comes first, unless its answer was NFS4ERR_RESOURCE
 gains_first : (old mid new : Server) (question : Question) (questions : List Question) (answer : OpResult) (answers : List OpResult) (number : Option ℕ)
@@ -30,9 +22,9 @@ gains_first old mid new question questions answer answers None applies others = 
 )
 gains_first old mid new question questions answer answers (Some number) applies others =
     let entry = entry_of question answer in
-    let state = meaning old.stored in (
+    let entered = applies.2.2 in (
       entry ∷ others.0,
-      inr (follows_not_resource (rule question.op old.journal state question) old.journal state (record { request = question; answer = answer }) (meaning mid.stored) applies.2, others.0, refl, others.1),
+      inr (entered.other, others.0, refl, others.1),
       others.2
           ∙ ap (λ (j : History). record j { entries = j.entries ++ others.0 }) applies.1
           ∙ ap (λ (es : List Entry). record old.journal { entries = es }) (append_assoc old.journal.entries (entry ∷ []) others.0),

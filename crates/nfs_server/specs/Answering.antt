@@ -8,7 +8,7 @@ use Rattle.nfs_rpc.specs.declared.reply.Reply.TheVariants as replies
 use Rattle.nfs_rpc.specs.declared.reply.TheConstants.{ACCEPTED_LEN}
 use Rattle.nfs_tree.specs.declared.filehandles.Filehandles.{Filehandles}
 use Rattle.nfs_tree.specs.Effect.{Effect, stays}
-use Rattle.nfs_tree.specs.Filehandles.{no_filehandles}
+use Rattle.nfs_tree.specs.Filehandles.{handles_after, no_filehandles}
 use Rattle.nfs_tree.specs.operations.{effect_of}
 use Rattle.nfs_tree.specs.Tree.{Files}
 use Rattle.nfs_rpc.specs.Reply.{written_reply}
@@ -79,6 +79,11 @@ dispatch tree handles size (Run op) =
     then Known (stays handles (resource op))
     else by_effect (effect_of tree handles op) (record { op = op; filehandle = handles.current })
 
+-- The filehandles after the service's answer: with NFS4_OK they follow the operation.
+abbrev pub followed : Files → Filehandles → Op → OpResult → Filehandles
+followed tree handles op answer =
+    if is_ok (status_of answer) then handles_after tree handles op else handles
+
 -- The questions and the results of the operations, whose results follow the first `size` bytes of the reply's record.
 unfoldable pub outcome_of : Files → Filehandles → ℕ → List ArgOp → List OpResult → Outcome
 outcome_of tree handles size [] answers = record { asked = []; results = [] }
@@ -90,7 +95,8 @@ outcome_of tree handles size (op ∷ ops) answers =
           (outcome_of tree effect.after (size_with effect.answer) ops answers)
       | Ask question ↦
           asks question answers
-          (λ answer others. outcome_of tree handles (size_with answer) ops others)
+          (λ answer others.
+          outcome_of tree (followed tree handles question.op answer) (size_with answer) ops others)
     ]
 
 -- the reply's status is that of the last result, or NFS4_OK if there are no results

@@ -4,7 +4,7 @@ use Rattle.nfs_tree.specs.Effect.{Effect}
 use Rattle.nfs_tree.specs.declared.filehandles.Filehandles.{Filehandles}
 use Rattle.nfs_tree.specs.Filehandles.{no_filehandles}
 use Rattle.nfs_tree.specs.Tree.{Files}
-use Rattle.nfs_server.specs.Answering.{Asked, Dispatch, Known, Ask, Outcome, dispatch, outcome_of}
+use Rattle.nfs_server.specs.Answering.{Asked, Dispatch, Known, Ask, Outcome, dispatch, followed, outcome_of}
 use Rattle.nfs_server.specs.Asking.{Asks, Question, question_of}
 use Rattle.nfs_server.specs.declared.compound.Context.{Context}
 use Rattle.nfs_xdr.specs.declared.arg_op.ArgOp.{ArgOp}
@@ -51,7 +51,7 @@ abbrev pub HasEffect : {S : Type 0} → Asker S → Place S → Dispatch → Eff
 HasEffect asker old (Known told) effect service = (effect ≡ told) × (service ≡ old.service)
 HasEffect asker old (Ask asked) effect service =
     asker.gives old.service (question_of asker.moment asker.principal asked) effect.answer service
-    × (effect.after ≡ old.handles)
+    × (effect.after ≡ followed asker.tree old.handles asked.op effect.answer)
 
 -- At this place the operation has this effect, and leaves the service in this state.
 abbrev pub IsAnswered : {S : Type 0} → Asker S → Place S → ArgOp → Effect → S → Type 0

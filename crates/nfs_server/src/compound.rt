@@ -161,7 +161,8 @@ fn is_ok(answer: &OpResult) -> bool
 }
 
 // Answers an entry of the list, whose result follows the first `size` bytes of the reply's record. An entry that ends
-// the list isn't run, nor is an operation for whose answer the reply may not have enough room.
+// the list isn't run, nor is an operation for whose answer the reply may not have enough room. After an OPEN that is
+// answered NFS4_OK its file is the current one.
 fn answer_one<S: Service>(
     service: &mut S,
     context: &Context<'_>,
@@ -196,5 +197,9 @@ fn answer_one<S: Service>(
     if op.is_on_tree() {
         return handles.run(context.tree, op);
     }
-    service.call(context.moment, context.principal, op, handles.current)
+    let answer = service.call(context.moment, context.principal, op, handles.current);
+    if is_ok(&answer) {
+        handles.follow(context.tree, op);
+    }
+    answer
 }

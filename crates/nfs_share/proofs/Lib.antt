@@ -4,3 +4,4 @@ pub mod OpensLaws
 pub mod CompatibleOpens
 pub mod OneFile
 pub mod Names
+pub mod AllOpens

@@ -24,7 +24,7 @@ abbrev pub opens_of : ℕ → List (List OpenState) → List OpenState
 opens_of node opens = opens_or_none (slice_get opens node)
 
 -- how many opens there are
-pub open_count : List (List OpenState) → ℕ
+abbrev pub open_count : List (List OpenState) → ℕ
 open_count [] = 0
 open_count (opens ∷ more) = length opens + open_count more
 

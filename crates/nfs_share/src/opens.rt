@@ -1,4 +1,4 @@
-ghost use Rattle.std.specs.Prelude.{◌≡◌, ◌<◌, ℕ, [], IfOk, IfSome, length, position, OnOk, map, option_map, replicate};
+ghost use Rattle.std.specs.Prelude.{◌≡◌, ◌<◌, ℕ, [], IfOk, IfSome, OnOk, length, map, nat_lt, option_map, position, replicate};
 ghost use Rattle.std.specs.List.{list_any};
 ghost use Rattle.std.specs.Option.{option_copied};
 ghost use Rattle.nfs_share.specs.AllOpens.{HasRoomAt, at_node, named_in, open_count, opens_in, opens_of, with_opens};
@@ -87,29 +87,22 @@ impl Opens {
     pub fn has_client(&self, client: ClientId) -> bool
         ensures { result ≡ list_any (list_any (is_of_client client)) (opens_in self.now) }
     {
-        self.files.iter().any(|file| file.has_client(client))
+        has_client_in(&self.files, client)
     }
 
-    /// How many opens there are.
-    pub fn count(&self) -> usize
-        ensures { result ≡ open_count (opens_in self.now) }
+    /// Whether there are fewer opens than this limit.
+    pub fn has_place(&self, limit: usize) -> bool
+        ensures { result ≡ nat_lt (open_count (opens_in self.now)) limit }
     {
-        let mut count = 0;
-        for file in self.files.iter() {
-            count += file.opens().len();
-        }
-        count
+        has_place_in(&self.files, limit)
     }
 
-    /// How many opens there are of other owners.
-    pub fn count_without(&self, owner: &OpenOwner) -> usize
-        ensures { result ≡ open_count (map (without (is_of owner.now)) (opens_in self.now)) }
+    /// Whether there are fewer opens of other owners than this limit.
+    pub fn has_place_without(&self, owner: &OpenOwner, limit: usize) -> bool
+        ensures { result
+            ≡ nat_lt (open_count (map (without (is_of owner.now)) (opens_in self.now))) limit }
     {
-        let mut count = 0;
-        for file in self.files.iter() {
-            count += file.count_without(owner);
-        }
-        count
+        has_place_without_in(&self.files, owner, limit)
     }
 
     /// Makes room for an open of the node's file.
@@ -176,18 +169,66 @@ impl Opens {
         ensures opens { opens_in self.new ≡ map (without (is_of owner.now)) (opens_in self.old) }
         ensures room { (node : ℕ) → HasRoomAt node self.old → HasRoomAt node self.new }
     {
-        for file in self.files.iter_mut() {
-            file.remove_owner(owner);
-        }
+        remove_owner_in(&mut self.files, owner);
     }
 
     /// Removes the opens of all owners of this client.
     pub fn remove_client(&mut self, client: ClientId)
         ensures { opens_in self.new ≡ map (without (is_of_client client)) (opens_in self.old) }
     {
-        for file in self.files.iter_mut() {
-            file.remove_client(client);
+        remove_client_in(&mut self.files, client);
+    }
+}
+
+fn has_client_in(files: &[FileShare], client: ClientId) -> bool
+    ensures { result ≡ list_any (λ f. list_any (is_of_client client) f.opens) files.now }
+{
+    files.iter().any(|file| file.has_client(client))
+}
+
+fn has_place_in(files: &[FileShare], limit: usize) -> bool
+    ensures { result ≡ nat_lt (open_count (opens_in files.now)) limit }
+{
+    let mut left = limit;
+    for file in files.iter() {
+        let taken = file.opens().len();
+        if left <= taken {
+            return false;
         }
+        left -= taken;
+    }
+    left > 0
+}
+
+fn has_place_without_in(files: &[FileShare], owner: &OpenOwner, limit: usize) -> bool
+    ensures { result
+        ≡ nat_lt (open_count (map (without (is_of owner.now)) (opens_in files.now))) limit }
+{
+    let mut left = limit;
+    for file in files.iter() {
+        let taken = file.count_without(owner);
+        if left <= taken {
+            return false;
+        }
+        left -= taken;
+    }
+    left > 0
+}
+
+fn remove_owner_in(files: &mut [FileShare], owner: &OpenOwner)
+    ensures opens { opens_in files.new ≡ map (without (is_of owner.now)) (opens_in files.old) }
+    ensures room { (node : ℕ) → HasRoomAt node files.old → HasRoomAt node files.new }
+{
+    for file in files.iter_mut() {
+        file.remove_owner(owner);
+    }
+}
+
+fn remove_client_in(files: &mut [FileShare], client: ClientId)
+    ensures { opens_in files.new ≡ map (without (is_of_client client)) (opens_in files.old) }
+{
+    for file in files.iter_mut() {
+        file.remove_client(client);
     }
 }
 

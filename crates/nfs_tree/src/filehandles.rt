@@ -1,5 +1,9 @@
-ghost use Rattle.std.specs.Prelude.{◌≡◌};
-ghost use Rattle.nfs_tree.specs.Filehandles.{no_filehandles};
+ghost use Rattle.std.specs.Prelude.{◌≡◌, ◌<◌, IfSome, option_map};
+ghost use Rattle.nfs_tree.specs.Filehandles.{AreNodes, claimed_name, handles_after, no_filehandles, object_named};
+ghost use Rattle.nfs_tree.specs.Tree.{node_count};
+
+use crate::Tree;
+use nfs_xdr::{Claim, Op};
 
 /// The greatest length of the answer to an operation on the tree, in bytes.
 pub const TREE_ANSWER_LIMIT: usize = 20;
@@ -21,5 +25,40 @@ impl Filehandles {
             current: None,
             saved: None,
         }
+    }
+
+    /// Follows an operation on the state that was answered NFS4_OK. After an OPEN (RFC 7530, section 16.16) the object
+    /// that its name names in the current directory becomes the current one; other operations change nothing.
+    pub fn follow(&mut self, tree: &Tree, op: &Op)
+        requires nodes { AreNodes tree.now self.old }
+        ensures handles { self.new ≡ handles_after tree.now self.old op.now }
+        ensures nodes { AreNodes tree.now self.new }
+    {
+        let Op::Open(open) = op else {
+            return;
+        };
+        if let Some(object) = claimed_object(tree, self.current, &open.claim) {
+            self.current = Some(object);
+        }
+    }
+}
+
+// The object that the name in the claim names in this node.
+fn claimed_object(tree: &Tree, node: Option<u32>, claim: &Claim) -> Option<u32>
+    ensures object { result ≡ object_named tree.now node (claimed_name claim.now) }
+    ensures within { IfSome result (λ n. n < node_count tree.now.nodes) }
+{
+    tree.resolve(node?, claimed_name(claim)?).ok()
+}
+
+// The name in the claim, if it has one.
+fn claimed_name(claim: &Claim) -> Option<&[u8]>
+    ensures { option_map (λ n. n.now) result ≡ claimed_name claim.now }
+{
+    match claim {
+        Claim::Null(name) | Claim::DelegateCur { name, .. } | Claim::DelegatePrev(name) => {
+            Some(name.as_slice())
+        }
+        Claim::Previous(_) => None,
     }
 }

@@ -161,11 +161,10 @@ fn grant(
 
 // Whether there is a place for one more open. An owner that starts anew leaves its own places.
 fn has_open_place(tables: &Tables, passage: Passage, owner: &OpenOwner) -> bool {
-    let count = match passage {
-        Passage::Restarts => tables.opens.count_without(owner),
-        Passage::Continues | Passage::Begins => tables.opens.count(),
-    };
-    count < OPEN_LIMIT
+    match passage {
+        Passage::Restarts => tables.opens.has_place_without(owner, OPEN_LIMIT),
+        Passage::Continues | Passage::Begins => tables.opens.has_place(OPEN_LIMIT),
+    }
 }
 
 fn answer_of(alloc: Global, passage: Passage, stateid: Stateid) -> OpenOk {

@@ -1,0 +1,10 @@
+use Rattle.std.proofs.Common.{◌≡◌, drop, map, nat_lt}
+use Rattle.nfs_share.specs.AllOpens.{open_count, opens_in}
+use Rattle.nfs_share.specs.Opens.{is_of, without}
+use Rattle.nfs_share.proofs.opens.has_place_without_in.Given as goal
+
+-- the places left are enough for the remaining files just where the limit is enough for all
+abbrev pub invariant-loop-file : goal.invariant-loop-file
+invariant-loop-file l =
+    nat_lt (open_count (drop l.file-index (map (without (is_of l.owner)) (opens_in l.files)))) l.left
+    ≡ nat_lt (open_count (map (without (is_of l.owner)) (opens_in l.files))) l.limit
