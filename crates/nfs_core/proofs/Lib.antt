@@ -5,4 +5,6 @@ pub mod Safety
 pub mod Sound
 pub mod SoundRules
 pub mod SoundSteps
+pub mod Sequencing
+pub mod Opening
 pub mod Uniqueness

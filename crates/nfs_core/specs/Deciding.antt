@@ -9,10 +9,11 @@ use Rattle.nfs_core.specs.declared.shortage.Shortage.{Shortage}
 use Rattle.nfs_core.specs.declared.shortage.Shortage.TheVariants.{Limit, Memory}
 use Rattle.nfs_core.specs.declared.ruling.Ruling.{Ruling}
 use Rattle.nfs_core.specs.Room.{HasNumbers, HasOwnerPlace, IsPassage}
-use Rattle.nfs_core.specs.Sequences.{Requester, Owner, Sequence, Answered, GoesOn}
+use Rattle.nfs_core.specs.Sequences.{Requester, Refused, Owner, Sequence, Answered, GoesOn}
 use Rattle.nfs_core.specs.declared.passage.Passage.{Passage}
 use Rattle.nfs_core.specs.State.{State, History}
 use Rattle.nfs_core.specs.Step.{Step, entry_of, resource}
+use Rattle.nfs_forms.specs.declared.status.Refusal.TheVariants as refusals
 use Rattle.nfs_xdr.specs.declared.op.Op.{Op}
 use Rattle.nfs_xdr.specs.declared.op.Op.TheVariants as ops
 use Rattle.nfs_xdr.specs.declared.op_result.OpResult.{OpResult}
@@ -47,6 +48,11 @@ HasPassage state (GoesOn passage name) = IsPassage passage name state
 abbrev pub IsRequesterOf : Op → Requester → Type 0
 IsRequesterOf (ops.Open args) (Owner name) = name ≡ args.owner
 IsRequesterOf op requester = ⊤
+
+-- A request without an owner isn't refused with NFS4ERR_RESOURCE, which would have no entry in the journal.
+abbrev pub HasOtherRefusal : Requester → Type 0
+HasOtherRefusal (Refused refusal) = refusal ≢ refusals.Resource
+HasOtherRefusal (Owner name) = ⊤
 
 -- How an OPEN goes on fits what is known of the owner in its arguments.
 abbrev pub IsPassageOf : Op → Passage → State → Type 0

@@ -1,7 +1,6 @@
 -- The owners as the rules see them (RFC 7530, sections 9.1.5 and 9.1.7): each with the number of the journal's entry
 -- that recorded it, and the number of the entry whose request and answer are kept for it.
-use Rattle.std.specs.Prelude.{ℕ, Bool, false, true, ◌&&◌, List, [], ◌∷◌, ◌++◌, map, filter, find, not, Option, if◌then◌else◌}
-use Rattle.std.specs.List.{list_any}
+use Rattle.std.specs.Prelude.{ℕ, Bool, false, true, List, [], ◌∷◌, ◌++◌, map, filter, find, not, Option, Some, None, if◌then◌else◌}
 use Rattle.nfs_forms.specs.OpenOwner.{is_same_owner}
 use Rattle.nfs_forms.specs.declared.open_owner.OpenOwner.{OpenOwner}
 
@@ -19,9 +18,14 @@ has_name name o = is_same_owner o.name name
 abbrev pub owner_of : OpenOwner → List KnownOwner → Option KnownOwner
 owner_of name owners = find (has_name name) owners
 
+-- an owner, if it is known, is confirmed
+abbrev pub confirmed_if_known : Option KnownOwner → Bool
+confirmed_if_known None = false
+confirmed_if_known (Some o) = o.confirmed
+
 -- the owner with this name is known and confirmed
 abbrev pub is_confirmed : OpenOwner → List KnownOwner → Bool
-is_confirmed name owners = list_any (λ o. has_name name o && o.confirmed) owners
+is_confirmed name owners = confirmed_if_known (owner_of name owners)
 
 -- the entry with this number records an owner, whose name nobody has: it is unconfirmed
 abbrev pub with_record : ℕ → OpenOwner → List KnownOwner → List KnownOwner

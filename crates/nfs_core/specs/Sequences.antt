@@ -1,7 +1,7 @@
 -- Sequenced operations: OPEN, OPEN_CONFIRM, OPEN_DOWNGRADE and CLOSE go by the sequence id of an owner, so that a
 -- request that comes again is answered as it was (RFC 7530, sections 9.1.7 to 9.1.11). In turn: the filehandle, the
 -- owner, its sequence id, and then the operation's own rule.
-use Rattle.std.specs.Prelude.{◌≡◌, ℕ, ◌==◌, Bool, true, false, not, ◌&&◌, filter, map, find, slice_get, Option, Some, None, option_map, is_some, if◌then◌else◌}
+use Rattle.std.specs.Prelude.{◌≡◌, ℕ, Bool, true, false, not, ◌&&◌, filter, map, find, slice_get, Option, Some, None, option_map, is_some, if◌then◌else◌}
 use Rattle.nfs_core.specs.declared.change.Change.TheVariants as changes
 use Rattle.nfs_core.specs.declared.decision.Decision.{Decision}
 use Rattle.nfs_core.specs.declared.entry.Entry.{Entry}
@@ -153,10 +153,14 @@ IsOfKnown true kept name request sequence = IsRestart kept name request sequence
 IsOfKnown false kept name request sequence = IsJudged kept name request sequence
 
 -- An owner that isn't known begins with an OPEN of any sequence id; no other request comes from one.
-abbrev pub IsOfOwner : History → Option KnownOwner → OpenOwner → Request → Sequence → Type 0
-IsOfOwner journal None name request sequence =
+abbrev pub IsOfUnknown : OpenOwner → Request → Sequence → Type 0
+IsOfUnknown name request sequence =
     sequence ≡ (if is_open request.op then GoesOn passages.Begins name
-      else refusal_to request.op refusals.BadStateId)
+    else refusal_to request.op refusals.BadStateId)
+
+-- A request of this owner, by whether it is known.
+abbrev pub IsOfOwner : History → Option KnownOwner → OpenOwner → Request → Sequence → Type 0
+IsOfOwner journal None name request sequence = IsOfUnknown name request sequence
 IsOfOwner journal (Some o) name request sequence =
     (kept : Kept)
     × (kept_for journal o ≡ Some kept)

@@ -16,6 +16,7 @@ use Rattle.nfs_xdr.specs.declared.op.Op.TheVariants as ops
 pub mod Close
 pub mod Getattr
 pub mod Open
+pub mod OpenGrant
 pub mod OpenConfirm
 pub mod OpenDowngrade
 pub mod Setclientid

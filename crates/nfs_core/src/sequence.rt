@@ -1,16 +1,16 @@
-ghost use Rattle.std.specs.Prelude.{◌≡◌, IfOk, Some};
-ghost use Rattle.nfs_core.specs.Finding.{requester_seen, sequence_seen};
-ghost use Rattle.nfs_core.specs.Deciding.{HasPassage, IsSendableSequence};
+ghost use Rattle.std.specs.Prelude.{◌≡◌, ◌≢◌, ◌&&◌, not, IfOk, find};
+ghost use Rattle.nfs_core.specs.Finding.{requester_seen, sequence_seen, stored_or_bad};
+ghost use Rattle.nfs_core.specs.Deciding.{HasOtherRefusal, HasPassage, IsSendable, IsSendableSequence};
 ghost use Rattle.nfs_core.specs.Kept.{Agrees};
 ghost use Rattle.nfs_core.specs.Room.{state_of};
-ghost use Rattle.nfs_core.specs.Sequences.{IsRestart, IsSequence, by_verdict, is_open, requester_of_open, requester_of_stateid, seqid_of};
-ghost use Rattle.nfs_owners.specs.Kept.{request_of};
+ghost use Rattle.nfs_core.specs.Sequences.{IsJudged, IsOfKnown, IsOfUnknown, IsRestart, IsSequence, is_open, refusal_to, requester_of_open, requester_of_stateid, seqid_of};
+ghost use Rattle.nfs_owners.specs.Kept.{closes};
 
 use crate::passage::Passage;
 use crate::stateids::Target;
 use crate::tables::Tables;
 use crate::{Journal, Request};
-use nfs_owners::{Owner, Verdict};
+use nfs_owners::{Kept, Owner, Verdict};
 use nfs_xdr::{Op, OpResult, OpenOwner, Refusal, Stateid};
 use std::alloc::AllocError;
 
@@ -31,7 +31,9 @@ pub(crate) enum Sequence<'a> {
 impl Tables {
     /// The owner in an OPEN's arguments, if its client is known.
     pub(crate) fn requester_of_open<'a>(&self, owner: &'a OpenOwner) -> Requester<'a>
-        ensures { requester_seen result ≡ requester_of_open (state_of self.now) owner.now }
+        ensures requester { requester_seen result
+            ≡ requester_of_open (state_of self.now) owner.now }
+        ensures refusal { HasOtherRefusal (requester_seen result) }
     {
         match self.clients.of(owner.client) {
             Some(_) => Requester::Owner(owner),
@@ -42,8 +44,9 @@ impl Tables {
     /// The owner that a stateid names, also by an open that it has closed by its last request.
     pub(crate) fn requester_of_stateid(&self, journal: &Journal, stateid: Stateid) -> Requester<'_>
         requires { Agrees journal.now self.now.owners.owners }
-        ensures { requester_seen result
+        ensures requester { requester_seen result
             ≡ requester_of_stateid journal.now (state_of self.now) stateid }
+        ensures refusal { HasOtherRefusal (requester_seen result) }
     {
         match self.target_of(journal.epoch(), stateid) {
             Target::Refused(refusal) => Requester::Refused(refusal),
@@ -53,7 +56,11 @@ impl Tables {
     }
 
     // The owner whose kept request closed the stateid's open.
-    fn closer_of(&self, stateid: Stateid) -> Requester<'_> {
+    fn closer_of(&self, stateid: Stateid) -> Requester<'_>
+        ensures { requester_seen result
+            ≡ stored_or_bad (find (λ o. closes stateid.client stateid.number o.kept)
+            self.now.owners.owners) }
+    {
         match self.owners.closer_of(stateid.client, stateid.number) {
             Some(owner) => Requester::Owner(&owner.name),
             None => Requester::Refused(Refusal::BadStateId),
@@ -67,7 +74,8 @@ impl Tables {
         request: &Request,
         requester: Requester<'a>,
     ) -> Result<Sequence<'a>, AllocError>
-        requires { Agrees journal.now self.now.owners.owners }
+        requires kept { Agrees journal.now self.now.owners.owners }
+        requires refusal { HasOtherRefusal (requester_seen requester) }
         ensures sequence { IfOk result (λ s. IsSequence journal.now (state_of self.now)
             (requester_seen requester.entry) request.now (sequence_seen s)) }
         ensures sendable { IfOk result (λ s. IsSendableSequence request.now.op (sequence_seen s)) }
@@ -78,26 +86,54 @@ impl Tables {
             Requester::Owner(name) => name,
         };
         match self.owners.find(name) {
-            None if is_open(&request.op) => Ok(Sequence::GoesOn(Passage::Begins, name)),
-            None => Ok(refusal_to(&request.op, Refusal::BadStateId)),
-            Some(owner) if is_open(&request.op) && !owner.confirmed => restart(
-                owner, request, name,
-            ),
-            Some(owner) => judge(owner, request, name),
+            None => Ok(begin(request, name)),
+            Some(owner) => resume(owner, request, name),
         }
+    }
+}
+
+// A request of an owner that isn't known: only an OPEN goes on.
+fn begin<'a>(request: &Request, name: &'a OpenOwner) -> Sequence<'a>
+    ensures sequence { IsOfUnknown name.now request.now (sequence_seen result) }
+    ensures sendable { IsSendableSequence request.now.op (sequence_seen result) }
+{
+    if is_open(&request.op) {
+        Sequence::GoesOn(Passage::Begins, name)
+    } else {
+        refusal_to(&request.op, Refusal::BadStateId)
+    }
+}
+
+// A request of an owner that is known.
+fn resume<'a>(
+    owner: &Owner,
+    request: &Request,
+    name: &'a OpenOwner,
+) -> Result<Sequence<'a>, AllocError>
+    requires { IsSendable owner.now.kept.request.op owner.now.kept.answer }
+    ensures sequence { IfOk result (λ s. IsOfKnown
+        (is_open request.now.op && not owner.now.confirmed)
+        owner.now.kept name.now request.now (sequence_seen s)) }
+    ensures sendable { IfOk result (λ s. IsSendableSequence request.now.op (sequence_seen s)) }
+{
+    if is_open(&request.op) && !owner.confirmed {
+        restart(&owner.kept, request, name)
+    } else {
+        judge(&owner.kept, request, name)
     }
 }
 
 // The owner's next request goes on, its last one again is answered as it was, and any other is NFS4ERR_BAD_SEQID.
 fn judge<'a>(
-    owner: &Owner,
+    kept: &Kept,
     request: &Request,
     name: &'a OpenOwner,
-) -> Result<Sequence<'a>, AllocError> {
-    match owner
-        .kept
-        .judge(seqid_of(&request.op), &request.op, request.filehandle)
-    {
+) -> Result<Sequence<'a>, AllocError>
+    requires { IsSendable kept.now.request.op kept.now.answer }
+    ensures sequence { IfOk result (λ s. IsJudged kept.now name.now request.now (sequence_seen s)) }
+    ensures sendable { IfOk result (λ s. IsSendableSequence request.now.op (sequence_seen s)) }
+{
+    match kept.judge(seqid_of(&request.op), &request.op, request.filehandle) {
         Verdict::New => Ok(Sequence::GoesOn(Passage::Continues, name)),
         Verdict::Replay(answer) => Ok(Sequence::Answered(answer.clone()?)),
         Verdict::Bad => Ok(refusal_to(&request.op, Refusal::BadSeqId)),
@@ -106,20 +142,27 @@ fn judge<'a>(
 
 // An OPEN of an unconfirmed owner: the last one again is answered as it was, and any other starts the owner anew.
 fn restart<'a>(
-    owner: &Owner,
+    kept: &Kept,
     request: &Request,
     name: &'a OpenOwner,
-) -> Result<Sequence<'a>, AllocError> {
-    match owner
-        .kept
-        .judge(seqid_of(&request.op), &request.op, request.filehandle)
-    {
+) -> Result<Sequence<'a>, AllocError>
+    requires { IsSendable kept.now.request.op kept.now.answer }
+    ensures sequence { IfOk result (λ s.
+        IsRestart kept.now name.now request.now (sequence_seen s)) }
+    ensures sendable { IfOk result (λ s. IsSendableSequence request.now.op (sequence_seen s)) }
+{
+    match kept.judge(seqid_of(&request.op), &request.op, request.filehandle) {
         Verdict::Replay(answer) => Ok(Sequence::Answered(answer.clone()?)),
         Verdict::New | Verdict::Bad => Ok(Sequence::GoesOn(Passage::Restarts, name)),
     }
 }
 
-fn refusal_to<'a>(op: &Op, refusal: Refusal) -> Sequence<'a> {
+// The operation is refused with this status.
+fn refusal_to<'a>(op: &Op, refusal: Refusal) -> Sequence<'a>
+    requires { refusal ≢ Refusal.Resource }
+    ensures sequence { sequence_seen result ≡ refusal_to op.now refusal }
+    ensures sendable { IsSendableSequence op.now (sequence_seen result) }
+{
     Sequence::Answered(op.opnum().refusal(refusal))
 }
 

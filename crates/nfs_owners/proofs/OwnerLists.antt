@@ -1,9 +1,9 @@
 -- Lists of owners of which no two have one name.
 use Rattle.std.proofs.Common.{◌≡◌, ℕ, ◌<◌, Bool, true, false, Some, None, List, [], ◌∷◌, ◌++◌, length, slice_index_or, slice_set, refl, sym, ap, ◌∙◌, arith}
-use Rattle.std.specs.Prelude.{◌&&◌, nat_lt, not, filter, if◌then◌else◌}
+use Rattle.std.specs.Prelude.{◌&&◌, ◌||◌, nat_lt, not, filter, if◌then◌else◌}
 use Rattle.std.specs.List.{position, position_or_len}
 use Rattle.std.specs.Str.{bytes_eq}
-use Rattle.std.proofs.lemmas.Bool.{eqb-true}
+use Rattle.std.proofs.lemmas.Bool.{eqb-true, ltb-true}
 use Rattle.std.proofs.lemmas.List.{length-append, length-map}
 use Rattle.std.proofs.lemmas.List.Filters.{length-filter_both}
 use Rattle.std.proofs.lemmas.List.Folds.{list_any-append}
@@ -135,3 +135,20 @@ place_without name other owners are place = by (is_known name owners) refl
     by : (b : Bool) → is_known name owners ≡ b → has_place other (without_owner name owners) ≡ true
     by true known = grind (arith, fewer_known name owners known, are.0)
     by false unknown = rw (same_unknown name owners unknown) place
+
+-- without the owner with a name nobody has the name
+none_left : (name : OpenOwner) (owners : List Owner) → is_known name (without_owner name owners) ≡ false
+none_left name [] = refl
+none_left name (o ∷ owners) = by (none_left name owners) (has_name name o) refl
+  where
+    by : is_known name (without_owner name owners) ≡ false → (b : Bool) → has_name name o ≡ b → is_known name (without_owner name (o ∷ owners)) ≡ false
+    by rest true same = grind (arith, same, rest)
+    by rest false other = grind (arith, other, rest)
+
+-- where an owner has a place, there are fewer others than the limit
+pub few_others : (name : OpenOwner) (owners : List Owner) → AreOwners owners → has_place name owners ≡ true → length (without_owner name owners) < OWNER_LIMIT
+few_others name owners are place = by (is_known name (without_owner name owners)) (none_left name owners) (place_without name name owners are place)
+  where
+    by : (b : Bool) → b ≡ false → b || nat_lt (length (without_owner name owners)) OWNER_LIMIT ≡ true → length (without_owner name owners) < OWNER_LIMIT
+    by true known place = absurd cc
+    by false known place = omega (arith, ltb-true _ _ place)

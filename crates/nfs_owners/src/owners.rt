@@ -1,4 +1,4 @@
-ghost use Rattle.std.specs.Prelude.{◌≡◌, ◌<◌, ◌≤◌, ◌+◌, ◌↔◌, false, [], find, IsErrOf, IsFalse, IsOk, IsTrue, OnOk};
+ghost use Rattle.std.specs.Prelude.{◌≡◌, ◌<◌, ◌≤◌, ◌+◌, ◌↔◌, false, [], find, IsErrOf, IsFalse, IsOk, IsTrue, OnOk, length};
 ghost use Rattle.std.specs.List.{position};
 ghost use Rattle.std.specs.Option.{option_copied};
 ghost use Rattle.nfs_owners.specs.Kept.{closes, request_of};
@@ -87,7 +87,8 @@ impl Owners {
 
     /// Whether the owner is known, or can be recorded without exceeding the limit.
     pub fn has_place(&self, name: &OpenOwner) -> bool
-        ensures { result ≡ has_place name.now self.now.owners }
+        ensures place { result ≡ has_place name.now self.now.owners }
+        ensures left { IsTrue result → length (without_owner name.now self.now.owners) < OWNER_LIMIT }
     {
         self.is_known(name) || self.owners.len() < OWNER_LIMIT
     }
