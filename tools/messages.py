@@ -7,6 +7,7 @@ sys.path.insert(0, os.path.join(os.path.dirname(os.path.abspath(__file__)), "mod
 from wire import opaque, record, u32 as words
 
 NULL, COMPOUND = 0, 1
+CLOSE, OPEN, OPEN_CONFIRM, OPEN_DOWNGRADE = 4, 18, 20, 21
 GETATTR, GETFH, LOOKUP, PUTFH, PUTROOTFH, SETCLIENTID, SETCLIENTID_CONFIRM = 9, 10, 15, 22, 24, 35, 36
 NFS4_OK, NFS4ERR_NOENT, NFS4ERR_BADHANDLE, NFS4ERR_RESOURCE = 0, 2, 10001, 10018
 

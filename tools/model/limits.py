@@ -12,7 +12,8 @@ import wire
 from model import OWNERS_LIMIT, STATES_LIMIT, handle_of
 from wire import Opnum, Status, opaque, u32, u64
 
-FILES = 5
+# A file more than each owner opens; many files keep the opens of each few.
+FILES = 33
 TREE = "".join(f'[[file]]\npath = "f{number}"\n' for number in range(FILES))
 READ, NONE = 1, 0
 
@@ -72,15 +73,14 @@ def owners_at_their_limit(limit=OWNERS_LIMIT):
     yield opening(0, 1, 0, client=2, number=limit + 3, flags=6)
 
 
-def opens_at_their_limit(owners=OWNERS_LIMIT, limit=STATES_LIMIT):
+def opens_at_their_limit(owners=STATES_LIMIT // (FILES - 1), limit=STATES_LIMIT):
     yield introduce(1, 1)
     files = limit // owners
     for owner in range(owners):
         first = owner * files + 1
-        step = opening(owner, 1, 0, number=first, flags=6) + confirming(2, first)
+        yield opening(owner, 1, 0, number=first, flags=6) + confirming(2, first)
         for file in range(1, files):
-            step += opening(owner, 2 + file, file, number=first + file)
-        yield step
+            yield opening(owner, 2 + file, file, number=first + file)
     following = files + 2
     yield opening(0, following, files, status=Status.RESOURCE)
     # An OPEN of a file that its owner has open needs no place. It has the sequence id of the OPEN before, which was
