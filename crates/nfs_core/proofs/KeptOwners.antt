@@ -29,11 +29,13 @@ kept_last (first ∷ entries) entry = kept_last entries entry
 -- the stored owners agree with a longer journal too
 Agrees-longer : (journal : History) (entry : Entry) (owners : List Owner) → Agrees journal owners → Agrees (with_entry entry journal) owners
 Agrees-longer journal entry [] agrees = agrees
-Agrees-longer journal entry (o ∷ owners) agrees =
-    (record {
-      entry = kept_longer journal.entries (entry ∷ []) o.number o.kept agrees.0.entry;
-      sendable = agrees.0.sendable;
-    }, Agrees-longer journal entry owners agrees.1)
+Agrees-longer journal entry (o ∷ owners) agrees = (
+  record {
+    entry = kept_longer journal.entries (entry ∷ []) o.number o.kept agrees.0.entry;
+    sendable = agrees.0.sendable;
+  },
+  Agrees-longer journal entry owners agrees.1,
+)
 
 Agrees-push : (journal : History) (owners : List Owner) (o : Owner) → Agrees journal owners → IsKeptIn journal o → Agrees journal (owners ++ o ∷ [])
 Agrees-push journal [] o agrees is = (is, tt)

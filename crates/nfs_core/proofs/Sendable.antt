@@ -1,5 +1,5 @@
 -- The answers of the rules that go by a stateid can be sent.
-use Rattle.std.proofs.Common.{◌≡◌, ◌≢◌, ℕ, ◌^◌, ◌<◌, Bool, true, false, Option, Some, None, Result, Ok, Err, refl, sym, ap, subst, arith}
+use Rattle.std.proofs.Common.{◌≡◌, ◌≢◌, ℕ, ◌^◌, ◌<◌, Bool, true, false, Option, Some, None, Result, Ok, Err, sym, subst, arith}
 use Rattle.std.specs.Prelude.{⊤, not, nat_lt, ◌==◌, ◌||◌, is_some, if◌then◌else◌}
 use Rattle.nfs_core.specs.Owners.{is_confirmed}
 use Rattle.nfs_owners.specs.Registry.{record_of, was_given}

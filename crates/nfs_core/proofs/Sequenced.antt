@@ -131,7 +131,7 @@ owner_place journal state requester request node passages.Continues name ruling 
     keeps_place (counts (status_of ruling.answer)) name state known
 owner_place journal state requester request node passages.Begins name ruling sequenced unknown own =
     records_place (is_ok_status (status_of ruling.answer)) name state unknown
-        (λ ok. place_of request.op journal state node ruling (begins_open journal state requester request name sequenced) own ok)
+    (λ ok. place_of request.op journal state node ruling (begins_open journal state requester request name sequenced) own ok)
 owner_place journal state requester request node passages.Restarts name ruling sequenced known own =
     restarts_place (is_ok_status (status_of ruling.answer)) name state known
 
@@ -145,10 +145,11 @@ goes_on journal state requester request filehandle node sequence passage name ru
     let H : Sequence → Type 0 = λ s. HasPassage state s in
     let on : IsSequence journal state requester request (GoesOn passage name) = subst Q is sequenced in
     subst P (sym made) (subst F (sym has) (
-        (GoesOn passage name, on, (Some ruling, ruled.0, refl)),
-        ruled.1,
-        ruled.2,
-        owner_place journal state requester request node passage name ruling on (subst H is passes) ruled.0))
+      (GoesOn passage name, on, (Some ruling, ruled.0, refl)),
+      ruled.1,
+      ruled.2,
+      owner_place journal state requester request node passage name ruling on (subst H is passes) ruled.0,
+    ))
 
 own_once : (op : Op) (journal : History) (state : State) → Once (own_of op journal state)
 own_once (ops.Open args) journal state = λ n p r u x y. x ∙ sym y
@@ -164,7 +165,7 @@ ruled_has_room journal state requester request filehandle node sequence passage 
     let Q : Sequence → Type 0 = λ s. IsSequence journal state requester request s in
     let F : Option ℕ → Type 0 = λ f. IsSequenced journal state requester own f request (Some (decision_of passage name ruling)) in
     let decided : IsSequenced journal state requester own filehandle request (Some (decision_of passage name ruling)) =
-        subst F (sym has) (GoesOn passage name, subst Q is sequenced, (Some ruling, ruled, refl)) in
+    subst F (sym has) (GoesOn passage name, subst Q is sequenced, (Some ruling, ruled, refl)) in
     let same = sequenced_once journal state requester own (own_once request.op journal state) filehandle request None (Some (decision_of passage name ruling)) none decided in
     cc
 

@@ -1,5 +1,5 @@
 -- A request has at most one decision by its rule.
-use Rattle.std.proofs.Common.{◌≡◌, ◌≢◌, ◌⊎◌, inl, inr, ℕ, Bool, true, false, Option, Some, None, Result, Ok, Err, refl, sym, ap, ◌∙◌, subst, arith}
+use Rattle.std.proofs.Common.{◌≡◌, inl, inr, ℕ, Bool, true, false, Option, Some, None, Result, Ok, Err, refl, sym, ap, ◌∙◌, subst, arith}
 use Rattle.std.specs.Prelude.{◌==◌, ◌^◌, ◌-◌, ◌&&◌, not, option_map}
 use Rattle.nfs_core.specs.declared.decision.Decision.{Decision}
 use Rattle.nfs_core.specs.declared.request.Request.{Request}
@@ -18,10 +18,9 @@ use Rattle.nfs_core.specs.Sequences.{IsDecided, IsJudged, IsOfKnown, IsOfOwner, 
 use Rattle.nfs_core.specs.State.{State, History}
 use Rattle.nfs_forms.specs.declared.open_owner.OpenOwner.{OpenOwner}
 use Rattle.nfs_owners.specs.declared.kept.Kept.{Kept}
-use Rattle.nfs_owners.specs.declared.kept.KeptRequest.{KeptRequest}
 use Rattle.nfs_owners.specs.declared.kept.Verdict.{Verdict}
 use Rattle.nfs_owners.specs.declared.kept.Verdict.TheVariants as verdicts
-use Rattle.nfs_owners.specs.Kept.{IsAgain, IsVerdict, next_seqid, request_of}
+use Rattle.nfs_owners.specs.Kept.{IsVerdict, next_seqid, request_of}
 use Rattle.nfs_forms.specs.declared.operations.open_downgrade.OpenDowngrade.{OpenDowngrade}
 use Rattle.nfs_forms.specs.declared.status.Refusal.{Refusal}
 use Rattle.nfs_share.specs.declared.share.Share.{Share}

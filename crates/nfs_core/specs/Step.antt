@@ -1,5 +1,5 @@
 -- How one entry of the journal leads from a state to the next.
-use Rattle.std.specs.Prelude.{◌≡◌, ◌≢◌, ℕ, ◌+◌, ◌<◌, Bool, not, List, [], ◌∷◌, ◌++◌, filter, length, map, Option, Some, None, IfSome, is_some, if◌then◌else◌}
+use Rattle.std.specs.Prelude.{◌≡◌, ◌≢◌, ℕ, ◌+◌, ◌<◌, Bool, not, [], ◌∷◌, ◌++◌, filter, length, map, Option, Some, IfSome, is_some, if◌then◌else◌}
 use Rattle.nfs_core.specs.declared.change.Change.{Change}
 use Rattle.nfs_core.specs.declared.change.Change.TheVariants as changes
 use Rattle.nfs_core.specs.declared.decision.Decision.{Decision}

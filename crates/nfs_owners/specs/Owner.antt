@@ -1,5 +1,5 @@
 -- The owners that the server knows (RFC 7530, section 9.1.5).
-use Rattle.std.specs.Prelude.{ℕ, Bool, false, ◌&&◌, List, find, Option, Some, None, if◌then◌else◌}
+use Rattle.std.specs.Prelude.{ℕ, Bool, false, List, find, Option, Some, None, if◌then◌else◌}
 use Rattle.std.specs.List.{list_any}
 use Rattle.nfs_owners.specs.declared.kept.Kept.{Kept}
 use Rattle.nfs_owners.specs.declared.owner.Owner.{Owner}

@@ -1,7 +1,6 @@
 -- The opens of all files: those of each node of the tree, by its number.
 use Rattle.std.specs.Prelude.{◌<◌, ℕ, ◌+◌, List, [], ◌∷◌, length, map, option_map, position, slice_get, slice_set, IfSome, Option, Some, None}
 use Rattle.std.specs.List.{list_any}
-use Rattle.nfs_forms.specs.declared.client_id.ClientId.{ClientId}
 use Rattle.nfs_forms.specs.declared.stateid.Stateid.{Stateid}
 use Rattle.nfs_share.specs.Opens.{FileOpens, is_stateid_of, open_named_by}
 use Rattle.nfs_share.specs.declared.open_state.OpenState.{OpenState}

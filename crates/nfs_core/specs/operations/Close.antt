@@ -1,5 +1,5 @@
 -- CLOSE (RFC 7530, section 16.2): frees an open.
-use Rattle.std.specs.Prelude.{◌≡◌, ℕ, false, Some, Result, Ok, Err}
+use Rattle.std.specs.Prelude.{◌≡◌, false, Some, Result, Ok, Err}
 use Rattle.nfs_core.specs.declared.change.Change.TheVariants.{Nothing, Closes}
 use Rattle.nfs_core.specs.declared.ruling.Ruling.{Ruling}
 use Rattle.nfs_core.specs.Sequences.{Own}
@@ -24,4 +24,4 @@ closing (Ok at) = record {
 abbrev pub own : History → State → Close → Own
 own journal state args node passage ruling =
     ruling ≡ Some (closing
-      (verdict (record { node = node; also_unconfirmed = false }) journal.epoch state args.stateid))
+    (verdict (record { node = node; also_unconfirmed = false }) journal.epoch state args.stateid))

@@ -1,5 +1,5 @@
 -- OPEN (RFC 7530, section 16.16): opens a file for an owner.
-use Rattle.std.specs.Prelude.{◌≡◌, ℕ, ◌+◌, ◌==◌, nat_lt, nat_le, Bool, true, false, not, ◌&&◌, ◌||◌, List, [], length, get_or, Option, Some, None, is_some, Result, Ok, Err, if◌then◌else◌}
+use Rattle.std.specs.Prelude.{◌≡◌, ℕ, ◌+◌, nat_lt, Bool, true, false, ◌&&◌, ◌||◌, List, [], length, Option, Some, None, is_some, Result, Ok, Err, if◌then◌else◌}
 use Rattle.nfs_core.specs.declared.change.Change.TheVariants.{Nothing, Opens}
 use Rattle.nfs_core.specs.declared.passage.Passage.{Passage}
 use Rattle.nfs_core.specs.declared.passage.Passage.TheVariants.{Continues}
@@ -14,7 +14,7 @@ use Rattle.nfs_owners.specs.declared.owner.TheConstants.{OWNER_LIMIT}
 use Rattle.nfs_share.specs.declared.open_state.OpenState.{OpenState}
 use Rattle.nfs_share.specs.declared.share.Share.{Share}
 use Rattle.nfs_share.specs.AllOpens.{open_count, opens_of}
-use Rattle.nfs_share.specs.Opens.{first_open, is_refused, next_stateid_of, open_of, stateid_of}
+use Rattle.nfs_share.specs.Opens.{is_refused, next_stateid_of, open_of}
 use Rattle.nfs_share.specs.Share.{share_of_numbers}
 use Rattle.nfs_tree.specs.Tree.{is_directory, resolved}
 use Rattle.nfs_forms.specs.declared.answer.Answer.TheVariants.{Done, Refused}

@@ -1,5 +1,5 @@
 -- OPEN_CONFIRM (RFC 7530, section 16.18): confirms an owner after its first OPEN.
-use Rattle.std.specs.Prelude.{◌≡◌, ℕ, true, Some, Result, Ok, Err, if◌then◌else◌}
+use Rattle.std.specs.Prelude.{◌≡◌, true, Some, Result, Ok, Err, if◌then◌else◌}
 use Rattle.nfs_core.specs.declared.change.Change.TheVariants.{Nothing, Confirms}
 use Rattle.nfs_core.specs.Owners.{is_confirmed}
 use Rattle.nfs_core.specs.declared.ruling.Ruling.{Ruling}
@@ -32,4 +32,4 @@ confirmation state (Ok at) =
 abbrev pub own : History → State → OpenConfirm → Own
 own journal state args node passage ruling =
     ruling ≡ Some (confirmation state
-      (verdict (record { node = node; also_unconfirmed = true }) journal.epoch state args.stateid))
+    (verdict (record { node = node; also_unconfirmed = true }) journal.epoch state args.stateid))

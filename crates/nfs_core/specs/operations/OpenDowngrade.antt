@@ -1,5 +1,5 @@
 -- OPEN_DOWNGRADE (RFC 7530, section 16.19): gives up a part of an open's access, and of what it denies to others.
-use Rattle.std.specs.Prelude.{◌≡◌, ◌⊎◌, ℕ, false, Option, Some, None, Result, Ok, Err}
+use Rattle.std.specs.Prelude.{◌≡◌, ◌⊎◌, false, Option, Some, None, Result, Ok, Err}
 use Rattle.nfs_core.specs.declared.change.Change.TheVariants.{Nothing, Downgrades}
 use Rattle.nfs_core.specs.declared.ruling.Ruling.{Ruling}
 use Rattle.nfs_core.specs.Sequences.{Own}

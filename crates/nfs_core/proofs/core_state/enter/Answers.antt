@@ -17,13 +17,17 @@ returns-clause-entered c =
     let entered = c.in_ok-number.ensures in (
       entered.number,
       entered.entry ∙ ap (λ a. with_entry (entry_of request a) journal) answer.ensures,
-      (c.in_ok-decision.decision, c.in_ok-decision.ensures.0, record {
-        below = search rules;
-        other = (returns-clause-sendable c).not_resource;
-        answer = refl;
-        state = entered.state;
-        node = c.requires.node;
-      }),
+      (
+        c.in_ok-decision.decision,
+        c.in_ok-decision.ensures.0,
+        record {
+          below = search rules;
+          other = (returns-clause-sendable c).not_resource;
+          answer = refl;
+          state = entered.state;
+          node = c.requires.node;
+        },
+      ),
     )
 
 pub returns-in_err-decision-clause-limit : goal.returns-in_err-decision-clause-limit

@@ -1,4 +1,4 @@
-use Rattle.std.proofs.Common.{◌≡◌, ◌∙◌, ap, sym, subst}
+use Rattle.std.proofs.Common.{◌∙◌, ap, sym, subst}
 use Rattle.nfs_core.specs.declared.entry.Entry.TheVariants as entries
 use Rattle.nfs_core.specs.Kept.{Agrees, owners_after, update_of}
 use Rattle.nfs_core.specs.Room.{HasOwnerPlace, HasUpdateRoom}
@@ -20,6 +20,6 @@ returns-clause-kept c = λ journal agrees.
     let roomy = c.make_room.new.self in
     let update = update_of c.args.owner (kept_of (entries.Call c.args.call.now)) in
     let are = c.commit_owner.ensures.owners
-      ∙ ap (λ u. owners_after u c.args.number roomy.owners.owners) c.in_ok-update.ensures
-      ∙ ap (λ (s : Stored). owners_after update c.args.number s.owners) c.in_ok-make_room.ensures.same in
+    ∙ ap (λ u. owners_after u c.args.number roomy.owners.owners) c.in_ok-update.ensures
+    ∙ ap (λ (s : Stored). owners_after update c.args.number s.owners) c.in_ok-make_room.ensures.same in
     c.commit.ensures.kept journal (subst (Agrees journal) (sym are) agrees)

@@ -1,4 +1,4 @@
-use Rattle.std.proofs.Common.{◌≡◌, Some, None, refl, sym, ap, ◌∙◌, subst}
+use Rattle.std.proofs.Common.{◌≡◌, None, refl, sym, ap, ◌∙◌, subst}
 use Rattle.std.specs.Option.{option_copied}
 use Rattle.std.proofs.lemmas.Result.{IfOk-weaker, on_err_weaker}
 use Rattle.std.specs.Prelude.{not, ◌&&◌}
@@ -51,7 +51,7 @@ returns-in-Some-clause-memory c =
     let stored = c.args.self.now.owners.owners in
     let o = c.in-Some.owner.now in
     let weaker : ((passage : Passage) (other : OpenOwner) → IsOfKnown (is_open request.op && not o.confirmed) o.kept name request (GoesOn passage other) → ⊥) → (passage : Passage) (owner : OpenOwner) → IsSequence journal (state_of c.args.self.now) (requester_seen c.args.requester) request (GoesOn passage owner) → ⊥ =
-        λ stays passage owner is.
-            let is_sequence : Requester → Type 0 = λ r. IsSequence journal (state_of c.args.self.now) (requester_seen r) request (GoesOn passage owner) in
-            stays passage owner (known_back journal name stored o request (GoesOn passage owner) c.requires.kept (sym c.find.ensures ∙ ap option_copied c.in-Some.is) (subst is_sequence c.in-Owner.is is)) in
+    λ stays passage owner is.
+    let is_sequence : Requester → Type 0 = λ r. IsSequence journal (state_of c.args.self.now) (requester_seen r) request (GoesOn passage owner) in
+    stays passage owner (known_back journal name stored o request (GoesOn passage owner) c.requires.kept (sym c.find.ensures ∙ ap option_copied c.in-Some.is) (subst is_sequence c.in-Owner.is is)) in
     on_err_weaker c.resume.result weaker c.resume.ensures.memory

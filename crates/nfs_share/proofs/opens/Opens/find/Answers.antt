@@ -1,4 +1,4 @@
-use Rattle.std.proofs.Common.{◌<◌, List, length, position, sym, ap, ◌∙◌, subst, arith}
+use Rattle.std.proofs.Common.{List, length, position, sym, ap, ◌∙◌, arith}
 use Rattle.std.specs.List.{list_any}
 use Rattle.nfs_share.specs.AllOpens.{at_node, named_in, opens_in}
 use Rattle.nfs_share.specs.Opens.{FileOpens, is_stateid_of}
@@ -13,9 +13,9 @@ returns-in-Some c =
     c.found_at.ensures
     ∙ ap (at_node node) c.named_by.ensures
     ∙ named_there id files node c.index.result.now
-        (ap (λ (files : List FileOpens). position (λ f. list_any (is_stateid_of id) f.opens) files) c.self.view_is ∙ sym c.node_of.ensures.node ∙ c.in-Some.is)
-        (omega (arith, c.in-Some.ensures.below, ap (λ (files : List FileOpens). length files) c.self.view_is))
-        c.index.ensures
+    (ap (λ (files : List FileOpens). position (λ f. list_any (is_stateid_of id) f.opens) files) c.self.view_is ∙ sym c.node_of.ensures.node ∙ c.in-Some.is)
+    (omega (arith, c.in-Some.ensures.below, ap (λ (files : List FileOpens). length files) c.self.view_is))
+    c.index.ensures
     ∙ ap (λ files. named_in id (opens_in files)) c.self.view_is
 
 pub returns-in-None : goal.returns-in-None

@@ -1,4 +1,4 @@
-use Rattle.std.proofs.Common.{ap, subst, ◌∙◌, arith, ◌<◌, length}
+use Rattle.std.proofs.Common.{ap, subst, ◌∙◌, arith}
 use Rattle.nfs_share.specs.AllOpens.{HasRoomAt, opens_in}
 use Rattle.nfs_share.proofs.OneFile.{no_room_at, room_at, same_at}
 use Rattle.nfs_share.proofs.opens.Opens.reserve.Goals as goal
