@@ -1,10 +1,10 @@
 //! Values written and read again, with the bytes between them worked out by hand.
 
-use crate::words::bytes_of;
 use nfs_xdr::operations::setclientid_confirm::SetclientidConfirm;
 use nfs_xdr::{Address, Answer, ArgOp, ClientId, Op, OpResult, Refusal, Unsupported, read_op};
 use std::alloc::Global;
 use std::test::Fail;
+use test_words::bytes_of;
 use xdr::{Bytes, Wire, WireError, read_flag, write_flag};
 
 /// The bytes that are written of the operation.

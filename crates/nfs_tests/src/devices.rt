@@ -1,11 +1,12 @@
 //! Devices that give or take a byte at a time, and fail.
 
-use crate::messages::{bytes_of, call, reply, serve};
+use crate::messages::{call, reply, serve};
 use nfs_server::{Counted, ServeError};
 use std::alloc::{AllocError, Global};
 use std::io;
 use std::io::{ErrorKind, Read, Write};
 use std::test::Fail;
+use test_words::bytes_of;
 
 /// Gives its bytes one at a time, but for one read that may fail, where `left` bytes are left.
 #[derive(Drop)]

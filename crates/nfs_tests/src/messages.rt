@@ -7,15 +7,7 @@ use nfs_server::{Lent, ServeError, Sink, Source, Stopped, serve_connection};
 use nfs_tree::{DEFAULT_TREE, Tree};
 use std::alloc::{AllocError, Global};
 use std::test::Fail;
-
-/// The words, big-endian.
-pub fn bytes_of(alloc: Global, words: &[u32]) -> Result<Vec<u8>, AllocError> {
-    let mut bytes = Vec::new(alloc);
-    for word in words {
-        bytes.extend_from_slice(&word.to_be_bytes())?;
-    }
-    Ok(bytes)
-}
+use test_words::bytes_of;
 
 /// A record of one fragment: a call of this procedure under AUTH_NONE, with these words as its arguments.
 pub fn call(

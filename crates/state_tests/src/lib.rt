@@ -9,5 +9,3 @@ mod cores;
 mod errors;
 #[cfg(test)]
 mod trees;
-#[cfg(test)]
-mod words;

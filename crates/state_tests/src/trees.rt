@@ -1,12 +1,12 @@
 //! Trees: what no answer of the program shows yet, as texts, policies, changes, and the handles of high numbers.
 
-use crate::words::bytes_of;
 use nfs_tree::{
     Callbacks, DEFAULT_TREE, Delegations, FILE_LIMIT, Policy, TEXT_LIMIT, Tree, TreeError,
     paths_are_joined_names, trees_are_their_entries,
 };
 use std::alloc::Global;
 use std::test::Fail;
+use test_words::bytes_of;
 
 /// Whether the tree's node, which isn't the root, has this parent, this name, and this text, which a directory has not.
 fn has_node(tree: &Tree, node: u32, parent: u32, name: &[u8], text: Option<&[u8]>) -> bool {

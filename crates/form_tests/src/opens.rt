@@ -1,17 +1,17 @@
 //! The arguments and results of OPEN and of the operations on opens, with their bytes worked out by hand.
 
-use crate::words::bytes_of;
-use nfs_xdr::operations::close::Close;
-use nfs_xdr::operations::open::{Open, OpenOk};
-use nfs_xdr::operations::open_confirm::OpenConfirm;
-use nfs_xdr::operations::open_downgrade::OpenDowngrade;
-use nfs_xdr::{
+use nfs_forms::operations::close::Close;
+use nfs_forms::operations::open::{Open, OpenOk};
+use nfs_forms::operations::open_confirm::OpenConfirm;
+use nfs_forms::operations::open_downgrade::OpenDowngrade;
+use nfs_forms::{
     Bitmap, ChangeInfo, Claim, ClientId, CreateHow, DelegationType, Fattr, OpenDelegation, OpenHow,
     OpenOwner, Stateid, Verifier,
 };
 use std::alloc::Global;
 use std::cmp::PartialEq;
 use std::test::Fail;
+use test_words::bytes_of;
 use xdr::{Bytes, Opaque, Wire, WireError};
 
 const CLIENT: ClientId = ClientId {

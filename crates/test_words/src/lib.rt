@@ -1,4 +1,5 @@
-//! Words of four bytes.
+//! Words of four bytes, in which the tests write what they expect.
+#![tactic(auto)]
 
 use std::alloc::{AllocError, Global};
 

@@ -1,7 +1,8 @@
 //! Owners with their last requests, the clients' records, and the numbers of states, each in a short run.
 
 use nfs_owners::{
-    Clients, Kept, KeptRequest, Numbers, OwnerStanding, Owners, PathMark, Verdict, numbers_rise,
+    Clients, Kept, KeptRequest, Numbers, OwnerStanding, Owners, OwnersError, PathMark, Verdict,
+    numbers_rise,
 };
 use nfs_xdr::operations::setclientid::Setclientid;
 use nfs_xdr::operations::setclientid_confirm::{Outcome, SetclientidConfirm};
@@ -139,5 +140,17 @@ fn state_numbers_begin_with_1(rt: HostRuntime) -> Result<(), Fail> {
     assert_eq!(rt; numbers.next(), 1);
     assert_eq!(rt; numbers.next(), 2);
     numbers_rise();
+    Ok(())
+}
+
+#[test]
+fn errors_have_numbers_and_texts(rt: HostRuntime) -> Result<(), Fail> {
+    let alloc = rt.alloc();
+    assert_eq!(rt; OwnersError::Full as u32, 1);
+    assert_eq!(rt; OwnersError::Memory as u32, 2);
+    let full = OwnersError::Full.to_string(alloc)?;
+    assert_eq!(rt; full.as_str(), "no place left (1)");
+    let memory = OwnersError::Memory.to_string(alloc)?;
+    assert_eq!(rt; memory.as_str(), "no memory (2)");
     Ok(())
 }
