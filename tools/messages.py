@@ -1,4 +1,10 @@
 """NFSv4.0 messages as bytes (RFC 5531, RFC 7531): what the scripts beside this one send, and what they want."""
+import os
+import sys
+
+sys.path.insert(0, os.path.join(os.path.dirname(os.path.abspath(__file__)), "model"))
+
+from wire import opaque, record, u32 as words
 
 NULL, COMPOUND = 0, 1
 GETATTR, GETFH, LOOKUP, PUTFH, PUTROOTFH, SETCLIENTID, SETCLIENTID_CONFIRM = 9, 10, 15, 22, 24, 35, 36
@@ -6,21 +12,6 @@ NFS4_OK, NFS4ERR_NOENT, NFS4ERR_BADHANDLE, NFS4ERR_RESOURCE = 0, 2, 10001, 10018
 
 # Masks of attributes: type, size and fileid, and lease_time.
 TYPE_SIZE_FILEID, LEASE_TIME = 0x100012, 0x400
-
-
-def words(*numbers):
-    """Each number in four bytes, the highest first."""
-    return b"".join(number.to_bytes(4, "big") for number in numbers)
-
-
-def opaque(data):
-    """The length, the bytes, and zeros up to a multiple of four."""
-    return words(len(data)) + data + bytes(-len(data) % 4)
-
-
-def record(body):
-    """A record of one fragment."""
-    return words(0x80000000 + len(body)) + body
 
 
 def call(xid, procedure, arguments=b"", uid=None):

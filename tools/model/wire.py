@@ -107,6 +107,7 @@ class Reader:
 
 
 def u32(*numbers):
+    """Each number in four bytes, the highest first."""
     return b"".join(number.to_bytes(4, "big") for number in numbers)
 
 
@@ -115,6 +116,7 @@ def u64(number):
 
 
 def opaque(value):
+    """The length, the bytes, and zeros up to a multiple of four."""
     return u32(len(value)) + value + bytes(-len(value) % 4)
 
 
