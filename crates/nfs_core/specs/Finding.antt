@@ -1,5 +1,5 @@
--- What the functions that look up a stateid and an owner return, as the rules speak of it; used only in the contracts of
--- this crate's own functions.
+-- What the functions that look up a stateid and an owner return, as the rules speak of it; used only in the contracts
+-- of this crate's own functions.
 use Rattle.std.specs.Prelude.{Option, Some, None, Result, Ok, Err}
 use Rattle.nfs_share.specs.declared.opens.OpenFound.{OpenFound}
 use Rattle.nfs_share.specs.OpenFound.{open_seen}

@@ -107,8 +107,8 @@ abbrev pub owner_or_bad : Option KnownOwner → Requester
 owner_or_bad None = Refused refusals.BadStateId
 owner_or_bad (Some o) = Owner o.name
 
--- The owner that a stateid names: that of its open, no matter which file the open is of, whether its owner is confirmed,
--- and how old the stateid is; or the owner whose kept request closed the stateid's open.
+-- The owner that a stateid names: that of its open, no matter which file the open is of, whether its owner is
+-- confirmed, and how old the stateid is; or the owner whose kept request closed the stateid's open.
 abbrev pub requester_of_target : History → State → Stateid → Target → Requester
 requester_of_target journal state id (stateids.Refused refusal) = Refused refusal
 requester_of_target journal state id (stateids.AnOpen at) = Owner at.state.owner
@@ -185,8 +185,8 @@ decision_of passage name ruling = record {
   owner = owner_change_of passage name (status_of ruling.answer);
 }
 
--- An operation's own rule: it relates the node of the current filehandle and how the request goes on to what is decided;
--- `None` if a limit would be exceeded, in which case nothing changes.
+-- An operation's own rule: it relates the node of the current filehandle and how the request goes on to what is
+-- decided; `None` if a limit would be exceeded, in which case nothing changes.
 abbrev pub Own : Type 1
 Own = ℕ → Passage → Option Ruling → Type 0
 

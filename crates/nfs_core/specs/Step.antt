@@ -90,8 +90,9 @@ entry_of request answer =
 abbrev pub with_entry : Entry → History → History
 with_entry entry journal = record journal { entries = journal.entries ++ entry ∷ [] }
 
--- In the state old, the call may come next in the journal with this decision, and leads to the state new. Calls that are
--- answered NFS4ERR_RESOURCE, that would exceed a limit, or whose filehandle belongs to no node are never in the journal.
+-- In the state old, the call may come next in the journal with this decision, and leads to the state new. Calls that
+-- are answered NFS4ERR_RESOURCE, that would exceed a limit, or whose filehandle belongs to no node are never in the
+-- journal.
 pub record IsEntered (journal : History) (old : State) (call : Call) (new : State) (decision : Decision) : Type 0 where
   pub below : length journal.entries < JOURNAL_LIMIT
   pub other : call.answer ≢ resource call.request.op

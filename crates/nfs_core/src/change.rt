@@ -8,7 +8,8 @@ pub(crate) enum Change {
     Nothing,
     /// The clients' records. A client that is replaced loses its owners and its opens.
     Clients(ClientChange),
-    /// The owner opens the node's file for this share: its open of the file gains it, or it gets one with the next number.
+    /// The owner opens the node's file for this share: its open of the file gains it, or it gets one with the next
+    /// number.
     Opens {
         node: u32,
         owner: OpenOwner,

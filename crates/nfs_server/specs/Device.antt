@@ -2,8 +2,8 @@
 use Rattle.std.specs.Prelude.{◌≡◌, ◌≢◌, ℕ, List, [], ◌∷◌, ◌++◌}
 use Rattle.std.specs.List.{flat_map}
 
--- What the calls of a device do. A read gives bytes, or it fails; none are taken for the end of the input. A write takes
--- bytes, or it fails.
+-- What the calls of a device do. A read gives bytes, or it fails; a read of no bytes is taken for the end of the input.
+-- A write takes bytes, or it fails.
 pub record Device (D : Type 0) : Type 1 where
   pub gives : D → List ℕ → D → Type 0
   pub fails_to_read : D → D → Type 0

@@ -20,8 +20,8 @@ use std::alloc::AllocError;
 use xdr::{Bytes, Measure, Sequence, padding_of};
 
 /// Answers a COMPOUND (RFC 7530, section 15.2), operation by operation, up to the first answer other than NFS4_OK. It
-/// takes no memory itself; its service may. `results` has to be empty, with room for the results of as many operations as
-/// a COMPOUND may have.
+/// takes no memory itself; its service may. `results` has to be empty, with room for the results of as many operations
+/// as a COMPOUND may have.
 pub fn run_compound<S: Service>(
     service: &mut S,
     tree: &Tree,

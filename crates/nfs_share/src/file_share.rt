@@ -9,8 +9,8 @@ use nfs_forms::{ClientId, OpenOwner, Stateid};
 use std::alloc::{AllocError, Global};
 use std::marker::Model;
 
-/// The opens of a file, each of which keeps others out by its share reservation (RFC 7530, section 9.9). A second OPEN of
-/// an owner joins the open that the owner has.
+/// The opens of a file, each of which keeps others out by its share reservation (RFC 7530, section 9.9). A second OPEN
+/// of an owner joins the open that the owner has.
 #[derive(Debug, Drop)]
 pub struct FileShare {
     opens: Vec<OpenState>,

@@ -10,8 +10,8 @@ use nfs_forms::{ClientId, OpenOwner, Stateid};
 use std::alloc::{AllocError, Global};
 use std::marker::Model;
 
-/// The opens of all files, by the numbers of their nodes. A node that there isn't has no opens, and a change of its opens
-/// changes nothing.
+/// The opens of all files, by the numbers of their nodes. A node that there isn't has no opens, and a change of its
+/// opens changes nothing.
 #[derive(Debug, Drop)]
 pub struct Opens {
     files: Vec<FileShare>,
@@ -117,8 +117,8 @@ impl Opens {
         Ok(())
     }
 
-    /// OPEN of the node's file, no matter what others deny: adds the share to the owner's open, or makes an open with this
-    /// number. It takes no memory.
+    /// OPEN of the node's file, no matter what others deny: adds the share to the owner's open, or makes an open with
+    /// this number. It takes no memory.
     pub fn grant(&mut self, node: u32, owner: OpenOwner, share: Share, number: u32)
         requires room { HasRoomAt node self.old }
         ensures { opens_in self.new
@@ -141,8 +141,8 @@ impl Opens {
         }
     }
 
-    /// OPEN_DOWNGRADE, no matter whether it is allowed: keeps of the open of the node's file with this number the shares
-    /// that this share contains.
+    /// OPEN_DOWNGRADE, no matter whether it is allowed: keeps of the open of the node's file with this number the
+    /// shares that this share contains.
     pub fn keep_within(&mut self, node: u32, number: u32, share: Share)
         ensures { opens_in self.new
             ≡ with_opens node (with_each (is_numbered number) (after_downgrade share)) (opens_in self.old) }

@@ -111,8 +111,8 @@ impl Tree {
         Some(place as u32 + 1)
     }
 
-    /// The object that a name names in a node. Fails if the node isn't a directory, or if the name is empty, too long or
-    /// not found.
+    /// The object that a name names in a node. Fails if the node isn't a directory, or if the name is empty, too long
+    /// or not found.
     pub fn resolve(&self, node: u32, name: &[u8]) -> Result<u32, Refusal>
         ensures object { result ≡ resolved self.now.nodes node name.now }
         ensures within { IfOk result (λ n. n < node_count self.now.nodes) }

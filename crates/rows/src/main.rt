@@ -8,7 +8,8 @@ use std::{env, fs, io};
 /// The rows of the repository, from its top.
 const DEFAULT_FOLDER: &str = "crates/rows/data";
 
-/// `rows [--hex] [FOLDER | FILE.rows]..`: the status is 0 where every row passes, or with `--hex` where every file can be read.
+/// `rows [--hex] [FOLDER | FILE.rows]..`: the status is 0 where every row passes, or with `--hex` where every file can
+/// be read.
 fn main(rt: HostRuntime) -> ExitCode {
     match try_all(&rt) {
         Ok(true) => ExitCode::from(0),
@@ -47,7 +48,8 @@ fn files_of(rt: &HostRuntime, words: &[String], first: usize) -> io::Result<Vec<
     Ok(files)
 }
 
-// Adds the file, if the path ends with `.rows`, and else those files of the folder that do, in the order of their names.
+// Adds the file, if the path ends with `.rows`, and else those files of the folder that do, in the order of their
+// names.
 fn add_files(rt: &HostRuntime, path: &str, files: &mut Vec<String>) -> io::Result<()> {
     if path.ends_with(".rows") {
         files.push(String::from_str(rt.alloc(), path)?)?;
