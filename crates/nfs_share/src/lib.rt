@@ -1,4 +1,5 @@
-//! The opens of a file, and the share reservations by which one open keeps others out (RFC 7530, sections 9.9 to 9.11).
+//! The opens of all files, and the share reservations by which one open keeps others out (RFC 7530, sections 9.9 to
+//! 9.11).
 #![tactic(auto)]
 
 mod changes;
