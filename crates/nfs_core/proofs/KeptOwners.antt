@@ -87,7 +87,8 @@ pub Agrees-after : (journal : History) (entry : Entry) (change : OwnerChange) (o
 Agrees-after journal entry change owners sendable agrees =
     after_update (with_entry entry journal) change (length journal.entries) (kept_of entry) owners (record { entry = kept_last journal.entries entry; sendable = sendable }) (Agrees-longer journal entry owners agrees)
 
--- the same where the journal, the number and the owners after the operation's own change have names of their own
+-- after an entry that can be sent again, and the operation's own change, the stored owners agree with the journal; the
+-- journal, the number and the owners after the change have names of their own
 pub Agrees-changed : (old new : History) (entry : Entry) (change : OwnerChange) (number : ℕ) (owners after : List Owner) → ((journal : History) → Agrees journal (owners_after (update_of change (kept_of entry)) number owners) → Agrees journal after) → new ≡ with_entry entry old → number ≡ length old.entries → IsSendable (kept_of entry).request.op (kept_of entry).answer → Agrees old owners → Agrees new after
 Agrees-changed old new entry change number owners after keeps is at sendable agrees =
     let kept = kept_of entry in

@@ -47,7 +47,7 @@ fn copy_of_op(op: &Op) -> Result<Op, AllocError>
     op.clone()
 }
 
-// The same for an answer.
+// The contract of `clone` speaks of each kind of result on its own; this one says that the copy is equal.
 fn copy_of_answer(answer: &OpResult) -> Result<OpResult, AllocError>
     ensures { IfOk result (λ r. r ≡ answer.now) }
 {

@@ -6,9 +6,9 @@ pub(crate) enum OwnerChange {
     Nothing,
     /// This owner, which is known, keeps the entry's request and answer.
     Keeps(OpenOwner),
-    /// This owner becomes known, unconfirmed, and keeps them.
+    /// This owner becomes known, unconfirmed, and keeps the entry's request and answer.
     Records(OpenOwner),
-    /// This unconfirmed owner is dropped with its opens, becomes known anew, and keeps them.
+    /// This unconfirmed owner is dropped with its opens, becomes known anew, and keeps the entry's request and answer.
     Restarts(OpenOwner),
     /// This unconfirmed owner is dropped with its opens.
     Drops(OpenOwner),

@@ -12,9 +12,9 @@ use std::alloc::AllocError;
 #[derive(Debug, Drop)]
 pub(crate) enum OwnerUpdate {
     Nothing,
-    /// This owner keeps them, and is recorded if it isn't known.
+    /// This owner keeps the request and the answer, and is recorded if it isn't known.
     Keeps(OpenOwner, Kept),
-    /// This owner is dropped with its opens, becomes known anew, and keeps them.
+    /// This owner is dropped with its opens, becomes known anew, and keeps the request and the answer.
     Restarts(OpenOwner, Kept),
     /// This owner is dropped with its opens.
     Drops(OpenOwner),

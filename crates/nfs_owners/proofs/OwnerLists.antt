@@ -79,7 +79,7 @@ change_at change name (first ∷ owners) o apart below at = by (λ below at. cha
     by rest true same = grind (arith, same, at, unknown_change change name owners (known_other name first owners same ∙ apart.0))
     by rest false other = grind (arith, other, at, below, rest)
 
--- the same at the place that is found
+-- the owner at the place that is found for a name is the one that a change of that name changes
 pub change_found : (change : Owner → Owner) (name : OpenOwner) (owners : List Owner) (place : ℕ) (o : Owner) → AreApart owners → position (has_name name) owners ≡ Some place → o ≡ slice_index_or owners place o → slice_set owners place (change o) ≡ with_change change name owners
 change_found change name owners place o apart found at = by (nat_lt (position_or_len (has_name name) owners) (length owners)) refl
   where

@@ -11,8 +11,8 @@ pub struct DeviceFailed;
 
 /// Where bytes are read from. It counts its failed reads.
 pub trait Source {
-    /// How a read may succeed: the state before, the bytes that it gives, and the state after. No bytes are taken for
-    /// the end of the input.
+    /// How a read may succeed: the state before, the bytes that it gives, and the state after. A read of no bytes is
+    /// taken for the end of the input.
     ghost gives: { Self → List ℕ → Self → Type 0 };
     /// How a read may fail: the state before, and the state after.
     ghost fails: { Self → Self → Type 0 };
