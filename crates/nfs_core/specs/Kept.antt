@@ -1,5 +1,4 @@
--- What is stored of an owner's kept request and answer is what its entry in the journal has; used only in the contracts
--- of this crate's own functions.
+-- What is stored of an owner's kept request and answer is what its entry in the journal has.
 use Rattle.std.specs.Prelude.{◌≡◌, ℕ, List, Some, option_map, slice_get}
 use Rattle.std.specs.List.{AllByRecursion}
 use Rattle.nfs_core.specs.Deciding.{IsSendable}

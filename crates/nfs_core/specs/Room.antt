@@ -1,4 +1,4 @@
--- What a change of the state needs; used only in the contracts of this crate's own functions.
+-- What the tables store, and the memory and the numbers that a change of them needs.
 use Rattle.std.specs.Prelude.{◌<◌, ◌-◌, ◌^◌, ⊤, Bool, IsFalse, IsTrue, is_some, length}
 use Rattle.nfs_core.specs.declared.change.Change.{Change}
 use Rattle.nfs_core.specs.declared.change.Change.TheVariants as changes
@@ -63,7 +63,8 @@ HasUpdateRoom (updates.Drops name) tables = ⊤
 abbrev pub is_known : OpenOwner → State → Bool
 is_known name state = is_some (owner_of name state.owners)
 
--- The owner that keeps an entry is known, and there is a place for one that is recorded, which isn't.
+-- What is known of the owner before the entry: one that keeps it or begins anew is known; one that is recorded isn't,
+-- and there is a place for it.
 abbrev pub HasOwnerPlace : OwnerChange → State → Type 0
 HasOwnerPlace owner_changes.Nothing state = ⊤
 HasOwnerPlace (owner_changes.Keeps name) state = IsTrue (is_known name state)

@@ -32,8 +32,8 @@ target_in None = NoOpen
 target_in (Some at) = AnOpen at
 
 -- What a stateid names: NFS4ERR_BAD_STATEID for a special one, NFS4ERR_STALE_STATEID for one of another run of the
--- server, NFS4ERR_BAD_STATEID for a client number that was never given out, NFS4ERR_EXPIRED for one whose client is
--- gone.
+-- server, NFS4ERR_BAD_STATEID for a client number that was never given out, NFS4ERR_EXPIRED for one whose client has no
+-- confirmed record, be it gone or never confirmed.
 abbrev pub target_of : ℕ → State → Stateid → Target
 target_of epoch state id =
     if is_special id then Refused refusals.BadStateId

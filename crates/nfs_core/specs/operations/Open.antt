@@ -101,8 +101,8 @@ stateid_after state owner None =
     record { seqid = 1; client = owner.client; number = state.last_state + 1 }
 stateid_after state owner (Some o) = next_stateid_of o
 
--- OPEN4_RESULT_LOCKTYPE_POSIX, which is 4, and OPEN4_RESULT_CONFIRM, which is 2, unless the owner is confirmed: OPEN
--- continues the requests of confirmed owners alone
+-- OPEN4_RESULT_LOCKTYPE_POSIX, which is 4, and OPEN4_RESULT_CONFIRM, which is 2, for an owner that isn't confirmed: one
+-- that begins, for the first time or anew
 abbrev pub rflags_of : Passage → ℕ
 rflags_of Continues = 4
 rflags_of passage = 4 + 2
