@@ -12,7 +12,7 @@ abbrev pub with_mode : Range → Option Mode → (ℕ → Option Mode) → ℕ �
 with_mode range mode modes = λ byte. if has range byte then mode else modes byte
 
 -- the mode of a byte, which was this one before the pieces came
-pub mode_from : Option Mode → List Piece → ℕ → Option Mode
+abbrev pub mode_from : Option Mode → List Piece → ℕ → Option Mode
 mode_from mode [] byte = mode
 mode_from mode (piece ∷ pieces) byte =
     mode_from (if has piece.range byte then piece.mode else mode) pieces byte

@@ -1,0 +1,63 @@
+-- What a list of pieces means, and stretches of bytes in one mode.
+use Rattle.std.proofs.Common.{◌≡◌, ℕ, ◌+◌, ◌<◌, ◌≤◌, Bool, true, false, if◌then◌else◌, List, [], ◌∷◌, ◌++◌, length, get_or, take, Option, Some, None, refl, sym, ◌∙◌, ap, arith}
+use Rattle.std.proofs.lemmas.List.{take_more}
+use Rattle.nfs_ranges.specs.Bytes.{has}
+use Rattle.nfs_ranges.specs.Modes.{is_same, mode_from, modes_of, with_mode}
+use Rattle.nfs_ranges.specs.Questions.{AreAs}
+use Rattle.nfs_ranges.specs.declared.mode.Mode.{Mode}
+use Rattle.nfs_ranges.specs.declared.mode.Mode.TheVariants.{Read, Write}
+use Rattle.nfs_ranges.specs.declared.piece.Piece.{Piece}
+
+-- one piece more at the end
+pub mode_more : (mode : Option Mode) (pieces : List Piece) (piece : Piece) (byte : ℕ)
+    → mode_from mode (pieces ++ piece ∷ []) byte ≡ (if has piece.range byte then piece.mode else mode_from mode pieces byte)
+mode_more mode [] piece byte = refl
+mode_more mode (p ∷ pieces) piece byte =
+    mode_more (if has p.range byte then p.mode else mode) pieces piece byte
+
+-- A piece at the end is a change. Functions that are equal everywhere are one.
+pub modes_more : (pieces : List Piece) (piece : Piece)
+    → modes_of (pieces ++ piece ∷ []) ≡ with_mode piece.range piece.mode (modes_of pieces)
+modes_more pieces piece = λ i. λ byte. mode_more None pieces piece byte i
+
+-- the walk to the mode of a byte comes to one more piece
+pub mode_next : (pieces : List Piece) (i : ℕ) (d : Piece) (byte : ℕ) → i < length pieces
+    → modes_of (take (i + 1) pieces) byte
+      ≡ (if has (get_or pieces i d).range byte then (get_or pieces i d).mode else modes_of (take i pieces) byte)
+mode_next pieces i d byte below =
+    ap (λ front. modes_of front byte) (take_more pieces i d below)
+    ∙ mode_more None (take i pieces) (get_or pieces i d) byte
+
+-- a stretch in one mode stays one after a piece that has all of it, or none
+pub stretch_more : (pieces : List Piece) (piece : Piece) (byte first last from to : ℕ)
+    → first ≤ from → to ≤ last → AreAs (modes_of pieces) byte first last
+    → ((b : ℕ) → from ≤ b → b ≤ to → has piece.range b ≡ has piece.range byte)
+    → AreAs (modes_of (pieces ++ piece ∷ [])) byte from to
+stretch_more pieces piece byte first last from to low high same alike b after before =
+    mode_more None pieces piece b
+    ∙ ap (λ t. if t then piece.mode else modes_of pieces b) (alike b after before)
+    ∙ ap (λ m. if has piece.range byte then piece.mode else m) (same b (omega (arith, low, after)) (omega (arith, before, high)))
+    ∙ sym (mode_more None pieces piece byte)
+
+pub stretch_next : (pieces : List Piece) (i : ℕ) (d : Piece) (byte first last from to : ℕ) → i < length pieces
+    → first ≤ from → to ≤ last → AreAs (modes_of (take i pieces)) byte first last
+    → ((b : ℕ) → from ≤ b → b ≤ to → has (get_or pieces i d).range b ≡ has (get_or pieces i d).range byte)
+    → AreAs (modes_of (take (i + 1) pieces)) byte from to
+stretch_next pieces i d byte first last from to below low high same alike =
+    rw (take_more pieces i d below)
+    (stretch_more (take i pieces) (get_or pieces i d) byte first last from to low high same alike)
+
+-- modes that are the same are equal, and equal ones the same
+pub same_self : (mode : Option Mode) → is_same mode mode ≡ true
+same_self None = refl
+same_self (Some Read) = refl
+same_self (Some Write) = refl
+
+pub same_equal : (a b : Option Mode) → is_same a b ≡ true → a ≡ b
+same_equal None None same = refl
+same_equal None (Some b) same = absurd cc
+same_equal (Some a) None same = absurd cc
+same_equal (Some Read) (Some Read) same = refl
+same_equal (Some Read) (Some Write) same = absurd cc
+same_equal (Some Write) (Some Read) same = absurd cc
+same_equal (Some Write) (Some Write) same = refl
