@@ -56,8 +56,8 @@ change_is_stretch range mode modes ordered b from to =
 -- After a change a run begins, of its bytes, at most at the first.
 pub begin_inside : (range : Range) (mode : Option Mode) (modes : ℕ → Option Mode) → range.first ≤ range.last
     → count_below (begins (with_mode range mode modes)) (suc range.last)
-      ≡ (if begins (with_mode range mode modes) range.first then 1 else 0)
-        + count_below (begins (with_mode range mode modes)) range.first
+    ≡ (if begins (with_mode range mode modes) range.first then 1 else 0)
+    + count_below (begins (with_mode range mode modes)) range.first
 begin_inside range mode modes ordered =
     count_stretch_to (with_mode range mode modes) range.first range.last range.last ordered (omega arith)
     (change_is_stretch range mode modes ordered)
@@ -67,7 +67,7 @@ pub runs_changed : (range : Range) (mode : Option Mode) (modes : ℕ → Option 
     → range.first ≤ range.last → range.last ≤ 2 ^ 64 - 1
     → count_below (begins modes) range.first + gone ≡ count_below (begins modes) (reach range)
     → count_below (begins (with_mode range mode modes)) range.first + come
-      ≡ count_below (begins (with_mode range mode modes)) (reach range)
+    ≡ count_below (begins (with_mode range mode modes)) (reach range)
     → (gone ≤ runs modes) × (runs (with_mode range mode modes) ≡ runs modes - gone + come)
 runs_changed range mode modes gone come ordered bounded old new =
     let T = begins modes in

@@ -45,8 +45,13 @@ count_agree_from T U start zero agree = omega arith
 count_agree_from T U start (suc more) agree =
     let here : (if U (more + start) then 1 else 0) ≡ (if T (more + start) then 1 else 0) =
     ap (λ t. if t then 1 else 0) (agree (more + start) (omega arith) (omega arith)) in
-    omega (arith, here, count_next U (more + start), count_next T (more + start),
-    count_agree_from T U start more (λ b from below. agree b from (omega (arith, below))))
+    omega (
+      arith,
+      here,
+      count_next U (more + start),
+      count_next T (more + start),
+      count_agree_from T U start more (λ b from below. agree b from (omega (arith, below))),
+    )
 
 -- no run begins at a byte with the mode of the one before
 pub no_start : (modes : ℕ → Option Mode) (byte : ℕ) → 0 < byte → modes (byte - 1) ≡ modes byte → begins modes byte ≡ false

@@ -23,7 +23,7 @@ modes_more pieces piece = λ i. λ byte. mode_more None pieces piece byte i
 -- the walk to the mode of a byte comes to one more piece
 pub mode_next : (pieces : List Piece) (i : ℕ) (d : Piece) (byte : ℕ) → i < length pieces
     → modes_of (take (i + 1) pieces) byte
-      ≡ (if has (get_or pieces i d).range byte then (get_or pieces i d).mode else modes_of (take i pieces) byte)
+    ≡ (if has (get_or pieces i d).range byte then (get_or pieces i d).mode else modes_of (take i pieces) byte)
 mode_next pieces i d byte below =
     ap (λ front. modes_of front byte) (take_more pieces i d below)
     ∙ mode_more None (take i pieces) (get_or pieces i d) byte

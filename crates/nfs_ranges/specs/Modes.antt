@@ -11,6 +11,10 @@ use Rattle.nfs_ranges.specs.declared.range.Range.{Range}
 abbrev pub with_mode : Range → Option Mode → (ℕ → Option Mode) → ℕ → Option Mode
 with_mode range mode modes = λ byte. if has range byte then mode else modes byte
 
+-- the modes after a change
+abbrev pub changed : Piece → (ℕ → Option Mode) → ℕ → Option Mode
+changed change modes = with_mode change.range change.mode modes
+
 -- the mode of a byte, which was this one before the pieces came
 abbrev pub mode_from : Option Mode → List Piece → ℕ → Option Mode
 mode_from mode [] byte = mode

@@ -1,5 +1,5 @@
 -- Runs: the longest stretches of bytes that are held in one mode.
-use Rattle.std.specs.Prelude.{ℕ, zero, suc, ◌+◌, ◌-◌, ◌^◌, ◌==◌, Bool, ◌&&◌, ◌||◌, not, Option, is_some, min, if◌then◌else◌}
+use Rattle.std.specs.Prelude.{◌≡◌, ℕ, zero, suc, ◌+◌, ◌-◌, ◌^◌, ◌==◌, Bool, ◌&&◌, ◌||◌, not, Option, is_some, min, if◌then◌else◌}
 use Rattle.nfs_ranges.specs.Modes.{is_same}
 use Rattle.nfs_ranges.specs.declared.mode.Mode.{Mode}
 use Rattle.nfs_ranges.specs.declared.range.Range.{Range}
@@ -18,7 +18,11 @@ count_below test (suc n) = (if test n then 1 else 0) + count_below test n
 abbrev pub runs : (ℕ → Option Mode) → ℕ
 runs modes = count_below (begins modes) (2 ^ 64)
 
--- Whether a run begins at a byte depends on the mode of a range only for its bytes and the one behind: it no longer does
--- from here on.
+-- so many runs begin at the bytes from the first on, before the end
+abbrev pub BeginIn : (ℕ → Option Mode) → ℕ → ℕ → ℕ → Type 0
+BeginIn modes first end many =
+    count_below (begins modes) first + many ≡ count_below (begins modes) end
+
+-- Where runs begin depends on the mode of a range only at its bytes and the one behind. From here on it no longer does.
 abbrev pub reach : Range → ℕ
 reach range = min (range.last + 2) (2 ^ 64)

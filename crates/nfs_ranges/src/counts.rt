@@ -1,6 +1,6 @@
-ghost use Rattle.std.specs.Prelude.{◌≡◌, ◌≤◌, ◌<◌, ◌+◌, ◌-◌, ◌^◌, if◌then◌else◌};
-ghost use Rattle.nfs_ranges.specs.Modes.{modes_of, with_mode};
-ghost use Rattle.nfs_ranges.specs.Runs.{begins, count_below, reach, runs};
+ghost use Rattle.std.specs.Prelude.{◌≡◌, ◌≤◌, ◌+◌, if◌then◌else◌};
+ghost use Rattle.nfs_ranges.specs.Modes.{changed, modes_of};
+ghost use Rattle.nfs_ranges.specs.Runs.{BeginIn, begins, reach, runs};
 ghost use Rattle.nfs_ranges.specs.declared.limits.TheConstants.{RUN_LIMIT};
 
 use crate::mode::are_alike;
@@ -9,10 +9,11 @@ use crate::{Mode, Piece, Range};
 
 /// How many runs there are after a change, where there are so many before it. Only the bytes of the change and the one
 /// behind are walked over, since no other run begins or ends by it.
+#[tactic(auto, using(crate::proofs::Changes::runs_changed))]
 pub(crate) fn runs_after(pieces: &[Piece], count: usize, change: Piece) -> usize
     requires count { count ≡ runs (modes_of pieces.now) }
     requires few { count ≤ RUN_LIMIT }
-    ensures { result ≡ runs (with_mode change.range change.mode (modes_of pieces.now)) }
+    ensures { result ≡ runs (changed change (modes_of pieces.now)) }
 {
     let gone = begin_in(pieces, change.range.first, last_reached(change.range));
     let come = begin_with(pieces, change);
@@ -32,11 +33,11 @@ fn last_reached(range: Range) -> u64
 }
 
 // How many runs begin at these bytes.
+#[tactic(auto, using(crate::proofs::Counting::count_mono, crate::proofs::Counting::count_stretch_to))]
 fn begin_in(pieces: &[Piece], first: u64, last: u64) -> usize
     requires ordered { first ≤ last }
     requires few { runs (modes_of pieces.now) ≤ RUN_LIMIT }
-    ensures { count_below (begins (modes_of pieces.now)) first + result
-        ≡ count_below (begins (modes_of pieces.now)) (last + 1) }
+    ensures { BeginIn (modes_of pieces.now) first (last + 1) result }
 {
     let mut byte = first;
     let mut count = 0;
@@ -59,13 +60,11 @@ fn is_start(pieces: &[Piece], byte: u64) -> bool
 }
 
 // How many runs begin, after the change, at its bytes and the one behind: one at most at its first byte, and one behind.
+#[tactic(auto, using(crate::proofs::Changes::begin_inside, crate::proofs::Counting::count_next))]
 fn begin_with(pieces: &[Piece], change: Piece) -> usize
     ensures few { result ≤ 2 }
-    ensures count {
-        count_below (begins (with_mode change.range change.mode (modes_of pieces.now)))
-            change.range.first + result
-        ≡ count_below (begins (with_mode change.range change.mode (modes_of pieces.now)))
-            (reach change.range) }
+    ensures count { BeginIn (changed change (modes_of pieces.now))
+        change.range.first (reach change.range) result }
 {
     let first = is_start_with(pieces, change, change.range.first);
     let behind = change.range.last < u64::MAX
@@ -75,8 +74,7 @@ fn begin_with(pieces: &[Piece], change: Piece) -> usize
 
 // Whether a run begins at the byte after the change.
 fn is_start_with(pieces: &[Piece], change: Piece, byte: u64) -> bool
-    ensures { result
-        ≡ begins (with_mode change.range change.mode (modes_of pieces.now)) byte }
+    ensures { result ≡ begins (changed change (modes_of pieces.now)) byte }
 {
     let mode = mode_with(pieces, change, byte);
     mode.is_some() && (byte == 0 || !are_alike(mode, mode_with(pieces, change, byte - 1)))
@@ -84,7 +82,7 @@ fn is_start_with(pieces: &[Piece], change: Piece, byte: u64) -> bool
 
 // The mode of the byte after the change.
 fn mode_with(pieces: &[Piece], change: Piece, byte: u64) -> Option<Mode>
-    ensures { result ≡ with_mode change.range change.mode (modes_of pieces.now) byte }
+    ensures { result ≡ changed change (modes_of pieces.now) byte }
 {
     if change.range.has(byte) {
         change.mode
@@ -97,9 +95,5 @@ fn counted(count: usize, more: bool) -> usize
     requires { count ≤ RUN_LIMIT }
     ensures { result ≡ (if more then 1 else 0) + count }
 {
-    if more {
-        count + 1
-    } else {
-        count
-    }
+    if more { count + 1 } else { count }
 }

@@ -40,6 +40,7 @@ impl Model for Ranges {
 
 impl Ranges {
     /// No bytes, taking no memory.
+    #[tactic(auto, using(crate::proofs::Counting::no_runs))]
     pub fn new(alloc: Global) -> Ranges
         ensures { result.pieces ≡ [] }
     {
@@ -127,6 +128,7 @@ impl Ranges {
     }
 
     // Adds the piece, with which there are so many runs.
+    #[tactic(auto, using(crate::proofs::Pieces::modes_more))]
     fn put(&mut self, piece: Piece, count: usize)
         requires room { 0 < self.old.room }
         requires count { count ≡ runs (modes_after piece self.old) }
@@ -152,9 +154,10 @@ impl Ranges {
     }
 
     /// Whether no byte is held.
+    #[tactic(auto, using(crate::proofs::Counting::no_runs, crate::proofs::Counting::none_held))]
     pub fn is_empty(&self) -> bool
         ensures free { IsTrue result ↔ IsFree self.now }
-        ensures runs { IsTrue result ↔ runs (modes_in self.now) ≡ 0 }
+        ensures runs { IsTrue result ↔ (runs (modes_in self.now) ≡ 0) }
     {
         self.count == 0
     }
