@@ -1,24 +1,24 @@
 -- How a change of a range's mode changes the number of runs.
-use Rattle.std.proofs.Common.{◌≡◌, ℕ, zero, suc, ◌+◌, ◌-◌, ◌^◌, ◌<◌, ◌≤◌, ◌⊎◌, Bool, true, false, ◌&&◌, ◌||◌, not, ◌==◌, is_some, min, if◌then◌else◌, Option, inl, inr, refl, sym, ◌∙◌, ap, subst, arith}
+use Rattle.std.proofs.Common.{◌≡◌, ℕ, zero, suc, ◌+◌, ◌-◌, ◌^◌, ◌<◌, ◌≤◌, ◌⊎◌, Bool, true, false, ◌&&◌, ◌||◌, not, ◌==◌, is_some, nat_le, min, if◌then◌else◌, Option, inl, inr, refl, sym, ◌∙◌, ap, subst, arith}
 use Rattle.std.proofs.Math.Bool.{and-false}
-use Rattle.std.proofs.lemmas.Bool.{le-leb, lt-leb}
+use Rattle.std.proofs.lemmas.Bool.{cases_lt, le-leb, lt-leb}
 use Rattle.nfs_ranges.specs.Bytes.{has}
 use Rattle.nfs_ranges.specs.Modes.{is_same, with_mode}
 use Rattle.nfs_ranges.specs.Questions.{AreAs}
-use Rattle.nfs_ranges.specs.Runs.{begins, count_below, reach, runs}
+use Rattle.nfs_ranges.specs.Runs.{BeginIn, begins, count_below, reach, runs}
 use Rattle.nfs_ranges.specs.declared.mode.Mode.{Mode}
 use Rattle.nfs_ranges.specs.declared.range.Range.{Range}
 use Rattle.nfs_ranges.proofs.Counting.{count_agree, count_agree_from, count_mono, count_next, count_stretch_to}
 
 -- which bytes a range has
 pub has_in : (range : Range) (byte : ℕ) → range.first ≤ byte → byte ≤ range.last → has range byte ≡ true
-has_in range byte from to = rw (le-leb range.first byte from, le-leb byte range.last to) refl
+has_in range byte above below = rw (le-leb range.first byte above, le-leb byte range.last below) refl
 
 pub hasnt_before : (range : Range) (byte : ℕ) → byte < range.first → has range byte ≡ false
 hasnt_before range byte below = rw (lt-leb range.first byte below) refl
 
 pub hasnt_behind : (range : Range) (byte : ℕ) → range.last < byte → has range byte ≡ false
-hasnt_behind range byte above = rw (lt-leb byte range.last above) (and-false _)
+hasnt_behind range byte above = rw (lt-leb byte range.last above) (and-false (nat_le range.first byte))
 
 -- outside the range the modes stay
 stays : (range : Range) (mode : Option Mode) (modes : ℕ → Option Mode) (byte : ℕ) → has range byte ≡ false
@@ -49,8 +49,8 @@ starts_behind range mode modes byte above =
 -- the bytes of a change are a stretch of one mode
 pub change_is_stretch : (range : Range) (mode : Option Mode) (modes : ℕ → Option Mode) → range.first ≤ range.last
     → AreAs (with_mode range mode modes) range.first range.first range.last
-change_is_stretch range mode modes ordered b from to =
-    ap (λ t. if t then mode else modes b) (has_in range b from to)
+change_is_stretch range mode modes ordered b above below =
+    ap (λ t. if t then mode else modes b) (has_in range b above below)
     ∙ sym (ap (λ t. if t then mode else modes range.first) (has_in range range.first (omega arith) ordered))
 
 -- After a change a run begins, of its bytes, at most at the first.
@@ -62,22 +62,44 @@ begin_inside range mode modes ordered =
     count_stretch_to (with_mode range mode modes) range.first range.last range.last ordered (omega arith)
     (change_is_stretch range mode modes ordered)
 
+not_behind : (behind : Bool) (many first n m : ℕ) → behind ≡ false → many ≡ (if behind then 1 else 0) + first
+    → m ≡ first + n → n + many ≡ m
+not_behind true many first n m no is counted = absurd cc
+not_behind false many first n m no is counted = omega (arith, is, counted)
+
+-- With whether one begins behind, these are all that begin at the reach of a change.
+pub begin_at_reach : (range : Range) (mode : Option Mode) (modes : ℕ → Option Mode) (behind : Bool) (many : ℕ)
+    → range.first ≤ range.last → range.last ≤ 2 ^ 64 - 1
+    → (range.last ≡ 2 ^ 64 - 1 → behind ≡ false)
+    → (range.last < 2 ^ 64 - 1 → behind ≡ begins (with_mode range mode modes) (suc range.last))
+    → many ≡ (if behind then 1 else 0) + (if begins (with_mode range mode modes) range.first then 1 else 0)
+    → BeginIn (with_mode range mode modes) range.first (reach range) many
+begin_at_reach range mode modes behind many ordered bounded at_end before is =
+    elim (cases_lt range.last (2 ^ 64 - 1)) [
+      | inl less ↦
+          let there : suc (suc range.last) ≡ reach range = omega (arith, less) in
+          subst (λ (n : ℕ). count_below (begins (with_mode range mode modes)) range.first + many ≡ count_below (begins (with_mode range mode modes)) n) there
+          (omega (arith, is, ap (λ t. if t then 1 else 0) (before less), count_next (begins (with_mode range mode modes)) (suc range.last), begin_inside range mode modes ordered))
+      | inr most ↦
+          let there : suc range.last ≡ reach range = omega (arith, bounded, most) in
+          subst (λ (n : ℕ). count_below (begins (with_mode range mode modes)) range.first + many ≡ count_below (begins (with_mode range mode modes)) n) there
+          (not_behind behind many (if begins (with_mode range mode modes) range.first then 1 else 0) (count_below (begins (with_mode range mode modes)) range.first) (count_below (begins (with_mode range mode modes)) (suc range.last))
+          (at_end (omega (arith, bounded, most))) is (begin_inside range mode modes ordered))
+    ]
+
 -- The runs after a change are those before, without those that began at its reach, with those that begin there now.
 pub runs_changed : (range : Range) (mode : Option Mode) (modes : ℕ → Option Mode) (gone come : ℕ)
     → range.first ≤ range.last → range.last ≤ 2 ^ 64 - 1
-    → count_below (begins modes) range.first + gone ≡ count_below (begins modes) (reach range)
-    → count_below (begins (with_mode range mode modes)) range.first + come
-    ≡ count_below (begins (with_mode range mode modes)) (reach range)
+    → BeginIn modes range.first (reach range) gone
+    → BeginIn (with_mode range mode modes) range.first (reach range) come
     → (gone ≤ runs modes) × (runs (with_mode range mode modes) ≡ runs modes - gone + come)
 runs_changed range mode modes gone come ordered bounded old new =
-    let T = begins modes in
-    let U = begins (with_mode range mode modes) in
-    let end : (2 ^ 64 - reach range) + reach range ≡ 2 ^ 64 = omega arith in
-    let below : count_below U range.first ≡ count_below T range.first =
-    count_agree T U range.first (λ b less. starts_before range mode modes b less) in
-    let above : count_below U (2 ^ 64) + count_below T (reach range) ≡ count_below T (2 ^ 64) + count_below U (reach range) =
-    subst (λ (n : ℕ). count_below U n + count_below T (reach range) ≡ count_below T n + count_below U (reach range)) end
-    (count_agree_from T U (reach range) (2 ^ 64 - reach range)
-    (λ b from less. starts_behind range mode modes b (omega (arith, from, less, end)))) in
-    let most : count_below T (reach range) ≤ count_below T (2 ^ 64) = count_mono T (reach range) (2 ^ 64) (omega arith) in
+    let below : count_below (begins (with_mode range mode modes)) range.first ≡ count_below (begins modes) range.first =
+    count_agree (begins modes) (begins (with_mode range mode modes)) range.first (λ b less. starts_before range mode modes b less) in
+    let above : count_below (begins (with_mode range mode modes)) (2 ^ 64) + count_below (begins modes) (reach range)
+    ≡ count_below (begins modes) (2 ^ 64) + count_below (begins (with_mode range mode modes)) (reach range) =
+    count_agree_from (begins modes) (begins (with_mode range mode modes)) (reach range) (2 ^ 64 - reach range) (2 ^ 64) (omega arith)
+    (λ b more less. starts_behind range mode modes b (omega (arith, more, less))) in
+    let most : count_below (begins modes) (reach range) ≤ count_below (begins modes) (2 ^ 64) =
+    count_mono (begins modes) (reach range) (2 ^ 64) (omega arith) in
     (omega (arith, old, most), omega (arith, old, new, below, above, most))

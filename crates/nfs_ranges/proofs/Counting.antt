@@ -1,5 +1,5 @@
 -- How many numbers below one pass a test, and how many runs begin in a stretch of one mode.
-use Rattle.std.proofs.Common.{◌≡◌, ℕ, zero, suc, ◌+◌, ◌-◌, ◌<◌, ◌≤◌, ◌⊎◌, Bool, true, false, ◌&&◌, ◌||◌, not, ◌==◌, is_some, if◌then◌else◌, Option, Some, None, inl, inr, refl, sym, ◌∙◌, ap, subst, arith}
+use Rattle.std.proofs.Common.{◌≡◌, ℕ, zero, suc, ◌+◌, ◌-◌, ◌<◌, ◌≤◌, Bool, true, false, ◌&&◌, ◌||◌, not, ◌==◌, is_some, if◌then◌else◌, Option, Some, None, refl, sym, ◌∙◌, ap, subst, arith}
 use Rattle.std.proofs.Math.Bool.{and-false}
 use Rattle.std.proofs.lemmas.Bool.{ne_eqb}
 use Rattle.nfs_ranges.specs.Modes.{is_same}
@@ -14,44 +14,51 @@ pub count_next : (test : ℕ → Bool) (n : ℕ) → count_below test (suc n) �
 unfolding count_below
 count_next test n = refl
 
-pub count_none : (test : ℕ → Bool) → count_below test 0 ≡ 0
+pub count_none : (test : ℕ → Bool) → count_below test zero ≡ 0
 unfolding count_below
 count_none test = refl
 
+-- a number that doesn't pass isn't counted
+pub not_counted : (t : Bool) (n k : ℕ) → t ≡ false → k ≡ (if t then 1 else 0) + n → k ≡ n
+not_counted true n k no is = absurd cc
+not_counted false n k no is = omega (arith, is)
+
 -- below more numbers there are no fewer
-pub count_up : (test : ℕ → Bool) (n more : ℕ) → count_below test n ≤ count_below test (more + n)
-count_up test n zero = omega arith
-count_up test n (suc more) = omega (arith, count_next test (more + n), count_up test n more)
+count_up : (test : ℕ → Bool) (n more m : ℕ) → m ≡ more + n → count_below test n ≤ count_below test m
+count_up test n zero m is =
+    let there : n ≡ m = omega (arith, is) in
+    subst (λ (k : ℕ). count_below test n ≤ count_below test k) there (omega arith)
+count_up test n (suc more) m is =
+    let there : suc (m - 1) ≡ m = omega (arith, is) in
+    subst (λ (k : ℕ). count_below test n ≤ count_below test k) there
+    (omega (arith, count_next test (m - 1), count_up test n more (m - 1) (omega (arith, is))))
 
 pub count_mono : (test : ℕ → Bool) (n m : ℕ) → n ≤ m → count_below test n ≤ count_below test m
-count_mono test n m le =
-    let there : (m - n) + n ≡ m = omega (arith, le) in
-    subst (λ (k : ℕ). count_below test n ≤ count_below test k) there (count_up test n (m - n))
+count_mono test n m le = count_up test n (m - n) m (omega (arith, le))
 
 -- tests that agree count the same
-pub count_agree : (T U : ℕ → Bool) (n : ℕ) → ((b : ℕ) → b < n → U b ≡ T b) → count_below U n ≡ count_below T n
-count_agree T U zero agree = count_none U ∙ sym (count_none T)
-count_agree T U (suc n) agree =
-    count_next U n
-    ∙ ap (λ t. (if t then 1 else 0) + count_below U n) (agree n (omega arith))
-    ∙ ap (λ k. (if T n then 1 else 0) + k) (count_agree T U n (λ b below. agree b (omega (arith, below))))
-    ∙ sym (count_next T n)
+pub count_agree : (p q : ℕ → Bool) (n : ℕ) → ((b : ℕ) → b < n → q b ≡ p b) → count_below q n ≡ count_below p n
+count_agree p q zero agree = count_none q ∙ sym (count_none p)
+count_agree p q (suc n) agree =
+    count_next q n
+    ∙ ap (λ t. (if t then 1 else 0) + count_below q n) (agree n (omega arith))
+    ∙ ap (λ k. (if p n then 1 else 0) + k) (count_agree p q n (λ b below. agree b (omega (arith, below))))
+    ∙ sym (count_next p n)
 
 -- tests that agree from a number on count as many more
-pub count_agree_from : (T U : ℕ → Bool) (start more : ℕ)
-    → ((b : ℕ) → start ≤ b → b < more + start → U b ≡ T b)
-    → count_below U (more + start) + count_below T start ≡ count_below T (more + start) + count_below U start
-count_agree_from T U start zero agree = omega arith
-count_agree_from T U start (suc more) agree =
-    let here : (if U (more + start) then 1 else 0) ≡ (if T (more + start) then 1 else 0) =
-    ap (λ t. if t then 1 else 0) (agree (more + start) (omega arith) (omega arith)) in
-    omega (
-      arith,
-      here,
-      count_next U (more + start),
-      count_next T (more + start),
-      count_agree_from T U start more (λ b from below. agree b from (omega (arith, below))),
-    )
+pub count_agree_from : (p q : ℕ → Bool) (start more stop : ℕ) → stop ≡ more + start
+    → ((b : ℕ) → start ≤ b → b < stop → q b ≡ p b)
+    → count_below q stop + count_below p start ≡ count_below p stop + count_below q start
+count_agree_from p q start zero stop is agree =
+    let there : start ≡ stop = omega (arith, is) in
+    subst (λ (k : ℕ). count_below q k + count_below p start ≡ count_below p k + count_below q start) there (omega arith)
+count_agree_from p q start (suc more) stop is agree =
+    let there : suc (stop - 1) ≡ stop = omega (arith, is) in
+    let here : (if q (stop - 1) then 1 else 0) ≡ (if p (stop - 1) then 1 else 0) =
+    ap (λ t. if t then 1 else 0) (agree (stop - 1) (omega (arith, is)) (omega (arith, is))) in
+    let others = count_agree_from p q start more (stop - 1) (omega (arith, is)) (λ b above below. agree b above (omega (arith, below))) in
+    subst (λ (k : ℕ). count_below q k + count_below p start ≡ count_below p k + count_below q start) there
+    (omega (arith, here, count_next q (stop - 1), count_next p (stop - 1), others))
 
 -- no run begins at a byte with the mode of the one before
 pub no_start : (modes : ℕ → Option Mode) (byte : ℕ) → 0 < byte → modes (byte - 1) ≡ modes byte → begins modes byte ≡ false
@@ -61,58 +68,67 @@ no_start modes byte above same =
     ∙ and-false (is_some (modes byte))
 
 -- in a stretch of one mode a run begins at most at its first byte
-pub count_stretch : (modes : ℕ → Option Mode) (byte more end : ℕ) → end ≡ more + byte → AreAs modes byte byte end
-    → count_below (begins modes) (suc end) ≡ (if begins modes byte then 1 else 0) + count_below (begins modes) byte
-count_stretch modes byte zero end is same = rw is (count_next (begins modes) byte)
-count_stretch modes byte (suc more) end is same =
-    let before : end - 1 ≡ more + byte = omega (arith, is) in
-    let last : suc (end - 1) ≡ end = omega (arith, is) in
-    let alike : modes (end - 1) ≡ modes end =
-    same (end - 1) (omega (arith, is)) (omega arith) ∙ sym (same end (omega (arith, is)) (omega arith)) in
-    count_next (begins modes) end
-    ∙ ap (λ t. (if t then 1 else 0) + count_below (begins modes) end) (no_start modes end (omega (arith, is)) alike)
-    ∙ ap (count_below (begins modes)) (sym last)
-    ∙ count_stretch modes byte more (end - 1) before (λ b from to. same b from (omega (arith, to)))
+pub count_stretch : (modes : ℕ → Option Mode) (byte more last : ℕ) → last ≡ more + byte → AreAs modes byte byte last
+    → count_below (begins modes) (suc last) ≡ (if begins modes byte then 1 else 0) + count_below (begins modes) byte
+count_stretch modes byte zero last is same =
+    let there : byte ≡ last = omega (arith, is) in
+    subst (λ (k : ℕ). count_below (begins modes) (suc k) ≡ (if begins modes byte then 1 else 0) + count_below (begins modes) byte) there
+    (count_next (begins modes) byte)
+count_stretch modes byte (suc more) last is same =
+    let there : suc (last - 1) ≡ last = omega (arith, is) in
+    let alike : modes (last - 1) ≡ modes last =
+    same (last - 1) (omega (arith, is)) (omega arith) ∙ sym (same last (omega (arith, is)) (omega arith)) in
+    not_counted (begins modes last) (count_below (begins modes) last) (count_below (begins modes) (suc last))
+    (no_start modes last (omega (arith, is)) alike) (count_next (begins modes) last)
+    ∙ ap (count_below (begins modes)) (sym there)
+    ∙ count_stretch modes byte more (last - 1) (omega (arith, is)) (λ b above below. same b above (omega (arith, below)))
 
 -- the same, up to a byte of the stretch
-pub count_stretch_to : (modes : ℕ → Option Mode) (byte last end : ℕ) → byte ≤ last → last ≤ end → AreAs modes byte byte end
+pub count_stretch_to : (modes : ℕ → Option Mode) (byte last stop : ℕ) → byte ≤ last → last ≤ stop → AreAs modes byte byte stop
     → count_below (begins modes) (suc last) ≡ (if begins modes byte then 1 else 0) + count_below (begins modes) byte
-count_stretch_to modes byte last end from to same =
-    count_stretch modes byte (last - byte) last (omega (arith, from)) (λ b after before. same b after (omega (arith, before, to)))
-
--- a byte that isn't held, where no run begins and the byte before isn't held
-still_free : (mode : Option Mode) → (is_some mode && (false || not (is_same mode None))) ≡ false → mode ≡ None
-still_free None none = refl
-still_free (Some Read) none = absurd cc
-still_free (Some Write) none = absurd cc
-
-first_free : (mode : Option Mode) (other : Bool) → (is_some mode && (true || other)) ≡ false → mode ≡ None
-first_free None other none = refl
-first_free (Some mode) other none = absurd cc
+count_stretch_to modes byte last stop low high same =
+    count_stretch modes byte (last - byte) last (omega (arith, low)) (λ b above below. same b above (omega (arith, below, high)))
 
 counts_none : (t : Bool) (n : ℕ) → (if t then 1 else 0) + n ≡ 0 → t ≡ false
 counts_none true n none = absurd (omega (arith, none))
 counts_none false n none = refl
 
+-- where no run begins below a number, none begins at a byte below it
+no_start_below : (modes : ℕ → Option Mode) (n b : ℕ) → count_below (begins modes) n ≡ 0 → b < n → begins modes b ≡ false
+no_start_below modes n b none below =
+    counts_none (begins modes b) (count_below (begins modes) b)
+    (omega (arith, count_next (begins modes) b, count_mono (begins modes) (suc b) n (omega (arith, below)), none))
+
+-- byte 0, and a byte behind one that isn't held: where no run begins there, it isn't held
+first_free : (mode : Option Mode) (other : Bool) → (is_some mode && (true || other)) ≡ false → mode ≡ None
+first_free None other none = refl
+first_free (Some mode) other none = absurd cc
+
+next_free : (mode : Option Mode) → (is_some mode && (false || not (is_same mode None))) ≡ false → mode ≡ None
+next_free None none = refl
+next_free (Some Read) none = absurd cc
+next_free (Some Write) none = absurd cc
+
+stays_free : (modes : ℕ → Option Mode) (byte before : ℕ) → byte ≡ suc before → modes before ≡ None → begins modes byte ≡ false → modes byte ≡ None
+stays_free modes byte before is free none =
+    let back : byte - 1 ≡ before = omega (arith, is) in
+    next_free (modes byte)
+    (ap (λ t. is_some (modes byte) && (t || not (is_same (modes byte) None))) (sym (ne_eqb byte 0 (λ e. omega (arith, is, e))))
+    ∙ ap (λ m. is_some (modes byte) && (byte == 0 || not (is_same (modes byte) m))) (sym (ap modes back ∙ free))
+    ∙ none)
+
 -- where no run begins, no byte is held
 pub none_held : (modes : ℕ → Option Mode) (n : ℕ) → count_below (begins modes) n ≡ 0 → (b : ℕ) → b < n → modes b ≡ None
 none_held modes n none zero below =
-    let few : count_below (begins modes) 1 ≤ 0 = omega (arith, count_mono (begins modes) 1 n below, none) in
-    first_free (modes 0) (not (is_same (modes 0) (modes 0)))
-    (counts_none (begins modes 0) (count_below (begins modes) 0) (omega (arith, count_next (begins modes) 0, few)))
+    first_free (modes 0) (not (is_same (modes 0) (modes 0))) (no_start_below modes n 0 none below)
 none_held modes n none (suc b) below =
-    let few : count_below (begins modes) (suc (suc b)) ≤ 0 = omega (arith, count_mono (begins modes) (suc (suc b)) n below, none) in
-    let start : begins modes (suc b) ≡ false =
-    counts_none (begins modes (suc b)) (count_below (begins modes) (suc b)) (omega (arith, count_next (begins modes) (suc b), few)) in
-    still_free (modes (suc b))
-    (ap (λ m. is_some (modes (suc b)) && (false || not (is_same (modes (suc b)) m)))
-    (sym (none_held modes n none b (omega (arith, below)))) ∙ start)
+    stays_free modes (suc b) b refl (none_held modes n none b (omega (arith, below))) (no_start_below modes n (suc b) none below)
 
 -- where no byte is held, no run begins
 pub no_runs : (modes : ℕ → Option Mode) (n : ℕ) → ((b : ℕ) → b < n → modes b ≡ None) → count_below (begins modes) n ≡ 0
 no_runs modes zero free = count_none (begins modes)
 no_runs modes (suc n) free =
-    count_next (begins modes) n
-    ∙ ap (λ t. (if t then 1 else 0) + count_below (begins modes) n)
+    not_counted (begins modes n) (count_below (begins modes) n) (count_below (begins modes) (suc n))
     (ap (λ m. is_some m && (n == 0 || not (is_same m (modes (n - 1))))) (free n (omega arith)))
+    (count_next (begins modes) n)
     ∙ no_runs modes n (λ b below. free b (omega (arith, below)))

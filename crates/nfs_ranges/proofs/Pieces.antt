@@ -29,23 +29,23 @@ mode_next pieces i d byte below =
     ∙ mode_more None (take i pieces) (get_or pieces i d) byte
 
 -- a stretch in one mode stays one after a piece that has all of it, or none
-pub stretch_more : (pieces : List Piece) (piece : Piece) (byte first last from to : ℕ)
-    → first ≤ from → to ≤ last → AreAs (modes_of pieces) byte first last
-    → ((b : ℕ) → from ≤ b → b ≤ to → has piece.range b ≡ has piece.range byte)
-    → AreAs (modes_of (pieces ++ piece ∷ [])) byte from to
-stretch_more pieces piece byte first last from to low high same alike b after before =
+pub stretch_more : (pieces : List Piece) (piece : Piece) (byte first last start stop : ℕ)
+    → first ≤ start → stop ≤ last → AreAs (modes_of pieces) byte first last
+    → ((b : ℕ) → start ≤ b → b ≤ stop → has piece.range b ≡ has piece.range byte)
+    → AreAs (modes_of (pieces ++ piece ∷ [])) byte start stop
+stretch_more pieces piece byte first last start stop low high same alike b above below =
     mode_more None pieces piece b
-    ∙ ap (λ t. if t then piece.mode else modes_of pieces b) (alike b after before)
-    ∙ ap (λ m. if has piece.range byte then piece.mode else m) (same b (omega (arith, low, after)) (omega (arith, before, high)))
+    ∙ ap (λ t. if t then piece.mode else modes_of pieces b) (alike b above below)
+    ∙ ap (λ m. if has piece.range byte then piece.mode else m) (same b (omega (arith, low, above)) (omega (arith, below, high)))
     ∙ sym (mode_more None pieces piece byte)
 
-pub stretch_next : (pieces : List Piece) (i : ℕ) (d : Piece) (byte first last from to : ℕ) → i < length pieces
-    → first ≤ from → to ≤ last → AreAs (modes_of (take i pieces)) byte first last
-    → ((b : ℕ) → from ≤ b → b ≤ to → has (get_or pieces i d).range b ≡ has (get_or pieces i d).range byte)
-    → AreAs (modes_of (take (i + 1) pieces)) byte from to
-stretch_next pieces i d byte first last from to below low high same alike =
-    rw (take_more pieces i d below)
-    (stretch_more (take i pieces) (get_or pieces i d) byte first last from to low high same alike)
+pub stretch_next : (pieces : List Piece) (i : ℕ) (d : Piece) (byte first last start stop : ℕ) → i < length pieces
+    → first ≤ start → stop ≤ last → AreAs (modes_of (take i pieces)) byte first last
+    → ((b : ℕ) → start ≤ b → b ≤ stop → has (get_or pieces i d).range b ≡ has (get_or pieces i d).range byte)
+    → AreAs (modes_of (take (i + 1) pieces)) byte start stop
+stretch_next pieces i d byte first last start stop inside low high same alike =
+    rw (take_more pieces i d inside)
+    (stretch_more (take i pieces) (get_or pieces i d) byte first last start stop low high same alike)
 
 -- modes that are the same are equal, and equal ones the same
 pub same_self : (mode : Option Mode) → is_same mode mode ≡ true

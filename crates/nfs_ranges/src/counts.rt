@@ -60,7 +60,7 @@ fn is_start(pieces: &[Piece], byte: u64) -> bool
 }
 
 // How many runs begin, after the change, at its bytes and the one behind: one at most at its first byte, and one behind.
-#[tactic(auto, using(crate::proofs::Changes::begin_inside, crate::proofs::Counting::count_next))]
+#[tactic(auto, using(crate::proofs::Changes::begin_at_reach))]
 fn begin_with(pieces: &[Piece], change: Piece) -> usize
     ensures few { result ≤ 2 }
     ensures count { BeginIn (changed change (modes_of pieces.now))
