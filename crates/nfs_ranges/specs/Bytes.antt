@@ -3,7 +3,8 @@
 use Rattle.std.specs.Prelude.{◌≡◌, ◌≢◌, ◌↔◌, ◌⊎◌, ℕ, ◌+◌, ◌-◌, ◌^◌, ◌<◌, ◌≤◌, ◌==◌, Bool, ◌&&◌, nat_le, Option, Some, None, if◌then◌else◌}
 use Rattle.nfs_ranges.specs.declared.range.Range.{Range}
 
--- the two name bytes: at least one, and without all ones none behind the last
+-- The two name bytes: the length isn't 0 and, unless it is all ones, they add up to at most 2^64 - 1. So byte 2^64 - 1 is
+-- named by all ones alone.
 abbrev pub HasBytes : ℕ → ℕ → Type 0
 HasBytes offset length =
     (length ≢ 0) × ((length ≡ 2 ^ 64 - 1) ⊎ (offset + length ≤ 2 ^ 64 - 1))
@@ -30,4 +31,4 @@ IsRangeOf offset length (Some range) =
 -- the length by which a report names a range: all ones where it has the last byte, else how many bytes it has
 abbrev pub length_of : Range → ℕ
 length_of range =
-    if range.last == 2 ^ 64 - 1 then 2 ^ 64 - 1 else range.last - range.first + 1
+    if range.last == 2 ^ 64 - 1 then 2 ^ 64 - 1 else (range.last - range.first) + 1

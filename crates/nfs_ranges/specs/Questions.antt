@@ -1,4 +1,4 @@
--- What is asked of the modes of the bytes.
+-- What is asked of the modes of the bytes, for a lock that another owner wants (RFC 7530, sections 16.10 and 16.11).
 use Rattle.std.specs.Prelude.{◌≡◌, ◌⊎◌, ℕ, ◌+◌, ◌-◌, ◌^◌, ◌<◌, ◌≤◌, true, false, Option, Some, None}
 use Rattle.nfs_ranges.specs.Bytes.{IsIn}
 use Rattle.nfs_ranges.specs.Modes.{conflicts, is_same}
@@ -17,13 +17,13 @@ IsFirstConflict modes range asked (Some first) =
 abbrev pub AreAs : (ℕ → Option Mode) → ℕ → ℕ → ℕ → Type 0
 AreAs modes byte first last = (b : ℕ) → first ≤ b → b ≤ last → modes b ≡ modes byte
 
--- the longest stretch round a byte in which all have its mode begins here
+-- The longest stretch round a byte in which all have its mode begins here: it is byte 0, or the one before has another.
 abbrev pub IsLeastSame : (ℕ → Option Mode) → ℕ → ℕ → Type 0
 IsLeastSame modes byte first =
     (first ≤ byte) × AreAs modes byte first byte
     × ((first ≡ 0) ⊎ (is_same (modes (first - 1)) (modes byte) ≡ false))
 
--- it ends here
+-- It ends here: it is byte 2^64 - 1, or the next one has another.
 abbrev pub IsLastSame : (ℕ → Option Mode) → ℕ → ℕ → Type 0
 IsLastSame modes byte last =
     (byte ≤ last) × (last ≤ 2 ^ 64 - 1) × AreAs modes byte byte last

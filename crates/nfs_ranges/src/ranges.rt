@@ -157,7 +157,7 @@ impl Ranges {
     #[tactic(auto, using(crate::proofs::Counting::no_runs, crate::proofs::Counting::none_held))]
     pub fn is_empty(&self) -> bool
         ensures free { IsTrue result ↔ IsFree self.now }
-        ensures runs { IsTrue result ↔ (runs (modes_in self.now) ≡ 0) }
+        ensures count { IsTrue result ↔ (runs (modes_in self.now) ≡ 0) }
     {
         self.count == 0
     }
