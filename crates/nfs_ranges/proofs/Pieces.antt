@@ -20,14 +20,6 @@ pub modes_more : (pieces : List Piece) (piece : Piece)
     → modes_of (pieces ++ piece ∷ []) ≡ with_mode piece.range piece.mode (modes_of pieces)
 modes_more pieces piece = λ i. λ byte. mode_more None pieces piece byte i
 
--- the walk to the mode of a byte comes to one more piece
-pub mode_next : (pieces : List Piece) (i : ℕ) (d : Piece) (byte : ℕ) → i < length pieces
-    → modes_of (take (i + 1) pieces) byte
-    ≡ (if has (get_or pieces i d).range byte then (get_or pieces i d).mode else modes_of (take i pieces) byte)
-mode_next pieces i d byte below =
-    ap (λ front. modes_of front byte) (take_more pieces i d below)
-    ∙ mode_more None (take i pieces) (get_or pieces i d) byte
-
 -- a stretch in one mode stays one after a piece that has all of it, or none
 pub stretch_more : (pieces : List Piece) (piece : Piece) (byte first last start stop : ℕ)
     → first ≤ start → stop ≤ last → AreAs (modes_of pieces) byte first last

@@ -9,7 +9,6 @@ use crate::{Mode, Piece, Range};
 
 /// How many runs there are after a change, where there are so many before it. Only the bytes of the change and the one
 /// behind are walked over, since no other run begins or ends by it.
-#[tactic(auto, using(crate::proofs::Changes::runs_changed))]
 pub(crate) fn runs_after(pieces: &[Piece], count: usize, change: Piece) -> usize
     requires count { count ≡ runs (modes_of pieces.now) }
     requires few { count ≤ RUN_LIMIT }
@@ -22,7 +21,7 @@ pub(crate) fn runs_after(pieces: &[Piece], count: usize, change: Piece) -> usize
 
 // The last byte at which a run may begin or no longer begin by a change of the range.
 fn last_reached(range: Range) -> u64
-    ensures reach { result + 1 ≡ reach range }
+    ensures end { result + 1 ≡ reach range }
     ensures behind { range.last ≤ result }
 {
     if range.last == u64::MAX {
@@ -33,7 +32,7 @@ fn last_reached(range: Range) -> u64
 }
 
 // How many runs begin at these bytes.
-#[tactic(auto, using(crate::proofs::Counting::count_mono, crate::proofs::Counting::count_stretch_to))]
+#[tactic(auto, using(crate::proofs::Counting::count_mono))]
 fn begin_in(pieces: &[Piece], first: u64, last: u64) -> usize
     requires ordered { first ≤ last }
     requires few { runs (modes_of pieces.now) ≤ RUN_LIMIT }
@@ -60,7 +59,6 @@ fn is_start(pieces: &[Piece], byte: u64) -> bool
 }
 
 // How many runs begin, after the change, at its bytes and the one behind: one at most at its first byte, and one behind.
-#[tactic(auto, using(crate::proofs::Changes::begin_at_reach))]
 fn begin_with(pieces: &[Piece], change: Piece) -> usize
     ensures few { result ≤ 2 }
     ensures count { BeginIn (changed change (modes_of pieces.now))

@@ -154,7 +154,7 @@ impl Ranges {
     }
 
     /// Whether no byte is held.
-    #[tactic(auto, using(crate::proofs::Counting::no_runs, crate::proofs::Counting::none_held))]
+    #[tactic(auto, using(crate::proofs::Counting::no_runs))]
     pub fn is_empty(&self) -> bool
         ensures free { IsTrue result ↔ IsFree self.now }
         ensures count { IsTrue result ↔ (runs (modes_in self.now) ≡ 0) }

@@ -6,7 +6,6 @@ ghost use Rattle.nfs_ranges.specs.Questions.{AreAs};
 use crate::{Mode, Piece, Range};
 
 /// The mode of the byte, in one walk over the pieces.
-#[tactic(auto, using(crate::proofs::Pieces::mode_next))]
 pub(crate) fn mode_at(pieces: &[Piece], byte: u64) -> Option<Mode>
     ensures { result ≡ modes_of pieces.now byte }
 {
@@ -30,7 +29,6 @@ fn mode_after(piece: Piece, byte: u64, mode: Option<Mode>) -> Option<Mode>
 
 /// A byte up to which all have the mode of this one, in one walk over the pieces. The next byte may have it too: each piece
 /// that begins or ends counts, also where later pieces cover it.
-#[tactic(auto, using(crate::proofs::Pieces::stretch_next))]
 pub(crate) fn same_until(pieces: &[Piece], byte: u64) -> u64
     ensures behind { byte ≤ result }
     ensures same { AreAs (modes_of pieces.now) byte byte result }
@@ -59,7 +57,6 @@ fn cut_behind(range: Range, byte: u64, end: u64) -> u64
 }
 
 /// A byte from which on all have the mode of this one, as `same_until` in the other direction.
-#[tactic(auto, using(crate::proofs::Pieces::stretch_next))]
 pub(crate) fn same_from(pieces: &[Piece], byte: u64) -> u64
     ensures before { result ≤ byte }
     ensures same { AreAs (modes_of pieces.now) byte result byte }

@@ -33,7 +33,6 @@ pub(crate) fn run_in(pieces: &[Piece], byte: u64) -> Option<(Range, Mode)>
 }
 
 // The first byte of the longest stretch round this one in which all have its mode.
-#[tactic(auto, using(crate::proofs::Pieces::same_equal))]
 fn least_same(pieces: &[Piece], byte: u64) -> u64
     ensures { IsLeastSame (modes_of pieces.now) byte result }
 {
@@ -48,7 +47,6 @@ fn least_same(pieces: &[Piece], byte: u64) -> u64
 }
 
 // The last byte of that stretch.
-#[tactic(auto, using(crate::proofs::Pieces::same_equal))]
 fn last_same(pieces: &[Piece], byte: u64) -> u64
     ensures { IsLastSame (modes_of pieces.now) byte result }
 {
