@@ -29,7 +29,7 @@ use Rattle.nfs_owners.specs.Owners.{has_place, with_change, with_confirmed, with
 use Rattle.nfs_share.specs.AllOpens.{with_opens}
 use Rattle.nfs_share.specs.Opens as opens
 use Rattle.nfs_share.specs.declared.open_state.OpenState.{OpenState}
-use Rattle.nfs_share.proofs.SharesLaws.{AllByRecursion-filter}
+use Rattle.nfs_core.proofs.SafeLists.{all_filter}
 
 -- a filter that looks at what the rules see is the same before and after
 filter_seen : (p : KnownOwner → Bool) (owners : List Owner) → map known_owner (filter (λ o. p (known_owner o)) owners) ≡ filter p (map known_owner owners)
@@ -87,7 +87,7 @@ place_below name owners below = grind (arith, length-map owners known_owner, bel
 
 -- What is kept of the owners agrees with the journal after some are removed, and after one is confirmed.
 pub agrees_filter : (journal : History) (p : Owner → Bool) (owners : List Owner) → Agrees journal owners → Agrees journal (filter p owners)
-agrees_filter journal p owners agrees = AllByRecursion-filter (IsKeptIn journal) p owners agrees
+agrees_filter journal p owners agrees = all_filter (IsKeptIn journal) (IsKeptIn journal) p (λ o kept passes. kept) owners agrees
 
 confirmed_kept : (journal : History) (b : Bool) (o : Owner) → IsKeptIn journal o → IsKeptIn journal (if b then record o { confirmed = true } else o)
 confirmed_kept journal true o is = record { entry = is.entry; sendable = is.sendable }
