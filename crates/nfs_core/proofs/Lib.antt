@@ -1,15 +1,6 @@
 pub mod Journals
-pub mod KeptOwners
-pub mod OpenedFiles
 pub mod SafeLists
 pub mod Safety
 pub mod Sound
 pub mod SoundRules
 pub mod SoundSteps
-pub mod Sendable
-pub mod Sequenced
-pub mod Sequencing
-pub mod Opening
-pub mod StoredOwners
-pub mod OwnerRoom
-pub mod Uniqueness

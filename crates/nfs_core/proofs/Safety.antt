@@ -1,14 +1,15 @@
 -- Each state that a lawful journal leads to is safe.
 use Rattle.std.proofs.Common.{◌≡◌, true, List, [], ◌∷◌, length, refl, sym, ap, ◌∙◌, subst}
 use Rattle.std.specs.List.{AllByRecursion}
-use Rattle.nfs_core.specs.declared.entry.Call.{Call}
-use Rattle.nfs_core.specs.declared.entry.Entry.{Entry}
-use Rattle.nfs_core.specs.declared.entry.Entry.TheVariants as entries
+use Rattle.nfs_state.specs.declared.entry.Call.{Call}
+use Rattle.nfs_state.specs.declared.entry.Entry.{Entry}
+use Rattle.nfs_state.specs.declared.entry.Entry.TheVariants as entries
 use Rattle.nfs_core.specs.Lawful.{Leads, Lawful}
-use Rattle.nfs_core.specs.Owners.{KnownOwner, has_name}
+use Rattle.nfs_state.specs.Owners.{KnownOwner, has_name}
 use Rattle.nfs_core.specs.Safe.{HasKnownOwner, HasLiveClient, IsSafe}
-use Rattle.nfs_core.specs.State.{State, History, empty_server}
-use Rattle.nfs_core.specs.Step.{Follows, Step, with_entry}
+use Rattle.nfs_state.specs.State.{State, History, empty_server}
+use Rattle.nfs_core.specs.Step.{Follows, Step}
+use Rattle.nfs_state.specs.Entries.{with_entry}
 use Rattle.nfs_core.proofs.SafeLists.{all_replicate, all_weaken, found_holds}
 use Rattle.nfs_core.proofs.Sound.{IsKnownIn, IsSound, OpensStay, equal_owners, is_live_in}
 use Rattle.nfs_core.proofs.SoundRules.{ruled_ready}

@@ -5,8 +5,8 @@ use Rattle.std.specs.List.{AllByRecursion}
 use Rattle.std.specs.Str.{bytes_eq}
 use Rattle.std.proofs.lemmas.Bool.{and_parts, and_from, cond_both, cases_Bool, eqb-true, eq-eqb, not-true, not_from_false}
 use Rattle.std.proofs.lemmas.Slice.Eq.{bytes_eq-Decides}
-use Rattle.nfs_core.specs.Owners.{KnownOwner, has_name}
-use Rattle.nfs_core.specs.State.{State}
+use Rattle.nfs_state.specs.Owners.{KnownOwner, has_name}
+use Rattle.nfs_state.specs.State.{State}
 use Rattle.nfs_core.proofs.SafeLists.{all_always, all_filter, all_map, all_push, all_set, all_weaken, found_filtered, found_kept, found_map, found_more}
 use Rattle.nfs_forms.specs.ClientId.{is_same_client}
 use Rattle.nfs_forms.specs.OpenOwner.{is_same_owner}

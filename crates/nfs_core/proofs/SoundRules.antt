@@ -5,26 +5,27 @@ use Rattle.std.specs.List.{AllByRecursion}
 use Rattle.std.specs.Str.{bytes_eq}
 use Rattle.std.proofs.lemmas.Bool.{and_from, cases_Bool, cond-false, cond-true, cond_both, and_parts}
 use Rattle.std.proofs.lemmas.Slice.Eq.{bytes_eq-Decides}
-use Rattle.nfs_core.specs.declared.change.Change.TheVariants as changes
-use Rattle.nfs_core.specs.declared.decision.Decision.{Decision}
-use Rattle.nfs_core.specs.declared.operations.«open».Opening.{Opening}
-use Rattle.nfs_core.specs.declared.owner_change.OwnerChange.TheVariants as owner_changes
-use Rattle.nfs_core.specs.declared.passage.Passage.{Passage}
-use Rattle.nfs_core.specs.declared.passage.Passage.TheVariants as passages
-use Rattle.nfs_core.specs.declared.request.Request.{Request}
-use Rattle.nfs_core.specs.declared.ruling.Ruling.{Ruling}
-use Rattle.nfs_core.specs.operations.{IsRuled}
-use Rattle.nfs_core.specs.operations.Close as close
-use Rattle.nfs_core.specs.operations.Open as opening
-use Rattle.nfs_core.specs.operations.Open.{◌>>=◌}
-use Rattle.nfs_core.specs.operations.OpenConfirm as open_confirm
-use Rattle.nfs_core.specs.operations.OpenDowngrade as open_downgrade
-use Rattle.nfs_core.specs.operations.Setclientid as setclientid
-use Rattle.nfs_core.specs.operations.SetclientidConfirm as confirm
-use Rattle.nfs_core.specs.Owners.{KnownOwner, has_name, is_confirmed, owner_of, without_owner}
-use Rattle.nfs_core.specs.Sequences.{IsDecided, IsOfKnown, IsOfOwner, IsSequence, IsSequenced, Own, Requester, Sequence, Answered, GoesOn, Refused, Owner, before_own, by_verdict, counts, decision_of, is_ok_status, is_open, owner_change_of, refusal_to, requester_of_open, requester_of_stateid, with_owner_change}
-use Rattle.nfs_core.specs.Stateids.{verdict}
-use Rattle.nfs_core.specs.State.{State, History, record_has_state}
+use Rattle.nfs_state.specs.declared.change.Change.TheVariants as changes
+use Rattle.nfs_rules.specs.declared.decision.Decision.{Decision}
+use Rattle.nfs_rules.specs.declared.operations.«open».Opening.{Opening}
+use Rattle.nfs_state.specs.declared.owner_change.OwnerChange.TheVariants as owner_changes
+use Rattle.nfs_rules.specs.declared.passage.Passage.{Passage}
+use Rattle.nfs_rules.specs.declared.passage.Passage.TheVariants as passages
+use Rattle.nfs_state.specs.declared.request.Request.{Request}
+use Rattle.nfs_rules.specs.declared.ruling.Ruling.{Ruling}
+use Rattle.nfs_rules.specs.operations.{IsRuled}
+use Rattle.nfs_rules.specs.operations.Close as close
+use Rattle.nfs_rules.specs.operations.Open as opening
+use Rattle.nfs_rules.specs.operations.Open.{◌>>=◌}
+use Rattle.nfs_rules.specs.operations.OpenConfirm as open_confirm
+use Rattle.nfs_rules.specs.operations.OpenDowngrade as open_downgrade
+use Rattle.nfs_rules.specs.operations.Setclientid as setclientid
+use Rattle.nfs_rules.specs.operations.SetclientidConfirm as confirm
+use Rattle.nfs_state.specs.Owners.{KnownOwner, has_name, is_confirmed, owner_of, without_owner}
+use Rattle.nfs_rules.specs.Sequences.{IsDecided, IsOfKnown, IsOfOwner, IsSequence, IsSequenced, Own, Requester, Sequence, Answered, GoesOn, Refused, Owner, before_own, by_verdict, counts, decision_of, is_ok_status, is_open, owner_change_of, refusal_to, requester_of_open, requester_of_stateid}
+use Rattle.nfs_state.specs.Changes.{with_owner_change}
+use Rattle.nfs_rules.specs.Stateids.{verdict}
+use Rattle.nfs_state.specs.State.{State, History, record_has_state}
 use Rattle.nfs_core.proofs.SafeLists.{all_find, all_none, all_weaken, found_last, found_map}
 use Rattle.nfs_core.proofs.Sound.{AreSingle, HasSameClient, IsOnlyOf, IsSound, is_live_in, name_kept, same_owner_self}
 use Rattle.nfs_core.proofs.SoundSteps.{IsChangeReady, IsClientReady, IsOwnerReady, IsReady}

@@ -1,8 +1,9 @@
 -- Journals that the rules allow.
 use Rattle.std.specs.Prelude.{◌≡◌, List, [], ◌∷◌}
-use Rattle.nfs_core.specs.declared.entry.Entry.{Entry}
-use Rattle.nfs_core.specs.State.{State, History, empty_server}
-use Rattle.nfs_core.specs.Step.{Step, with_entry}
+use Rattle.nfs_state.specs.declared.entry.Entry.{Entry}
+use Rattle.nfs_state.specs.State.{State, History, empty_server}
+use Rattle.nfs_core.specs.Step.{Step}
+use Rattle.nfs_state.specs.Entries.{with_entry}
 
 -- starting in the state old with this journal, the entries lead one after the other to the state new
 abbrev pub Leads : History → State → List Entry → State → Type 0

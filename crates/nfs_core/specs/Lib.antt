@@ -1,14 +1,4 @@
-pub mod Owners
-pub mod State
-pub mod Stateids
-pub mod Sequences
-pub mod Stored
-pub mod operations
 pub mod Step
 pub mod Lawful
 pub mod Safe
 pub mod Server
-pub mod Room
-pub mod Finding
-pub mod Kept
-pub mod Deciding

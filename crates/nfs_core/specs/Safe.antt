@@ -1,8 +1,8 @@
 -- What holds of the state at all times (RFC 7530, sections 9.1 and 9.9).
 use Rattle.std.specs.Prelude.{IsTrue, is_some}
 use Rattle.std.specs.List.{AllByRecursion}
-use Rattle.nfs_core.specs.Owners.{owner_of}
-use Rattle.nfs_core.specs.State.{State}
+use Rattle.nfs_state.specs.Owners.{owner_of}
+use Rattle.nfs_state.specs.State.{State}
 use Rattle.nfs_owners.specs.Registry.{record_of}
 use Rattle.nfs_share.specs.Laws.{AllAreCompatible}
 use Rattle.nfs_share.specs.declared.open_state.OpenState.{OpenState}

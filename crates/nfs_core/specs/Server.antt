@@ -1,10 +1,11 @@
 -- The core of the server: the journal, and what is stored.
 use Rattle.std.specs.Prelude.{◌≡◌, ℕ, length, Option, Some, None}
-use Rattle.nfs_core.specs.declared.request.Request.{Request}
+use Rattle.nfs_state.specs.declared.request.Request.{Request}
 use Rattle.nfs_core.specs.Lawful.{Lawful}
-use Rattle.nfs_core.specs.State.{History}
-use Rattle.nfs_core.specs.Step.{Follows, entry_of, resource, with_entry}
-use Rattle.nfs_core.specs.Stored.{Stored, meaning}
+use Rattle.nfs_state.specs.State.{History}
+use Rattle.nfs_core.specs.Step.{Follows}
+use Rattle.nfs_state.specs.Entries.{entry_of, resource, with_entry}
+use Rattle.nfs_state.specs.Stored.{Stored, meaning}
 use Rattle.nfs_xdr.specs.declared.op_result.OpResult.{OpResult}
 
 pub record Server : Type 0 where

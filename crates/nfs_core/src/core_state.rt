@@ -1,35 +1,32 @@
 ghost use Rattle.std.specs.Prelude.{◌≡◌, None, ◌≢◌, ◌≤◌, ◌<◌, [], IfErr, IfOk, OnOk, OnErr, IsErrOf, IsTrue, Some, length};
 ghost use Rattle.nfs_core.specs.Server.{Applies, IsLawful};
-ghost use Rattle.nfs_core.specs.Step.{AtMostOneStep, IsFilehandle, changed, request_of, with_entry};
+ghost use Rattle.nfs_core.specs.Step.{AtMostOneStep};
+ghost use Rattle.nfs_state.specs.Entries.{IsFilehandle, request_of, with_entry};
+ghost use Rattle.nfs_state.specs.Changes.{changed};
 ghost use Rattle.nfs_core.specs.Safe.{IsSafe};
-ghost use Rattle.nfs_core.specs.Stored.{empty_store, meaning};
-ghost use Rattle.nfs_core.specs.Deciding.{HasNoStep, IsSendable};
-ghost use Rattle.nfs_core.specs.Kept.{Agrees, owners_after, update_of};
-ghost use Rattle.nfs_core.specs.Room.{HasNumbers, HasOwnerPlace, state_of, stored_of};
-ghost use Rattle.nfs_core.specs.Sequences.{kept_of, with_owner_change};
-ghost use Rattle.nfs_core.specs.State.{History};
-ghost use Rattle.nfs_core.specs.operations.{IsRuled};
+ghost use Rattle.nfs_state.specs.Stored.{empty_store, meaning};
+ghost use Rattle.nfs_core.specs.Step.{HasNoStep};
+ghost use Rattle.nfs_state.specs.Entries.{IsSendable};
+ghost use Rattle.nfs_state.specs.Kept.{Agrees, owners_after, update_of};
+ghost use Rattle.nfs_state.specs.Room.{HasNumbers, HasOwnerPlace, state_of, stored_of};
+ghost use Rattle.nfs_state.specs.Kept.{kept_of};
+ghost use Rattle.nfs_state.specs.Changes.{with_owner_change};
+ghost use Rattle.nfs_state.specs.State.{History};
+ghost use Rattle.nfs_rules.specs.operations.{IsRuled};
 ghost use Rattle.nfs_xdr.specs.Op.{has_entry};
 ghost use Rattle.nfs_xdr.specs.OpResult.{op_result};
 
-use crate::change::Change;
-use crate::journal::push_entry;
 use crate::laws::lawful_is_safe;
-use crate::operations::decide;
-use crate::owner_change::OwnerChange;
-use crate::owner_update::OwnerUpdate;
-use crate::shortage::Shortage;
-use crate::tables::Tables;
-use crate::{
-    Call, CoreError, Entry, JOURNAL_LIMIT, Journal, LEASE_MAX, LEASE_MIN, Moment, Request,
+use crate::CoreError;
+use nfs_rules::{at_most_one_decision, decide};
+use nfs_state::{
+    Call, JOURNAL_LIMIT, Journal, LEASE_MAX, LEASE_MIN, Moment, Request, Shortage, Tables, copy_of_answer,
+    take_in,
 };
 use nfs_tree::{Policy, Tree};
 use nfs_xdr::{Op, OpResult, Principal, Refusal};
 use std::alloc::{AllocError, Global};
 use std::marker::Model;
-
-/// The greatest length of an answer in a reply, in bytes.
-pub const ANSWER_LIMIT: usize = 2036;
 
 /// The state of a server (RFC 7530, section 9), and the journal of the changes that led to it.
 #[derive(Debug, Drop)]
@@ -40,10 +37,10 @@ pub struct Core {
 }
 
 impl Model for Core {
-    ghost use Rattle.nfs_core.specs.Kept.{Agrees};
+    ghost use Rattle.nfs_state.specs.Kept.{Agrees};
     ghost use Rattle.nfs_core.specs.Lawful.{Lawful};
     ghost use Rattle.nfs_core.specs.Server.{Server};
-    ghost use Rattle.nfs_core.specs.Room.{state_of, stored_of};
+    ghost use Rattle.nfs_state.specs.Room.{state_of, stored_of};
 
     ghost Value = { Server };
 
@@ -154,69 +151,10 @@ fn enter(
         return Err(Shortage::Limit);
     }
     let decision = decide(alloc, tables, journal, &request)?;
-    let answer = copy_of(&decision.answer)?;
+    let answer = copy_of_answer(&decision.answer)?;
     let call = Call { request, answer };
     let number = take_in(tables, journal, call, decision.change, decision.owner)?;
     Ok((decision.answer, number))
-}
-
-fn copy_of(answer: &OpResult) -> Result<OpResult, AllocError>
-    ensures { IfOk result (λ r. r ≡ answer.now) }
-{
-    answer.clone()
-}
-
-// Makes room for the entry and for all that it changes, then makes the changes and adds the call to the journal.
-fn take_in(
-    tables: &mut Tables,
-    journal: &mut Journal,
-    call: Call,
-    change: Change,
-    owner: OwnerChange,
-) -> Result<u32, Shortage>
-    requires below { length journal.old.entries < JOURNAL_LIMIT }
-    requires numbers { HasNumbers change (state_of tables.old) }
-    requires place { HasOwnerPlace owner (state_of tables.old) }
-    requires kept { Agrees journal.old tables.old.owners.owners }
-    requires sendable { IsSendable call.request.op call.answer }
-    ensures number { IfOk result (λ n. n ≡ length journal.old.entries) }
-    ensures entry { OnOk result (journal.new ≡ with_entry (Entry.Call call) journal.old) }
-    ensures state { OnOk result (state_of tables.new
-        ≡ changed change (with_owner_change owner (length journal.old.entries) (state_of tables.old))) }
-    ensures kept { OnOk result (Agrees journal.new tables.new.owners.owners) }
-    ensures memory { IfErr result (λ e. e ≡ Shortage.Memory) }
-    ensures same { OnErr result
-        ((journal.new ≡ journal.old) × (stored_of tables.new ≡ stored_of tables.old)) }
-{
-    journal.entries.reserve(1)?;
-    let number = journal.entries.len() as u32;
-    make_changes(tables, &call, change, owner, number)?;
-    Ok(push_entry(&mut journal.entries, Entry::Call(call)))
-}
-
-// Makes room for the changes of the call, which becomes the entry with this number, and then makes them.
-fn make_changes(
-    tables: &mut Tables,
-    call: &Call,
-    change: Change,
-    owner: OwnerChange,
-    number: u32,
-) -> Result<(), Shortage>
-    requires numbers { HasNumbers change (state_of tables.old) }
-    requires place { HasOwnerPlace owner (state_of tables.old) }
-    ensures state { OnOk result (state_of tables.new
-        ≡ changed change (with_owner_change owner number (state_of tables.old))) }
-    ensures kept { OnOk result ((journal : History) → Agrees journal (owners_after
-        (update_of owner (kept_of (Entry.Call call.now))) number tables.old.owners.owners)
-        → Agrees journal tables.new.owners.owners) }
-    ensures memory { IfErr result (λ e. e ≡ Shortage.Memory) }
-    ensures same { OnErr result (stored_of tables.new ≡ stored_of tables.old) }
-{
-    tables.make_room(&change, &owner)?;
-    let update = OwnerUpdate::of(owner, call)?;
-    tables.commit_owner(update, number);
-    tables.commit(change);
-    Ok(())
 }
 
 /// The law that a request has at most one answer in a state, and leads to at most one state.

@@ -1,6 +1,6 @@
 ghost use Rattle.nfs_core.specs.Lawful.{Lawful};
 ghost use Rattle.nfs_core.specs.Safe.{IsSafe};
-ghost use Rattle.nfs_core.specs.State.{State, History};
+ghost use Rattle.nfs_state.specs.State.{State, History};
 
 use nfs_share::opens_stay_compatible;
 

@@ -11,7 +11,7 @@ use Rattle.nfs_options.specs.declared.declined.Declined.TheVariants as declined
 use Rattle.nfs_options.specs.declared.once_options.OnceOptions.{OnceOptions}
 use Rattle.nfs_options.specs.declared.command_line.Subcommand.{Subcommand}
 use Rattle.nfs_options.specs.declared.command_line.Subcommand.TheVariants as subcommand
-use Rattle.nfs_core.specs.declared.journal.TheConstants.{LEASE_MIN, LEASE_MAX}
+use Rattle.nfs_state.specs.declared.journal.TheConstants.{LEASE_MIN, LEASE_MAX}
 
 -- ---- the command by which clap reads the words
 

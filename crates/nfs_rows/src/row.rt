@@ -1,5 +1,5 @@
 ghost use Rattle.std.specs.Prelude.{◌≤◌};
-ghost use Rattle.nfs_core.specs.declared.journal.TheConstants.{LEASE_MAX, LEASE_MIN};
+ghost use Rattle.nfs_state.specs.declared.journal.TheConstants.{LEASE_MAX, LEASE_MIN};
 
 use nfs_core::Moment;
 use nfs_server::Fault;

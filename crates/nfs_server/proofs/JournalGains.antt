@@ -1,10 +1,10 @@
 -- The entries that the journal of a core gains when the core is asked questions as a service.
 use Rattle.std.proofs.Common.{◌≡◌, ℕ, Option, Some, None, List, [], ◌∷◌, ◌++◌, refl, sym, ap, ◌∙◌, inl, inr, append_assoc}
 use Rattle.std.proofs.lemmas.List.{append-nil}
-use Rattle.nfs_core.specs.declared.entry.Entry.{Entry}
+use Rattle.nfs_state.specs.declared.entry.Entry.{Entry}
 use Rattle.nfs_core.specs.Server.{Server, Applies}
-use Rattle.nfs_core.specs.State.{History}
-use Rattle.nfs_core.specs.Step.{entry_of}
+use Rattle.nfs_state.specs.State.{History}
+use Rattle.nfs_state.specs.Entries.{entry_of}
 use Rattle.nfs_server.specs.Asking.{Question}
 use Rattle.nfs_server.specs.Entries.{AreEntries, QuestionsAreEntries}
 use Rattle.nfs_server.specs.declared.service.Lent.{Lent}

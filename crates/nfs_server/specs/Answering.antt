@@ -12,7 +12,7 @@ use Rattle.nfs_tree.specs.Filehandles.{handles_after, no_filehandles}
 use Rattle.nfs_tree.specs.operations.{effect_of}
 use Rattle.nfs_tree.specs.Tree.{Files}
 use Rattle.nfs_rpc.specs.Reply.{written_reply}
-use Rattle.nfs_core.specs.Step.{resource}
+use Rattle.nfs_state.specs.Entries.{resource}
 use Rattle.nfs_xdr.specs.declared.arg_op.ArgOp.{ArgOp}
 use Rattle.nfs_xdr.specs.declared.arg_op.ArgOp.TheVariants.{Run, BadArgs, Unsupported, Illegal}
 use Rattle.nfs_xdr.specs.declared.compound.Compound.{Compound}

@@ -2,9 +2,9 @@
 use Rattle.std.specs.Prelude.{◌≡◌, ℕ, List, [], ◌∷◌, Option}
 use Rattle.nfs_forms.specs.declared.principal.Principal.{Principal}
 use Rattle.nfs_server.specs.Answering.{Asked}
-use Rattle.nfs_core.specs.declared.request.Request.{Request}
+use Rattle.nfs_state.specs.declared.request.Request.{Request}
 use Rattle.nfs_core.specs.Server.{Server, Applies}
-use Rattle.nfs_core.specs.Step.{request_of}
+use Rattle.nfs_state.specs.Entries.{request_of}
 use Rattle.nfs_xdr.specs.declared.op_result.OpResult.{OpResult}
 
 -- a question to a service: the request for an operation

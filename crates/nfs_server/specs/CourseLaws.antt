@@ -3,7 +3,7 @@
 use Rattle.std.specs.Prelude.{◌≡◌, ◌≢◌, ℕ, List, [], ◌++◌, Option, Result, Err, OnOk}
 use Rattle.std.specs.List.{flat_map}
 use Rattle.std.specs.Io.KnownBytes.{Appends, Consumes, IsAtEnd, Keeps}
-use Rattle.nfs_core.specs.declared.entry.Entry.{Entry}
+use Rattle.nfs_state.specs.declared.entry.Entry.{Entry}
 use Rattle.nfs_rpc.specs.Records.{Splits}
 use Rattle.nfs_tree.specs.Tree.{Files}
 use Rattle.nfs_server.specs.declared.serve_error.ServeError.{ServeError}

@@ -1,7 +1,7 @@
 -- The entries that the journal of a core gains when the core is asked questions as a service.
 use Rattle.std.specs.Prelude.{◌≡◌, ◌≢◌, ◌⊎◌, List, [], ◌∷◌, ◌++◌}
-use Rattle.nfs_core.specs.declared.entry.Entry.{Entry}
-use Rattle.nfs_core.specs.Step.{entry_of, resource}
+use Rattle.nfs_state.specs.declared.entry.Entry.{Entry}
+use Rattle.nfs_state.specs.Entries.{entry_of, resource}
 use Rattle.nfs_server.specs.Asking.{Asks, GivenByCore, Question}
 use Rattle.nfs_server.specs.declared.service.Lent.{Lent}
 use Rattle.nfs_xdr.specs.declared.op_result.OpResult.{OpResult}

@@ -2,8 +2,8 @@ ghost use Rattle.std.specs.Prelude.{◌≡◌, ◌<◌, ◌≤◌, IsTrue, IfSom
 ghost use Rattle.nfs_xdr.specs.Op.{has_entry};
 ghost use Rattle.nfs_server.specs.Asking.{GivenByCore, Question};
 ghost use Rattle.nfs_server.specs.Entries.{QuestionsAreEntries};
-ghost use Rattle.nfs_core.specs.Step.{request_of};
-ghost use Rattle.nfs_core.specs.declared.core_state.TheConstants.{ANSWER_LIMIT};
+ghost use Rattle.nfs_state.specs.Entries.{request_of};
+ghost use Rattle.nfs_state.specs.declared.entry.TheConstants.{ANSWER_LIMIT};
 ghost use Rattle.nfs_tree.specs.Tree.{node_count};
 ghost use Rattle.nfs_tree.specs.declared.node.Node.{Node};
 ghost use Rattle.nfs_xdr.specs.declared.op_result.OpResult.{OpResult};

@@ -1,8 +1,8 @@
 use Rattle.std.proofs.Common.{rules, ◌∙◌, ap, refl}
 use Rattle.std.proofs.Common.{inl}
-use Rattle.nfs_core.specs.Room.{state_of}
-use Rattle.nfs_core.specs.Step.{entry_of, with_entry}
-use Rattle.nfs_core.specs.operations.{IsRuled}
+use Rattle.nfs_state.specs.Room.{state_of}
+use Rattle.nfs_state.specs.Entries.{entry_of, with_entry}
+use Rattle.nfs_rules.specs.operations.{IsRuled}
 use Rattle.nfs_core.proofs.Journals.{decides_something, limited, none_follows}
 use Rattle.nfs_core.proofs.core_state.enter.Goals as goal
 

@@ -1,4 +1,4 @@
-use Rattle.nfs_core.specs.Room.{state_of, stored_of}
+use Rattle.nfs_state.specs.Room.{state_of, stored_of}
 use Rattle.nfs_core.proofs.Journals.{Lawful-applies, Lawful-confirm, Lawful-same, Lawful-state}
 use Rattle.nfs_core.proofs.core_state.Core.apply.Goals as goal
 use Rattle.nfs_core.proofs.core_state.Core.apply.Goals.{in-Ok-enter, in-Err}

@@ -1,9 +1,0 @@
-use Rattle.std.proofs.Common.{◌≡◌}
-use Rattle.nfs_core.specs.State.{files_below}
-use Rattle.nfs_core.proofs.stored_files.StoredFiles.of_tree.Given as goal
-
--- these are the files among the nodes visited so far
-abbrev pub invariant-loop-node : goal.invariant-loop-node
-invariant-loop-node l = record {
-  files : l.files.items ≡ files_below l.tree.nodes l.node;
-}

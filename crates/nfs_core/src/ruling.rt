@@ -1,9 +1,0 @@
-use crate::change::Change;
-use nfs_xdr::OpResult;
-
-/// The answer of a sequenced operation's own rule, and what it changes.
-#[derive(Debug, Drop)]
-pub(crate) struct Ruling {
-    pub(crate) answer: OpResult,
-    pub(crate) change: Change,
-}

@@ -1,0 +1,232 @@
+-- What an OPEN opens, in the state without an owner that starts anew.
+use Rattle.std.proofs.Common.{◌≡◌, ◌≢◌, ℕ, zero, suc, ◌<◌, Bool, true, false, Option, Some, None, Result, Ok, Err, List, [], ◌∷◌, length, refl, sym, ap, ◌∙◌, arith}
+use Rattle.std.specs.Prelude.{◌&&◌, ◌||◌, ◌==◌, IsTrue, map, not, nat_lt, is_some, option_map, if◌then◌else◌}
+use Rattle.std.proofs.lemmas.Bool.{lt-ltb}
+use Rattle.std.proofs.lemmas.List.{length-map}
+use Rattle.nfs_rules.specs.declared.passage.Passage.{Passage}
+use Rattle.nfs_rules.specs.declared.passage.Passage.TheVariants as passages
+use Rattle.nfs_state.specs.declared.change.Change.TheVariants.{Opens}
+use Rattle.nfs_rules.specs.declared.operations.«open».Opening.{Opening}
+use Rattle.nfs_rules.specs.declared.ruling.Ruling.{Ruling}
+use Rattle.nfs_rules.specs.operations.Open.{◌>>=◌, answer_of, file_at, found_by, has_open_place, has_owner_place, name_of, opening, refusal_of_target, ruling_of, share_asked, stateid_after, unless_delegated, unless_denied}
+use Rattle.nfs_rules.specs.operations.OpenGrant.{granted, granted_stateid}
+use Rattle.nfs_state.specs.Entries.{resource}
+use Rattle.nfs_state.specs.declared.tables.Tables.{Tables}
+use Rattle.nfs_state.specs.Owners.{owner_of, without_owner}
+use Rattle.nfs_rules.specs.Deciding.{IsPassage}
+use Rattle.nfs_state.specs.Room.{state_of}
+use Rattle.nfs_state.specs.Stored.{known_owner}
+use Rattle.nfs_owners.specs.declared.owner.Owner.{Owner}
+use Rattle.nfs_owners.specs.declared.owner.TheConstants.{OWNER_LIMIT}
+use Rattle.nfs_owners.specs.Owner as stored
+use Rattle.nfs_owners.specs.Owners as stored_owners
+use Rattle.nfs_owners.specs.Owners.{has_place}
+use Rattle.nfs_rules.specs.Sequences as sequences
+use Rattle.nfs_rules.specs.Sequences.{before_own}
+use Rattle.nfs_state.specs.State.{State, History}
+use Rattle.nfs_rules.specs.Stateids as stateids
+use Rattle.nfs_owners.specs.Registry.{record_of, was_given}
+use Rattle.nfs_rules.specs.Stateids.{is_special, target_in, target_of}
+use Rattle.nfs_share.specs.AllOpens.{OpenAt, named_in, opens_of}
+use Rattle.nfs_share.specs.declared.open_state.OpenState.{OpenState}
+use Rattle.nfs_share.specs.declared.share.Share.{Share}
+use Rattle.nfs_share.specs.Opens.{is_of, is_refused, open_of, without}
+use Rattle.nfs_share.specs.Share.{share_of_numbers}
+use Rattle.nfs_tree.specs.Tree.{found_or, resolved}
+use Rattle.nfs_forms.specs.declared.claim.Claim.{Claim}
+use Rattle.nfs_forms.specs.declared.claim.Claim.TheVariants as claims
+use Rattle.nfs_forms.specs.declared.answer.Answer.TheVariants.{Done, Refused}
+use Rattle.nfs_forms.specs.declared.open_how.OpenHow.{OpenHow}
+use Rattle.nfs_forms.specs.declared.open_how.OpenHow.TheVariants as hows
+use Rattle.nfs_forms.specs.declared.open_owner.OpenOwner.{OpenOwner}
+use Rattle.nfs_forms.specs.declared.operations.«open».Open.{Open}
+use Rattle.nfs_forms.specs.declared.stateid.Stateid.{Stateid}
+use Rattle.nfs_forms.specs.declared.status.Refusal.{Refusal}
+use Rattle.nfs_forms.specs.declared.status.Refusal.TheVariants as refusals
+use Rattle.nfs_xdr.specs.declared.op.Op.TheVariants as ops
+use Rattle.nfs_xdr.specs.declared.op_result.OpResult.{OpResult}
+use Rattle.nfs_xdr.specs.declared.op_result.OpResult.TheVariants as results
+
+-- the opens of a node that are left are among those of all nodes that are left
+pub opens_without : (test : OpenState → Bool) (node : ℕ) (opens : List (List OpenState)) → opens_of node (map (without test) opens) ≡ without test (opens_of node opens)
+opens_without test node [] = refl
+opens_without test zero (of_first ∷ opens) = refl
+opens_without test (suc node) (of_first ∷ opens) = opens_without test node opens
+
+-- an owner's own opens refuse it nothing
+pub refused_without : (owner : OpenOwner) (share : Share) (opens : List OpenState) → is_refused owner share (without (is_of owner) opens) ≡ is_refused owner share opens
+refused_without owner share [] = refl
+refused_without owner share (o ∷ opens) = grind (arith, refused_without owner share opens)
+
+-- without its opens an owner has none
+pub none_without : (owner : OpenOwner) (opens : List OpenState) → open_of owner (without (is_of owner) opens) ≡ None
+none_without owner [] = refl
+none_without owner (o ∷ opens) = by (none_without owner opens) (is_of owner o) refl
+  where
+    by : open_of owner (without (is_of owner) opens) ≡ None → (b : Bool) → is_of owner o ≡ b → open_of owner (without (is_of owner) (o ∷ opens)) ≡ None
+    by rest true is = grind (arith, is, rest)
+    by rest false is = grind (arith, is, rest)
+
+-- no open that a stateid names is a delegation
+refused_in : (found : Option OpenAt) → refusal_of_target (target_in found) ≡ refusals.BadStateId
+refused_in None = refl
+refused_in (Some at) = refl
+
+refusal_same : (epoch : ℕ) (state : State) (name : OpenOwner) (id : Stateid) → refusal_of_target (target_of epoch (sequences.without name state) id) ≡ refusal_of_target (target_of epoch state id)
+refusal_same epoch state name id =
+    grind (arith, refused_in (named_in id (sequences.without name state).opens), refused_in (named_in id state.opens))
+
+delegated_same : (journal : History) (state : State) (name : OpenOwner) (claim : Claim) (node : ℕ) → unless_delegated journal (sequences.without name state) claim node ≡ unless_delegated journal state claim node
+delegated_same journal state name (claims.DelegateCur id file) node = ap Err (refusal_same journal.epoch state name id)
+delegated_same journal state name claim node = refl
+
+denied_same : (state : State) (name : OpenOwner) (share : Share) (node : ℕ) → unless_denied (sequences.without name state) name share node ≡ unless_denied state name share node
+denied_same state name share node =
+    ap (λ b. if b then Err refusals.ShareDenied else Ok (record { node = node; share = share }))
+    (ap (is_refused name share) (opens_without (is_of name) node state.opens) ∙ refused_without name share (opens_of node state.opens))
+
+and_so : {A B : Type 0} (r : Result A Refusal) (f g : A → Result B Refusal) → ((a : A) → f a ≡ g a) → (r >>= f) ≡ (r >>= g)
+and_so (Err refusal) f g same = refl
+and_so (Ok a) f g same = same a
+
+without_same : (journal : History) (state : State) (directory : ℕ) (args : Open) → opening journal (sequences.without args.owner state) directory args ≡ opening journal state directory args
+without_same journal state directory args =
+    let left = sequences.without args.owner state in
+    and_so (name_of args.claim) _ _ λ name.
+    and_so (share_asked (share_of_numbers args.access args.deny)) _ _ λ share.
+    and_so (found_by args.how (resolved journal.nodes directory name)) _ _ λ found.
+    and_so (file_at journal args.how found) _ _ λ file.
+    ap (λ r. r >>= λ node. unless_denied left args.owner share node) (delegated_same journal state args.owner args.claim file)
+    ∙ and_so (unless_delegated journal state args.claim file) _ _ (denied_same state args.owner share)
+
+-- an owner that starts anew opens the same, and has the same refusals
+pub opening_same : (passage : Passage) (journal : History) (state : State) (directory : ℕ) (args : Open) → opening journal (before_own passage args.owner state) directory args ≡ opening journal state directory args
+opening_same passages.Restarts journal state directory args = without_same journal state directory args
+opening_same passage journal state directory args = refl
+
+-- an owner that starts anew has no open
+pub none_left : (passage : Passage) (owner : OpenOwner) (node : ℕ) (state : State) → passage ≡ passages.Restarts → None ≡ open_of owner (opens_of node (before_own passage owner state).opens)
+none_left passages.Restarts owner node state is =
+    sym (ap (open_of owner) (opens_without (is_of owner) node state.opens) ∙ none_without owner (opens_of node state.opens))
+none_left passage owner node state is = absurd cc
+
+-- a CLAIM_DELEGATE_CUR is refused
+pub delegated_refused : (journal : History) (state : State) (claim : Claim) (id : Stateid) (name : List ℕ) (node epoch : ℕ) (found : stateids.Target) (refusal : Refusal)
+    → claim ≡ claims.DelegateCur id name → epoch ≡ journal.epoch → found ≡ target_of epoch state id → refusal ≡ refusal_of_target found
+    → Err refusal ≡ unless_delegated journal state claim node
+delegated_refused journal state claim id name node epoch found refusal claims_it is_epoch is_found is =
+    ap Err (is ∙ ap refusal_of_target (is_found ∙ ap (λ e. target_of e state id) is_epoch))
+    ∙ ap (λ c. unless_delegated journal state c node) (sym claims_it)
+
+-- No refusal of OPEN's own rule is NFS4ERR_RESOURCE.
+err_is : {A : Type 0} (a b : Refusal) → ◌≡◌ {A = Result A Refusal} (Err a) (Err b) → a ≡ b
+err_is a b same = search same
+
+and_never : {A B : Type 0} (r : Result A Refusal) (f : A → Result B Refusal) → (r ≡ Err refusals.Resource → ⊥) → ((a : A) → f a ≡ Err refusals.Resource → ⊥) → (r >>= f) ≡ Err refusals.Resource → ⊥
+and_never (Err refusal) f never then_never is = never (ap Err (err_is refusal refusals.Resource is))
+and_never (Ok a) f never then_never is = then_never a is
+
+name_never : (claim : Claim) → name_of claim ≡ Err refusals.Resource → ⊥
+name_never (claims.Null name) is = absurd cc
+name_never claim is = absurd cc
+
+share_never : (share : Option Share) → share_asked share ≡ Err refusals.Resource → ⊥
+share_never None is = absurd cc
+share_never (Some share) is = absurd cc
+
+found_never : (how : OpenHow) (r : Result ℕ Refusal) → (r ≡ Err refusals.Resource → ⊥) → found_by how r ≡ Err refusals.Resource → ⊥
+found_never (hows.Create how) (Err refusals.NoEnt) never is = absurd cc
+found_never how r never is = never is
+
+child_never : (found : Option ℕ) → found_or refusals.NoEnt found ≡ Err refusals.Resource → ⊥
+child_never None is = absurd cc
+child_never (Some node) is = absurd cc
+
+resolved_never : (a b c : Bool) (found : Option ℕ) → (if a then Err refusals.NotDir else if b then Err refusals.Inval else if c then Err refusals.NameTooLong else found_or refusals.NoEnt found) ≡ Err refusals.Resource → ⊥
+resolved_never true b c found is = absurd cc
+resolved_never false true c found is = absurd cc
+resolved_never false false true found is = absurd cc
+resolved_never false false false found is = child_never found is
+
+file_never : (a b : Bool) (node : ℕ) → (if a then Err refusals.IsDir else if b then Err refusals.Exist else Ok node) ≡ Err refusals.Resource → ⊥
+file_never true b node is = absurd cc
+file_never false true node is = absurd cc
+file_never false false node is = absurd cc
+
+target_never : (a b c d : Bool) (found : Option OpenAt) → refusal_of_target (if a then stateids.Refused refusals.BadStateId else if b then stateids.Refused refusals.StaleStateId else if c then stateids.Refused refusals.BadStateId else if d then stateids.Refused refusals.Expired else target_in found) ≡ refusals.Resource → ⊥
+target_never true b c d found is = absurd cc
+target_never false true c d found is = absurd cc
+target_never false false true d found is = absurd cc
+target_never false false false true found is = absurd cc
+target_never false false false false None is = absurd cc
+target_never false false false false (Some at) is = absurd cc
+
+delegated_never : (journal : History) (state : State) (claim : Claim) (node : ℕ) → unless_delegated journal state claim node ≡ Err refusals.Resource → ⊥
+delegated_never journal state (claims.DelegateCur id name) node is =
+    target_never (is_special id) (not (id.client.epoch == journal.epoch)) (not (was_given id.client.number state.clients)) (not (is_some (record_of id.client state.clients))) (named_in id state.opens) (err_is _ refusals.Resource is)
+delegated_never journal state claim node is = absurd cc
+
+denied_never : (b : Bool) (opened : Opening) → (if b then Err refusals.ShareDenied else Ok opened) ≡ Err refusals.Resource → ⊥
+denied_never true opened is = absurd cc
+denied_never false opened is = absurd cc
+
+opening_never : (journal : History) (state : State) (directory : ℕ) (args : Open) → opening journal state directory args ≡ Err refusals.Resource → ⊥
+opening_never journal state directory args =
+    and_never (name_of args.claim) _ (name_never args.claim) λ name.
+    and_never (share_asked (share_of_numbers args.access args.deny)) _ (share_never (share_of_numbers args.access args.deny)) λ share.
+    and_never (found_by args.how (resolved journal.nodes directory name)) _ (found_never args.how (resolved journal.nodes directory name) (resolved_never _ _ _ _)) λ found.
+    and_never (file_at journal args.how found) _ (file_never _ _ found) λ file.
+    and_never (unless_delegated journal state args.claim file) _ (delegated_never journal state args.claim file) λ node.
+    denied_never _ _
+
+refused_is : (a b : Refusal) → results.Open (Refused a) ≡ results.Open (Refused b) → a ≡ b
+refused_is a b same = search same
+
+pub not_resource : (journal : History) (state : State) (directory : ℕ) (args : Open) (refusal : Refusal) (answer : OpResult) → opening journal state directory args ≡ Err refusal → answer ≡ results.Open (Refused refusal) → answer ≢ resource (ops.Open args)
+not_resource journal state directory args refusal answer refuses is same =
+    opening_never journal state directory args (refuses ∙ ap Err (refused_is refusal refusals.Resource (sym is ∙ same)))
+
+-- what the rule gives for an OPEN without a refusal
+pub ruled_by : (passage : Passage) (state : State) (owner : OpenOwner) (o : Opening) → option_map {U = Ruling} (λ id. record { answer = granted passage id; change = Opens o.node owner o.share }) (granted_stateid passage state owner o.node) ≡ ruling_of state passage owner (Ok o)
+ruled_by passage state owner o = by (has_owner_place passage state && has_open_place state owner o.node)
+  where
+    by : (b : Bool) → option_map {U = Ruling} (λ id. record { answer = granted passage id; change = Opens o.node owner o.share }) (if b then Some (stateid_after state owner (open_of owner (opens_of o.node state.opens))) else None)
+        ≡ (if b then Some (record { answer = results.Open (Done (answer_of state passage owner o.node)); change = Opens o.node owner o.share }) else None)
+    by true = refl
+    by false = refl
+
+-- Whether there is a place for the owner: how many other owners there are matters only to one that starts anew.
+known_seen : (name : OpenOwner) (owners : List Owner) → is_some (owner_of name (map known_owner owners)) ≡ stored.is_known name owners
+known_seen name [] = refl
+known_seen name (o ∷ owners) = by (known_seen name owners) (stored.has_name name o) refl
+  where
+    by : is_some (owner_of name (map known_owner owners)) ≡ stored.is_known name owners → (b : Bool) → stored.has_name name o ≡ b → is_some (owner_of name (map known_owner (o ∷ owners))) ≡ stored.is_known name (o ∷ owners)
+    by rest true is = grind (arith, is)
+    by rest false is = grind (arith, is, rest)
+
+others_seen : (name : OpenOwner) (owners : List Owner) → length (without_owner name (map known_owner owners)) ≡ length (stored_owners.without_owner name owners)
+others_seen name [] = refl
+others_seen name (o ∷ owners) = by (others_seen name owners) (stored.has_name name o) refl
+  where
+    by : length (without_owner name (map known_owner owners)) ≡ length (stored_owners.without_owner name owners) → (b : Bool) → stored.has_name name o ≡ b → length (without_owner name (map known_owner (o ∷ owners))) ≡ length (stored_owners.without_owner name (o ∷ owners))
+    by rest true is = grind (arith, is, rest)
+    by rest false is = grind (arith, is, rest)
+
+known_place : (known below : Bool) → known ≡ true → known || below ≡ true
+known_place true below is = refl
+known_place false below is = absurd cc
+
+new_place : (known below : Bool) → known ≡ false → known || below ≡ below
+new_place true below is = absurd cc
+new_place false below is = refl
+
+pub owner_place : (passage : Passage) (name : OpenOwner) (tables : Tables) (place : Bool) → IsPassage passage name (state_of tables)
+    → place ≡ has_place name tables.owners.owners → (IsTrue place → length (stored_owners.without_owner name tables.owners.owners) < OWNER_LIMIT)
+    → place ≡ has_owner_place passage (before_own passage name (state_of tables))
+owner_place passages.Continues name tables place known is left = is ∙ known_place _ _ (sym (known_seen name tables.owners.owners) ∙ known)
+owner_place passages.Begins name tables place unknown is left =
+    is ∙ new_place _ _ (sym (known_seen name tables.owners.owners) ∙ unknown)
+    ∙ ap (λ n. nat_lt n OWNER_LIMIT) (sym (length-map tables.owners.owners known_owner))
+owner_place passages.Restarts name tables place known is left =
+    let has : place ≡ true = is ∙ known_place _ _ (sym (known_seen name tables.owners.owners) ∙ known) in
+    has ∙ sym (lt-ltb _ _ (omega (arith, left has, others_seen name tables.owners.owners)))

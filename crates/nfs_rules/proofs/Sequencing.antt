@@ -1,0 +1,134 @@
+-- What is found of an owner among the stored ones is what the rules find among the known ones.
+use Rattle.std.proofs.Common.{◌≡◌, ℕ, Bool, true, false, Option, Some, None, List, [], ◌∷◌, refl, sym, ap, ◌∙◌, subst, length, ◌≤◌, arith}
+use Rattle.std.specs.Prelude.{◌≢◌, ◌&&◌, not, map, find, option_map, is_some, if◌then◌else◌}
+use Rattle.std.specs.List.{AllByRecursion}
+use Rattle.nfs_rules.specs.Deciding.{HasPassage}
+use Rattle.nfs_state.specs.Entries.{IsSendable}
+use Rattle.nfs_rules.specs.Finding.{stored_or_bad}
+use Rattle.nfs_state.specs.Kept.{Agrees, IsKeptIn}
+use Rattle.nfs_state.specs.Owners.{KnownOwner, confirmed_if_known, has_name, is_confirmed, owner_of}
+use Rattle.nfs_rules.specs.declared.passage.Passage.TheVariants as passages
+use Rattle.nfs_state.specs.declared.request.Request.{Request}
+use Rattle.nfs_state.specs.Room.{is_known}
+use Rattle.nfs_rules.specs.Sequences.{IsOfKnown, IsOfOwner, IsOfUnknown, IsRestart, Sequence, Answered, GoesOn, by_verdict, has_closed, is_open, owner_or_bad, refusal_to}
+use Rattle.nfs_state.specs.Kept.{kept_for}
+use Rattle.nfs_state.specs.State.{State, History}
+use Rattle.nfs_state.specs.Stored.{known_owner}
+use Rattle.nfs_forms.specs.declared.open_owner.OpenOwner.{OpenOwner}
+use Rattle.nfs_forms.specs.declared.stateid.Stateid.{Stateid}
+use Rattle.nfs_forms.specs.declared.status.Refusal.{Refusal}
+use Rattle.nfs_forms.specs.declared.status.Refusal.TheVariants as refusals
+use Rattle.nfs_owners.specs.declared.kept.Kept.{Kept}
+use Rattle.nfs_owners.specs.declared.kept.KeptRequest.{KeptRequest}
+use Rattle.nfs_owners.specs.declared.kept.Verdict.{Verdict}
+use Rattle.nfs_owners.specs.declared.kept.Verdict.TheVariants as verdicts
+use Rattle.nfs_owners.specs.declared.owner.Owner.{Owner}
+use Rattle.nfs_owners.specs.Kept.{IsAgain, closes, request_of}
+use Rattle.nfs_owners.specs.Owner as owners
+use Rattle.nfs_xdr.specs.declared.op.Op.{Op}
+use Rattle.nfs_xdr.specs.declared.op.Op.TheVariants as ops
+use Rattle.nfs_xdr.specs.declared.op_result.OpResult.{OpResult}
+use Rattle.nfs_xdr.specs.Op.{opnum_of}
+use Rattle.nfs_xdr.specs.OpResult.{op_result, refusal_of}
+
+-- where a test tells of known owners what another tells of the stored ones, both find the same owner
+find_known : (p : KnownOwner → Bool) (q : Owner → Bool) (stored : List Owner) → AllByRecursion (λ o. p (known_owner o) ≡ q o) stored → find p (map known_owner stored) ≡ option_map known_owner (find q stored)
+find_known p q [] same = refl
+find_known p q (o ∷ stored) same = grind (arith, same.0, find_known p q stored same.1)
+
+stored_as_known : (found : Option Owner) → owner_or_bad (option_map known_owner found) ≡ stored_or_bad found
+stored_as_known None = refl
+stored_as_known (Some o) = refl
+
+some_same : (a b : Owner) → Some a ≡ Some b → a ≡ b
+some_same a b same = cc
+
+all_of : (P : Owner → Type 0) → ((o : Owner) → P o) → (stored : List Owner) → AllByRecursion P stored
+all_of P each [] = tt
+all_of P each (o ∷ stored) = (each o, all_of P each stored)
+
+pub owner_known : (name : OpenOwner) (stored : List Owner) → owner_of name (map known_owner stored) ≡ option_map known_owner (owners.owner_of name stored)
+owner_known name stored = find_known (has_name name) (owners.has_name name) stored (all_of _ (λ o. refl) stored)
+
+pub confirmed_known : (name : OpenOwner) (stored : List Owner) (found : Option Owner) → found ≡ owners.owner_of name stored → is_confirmed name (map known_owner stored) ≡ confirmed_if_known (option_map known_owner found)
+confirmed_known name stored found is = ap confirmed_if_known (owner_known name stored ∙ ap (option_map known_owner) (sym is))
+
+-- what holds of each owner holds of one that is found
+found_has : (P : Owner → Type 0) (p : Owner → Bool) (stored : List Owner) (o : Owner) → AllByRecursion P stored → find p stored ≡ Some o → P o
+found_has P p [] o all found = absurd cc
+found_has P p (first ∷ stored) o all found = by (λ found. found_has P p stored o all.1 found) (p first) found
+  where
+    by : (find p stored ≡ Some o → P o) → (b : Bool) → (if b then Some first else find p stored) ≡ Some o → P o
+    by rest true found = subst P (some_same first o found) all.0
+    by rest false found = rest found
+
+-- what is kept for the known owner is what is stored of it
+pub kept_found : (journal : History) (name : OpenOwner) (stored : List Owner) (o : Owner) → Agrees journal stored → owners.owner_of name stored ≡ Some o → IsKeptIn journal o
+kept_found journal name stored o agrees found = found_has (IsKeptIn journal) (owners.has_name name) stored o agrees found
+
+-- the owner whose kept entry closed the stateid's open is the one whose stored request did
+closed_same : (journal : History) (id : Stateid) (stored : List Owner) → Agrees journal stored → AllByRecursion (λ o. has_closed id (kept_for journal (known_owner o)) ≡ closes id.client id.number o.kept) stored
+closed_same journal id [] agrees = tt
+closed_same journal id (o ∷ stored) agrees = (ap (has_closed id) (agrees.0.entry), closed_same journal id stored agrees.1)
+
+pub closer_known : (journal : History) (id : Stateid) (stored : List Owner) → Agrees journal stored → owner_or_bad (find (λ o. has_closed id (kept_for journal o)) (map known_owner stored)) ≡ stored_or_bad (find (λ o. closes id.client id.number o.kept) stored)
+closer_known journal id stored agrees =
+    ap owner_or_bad (find_known (λ o. has_closed id (kept_for journal o)) (λ o. closes id.client id.number o.kept) stored (closed_same journal id stored agrees))
+    ∙ stored_as_known (find (λ o. closes id.client id.number o.kept) stored)
+
+-- The last request again has the same operation, whose answer can be sent as before.
+pub replay_sendable : (kept : Kept) (seqid : ℕ) (op : Op) (filehandle : Option ℕ) (answer : OpResult) → IsSendable kept.request.op kept.answer → IsAgain kept seqid (request_of op filehandle) → answer ≡ kept.answer → IsSendable op answer
+replay_sendable kept seqid op filehandle answer sendable again is =
+    let same : op ≡ kept.request.op = ap (λ (r : KeptRequest). r.op) again.1 in
+    rw (same, is) sendable
+
+-- A refusal with another status is another answer.
+refused_once : (op : Op) (r s : Refusal) → refusal_of (opnum_of op) r ≡ refusal_of (opnum_of op) s → r ≡ s
+refused_once (ops.Open args) r s same = cc
+refused_once op r s same = cc
+
+pub refusal_sendable : (op : Op) (refusal : Refusal) (answer : OpResult) → refusal ≢ refusals.Resource → answer ≡ refusal_of (opnum_of op) refusal → op_result.Fits answer → length (op_result.spelling answer) ≤ 12 → IsSendable op answer
+refusal_sendable op refusal answer other is form short = record {
+  not_resource = λ same. other (refused_once op refusal refusals.Resource (sym is ∙ same));
+  form = form;
+  short = omega (arith, short);
+}
+
+-- A sequence that the stored owner gives is one that the known owner gives.
+pub known_sequence : (journal : History) (name : OpenOwner) (stored : List Owner) (o : Owner) (request : Request) (s : Sequence) → Agrees journal stored → owners.owner_of name stored ≡ Some o → IsOfKnown (is_open request.op && not o.confirmed) o.kept name request s → IsOfOwner journal (owner_of name (map known_owner stored)) name request s
+known_sequence journal name stored o request s agrees found is =
+    let of_owner : Option KnownOwner → Type 0 = λ known. IsOfOwner journal known name request s in
+    subst of_owner (sym (owner_known name stored ∙ ap (option_map known_owner) found)) (o.kept, (kept_found journal name stored o agrees found).entry, is)
+
+pub unknown_sequence : (journal : History) (name : OpenOwner) (stored : List Owner) (request : Request) (s : Sequence) → owners.owner_of name stored ≡ None → IsOfUnknown name request s → IsOfOwner journal (owner_of name (map known_owner stored)) name request s
+unknown_sequence journal name stored request s none is =
+    let of_owner : Option KnownOwner → Type 0 = λ known. IsOfOwner journal known name request s in
+    subst of_owner (sym (owner_known name stored ∙ ap (option_map known_owner) none)) is
+
+-- How a request goes on fits what is known of its owner.
+restart_passage : (state : State) (kept : Kept) (name : OpenOwner) (request : Request) (s : Sequence) → is_known name state ≡ true → IsRestart kept name request s → HasPassage state s
+restart_passage state kept name request (Answered answer) known is = tt
+restart_passage state kept name request (GoesOn passage owner) known is = rw (is.1, is.2) known
+
+verdict_passage : (state : State) (name : OpenOwner) (op : Op) (verdict : Verdict) → is_known name state ≡ true → HasPassage state (by_verdict name op verdict)
+verdict_passage state name op verdicts.New known = known
+verdict_passage state name op (verdicts.Replay answer) known = tt
+verdict_passage state name op verdicts.Bad known = tt
+
+known_passage : (b : Bool) (state : State) (kept : Kept) (name : OpenOwner) (request : Request) (s : Sequence) → is_known name state ≡ true → IsOfKnown b kept name request s → HasPassage state s
+known_passage true state kept name request s known is = restart_passage state kept name request s known is
+known_passage false state kept name request s known is = subst (HasPassage state) (sym is.2) (verdict_passage state name request.op is.0 known)
+
+pub passage_known : (state : State) (name : OpenOwner) (stored : List Owner) (o : Owner) (request : Request) (s : Sequence) → state.owners ≡ map known_owner stored → owners.owner_of name stored ≡ Some o → IsOfKnown (is_open request.op && not o.confirmed) o.kept name request s → HasPassage state s
+passage_known state name stored o request s are found is =
+    known_passage _ state o.kept name request s
+    (ap is_some (ap (owner_of name) are ∙ owner_known name stored ∙ ap (option_map known_owner) found)) is
+
+begin_passage : (b : Bool) (state : State) (name : OpenOwner) (op : Op) → is_known name state ≡ false → HasPassage state (if b then GoesOn passages.Begins name else refusal_to op refusals.BadStateId)
+begin_passage true state name op unknown = unknown
+begin_passage false state name op unknown = tt
+
+pub passage_unknown : (state : State) (name : OpenOwner) (stored : List Owner) (request : Request) (s : Sequence) → state.owners ≡ map known_owner stored → owners.owner_of name stored ≡ None → IsOfUnknown name request s → HasPassage state s
+passage_unknown state name stored request s are none is =
+    subst (HasPassage state) (sym is) (begin_passage (is_open request.op) state name request.op
+    (ap is_some (ap (owner_of name) are ∙ owner_known name stored ∙ ap (option_map known_owner) none)))

@@ -1,0 +1,5 @@
+use Rattle.nfs_rules.proofs.Uniqueness.{ruled_once}
+use Rattle.nfs_rules.proofs.laws.at_most_one_decision.Goals as goal
+
+pub returns : goal.returns
+returns c = λ journal state request d e. ruled_once request.op journal state request d e

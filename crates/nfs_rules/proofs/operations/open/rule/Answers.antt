@@ -1,0 +1,38 @@
+use Rattle.std.proofs.Common.{◌≡◌, Ok, Err, Some, sym, ap, ◌∙◌, subst}
+use Rattle.std.specs.Prelude.{Option}
+use Rattle.nfs_rules.specs.Deciding.{Rules}
+use Rattle.nfs_state.specs.Room.{state_of}
+use Rattle.nfs_rules.specs.Sequences.{before_own}
+use Rattle.nfs_state.specs.declared.change.Change.TheVariants.{Nothing}
+use Rattle.nfs_rules.specs.declared.ruling.Ruling.{Ruling}
+use Rattle.nfs_rules.specs.operations.Open.{opening, ruling_of}
+use Rattle.nfs_rules.proofs.Opening.{not_resource, opening_same}
+use Rattle.nfs_xdr.specs.declared.op.Op.TheVariants as ops
+use Rattle.nfs_rules.proofs.operations.open.rule.Goals as goal
+
+pub returns-in-Ok : goal.returns-in-Ok
+returns-in-Ok c =
+    let args = c.args.args.now in
+    let state = state_of c.args.tables.now in
+    let seen = before_own c.args.passage args.owner state in
+    let rules : Option Ruling → Type 0 = λ r. Rules (λ ruling. ruling ≡ r) state (ops.Open args) c.grant.result in
+    let same : Ok c.in-Ok.opening ≡ opening c.args.journal.now seen c.args.directory args =
+    sym c.in-Ok.is ∙ c.find_opening.ensures ∙ sym (opening_same c.args.passage c.args.journal.now state c.args.directory args) in
+    subst rules (ap (ruling_of seen c.args.passage args.owner) same) c.grant.ensures
+
+pub returns-in-Err : goal.returns-in-Err
+returns-in-Err c =
+    let args = c.args.args.now in
+    let journal = c.args.journal.now in
+    let state = state_of c.args.tables.now in
+    let seen = before_own c.args.passage args.owner state in
+    let same : Err c.in-Err.refusal ≡ opening journal seen c.args.directory args =
+    sym c.in-Err.is ∙ c.find_opening.ensures ∙ sym (opening_same c.args.passage journal state c.args.directory args) in (
+      ap (λ a. Some (record { answer = a; change = Nothing })) c.refused.ensures.value ∙ ap (ruling_of seen c.args.passage args.owner) same,
+      record {
+        not_resource = not_resource journal seen c.args.directory args c.in-Err.refusal c.refused.result (sym same) c.refused.ensures.value;
+        form = c.refused.ensures.form;
+        short = c.refused.ensures.short;
+      },
+      tt,
+    )

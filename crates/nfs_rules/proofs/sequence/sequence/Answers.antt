@@ -1,0 +1,57 @@
+use Rattle.std.proofs.Common.{◌≡◌, None, refl, sym, ap, ◌∙◌, subst}
+use Rattle.std.specs.Option.{option_copied}
+use Rattle.std.proofs.lemmas.Result.{IfOk-weaker, on_err_weaker}
+use Rattle.std.specs.Prelude.{not, ◌&&◌}
+use Rattle.nfs_rules.specs.declared.passage.Passage.{Passage}
+use Rattle.nfs_forms.specs.declared.open_owner.OpenOwner.{OpenOwner}
+use Rattle.nfs_rules.proofs.Sequenced.{known_back}
+use Rattle.nfs_rules.specs.declared.sequence.Requester.{Requester}
+use Rattle.nfs_rules.specs.declared.sequence.Sequence.{Sequence}
+use Rattle.nfs_rules.specs.Finding.{requester_seen, sequence_seen}
+use Rattle.nfs_state.specs.Room.{state_of}
+use Rattle.nfs_rules.specs.Sequences.{GoesOn, IsOfKnown, IsSequence, is_open}
+use Rattle.nfs_rules.proofs.Sequencing.{kept_found, known_sequence, passage_known, passage_unknown, unknown_sequence}
+use Rattle.nfs_owners.specs.Owner.{owner_of}
+use Rattle.nfs_rules.proofs.sequence.sequence.Goals as goal
+
+none : (c : goal.After-begin) → owner_of c.in-Owner.name.now c.args.tables.now.owners.owners ≡ None
+none c = sym c.find.ensures ∙ ap option_copied c.in-None.is
+
+pub resume-requires : goal.resume-requires
+resume-requires c = (kept_found c.args.journal.now c.in-Owner.name.now c.args.tables.now.owners.owners c.in-Some.owner.now c.requires.kept (sym c.find.ensures ∙ ap option_copied c.in-Some.is)).sendable
+
+pub returns-in-None-clause-sequence : goal.returns-in-None-clause-sequence
+returns-in-None-clause-sequence c =
+    let is_sequence : Requester → Type 0 = λ r. IsSequence c.args.journal.now (state_of c.args.tables.now) (requester_seen r) c.args.request.now (sequence_seen c.begin.result) in
+    subst is_sequence (sym c.in-Owner.is)
+    (unknown_sequence c.args.journal.now c.in-Owner.name.now c.args.tables.now.owners.owners c.args.request.now (sequence_seen c.begin.result) (none c) c.begin.ensures.sequence)
+
+pub returns-in-None-clause-passage : goal.returns-in-None-clause-passage
+returns-in-None-clause-passage c =
+    passage_unknown (state_of c.args.tables.now) c.in-Owner.name.now c.args.tables.now.owners.owners c.args.request.now (sequence_seen c.begin.result) refl (none c) c.begin.ensures.sequence
+
+pub returns-in-Some-clause-sequence : goal.returns-in-Some-clause-sequence
+returns-in-Some-clause-sequence c =
+    let is_sequence : Requester → Sequence → Type 0 = λ r s. IsSequence c.args.journal.now (state_of c.args.tables.now) (requester_seen r) c.args.request.now (sequence_seen s) in
+    IfOk-weaker c.resume.result _ _
+    (λ s is. subst (λ r. is_sequence r s) (sym c.in-Owner.is) (known_sequence c.args.journal.now c.in-Owner.name.now c.args.tables.now.owners.owners c.in-Some.owner.now c.args.request.now (sequence_seen s) c.requires.kept (sym c.find.ensures ∙ ap option_copied c.in-Some.is) is))
+    c.resume.ensures.sequence
+
+pub returns-in-Some-clause-passage : goal.returns-in-Some-clause-passage
+returns-in-Some-clause-passage c =
+    IfOk-weaker c.resume.result _ _
+    (λ s is. passage_known (state_of c.args.tables.now) c.in-Owner.name.now c.args.tables.now.owners.owners c.in-Some.owner.now c.args.request.now (sequence_seen s) refl (sym c.find.ensures ∙ ap option_copied c.in-Some.is) is)
+    c.resume.ensures.sequence
+
+pub returns-in-Some-clause-memory : goal.returns-in-Some-clause-memory
+returns-in-Some-clause-memory c =
+    let journal = c.args.journal.now in
+    let request = c.args.request.now in
+    let name = c.in-Owner.name.now in
+    let stored = c.args.tables.now.owners.owners in
+    let o = c.in-Some.owner.now in
+    let weaker : ((passage : Passage) (other : OpenOwner) → IsOfKnown (is_open request.op && not o.confirmed) o.kept name request (GoesOn passage other) → ⊥) → (passage : Passage) (owner : OpenOwner) → IsSequence journal (state_of c.args.tables.now) (requester_seen c.args.requester) request (GoesOn passage owner) → ⊥ =
+    λ stays passage owner is.
+    let is_sequence : Requester → Type 0 = λ r. IsSequence journal (state_of c.args.tables.now) (requester_seen r) request (GoesOn passage owner) in
+    stays passage owner (known_back journal name stored o request (GoesOn passage owner) c.requires.kept (sym c.find.ensures ∙ ap option_copied c.in-Some.is) (subst is_sequence c.in-Owner.is is)) in
+    on_err_weaker c.resume.result weaker c.resume.ensures.memory

@@ -1,0 +1,72 @@
+-- What the functions that decide an operation guarantee; used only in the contracts of this crate's own functions.
+use Rattle.std.specs.Prelude.{◌≡◌, ◌≢◌, ◌≤◌, ⊤, length, Option, Some, None, Result, Ok, Err}
+use Rattle.nfs_owners.specs.declared.owners_error.OwnersError.{OwnersError}
+use Rattle.nfs_owners.specs.declared.owners_error.OwnersError.TheVariants as errors
+use Rattle.nfs_state.specs.declared.entry.TheConstants.{ANSWER_LIMIT}
+use Rattle.nfs_rules.specs.declared.decision.Decision.{Decision}
+use Rattle.nfs_state.specs.declared.request.Request.{Request}
+use Rattle.nfs_state.specs.declared.shortage.Shortage.{Shortage}
+use Rattle.nfs_state.specs.declared.shortage.Shortage.TheVariants.{Limit, Memory}
+use Rattle.nfs_rules.specs.declared.ruling.Ruling.{Ruling}
+use Rattle.nfs_state.specs.Room.{HasNumbers, HasOwnerPlace}
+use Rattle.nfs_rules.specs.Deciding.{IsPassage}
+use Rattle.nfs_rules.specs.Sequences.{Requester, Refused, Owner, Sequence, Answered, GoesOn}
+use Rattle.nfs_rules.specs.declared.passage.Passage.{Passage}
+use Rattle.nfs_state.specs.State.{State, History}
+use Rattle.nfs_core.specs.Step.{Step}
+use Rattle.nfs_state.specs.Entries.{entry_of, resource}
+use Rattle.nfs_forms.specs.declared.status.Refusal.TheVariants as refusals
+use Rattle.nfs_xdr.specs.declared.op.Op.{Op}
+use Rattle.nfs_xdr.specs.declared.op.Op.TheVariants as ops
+use Rattle.nfs_xdr.specs.declared.op_result.OpResult.{OpResult}
+use Rattle.nfs_xdr.specs.OpResult.{op_result}
+use Rattle.std.specs.Prelude.{IsFalse, IsTrue}
+use Rattle.nfs_forms.specs.declared.open_owner.OpenOwner.{OpenOwner}
+use Rattle.nfs_rules.specs.declared.passage.Passage.TheVariants as passages
+use Rattle.nfs_state.specs.Room.{is_known}
+
+-- How the owner's request goes on fits what is known of the owner.
+abbrev pub IsPassage : Passage → OpenOwner → State → Type 0
+IsPassage passages.Begins name state = IsFalse (is_known name state)
+IsPassage passage name state = IsTrue (is_known name state)
+
+-- In this state, what was decided about the operation is what its rule says. Limit is returned exactly if the rule
+-- gives no decision.
+abbrev pub Decides : (Option Decision → Type 0) → State → Op → Result Decision Shortage → Type 0
+Decides ruled state op (Ok decision) =
+    ruled (Some decision) × IsSendable op decision.answer × HasNumbers decision.change state
+    × HasOwnerPlace decision.owner state
+Decides ruled state op (Err Limit) = ruled None
+Decides ruled state op (Err Memory) = ruled None → ⊥
+
+-- an answer that is given without the operation's own rule can be sent
+abbrev pub IsSendableSequence : Op → Sequence → Type 0
+IsSendableSequence op (Answered answer) = IsSendable op answer
+IsSendableSequence op (GoesOn passage name) = ⊤
+
+-- how a request goes on fits what is known of its owner
+abbrev pub HasPassage : State → Sequence → Type 0
+HasPassage state (Answered answer) = ⊤
+HasPassage state (GoesOn passage name) = IsPassage passage name state
+
+-- An OPEN goes by the sequence id of the owner in its arguments.
+abbrev pub IsRequesterOf : Op → Requester → Type 0
+IsRequesterOf (ops.Open args) (Owner name) = name ≡ args.owner
+IsRequesterOf op requester = ⊤
+
+-- A request without an owner isn't refused with NFS4ERR_RESOURCE, which would have no entry in the journal.
+abbrev pub HasOtherRefusal : Requester → Type 0
+HasOtherRefusal (Refused refusal) = refusal ≢ refusals.Resource
+HasOtherRefusal (Owner name) = ⊤
+
+-- How an OPEN goes on fits what is known of the owner in its arguments.
+abbrev pub IsPassageOf : Op → Passage → State → Type 0
+IsPassageOf (ops.Open args) passage state = IsPassage passage args.owner state
+IsPassageOf op passage state = ⊤
+
+-- In this state, the answer and the change of the operation's own rule. Limit is returned exactly if it gives none.
+abbrev pub Rules : (Option Ruling → Type 0) → State → Op → Result Ruling Shortage → Type 0
+Rules own state op (Ok ruling) =
+    own (Some ruling) × IsSendable op ruling.answer × HasNumbers ruling.change state
+Rules own state op (Err Limit) = own None
+Rules own state op (Err Memory) = own None → ⊥

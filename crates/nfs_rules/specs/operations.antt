@@ -1,0 +1,62 @@
+-- The rules of the operations that have an entry in the journal.
+use Rattle.std.specs.Prelude.{◌≡◌, Option, None}
+use Rattle.nfs_rules.specs.declared.decision.Decision.{Decision}
+use Rattle.nfs_state.specs.declared.request.Request.{Request}
+use Rattle.nfs_rules.specs.operations.Close as close
+use Rattle.nfs_rules.specs.operations.Getattr as getattr
+use Rattle.nfs_rules.specs.operations.Open as opening
+use Rattle.nfs_rules.specs.operations.OpenConfirm as open_confirm
+use Rattle.nfs_rules.specs.operations.OpenDowngrade as open_downgrade
+use Rattle.nfs_rules.specs.operations.Setclientid as setclientid
+use Rattle.nfs_rules.specs.operations.SetclientidConfirm as confirm
+use Rattle.nfs_rules.specs.Sequences.{IsSequenced, Own, requester_of_open, requester_of_stateid}
+use Rattle.nfs_state.specs.State.{State, History}
+use Rattle.nfs_xdr.specs.declared.op.Op.{Op}
+use Rattle.nfs_xdr.specs.declared.op.Op.TheVariants as ops
+pub mod Close
+pub mod Getattr
+pub mod Open
+pub mod OpenGrant
+pub mod OpenConfirm
+pub mod OpenDowngrade
+pub mod Setclientid
+pub mod SetclientidConfirm
+
+-- the own rule of a sequenced operation
+abbrev pub own_of : Op → History → State → Own
+own_of (ops.Open args) journal state = opening.own journal state args
+own_of (ops.OpenConfirm args) journal state = open_confirm.own journal state args
+own_of (ops.OpenDowngrade args) journal state = open_downgrade.own journal state args
+own_of (ops.Close args) journal state = close.own journal state args
+own_of op journal state = λ node passage ruling. ⊥
+
+-- What the rule of an operation decides for a request, given the journal and the state; `None` if a limit would be
+-- exceeded. An operation without an entry in the journal has no rule here.
+abbrev pub IsRuled : Op → History → State → Request → Option Decision → Type 0
+IsRuled (ops.Getattr mask) journal state request decision =
+    decision ≡ getattr.rule journal state request.filehandle mask
+IsRuled (ops.Setclientid args) journal state request decision =
+    decision ≡ setclientid.rule journal state request args
+IsRuled (ops.SetclientidConfirm args) journal state request decision =
+    decision ≡ confirm.rule journal state request args
+IsRuled (ops.Open args) journal state request decision =
+    IsSequenced journal state (requester_of_open state args.owner) (opening.own journal state args)
+    request.filehandle request decision
+IsRuled (ops.OpenConfirm args) journal state request decision =
+    IsSequenced journal state (requester_of_stateid journal state args.stateid)
+    (open_confirm.own journal state args) request.filehandle request decision
+IsRuled (ops.OpenDowngrade args) journal state request decision =
+    IsSequenced journal state (requester_of_stateid journal state args.stateid)
+    (open_downgrade.own journal state args) request.filehandle request decision
+IsRuled (ops.Close args) journal state request decision =
+    IsSequenced journal state (requester_of_stateid journal state args.stateid)
+    (close.own journal state args) request.filehandle request decision
+IsRuled op journal state request decision = decision ≡ None
+
+-- For one journal, state and request the rules give at most one decision, or none.
+abbrev pub AtMostOneDecision : Type 0
+AtMostOneDecision =
+    (journal : History) (state : State) (request : Request) (d d' : Option Decision)
+    → IsRuled request.op journal state request d
+    → IsRuled request.op journal state request d'
+    → d ≡ d'

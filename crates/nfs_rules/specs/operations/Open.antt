@@ -1,0 +1,145 @@
+-- OPEN (RFC 7530, section 16.16): opens a file for an owner.
+use Rattle.std.specs.Prelude.{◌≡◌, ℕ, ◌+◌, nat_lt, Bool, true, false, ◌&&◌, ◌||◌, List, [], length, Option, Some, None, is_some, Result, Ok, Err, if◌then◌else◌}
+use Rattle.nfs_state.specs.declared.change.Change.TheVariants.{Nothing, Opens}
+use Rattle.nfs_rules.specs.declared.passage.Passage.{Passage}
+use Rattle.nfs_rules.specs.declared.passage.Passage.TheVariants.{Continues}
+use Rattle.nfs_state.specs.declared.limits.TheConstants.{OPEN_LIMIT}
+use Rattle.nfs_rules.specs.declared.operations.«open».Opening.{Opening}
+use Rattle.nfs_rules.specs.declared.ruling.Ruling.{Ruling}
+use Rattle.nfs_rules.specs.Sequences.{Own, before_own}
+use Rattle.nfs_rules.specs.Stateids as stateids
+use Rattle.nfs_rules.specs.Stateids.{Target, target_of}
+use Rattle.nfs_state.specs.State.{State, History}
+use Rattle.nfs_owners.specs.declared.owner.TheConstants.{OWNER_LIMIT}
+use Rattle.nfs_share.specs.declared.open_state.OpenState.{OpenState}
+use Rattle.nfs_share.specs.declared.share.Share.{Share}
+use Rattle.nfs_share.specs.AllOpens.{open_count, opens_of}
+use Rattle.nfs_share.specs.Opens.{is_refused, next_stateid_of, open_of}
+use Rattle.nfs_share.specs.Share.{share_of_numbers}
+use Rattle.nfs_tree.specs.Tree.{is_directory, resolved}
+use Rattle.nfs_forms.specs.declared.answer.Answer.TheVariants.{Done, Refused}
+use Rattle.nfs_forms.specs.declared.claim.Claim.{Claim}
+use Rattle.nfs_forms.specs.declared.claim.Claim.TheVariants as claims
+use Rattle.nfs_forms.specs.declared.create_how.CreateHow.TheVariants as creates
+use Rattle.nfs_xdr.specs.declared.op_result.OpResult.TheVariants as results
+use Rattle.nfs_forms.specs.declared.open_delegation.OpenDelegation.TheVariants as delegations
+use Rattle.nfs_forms.specs.declared.open_how.OpenHow.{OpenHow}
+use Rattle.nfs_forms.specs.declared.open_how.OpenHow.TheVariants as hows
+use Rattle.nfs_forms.specs.declared.open_owner.OpenOwner.{OpenOwner}
+use Rattle.nfs_forms.specs.declared.operations.«open».Open.{Open}
+use Rattle.nfs_forms.specs.declared.operations.«open».OpenOk.{OpenOk}
+use Rattle.nfs_forms.specs.declared.stateid.Stateid.{Stateid}
+use Rattle.nfs_forms.specs.declared.status.Refusal.{Refusal}
+use Rattle.nfs_forms.specs.declared.status.Refusal.TheVariants as refusals
+
+-- the first refusal, if there is one, and otherwise what follows
+infixl 10 ◌>>=◌
+abbrev pub ◌>>=◌ : {A B : Type 0} → Result A Refusal → (A → Result B Refusal) → Result B Refusal
+(Err refusal) >>= next = Err refusal
+(Ok a) >>= next = next a
+
+-- The name that the claim opens. Nothing can be reclaimed, since the server keeps no state from one run to the next:
+-- NFS4ERR_NO_GRACE. CLAIM_DELEGATE_PREV isn't supported: NFS4ERR_NOTSUPP.
+abbrev pub name_of : Claim → Result (List ℕ) Refusal
+name_of (claims.Null name) = Ok name
+name_of (claims.Previous delegation) = Err refusals.NoGrace
+name_of (claims.DelegateCur id name) = Ok name
+name_of (claims.DelegatePrev name) = Err refusals.NotSupp
+
+-- NFS4ERR_INVAL for numbers that are no access or no denial
+abbrev pub share_asked : Option Share → Result Share Refusal
+share_asked None = Err refusals.Inval
+share_asked (Some share) = Ok share
+
+-- No file can be created: where there is none with the name, OPEN4_CREATE is NFS4ERR_ACCESS.
+abbrev pub found_by : OpenHow → Result ℕ Refusal → Result ℕ Refusal
+found_by (hows.Create how) (Err refusals.NoEnt) = Err refusals.Access
+found_by how found = found
+
+-- GUARDED4 and EXCLUSIVE4 want a new file: NFS4ERR_EXIST for one that is there.
+abbrev pub wants_new : OpenHow → Bool
+wants_new (hows.Create (creates.Guarded attributes)) = true
+wants_new (hows.Create (creates.Exclusive verifier)) = true
+wants_new how = false
+
+-- Files can be opened: NFS4ERR_ISDIR for a directory, and NFS4ERR_EXIST for a file where a new one is wanted.
+abbrev pub file_at : History → OpenHow → ℕ → Result ℕ Refusal
+file_at journal how node =
+    if is_directory journal.nodes node then Err refusals.IsDir
+    else if wants_new how then Err refusals.Exist
+    else Ok node
+
+-- The delegation's stateid in a CLAIM_DELEGATE_CUR: there are no delegations, so it never names one.
+abbrev pub refusal_of_target : Target → Refusal
+refusal_of_target (stateids.Refused refusal) = refusal
+refusal_of_target found = refusals.BadStateId
+
+abbrev pub unless_delegated : History → State → Claim → ℕ → Result ℕ Refusal
+unless_delegated journal state (claims.DelegateCur id name) node =
+    Err (refusal_of_target (target_of journal.epoch state id))
+unless_delegated journal state claim node = Ok node
+
+-- NFS4ERR_SHARE_DENIED if an open of another owner conflicts with the share of this OPEN alone (section 9.9)
+abbrev pub unless_denied : State → OpenOwner → Share → ℕ → Result Opening Refusal
+unless_denied state owner share node =
+    if is_refused owner share (opens_of node state.opens) then Err refusals.ShareDenied
+    else Ok (record { node = node; share = share })
+
+-- What an OPEN under this current filehandle opens, or the first of its refusals.
+abbrev pub opening : History → State → ℕ → Open → Result Opening Refusal
+opening journal state directory args =
+    name_of args.claim >>= λ name.
+    share_asked (share_of_numbers args.access args.deny) >>= λ share.
+    found_by args.how (resolved journal.nodes directory name) >>= λ found.
+    file_at journal args.how found >>= λ file.
+    unless_delegated journal state args.claim file >>= λ node.
+    unless_denied state args.owner share node
+
+-- the stateid that the owner gets for the file: that of its open with the next seqid, or that of a new open
+abbrev pub stateid_after : State → OpenOwner → Option OpenState → Stateid
+stateid_after state owner None =
+    record { seqid = 1; client = owner.client; number = state.last_state + 1 }
+stateid_after state owner (Some o) = next_stateid_of o
+
+-- OPEN4_RESULT_LOCKTYPE_POSIX, which is 4, and OPEN4_RESULT_CONFIRM, which is 2, for an owner that isn't confirmed: one
+-- that begins, for the first time or anew
+abbrev pub rflags_of : Passage → ℕ
+rflags_of Continues = 4
+rflags_of passage = 4 + 2
+
+abbrev pub answer_of : State → Passage → OpenOwner → ℕ → OpenOk
+answer_of state passage owner node = record {
+  stateid = stateid_after state owner (open_of owner (opens_of node state.opens));
+  change = record { atomic = true; before = 0; after = 0 };
+  rflags = rflags_of passage;
+  attrset = [];
+  delegation = delegations.None;
+}
+
+-- There is a place for the owner, if this OPEN records it. An owner that starts anew has left its own place.
+abbrev pub has_owner_place : Passage → State → Bool
+has_owner_place Continues state = true
+has_owner_place passage state = nat_lt (length state.owners) OWNER_LIMIT
+
+-- the owner has an open of the file already, or there is a place for one
+abbrev pub has_open_place : State → OpenOwner → ℕ → Bool
+has_open_place state owner node =
+    is_some (open_of owner (opens_of node state.opens)) || nat_lt (open_count state.opens) OPEN_LIMIT
+
+-- the answer and the change, or `None` if a limit would be exceeded
+abbrev pub ruling_of : State → Passage → OpenOwner → Result Opening Refusal → Option Ruling
+ruling_of state passage owner (Err refusal) =
+    Some (record { answer = results.Open (Refused refusal); change = Nothing })
+ruling_of state passage owner (Ok o) =
+    if has_owner_place passage state && has_open_place state owner o.node
+    then Some (record {
+      answer = results.Open (Done (answer_of state passage owner o.node));
+      change = Opens o.node owner o.share;
+    })
+    else None
+
+-- the rule of OPEN under the current filehandle, in the state without an owner that starts anew
+abbrev pub own : History → State → Open → Own
+own journal state args node passage ruling =
+    let seen = before_own passage args.owner state in
+    ruling ≡ ruling_of seen passage args.owner (opening journal seen node args)

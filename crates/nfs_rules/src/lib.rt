@@ -1,0 +1,15 @@
+//! The rules of the operations on the state: how a request is answered, and what it changes.
+#![tactic(auto)]
+
+mod decision;
+mod demand;
+mod laws;
+mod operations;
+mod passage;
+mod ruling;
+mod sequence;
+mod stateids;
+
+pub use decision::Decision;
+pub use laws::at_most_one_decision;
+pub use operations::decide;

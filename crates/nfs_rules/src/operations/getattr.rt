@@ -1,0 +1,56 @@
+ghost use Rattle.std.specs.Prelude.{◌≡◌, ◌≤◌, ◌-◌, IfOk, length};
+ghost use Rattle.nfs_state.specs.declared.entry.TheConstants.{ANSWER_LIMIT};
+ghost use Rattle.nfs_rules.specs.operations.Getattr.{attributes, rule};
+ghost use Rattle.nfs_rules.specs.Deciding.{Decides};
+ghost use Rattle.nfs_state.specs.Entries.{IsFilehandle};
+ghost use Rattle.nfs_state.specs.Room.{state_of};
+ghost use Rattle.nfs_forms.specs.operations.Getattr as getattr;
+
+use crate::decision::Decision;
+use nfs_state::{Change, Journal, OwnerChange, Request, Shortage, Tables};
+use nfs_xdr::{Answer, Bitmap, Fattr, Op, OpResult, Refusal};
+use std::alloc::{AllocError, Global};
+
+/// Decides a GETATTR: its answer, and that it changes nothing.
+#[tactic(auto, unfolding(nfs_xdr::specs::OpResult::op_result, nfs_xdr::specs::Opnum::opnum, xdr::specs::Writing::written_number))]
+pub(super) fn decide(
+    alloc: Global,
+    tables: &Tables,
+    journal: &Journal,
+    request: &Request,
+    mask: &Bitmap,
+) -> Result<Decision, Shortage>
+    requires node { IsFilehandle journal.now request.now.filehandle }
+    ensures { Decides (λ d. d ≡ rule journal.now (state_of tables.now) request.now.filehandle mask.now)
+        (state_of tables.now) (Op.Getattr mask.now) result }
+{
+    let answer = attributes(alloc, tables, journal, mask, request.filehandle)?;
+    Ok(Decision {
+        answer: OpResult::Getattr(answer),
+        change: Change::Nothing,
+        owner: OwnerChange::Nothing,
+    })
+}
+
+#[tactic(auto, unfolding(nfs_forms::specs::Answer::answer, nfs_forms::specs::Status::status, xdr::specs::Writing::written_number))]
+fn attributes(
+    alloc: Global,
+    tables: &Tables,
+    journal: &Journal,
+    mask: &Bitmap,
+    filehandle: Option<u32>,
+) -> Result<Answer<Fattr>, AllocError>
+    requires node { IsFilehandle journal.now filehandle }
+    ensures attributes { IfOk result (λ r.
+        r ≡ attributes journal.now (state_of tables.now) filehandle mask.now) }
+    ensures short { IfOk result (λ r. length (getattr.result.spelling r) ≤ ANSWER_LIMIT - 4) }
+    ensures form { IfOk result (λ r. getattr.result.Fits r) }
+{
+    let Some(node) = filehandle else {
+        return Ok(Answer::Refused(Refusal::NoFileHandle));
+    };
+    let (change, size) = tables.change_and_size(node);
+    let tree = journal.tree();
+    let found = tree.attributes(alloc, node, mask.as_slice(), change, size, journal.lease())?;
+    Ok(Answer::Done(found))
+}

@@ -1,0 +1,55 @@
+ghost use Rattle.std.specs.Prelude.{◌≡◌, IfOk, Some};
+ghost use Rattle.nfs_state.specs.Entries.{IsSendable};
+ghost use Rattle.nfs_state.specs.Room.{HasNumbers, state_of};
+ghost use Rattle.nfs_rules.specs.declared.passage.Passage.{Passage};
+ghost use Rattle.nfs_rules.specs.operations.OpenConfirm.{own, refusal_of};
+
+use crate::demand::Demand;
+use crate::ruling::Ruling;
+use crate::stateids::{is_confirmed, verdict};
+use nfs_state::{Change, Journal, Tables};
+use nfs_xdr::operations::open_confirm::OpenConfirm;
+use nfs_xdr::{Answer, Op, OpResult, Refusal};
+use std::alloc::AllocError;
+
+/// The own rule of OPEN_CONFIRM, under the current filehandle `node`.
+pub(super) fn rule(
+    tables: &Tables,
+    journal: &Journal,
+    node: u32,
+    args: &OpenConfirm,
+) -> Result<Ruling, AllocError>
+    ensures own { IfOk result (λ r. (passage : Passage)
+        → own journal.now (state_of tables.now) args.now node passage (Some r)) }
+    ensures sendable { IfOk result (λ r. IsSendable (Op.OpenConfirm args.now) r.answer) }
+    ensures numbers { IfOk result (λ r. HasNumbers r.change (state_of tables.now)) }
+{
+    let demand = Demand {
+        node,
+        also_unconfirmed: true,
+    };
+    let found = match verdict(tables, demand, journal.epoch(), args.stateid) {
+        Err(refusal) => return Ok(refused(refusal)),
+        Ok(found) => found,
+    };
+    if is_confirmed(tables, &found.state.owner) {
+        return Ok(refused(Refusal::BadStateId));
+    }
+    Ok(Ruling {
+        answer: OpResult::OpenConfirm(Answer::Done(found.state.next_stateid())),
+        change: Change::Confirms {
+            node: found.node,
+            number: found.state.number,
+            owner: found.state.owner.clone()?,
+        },
+    })
+}
+
+fn refused(refusal: Refusal) -> Ruling
+    ensures { result ≡ refusal_of refusal }
+{
+    Ruling {
+        answer: OpResult::OpenConfirm(Answer::Refused(refusal)),
+        change: Change::Nothing,
+    }
+}

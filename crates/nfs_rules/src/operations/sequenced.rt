@@ -1,0 +1,133 @@
+//! The frame of the operations that go by the sequence id of an owner (RFC 7530, sections 9.1.7 to 9.1.11).
+
+ghost use Rattle.std.specs.Prelude.{◌≡◌, ◌<◌, ◌-◌, ◌^◌, IfOk, IsTrue};
+ghost use Rattle.nfs_rules.specs.Deciding.{Decides, HasOtherRefusal, IsPassageOf, IsRequesterOf, Rules};
+ghost use Rattle.nfs_rules.specs.Finding.{requester_seen};
+ghost use Rattle.nfs_state.specs.Kept.{Agrees};
+ghost use Rattle.nfs_state.specs.Room.{state_of};
+ghost use Rattle.nfs_rules.specs.Sequences.{IsSequenced, decision_of, counts, is_sequenced, owner_change_of};
+ghost use Rattle.nfs_state.specs.declared.change.Change.TheVariants as changes;
+ghost use Rattle.nfs_state.specs.declared.owner_change.OwnerChange.TheVariants as owner_changes;
+ghost use Rattle.nfs_rules.specs.operations.{own_of};
+
+use super::{close, open, open_confirm, open_downgrade};
+use crate::decision::Decision;
+use crate::passage::Passage;
+use crate::ruling::Ruling;
+use crate::sequence::{Requester, Sequence, sequence};
+use nfs_state::{Change, Journal, OwnerChange, Request, Shortage, Tables};
+use nfs_xdr::{Op, OpResult, OpenOwner, Refusal, Status};
+use std::alloc::{AllocError, Global};
+
+/// Decides a sequenced operation of this requester: the filehandle, the owner and its sequence id come before the
+/// operation's own rule.
+pub(super) fn decide(
+    alloc: Global,
+    tables: &Tables,
+    journal: &Journal,
+    request: &Request,
+    requester: Requester<'_>,
+) -> Result<Decision, Shortage>
+    requires refusal { HasOtherRefusal (requester_seen requester) }
+    requires sequenced { IsTrue (is_sequenced request.now.op) }
+    requires states { tables.now.numbers < 2 ^ 32 - 1 }
+    requires kept { Agrees journal.now tables.now.owners.owners }
+    requires owner { IsRequesterOf request.now.op (requester_seen requester) }
+    ensures { Decides (IsSequenced journal.now (state_of tables.now) (requester_seen requester.entry)
+        (own_of request.now.op journal.now (state_of tables.now)) request.now.filehandle request.now)
+        (state_of tables.now) request.now.op result }
+{
+    let Some(node) = request.filehandle else {
+        return Ok(unsequenced(request.op.opnum().refusal(Refusal::NoFileHandle)));
+    };
+    match sequence(tables, journal, request, requester)? {
+        Sequence::Answered(answer) => Ok(unsequenced(answer)),
+        Sequence::GoesOn(passage, name) => {
+            let ruling = rule(alloc, tables, journal, node, passage, &request.op)?;
+            Ok(decision_of(passage, name, ruling)?)
+        }
+    }
+}
+
+// An answer without the operation's own rule. It changes nothing.
+fn unsequenced(answer: OpResult) -> Decision
+    ensures { result
+        ≡ record { answer = answer; change = changes.Nothing; owner = owner_changes.Nothing } }
+{
+    Decision {
+        answer,
+        change: Change::Nothing,
+        owner: OwnerChange::Nothing,
+    }
+}
+
+// The operation's own rule, under the current filehandle `node`.
+fn rule(
+    alloc: Global,
+    tables: &Tables,
+    journal: &Journal,
+    node: u32,
+    passage: Passage,
+    op: &Op,
+) -> Result<Ruling, Shortage>
+    requires sequenced { IsTrue (is_sequenced op.now) }
+    requires states { tables.now.numbers < 2 ^ 32 - 1 }
+    requires passage { IsPassageOf op.now passage (state_of tables.now) }
+    ensures { Rules (own_of op.now journal.now (state_of tables.now) node passage)
+        (state_of tables.now) op.now result }
+{
+    match op {
+        Op::Open(args) => open::rule(alloc, tables, journal, node, passage, args),
+        Op::OpenConfirm(args) => Ok(open_confirm::rule(tables, journal, node, args)?),
+        Op::OpenDowngrade(args) => Ok(open_downgrade::rule(tables, journal, node, args)),
+        Op::Close(args) => Ok(close::rule(tables, journal, node, args)),
+        _ => unreachable!(),
+    }
+}
+
+// The ruling, and what its answer means for the owner.
+fn decision_of(passage: Passage, name: &OpenOwner, ruling: Ruling) -> Result<Decision, AllocError>
+    ensures { IfOk result (λ d. d ≡ decision_of passage name.now ruling) }
+{
+    let owner = owner_change_of(passage, name, ruling.answer.status())?;
+    Ok(Decision {
+        answer: ruling.answer,
+        change: ruling.change,
+        owner,
+    })
+}
+
+// What an answer with this status means for the owner.
+fn owner_change_of(
+    passage: Passage,
+    name: &OpenOwner,
+    status: Status,
+) -> Result<OwnerChange, AllocError>
+    ensures { IfOk result (λ c. c ≡ owner_change_of passage name.now status) }
+{
+    Ok(match passage {
+        Passage::Continues if counts(status) => OwnerChange::Keeps(name.clone()?),
+        Passage::Begins if status == Status::Ok => OwnerChange::Records(name.clone()?),
+        Passage::Restarts if status == Status::Ok => OwnerChange::Restarts(name.clone()?),
+        Passage::Restarts => OwnerChange::Drops(name.clone()?),
+        _ => OwnerChange::Nothing,
+    })
+}
+
+// Whether an answer with this status moves the owner's sequence id on (RFC 7530, section 9.1.7).
+fn counts(status: Status) -> bool
+    ensures { result ≡ counts status }
+{
+    !matches!(
+        status,
+        Status::Refused(
+            Refusal::StaleClientId
+                | Refusal::StaleStateId
+                | Refusal::BadStateId
+                | Refusal::BadSeqId
+                | Refusal::BadXdr
+                | Refusal::Resource
+                | Refusal::NoFileHandle
+        )
+    )
+}

@@ -1,0 +1,32 @@
+ghost use Rattle.std.specs.Prelude.{◌≡◌, ◌-◌, ◌^◌, ◌<◌};
+ghost use Rattle.nfs_rules.specs.operations.Setclientid.{rule};
+ghost use Rattle.nfs_rules.specs.Deciding.{Decides};
+ghost use Rattle.nfs_state.specs.Room.{state_of};
+
+use crate::decision::Decision;
+use nfs_state::{Change, Journal, OwnerChange, Request, Shortage, Tables};
+use nfs_xdr::operations::setclientid::Setclientid;
+use nfs_xdr::{Op, OpResult};
+
+/// Decides a SETCLIENTID: its answer and its change.
+#[tactic(auto, unfolding(nfs_xdr::specs::OpResult::op_result, nfs_xdr::specs::Opnum::opnum, nfs_forms::specs::Status::status, xdr::specs::Writing::written_number, nfs_forms::specs::Answer::answer, nfs_forms::specs::operations::SetclientidConfirm::arguments, nfs_forms::specs::ClientId::client_id, nfs_forms::specs::Callback::address))]
+pub(super) fn decide(
+    tables: &Tables,
+    journal: &Journal,
+    request: &Request,
+    args: &Setclientid,
+) -> Result<Decision, Shortage>
+    requires { tables.now.clients.registry.last_confirm < 2 ^ 64 - 1 }
+    ensures { Decides (λ d. d ≡ rule journal.now (state_of tables.now) request.now args.now)
+        (state_of tables.now) (Op.Setclientid args.now) result }
+{
+    let has_state = tables.record_has_state(tables.clients.confirmed_of(args.id.as_slice()));
+    let (answer, change) = tables
+        .clients
+        .set(journal.epoch(), request.principal, args, has_state)?;
+    Ok(Decision {
+        answer: OpResult::Setclientid(answer),
+        change: Change::Clients(change),
+        owner: OwnerChange::Nothing,
+    })
+}

@@ -1,0 +1,44 @@
+ghost use Rattle.std.specs.Prelude.{◌≡◌};
+ghost use Rattle.nfs_rules.specs.operations.SetclientidConfirm.{path_of, rule};
+ghost use Rattle.nfs_rules.specs.Deciding.{Decides};
+ghost use Rattle.nfs_state.specs.Room.{state_of};
+
+use crate::decision::Decision;
+use nfs_owners::PathMark;
+use nfs_state::{Change, Journal, OwnerChange, Request, Shortage, Tables};
+use nfs_tree::Callbacks;
+use nfs_xdr::operations::setclientid_confirm::SetclientidConfirm;
+use nfs_xdr::{Op, OpResult};
+
+/// Decides a SETCLIENTID_CONFIRM: its answer and its change.
+#[tactic(auto, unfolding(nfs_xdr::specs::OpResult::op_result, nfs_xdr::specs::Opnum::opnum, nfs_forms::specs::Status::status, xdr::specs::Writing::written_number, nfs_forms::specs::Answer::answer, nfs_forms::specs::operations::SetclientidConfirm::arguments, nfs_forms::specs::ClientId::client_id))]
+pub(super) fn decide(
+    tables: &Tables,
+    journal: &Journal,
+    request: &Request,
+    args: &SetclientidConfirm,
+) -> Result<Decision, Shortage>
+    ensures { Decides (λ d. d ≡ rule journal.now (state_of tables.now) request.now args.now)
+        (state_of tables.now) (Op.SetclientidConfirm args.now) result }
+{
+    let has_state = tables.record_has_state(tables.clients.holder_of(args));
+    let path = path_of(journal.policy().callbacks);
+    let (answer, change) = tables
+        .clients
+        .confirm(request.principal, args, has_state, path)?;
+    Ok(Decision {
+        answer: OpResult::SetclientidConfirm(answer),
+        change: Change::Clients(change),
+        owner: OwnerChange::Nothing,
+    })
+}
+
+// The mark for the path of a client that is confirmed by this call.
+fn path_of(callbacks: Callbacks) -> PathMark
+    ensures { result ≡ path_of callbacks }
+{
+    match callbacks {
+        Callbacks::Probe => PathMark::Unknown,
+        Callbacks::Assume => PathMark::Up,
+    }
+}

@@ -1,0 +1,9 @@
+use nfs_state::Change;
+use nfs_xdr::OpResult;
+
+/// The answer of a sequenced operation's own rule, and what it changes.
+#[derive(Debug, Drop)]
+pub(crate) struct Ruling {
+    pub(crate) answer: OpResult,
+    pub(crate) change: Change,
+}

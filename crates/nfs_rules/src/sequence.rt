@@ -1,0 +1,188 @@
+ghost use Rattle.std.specs.Prelude.{◌≡◌, ◌≢◌, ◌&&◌, not, IfOk, OnErr, find};
+ghost use Rattle.nfs_rules.specs.Finding.{requester_seen, sequence_seen, stored_or_bad};
+ghost use Rattle.nfs_rules.specs.Deciding.{HasOtherRefusal, HasPassage, IsSendableSequence};
+ghost use Rattle.nfs_state.specs.Entries.{IsSendable};
+ghost use Rattle.nfs_state.specs.Kept.{Agrees};
+ghost use Rattle.nfs_state.specs.Room.{state_of};
+ghost use Rattle.nfs_rules.specs.declared.passage.Passage.{Passage};
+ghost use Rattle.nfs_forms.specs.declared.open_owner.OpenOwner.{OpenOwner};
+ghost use Rattle.nfs_rules.specs.Sequences.{GoesOn, IsJudged, IsOfKnown, IsOfUnknown, IsRestart, IsSequence, is_open, refusal_to, requester_of_open, requester_of_stateid};
+ghost use Rattle.nfs_state.specs.Kept.{seqid_of};
+ghost use Rattle.nfs_owners.specs.Kept.{closes};
+
+use crate::passage::Passage;
+use crate::stateids::{Target, target_of};
+use nfs_owners::{Kept, Owner, Verdict};
+use nfs_state::{Journal, Request, Tables, seqid_of};
+use nfs_xdr::{Op, OpResult, OpenOwner, Refusal, Stateid};
+use std::alloc::AllocError;
+
+/// Whose sequence id a request goes by, or why it goes by none.
+#[derive(Clone, Copy, Debug)]
+pub(crate) enum Requester<'a> {
+    Refused(Refusal),
+    Owner(&'a OpenOwner),
+}
+
+/// Whether a request is answered without its own rule, or goes on to it, as one of this owner's.
+#[derive(Debug, Drop)]
+pub(crate) enum Sequence<'a> {
+    Answered(OpResult),
+    GoesOn(Passage, &'a OpenOwner),
+}
+
+/// The owner in an OPEN's arguments, if its client is known.
+pub(crate) fn requester_of_open<'a>(tables: &Tables, owner: &'a OpenOwner) -> Requester<'a>
+    ensures requester { requester_seen result
+        ≡ requester_of_open (state_of tables.now) owner.now }
+    ensures refusal { HasOtherRefusal (requester_seen result) }
+{
+    match tables.clients.of(owner.client) {
+        Some(_) => Requester::Owner(owner),
+        None => Requester::Refused(Refusal::StaleClientId),
+    }
+}
+
+/// The owner that a stateid names, also by an open that it has closed by its last request.
+pub(crate) fn requester_of_stateid<'a>(
+    tables: &'a Tables,
+    journal: &Journal,
+    stateid: Stateid,
+) -> Requester<'a>
+    requires { Agrees journal.now tables.now.owners.owners }
+    ensures requester { requester_seen result
+        ≡ requester_of_stateid journal.now (state_of tables.now) stateid }
+    ensures refusal { HasOtherRefusal (requester_seen result) }
+{
+    match target_of(tables, journal.epoch(), stateid) {
+        Target::Refused(refusal) => Requester::Refused(refusal),
+        Target::AnOpen(found) => Requester::Owner(&found.state.owner),
+        Target::NoOpen => closer_of(tables, stateid),
+    }
+}
+
+// The owner whose kept request closed the stateid's open.
+fn closer_of(tables: &Tables, stateid: Stateid) -> Requester<'_>
+    ensures { requester_seen result
+        ≡ stored_or_bad (find (λ o. closes stateid.client stateid.number o.kept)
+        tables.now.owners.owners) }
+{
+    match tables.owners.closer_of(stateid.client, stateid.number) {
+        Some(owner) => Requester::Owner(&owner.name),
+        None => Requester::Refused(Refusal::BadStateId),
+    }
+}
+
+/// Whether the request is answered already, or goes on to its own rule.
+pub(crate) fn sequence<'a>(
+    tables: &Tables,
+    journal: &Journal,
+    request: &Request,
+    requester: Requester<'a>,
+) -> Result<Sequence<'a>, AllocError>
+    requires kept { Agrees journal.now tables.now.owners.owners }
+    requires refusal { HasOtherRefusal (requester_seen requester) }
+    ensures sequence { IfOk result (λ s. IsSequence journal.now (state_of tables.now)
+        (requester_seen requester.entry) request.now (sequence_seen s)) }
+    ensures sendable { IfOk result (λ s. IsSendableSequence request.now.op (sequence_seen s)) }
+    ensures passage { IfOk result (λ s. HasPassage (state_of tables.now) (sequence_seen s)) }
+    ensures memory { OnErr result ((passage : Passage) (owner : OpenOwner)
+        → IsSequence journal.now (state_of tables.now) (requester_seen requester.entry)
+        request.now (GoesOn passage owner) → ⊥) }
+{
+    let name = match requester {
+        Requester::Refused(refusal) => return Ok(refusal_to(&request.op, refusal)),
+        Requester::Owner(name) => name,
+    };
+    match tables.owners.find(name) {
+        None => Ok(begin(request, name)),
+        Some(owner) => resume(owner, request, name),
+    }
+}
+
+// A request of an owner that isn't known: only an OPEN goes on.
+fn begin<'a>(request: &Request, name: &'a OpenOwner) -> Sequence<'a>
+    ensures sequence { IsOfUnknown name.now request.now (sequence_seen result) }
+    ensures sendable { IsSendableSequence request.now.op (sequence_seen result) }
+{
+    if is_open(&request.op) {
+        Sequence::GoesOn(Passage::Begins, name)
+    } else {
+        refusal_to(&request.op, Refusal::BadStateId)
+    }
+}
+
+// A request of an owner that is known.
+fn resume<'a>(
+    owner: &Owner,
+    request: &Request,
+    name: &'a OpenOwner,
+) -> Result<Sequence<'a>, AllocError>
+    requires { IsSendable owner.now.kept.request.op owner.now.kept.answer }
+    ensures sequence { IfOk result (λ s. IsOfKnown
+        (is_open request.now.op && not owner.now.confirmed)
+        owner.now.kept name.now request.now (sequence_seen s)) }
+    ensures sendable { IfOk result (λ s. IsSendableSequence request.now.op (sequence_seen s)) }
+    ensures memory { OnErr result ((passage : Passage) (other : OpenOwner)
+        → IsOfKnown (is_open request.now.op && not owner.now.confirmed)
+        owner.now.kept name.now request.now (GoesOn passage other) → ⊥) }
+{
+    if is_open(&request.op) && !owner.confirmed {
+        restart(&owner.kept, request, name)
+    } else {
+        judge(&owner.kept, request, name)
+    }
+}
+
+// The owner's next request goes on, its last one again is answered as it was, and any other is NFS4ERR_BAD_SEQID.
+fn judge<'a>(
+    kept: &Kept,
+    request: &Request,
+    name: &'a OpenOwner,
+) -> Result<Sequence<'a>, AllocError>
+    requires { IsSendable kept.now.request.op kept.now.answer }
+    ensures sequence { IfOk result (λ s. IsJudged kept.now name.now request.now (sequence_seen s)) }
+    ensures sendable { IfOk result (λ s. IsSendableSequence request.now.op (sequence_seen s)) }
+    ensures memory { OnErr result ((passage : Passage) (owner : OpenOwner)
+        → IsJudged kept.now name.now request.now (GoesOn passage owner) → ⊥) }
+{
+    match kept.judge(seqid_of(&request.op), &request.op, request.filehandle) {
+        Verdict::New => Ok(Sequence::GoesOn(Passage::Continues, name)),
+        Verdict::Replay(answer) => Ok(Sequence::Answered(answer.clone()?)),
+        Verdict::Bad => Ok(refusal_to(&request.op, Refusal::BadSeqId)),
+    }
+}
+
+// An OPEN of an unconfirmed owner: the last one again is answered as it was, and any other starts the owner anew.
+fn restart<'a>(
+    kept: &Kept,
+    request: &Request,
+    name: &'a OpenOwner,
+) -> Result<Sequence<'a>, AllocError>
+    requires { IsSendable kept.now.request.op kept.now.answer }
+    ensures sequence { IfOk result (λ s.
+        IsRestart kept.now name.now request.now (sequence_seen s)) }
+    ensures sendable { IfOk result (λ s. IsSendableSequence request.now.op (sequence_seen s)) }
+    ensures memory { OnErr result ((passage : Passage) (owner : OpenOwner)
+        → IsRestart kept.now name.now request.now (GoesOn passage owner) → ⊥) }
+{
+    match kept.judge(seqid_of(&request.op), &request.op, request.filehandle) {
+        Verdict::Replay(answer) => Ok(Sequence::Answered(answer.clone()?)),
+        Verdict::New | Verdict::Bad => Ok(Sequence::GoesOn(Passage::Restarts, name)),
+    }
+}
+
+// The operation is refused with this status.
+fn refusal_to<'a>(op: &Op, refusal: Refusal) -> Sequence<'a>
+    requires { refusal ≢ Refusal.Resource }
+    ensures sequence { sequence_seen result ≡ refusal_to op.now refusal }
+    ensures sendable { IsSendableSequence op.now (sequence_seen result) }
+{
+    Sequence::Answered(op.opnum().refusal(refusal))
+}
+
+fn is_open(op: &Op) -> bool
+    ensures { result ≡ is_open op.now }
+{
+    matches!(op, Op::Open(_))
+}

@@ -1,0 +1,4 @@
+pub mod KeptOwners
+pub mod OpenedFiles
+pub mod StoredOwners
+pub mod OwnerRoom

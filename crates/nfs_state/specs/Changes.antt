@@ -1,0 +1,73 @@
+-- What an entry of the journal changes in the state: first what it means for an owner, and then the operation's own
+-- change.
+use Rattle.std.specs.Prelude.{ℕ, ◌+◌, Bool, not, filter, map, is_some, if◌then◌else◌}
+use Rattle.nfs_forms.specs.ClientId.{is_same_client}
+use Rattle.nfs_forms.specs.OpenOwner.{is_same_owner}
+use Rattle.nfs_forms.specs.declared.client_id.ClientId.{ClientId}
+use Rattle.nfs_forms.specs.declared.open_owner.OpenOwner.{OpenOwner}
+use Rattle.nfs_owners.specs.ClientChange.{with_change}
+use Rattle.nfs_owners.specs.declared.clients.client_change.ClientChange.{ClientChange}
+use Rattle.nfs_owners.specs.declared.clients.client_change.ClientChange.TheVariants as client_changes
+use Rattle.nfs_share.specs.AllOpens.{opens_of, with_opens}
+use Rattle.nfs_share.specs.Opens.{after_downgrade, is_numbered, is_of_client, open_of, with_each, with_next_seqid, with_opening}
+use Rattle.nfs_share.specs.Opens as opens
+use Rattle.nfs_state.specs.Owners.{with_confirmation, with_kept_entry, with_record, without_owner}
+use Rattle.nfs_state.specs.State.{State}
+use Rattle.nfs_state.specs.declared.change.Change.{Change}
+use Rattle.nfs_state.specs.declared.change.Change.TheVariants as changes
+use Rattle.nfs_state.specs.declared.owner_change.OwnerChange.{OwnerChange}
+use Rattle.nfs_state.specs.declared.owner_change.OwnerChange.TheVariants.{Nothing, Keeps, Records, Restarts, Drops}
+
+-- the state without an owner and its opens
+abbrev pub without : OpenOwner → State → State
+without name old = record old {
+  owners = without_owner name old.owners;
+  opens = map (λ opens. filter (λ o. not (is_same_owner o.owner name)) opens) old.opens;
+}
+
+-- the state after what an entry with this number means for an owner, before the operation's own change
+abbrev pub with_owner_change : OwnerChange → ℕ → State → State
+with_owner_change Nothing number old = old
+with_owner_change (Keeps name) number old =
+    record old { owners = with_kept_entry number name old.owners }
+with_owner_change (Records name) number old = record old { owners = with_record number name old.owners }
+with_owner_change (Restarts name) number old =
+    let fresh = without name old in
+    record fresh { owners = with_record number name fresh.owners }
+with_owner_change (Drops name) number old = without name old
+
+-- The state without the owners and the opens of a client that a confirmation replaces.
+abbrev pub without_client : ClientId → State → State
+without_client client old = record old {
+  owners = filter (λ o. not (is_same_client o.name.client client)) old.owners;
+  opens = map (opens.without (is_of_client client)) old.opens;
+}
+
+abbrev pub left_by : ClientChange → State → State
+left_by (client_changes.Replaces r client) old = without_client client old
+left_by change old = old
+
+-- the number that was given last after an OPEN: only an owner's first open of a file takes one
+abbrev pub last_state_after : Bool → ℕ → ℕ
+last_state_after has_open last = if has_open then last else last + 1
+
+-- the state after an operation's own change
+abbrev pub changed : Change → State → State
+changed changes.Nothing old = old
+changed (changes.Clients change) old =
+    let left = left_by change old in
+    record left { clients = with_change change old.clients }
+changed (changes.Opens node owner share) old = record old {
+  opens = with_opens node (with_opening owner share (old.last_state + 1)) old.opens;
+  last_state = last_state_after (is_some (open_of owner (opens_of node old.opens))) old.last_state;
+}
+changed (changes.Confirms node number owner) old = record old {
+  owners = with_confirmation owner old.owners;
+  opens = with_opens node (with_each (is_numbered number) with_next_seqid) old.opens;
+}
+changed (changes.Downgrades node number share) old = record old {
+  opens = with_opens node (with_each (is_numbered number) (after_downgrade share)) old.opens;
+}
+changed (changes.Closes node number) old = record old {
+  opens = with_opens node (opens.without (is_numbered number)) old.opens;
+}

@@ -1,0 +1,44 @@
+-- Requests and answers as the journal records them.
+use Rattle.std.specs.Prelude.{◌≢◌, ◌≤◌, ℕ, ◌<◌, [], ◌∷◌, ◌++◌, length, Option, IfSome}
+use Rattle.nfs_forms.specs.declared.principal.Principal.{Principal}
+use Rattle.nfs_forms.specs.declared.status.Refusal.TheVariants.{Resource}
+use Rattle.nfs_state.specs.State.{History}
+use Rattle.nfs_state.specs.declared.entry.Call.{Call}
+use Rattle.nfs_state.specs.declared.entry.Entry.{Entry}
+use Rattle.nfs_state.specs.declared.entry.Entry.TheVariants as entries
+use Rattle.nfs_state.specs.declared.entry.TheConstants.{ANSWER_LIMIT}
+use Rattle.nfs_state.specs.declared.request.Request.{Request}
+use Rattle.nfs_tree.specs.Tree.{node_count}
+use Rattle.nfs_xdr.specs.Op.{opnum_of}
+use Rattle.nfs_xdr.specs.OpResult.{op_result, refusal_of}
+use Rattle.nfs_xdr.specs.declared.op.Op.{Op}
+use Rattle.nfs_xdr.specs.declared.op_result.OpResult.{OpResult}
+
+-- NFS4ERR_RESOURCE as the operation's result
+abbrev pub resource : Op → OpResult
+resource op = refusal_of (opnum_of op) Resource
+
+-- the current filehandle, if there is one, is that of a node of the tree
+abbrev pub IsFilehandle : History → Option ℕ → Type 0
+IsFilehandle journal filehandle = IfSome filehandle (λ node. node < node_count journal.nodes)
+
+-- a request for an operation
+abbrev pub request_of : ℕ → Principal → Op → Option ℕ → Request
+request_of moment principal op filehandle =
+    record { moment = moment; principal = principal; op = op; filehandle = filehandle }
+
+-- the entry of a request with its answer
+abbrev pub entry_of : Request → OpResult → Entry
+entry_of request answer =
+    let call : Call = record { request = request; answer = answer } in
+    entries.Call call
+
+-- the journal with one more entry at the end
+abbrev pub with_entry : Entry → History → History
+with_entry entry journal = record journal { entries = journal.entries ++ entry ∷ [] }
+
+-- The answer can be sent in a reply: it isn't NFS4ERR_RESOURCE, it fits its form, and it isn't too long.
+pub record IsSendable (op : Op) (answer : OpResult) : Type 0 where
+  pub not_resource : answer ≢ resource op
+  pub form : op_result.Fits answer
+  pub short : length (op_result.spelling answer) ≤ ANSWER_LIMIT

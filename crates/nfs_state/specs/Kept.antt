@@ -1,0 +1,62 @@
+-- What is kept for an owner, and that what is stored of it is what the owner's entry in the journal has.
+use Rattle.std.specs.Prelude.{◌≡◌, ℕ, List, Option, Some, option_map, slice_get}
+use Rattle.std.specs.List.{AllByRecursion}
+use Rattle.nfs_state.specs.Entries.{IsSendable}
+use Rattle.nfs_state.specs.State.{History}
+use Rattle.nfs_state.specs.declared.owner_change.OwnerChange.{OwnerChange}
+use Rattle.nfs_state.specs.declared.owner_change.OwnerChange.TheVariants as changes
+use Rattle.nfs_state.specs.declared.owner_update.OwnerUpdate.{OwnerUpdate}
+use Rattle.nfs_state.specs.declared.owner_update.OwnerUpdate.TheVariants as updates
+use Rattle.nfs_owners.specs.declared.kept.Kept.{Kept}
+use Rattle.nfs_owners.specs.declared.owner.Owner.{Owner}
+use Rattle.nfs_owners.specs.Owners.{with_kept, without_owner}
+use Rattle.nfs_owners.specs.Kept.{request_of}
+use Rattle.nfs_state.specs.Owners.{KnownOwner}
+use Rattle.nfs_state.specs.declared.entry.Entry.{Entry}
+use Rattle.nfs_state.specs.declared.entry.Entry.TheVariants as entries
+use Rattle.nfs_xdr.specs.declared.op.Op.{Op}
+use Rattle.nfs_xdr.specs.declared.op.Op.TheVariants as ops
+
+-- the sequence id in the operation's arguments
+abbrev pub seqid_of : Op → ℕ
+seqid_of (ops.Open args) = args.seqid
+seqid_of (ops.OpenConfirm args) = args.seqid
+seqid_of (ops.OpenDowngrade args) = args.seqid
+seqid_of (ops.Close args) = args.seqid
+seqid_of op = 0
+
+-- the request and the answer of an entry, as they are kept for an owner
+abbrev pub kept_of : Entry → Kept
+kept_of (entries.Call call) = record {
+  seqid = seqid_of call.request.op;
+  request = request_of call.request.op call.request.filehandle;
+  answer = call.answer;
+}
+
+-- what is kept for the owner
+abbrev pub kept_for : History → KnownOwner → Option Kept
+kept_for journal o = option_map kept_of (slice_get journal.entries o.kept_entry)
+
+-- the owner keeps the request and the answer of its entry, which can be sent again
+pub record IsKeptIn (journal : History) (o : Owner) : Type 0 where
+  pub entry : option_map kept_of (slice_get journal.entries o.number) ≡ Some o.kept
+  pub sendable : IsSendable o.kept.request.op o.kept.answer
+
+abbrev pub Agrees : History → List Owner → Type 0
+Agrees journal owners = AllByRecursion (IsKeptIn journal) owners
+
+-- what an entry means for an owner, with the request and the answer to keep
+abbrev pub update_of : OwnerChange → Kept → OwnerUpdate
+update_of changes.Nothing kept = updates.Nothing
+update_of (changes.Keeps name) kept = updates.Keeps name kept
+update_of (changes.Records name) kept = updates.Keeps name kept
+update_of (changes.Restarts name) kept = updates.Restarts name kept
+update_of (changes.Drops name) kept = updates.Drops name
+
+-- the stored owners after an entry with this number
+abbrev pub owners_after : OwnerUpdate → ℕ → List Owner → List Owner
+owners_after updates.Nothing number owners = owners
+owners_after (updates.Keeps name kept) number owners = with_kept name number kept owners
+owners_after (updates.Restarts name kept) number owners =
+    with_kept name number kept (without_owner name owners)
+owners_after (updates.Drops name) number owners = without_owner name owners

@@ -1,0 +1,49 @@
+-- What the server stores, and the state that it represents.
+use Rattle.std.specs.Prelude.{ℕ, List, [], map, replicate}
+use Rattle.nfs_state.specs.declared.stored_file.StoredFile.{StoredFile}
+use Rattle.nfs_state.specs.Owners.{KnownOwner}
+use Rattle.nfs_state.specs.State.{State, initial_files}
+use Rattle.nfs_owners.specs.declared.owner.Owner.{Owner}
+use Rattle.nfs_owners.specs.Registry.{Registry, no_clients}
+use Rattle.nfs_share.specs.declared.open_state.OpenState.{OpenState}
+use Rattle.nfs_tree.specs.declared.node.Node.{Node}
+use Rattle.nfs_tree.specs.Tree.{node_count}
+
+pub record Stored : Type 0 where
+  pub clients : Registry
+  -- each with the request and the answer that are kept for it
+  pub owners : List Owner
+  -- those of each node, by its number
+  pub opens : List (List OpenState)
+  -- the number that was given to a state last
+  pub last_state : ℕ
+  -- ordered by the numbers of their nodes
+  pub files : List StoredFile
+
+-- an owner without what is kept for it, which its entry has
+abbrev pub known_owner : Owner → KnownOwner
+known_owner o = record {
+  name = o.name;
+  confirmed = o.confirmed;
+  recording_entry = o.recorded;
+  kept_entry = o.number;
+}
+
+abbrev pub meaning : Stored → State
+meaning stored = record {
+  clients = stored.clients;
+  owners = map known_owner stored.owners;
+  opens = stored.opens;
+  last_state = stored.last_state;
+  files = stored.files;
+}
+
+-- what is stored of these nodes before any client has come
+abbrev pub empty_store : List Node → Stored
+empty_store nodes = record {
+  clients = no_clients;
+  owners = [];
+  opens = replicate (node_count nodes) [];
+  last_state = 0;
+  files = initial_files nodes;
+}

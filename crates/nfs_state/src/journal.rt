@@ -1,0 +1,120 @@
+ghost use Rattle.std.specs.Prelude.{◌≡◌, ◌<◌, ◌≤◌, [], ◌∷◌, ◌++◌, nat_le, length};
+ghost use Rattle.std.specs.Vec.{vec_len, vec_capacity};
+
+use crate::{Entry, JOURNAL_LIMIT};
+use nfs_tree::{Policy, Tree};
+use std::alloc::Global;
+use std::marker::Model;
+
+/// The shortest lease, in seconds.
+pub const LEASE_MIN: u32 = 1;
+
+/// The longest lease, in seconds.
+pub const LEASE_MAX: u32 = 86_400;
+
+/// What the server was started with, and the journal's entries in order, numbered from 0.
+#[derive(Debug, Drop)]
+pub struct Journal {
+    tree: Tree,
+    epoch: u32,
+    lease: u32,
+    policy: Policy,
+    // Visible in the crate because a call makes room in the list before it changes the state.
+    pub(crate) entries: Vec<Entry>,
+}
+
+impl Model for Journal {
+    ghost use Rattle.std.specs.Prelude.{◌≤◌};
+    ghost use Rattle.nfs_state.specs.State.{History};
+    ghost use Rattle.nfs_state.specs.declared.journal.TheConstants.{LEASE_MIN, LEASE_MAX};
+
+    ghost Value = { History };
+
+    ghost view = { λ j. record {
+      nodes = j.tree.nodes;
+      epoch = j.epoch;
+      lease = j.lease;
+      policy = j.policy;
+      entries = j.entries.items;
+    } };
+
+    ghost invariant = { λ j. (LEASE_MIN ≤ j.lease) × (j.lease ≤ LEASE_MAX) };
+}
+
+impl Journal {
+    /// An empty journal, taking no memory.
+    pub fn new(alloc: Global, tree: Tree, lease: u32, epoch: u32, policy: Policy) -> Journal
+        requires { (LEASE_MIN ≤ lease) × (lease ≤ LEASE_MAX) }
+        ensures { result ≡ record {
+          nodes = tree.nodes;
+          epoch = epoch;
+          lease = lease;
+          policy = policy;
+          entries = [];
+        } }
+    {
+        Journal {
+            tree,
+            epoch,
+            lease,
+            policy,
+            entries: Vec::new(alloc),
+        }
+    }
+
+    /// A tree with the nodes of the one that the server was started with.
+    pub fn tree(&self) -> &Tree
+        ensures { result.now.nodes ≡ self.now.nodes }
+    {
+        &self.tree
+    }
+
+    /// The policy that the server was started with.
+    pub fn policy(&self) -> Policy
+        ensures { result ≡ self.now.policy }
+    {
+        self.policy
+    }
+
+    /// The number of the server's run, the upper half of each clientid that it gives out.
+    pub fn epoch(&self) -> u32
+        ensures { result ≡ self.now.epoch }
+    {
+        self.epoch
+    }
+
+    /// The lease in seconds, from `LEASE_MIN` to `LEASE_MAX`.
+    pub fn lease(&self) -> u32
+        ensures value { result ≡ self.now.lease }
+        ensures range { (LEASE_MIN ≤ result) × (result ≤ LEASE_MAX) }
+    {
+        self.lease
+    }
+
+    /// The entries in order.
+    pub fn entries(&self) -> &[Entry]
+        ensures { result.now ≡ self.now.entries }
+    {
+        self.entries.as_slice()
+    }
+
+    /// Whether the journal has as many entries as it can have.
+    pub fn is_full(&self) -> bool
+        ensures { result ≡ nat_le JOURNAL_LIMIT (length self.now.entries) }
+    {
+        self.entries.len() >= JOURNAL_LIMIT
+    }
+}
+
+/// Adds the entry at the end, where there has to be room, and returns its number. It takes only the entries because the
+/// contract of a journal says nothing about the room in it.
+pub(crate) fn push_entry(entries: &mut Vec<Entry>, entry: Entry) -> u32
+    requires below { length entries.old.items < JOURNAL_LIMIT }
+    requires room { vec_len entries.old < vec_capacity entries.old }
+    ensures items { entries.new.items ≡ entries.old.items ++ entry ∷ [] }
+    ensures number { result ≡ length entries.old.items }
+{
+    let number = entries.len() as u32;
+    entries.push_reserved(entry);
+    number
+}

@@ -1,0 +1,29 @@
+//! What the server stores, and the journal of its changes.
+#![tactic(auto)]
+
+mod change;
+mod entry;
+mod intake;
+mod journal;
+mod limits;
+mod moment;
+mod owner_change;
+mod owner_update;
+mod request;
+mod shortage;
+mod stored_file;
+mod stored_files;
+mod tables;
+
+pub use change::Change;
+pub use entry::{ANSWER_LIMIT, Call, Entry, JOURNAL_LIMIT, copy_of_answer, seqid_of};
+pub use intake::take_in;
+pub use journal::{Journal, LEASE_MAX, LEASE_MIN};
+pub use limits::{OPEN_LIMIT, limits_of_the_state};
+pub use moment::Moment;
+pub use owner_change::OwnerChange;
+pub use request::Request;
+pub use shortage::Shortage;
+pub use stored_file::StoredFile;
+pub use stored_files::StoredFiles;
+pub use tables::Tables;

@@ -1,0 +1,221 @@
+ghost use Rattle.std.specs.Prelude.{◌≡◌, ◌<◌, ◌≤◌, ◌-◌, ◌^◌, IfErr, IfOk, IsTrue, OnOk, map};
+
+use crate::change::Change;
+use crate::owner_change::OwnerChange;
+use crate::owner_update::OwnerUpdate;
+use crate::shortage::Shortage;
+use crate::stored_files::StoredFiles;
+use nfs_owners::{ClientChange, ClientRecord, Clients, Numbers, Owners};
+use nfs_share::{Opens, Share};
+use nfs_tree::Tree;
+use nfs_xdr::{ClientId, OpenOwner};
+use std::alloc::{AllocError, Global};
+
+/// What the server stores.
+#[derive(Debug, Drop)]
+pub struct Tables {
+    pub clients: Clients,
+    pub owners: Owners,
+    pub opens: Opens,
+    /// The numbers of the opens.
+    pub numbers: Numbers,
+    pub files: StoredFiles,
+}
+
+impl Tables {
+    ghost use Rattle.std.specs.Option.{option_copied};
+    ghost use Rattle.nfs_state.specs.State.{change_of, file_of, has_state, record_has_state, size_of};
+    ghost use Rattle.nfs_state.specs.Kept.{Agrees, owners_after, update_of};
+    ghost use Rattle.nfs_state.specs.Changes.{with_owner_change};
+    ghost use Rattle.nfs_state.specs.State.{History};
+    ghost use Rattle.nfs_state.specs.Changes.{changed, left_by};
+    ghost use Rattle.nfs_state.specs.Room.{HasNumbers, HasOwnerPlace, HasOwnerRoom, HasRoom, HasUpdateRoom, state_of, stored_of};
+    ghost use Rattle.nfs_state.specs.declared.owner_change.OwnerChange.{OwnerChange};
+    ghost use Rattle.nfs_owners.specs.declared.kept.Kept.{Kept};
+    ghost use Rattle.nfs_state.specs.declared.change.Change.{Change};
+    ghost use Rattle.nfs_forms.specs.declared.open_owner.OpenOwner.{OpenOwner};
+    ghost use Rattle.nfs_owners.specs.Owners.{has_place, without_owner};
+    ghost use Rattle.nfs_share.specs.AllOpens.{HasRoomAt, opens_in};
+    ghost use Rattle.nfs_share.specs.Opens.{is_of, without};
+    ghost use Rattle.nfs_state.specs.declared.change.Change.TheVariants as changes;
+    ghost use Rattle.nfs_owners.specs.ClientRoom.{HasNumbersFor, HasRoomFor};
+    ghost use Rattle.nfs_state.specs.Stored.{empty_store};
+
+    /// The files of the tree, and no clients.
+    pub fn of_tree(alloc: Global, tree: &Tree) -> Result<Tables, AllocError>
+        ensures { IfOk result (λ t. stored_of t ≡ empty_store tree.now.nodes) }
+    {
+        Ok(Tables {
+            clients: Clients::new(alloc),
+            owners: Owners::new(alloc),
+            opens: Opens::new(alloc, tree.len())?,
+            numbers: Numbers::new(),
+            files: StoredFiles::of_tree(alloc, tree)?,
+        })
+    }
+
+    /// How often the file of the node was changed, and how many bytes it has; both are 0 for a directory.
+    pub fn change_and_size(&self, node: u32) -> (u64, u64)
+        ensures { result ≡
+            (change_of (file_of self.now.files node), size_of (file_of self.now.files node)) }
+    {
+        match self.files.find(node) {
+            Some(file) => (file.change, file.bytes.as_slice().len() as u64),
+            None => (0, 0),
+        }
+    }
+
+    /// Whether the client of the record, if there is one, has state.
+    pub fn record_has_state(&self, found: Option<&ClientRecord>) -> bool
+        ensures { result ≡ record_has_state (state_of self.now) (option_copied found.entry) }
+    {
+        match found {
+            Some(found) => self.has_state(found.client),
+            None => false,
+        }
+    }
+
+    // Whether the client has state.
+    fn has_state(&self, client: ClientId) -> bool
+        ensures { result ≡ has_state (state_of self.now) client }
+    {
+        self.opens.has_client(client)
+    }
+
+    /// Makes room for the change, and for what the entry means for an owner. Fails for want of memory alone.
+    pub(crate) fn make_room(&mut self, change: &Change, owner: &OwnerChange) -> Result<(), Shortage>
+        requires place { HasOwnerPlace owner.now (state_of self.old) }
+        ensures same { stored_of self.new ≡ stored_of self.old }
+        ensures room { OnOk result (HasRoom change.now self.new × HasOwnerRoom owner.now self.new) }
+        ensures memory { IfErr result (λ e. e ≡ Shortage.Memory) }
+    {
+        self.make_owner_room(owner)?;
+        match change {
+            Change::Clients(change) => self.clients.make_room(change)?,
+            Change::Opens { node, .. } => self.opens.reserve(*node)?,
+            Change::Nothing
+            | Change::Confirms { .. }
+            | Change::Downgrades { .. }
+            | Change::Closes { .. } => {}
+        }
+        Ok(())
+    }
+
+    // Makes room for what the entry means for an owner.
+    fn make_owner_room(&mut self, change: &OwnerChange) -> Result<(), Shortage>
+        requires place { HasOwnerPlace change.now (state_of self.old) }
+        ensures same { stored_of self.new ≡ stored_of self.old }
+        ensures room { OnOk result (HasOwnerRoom change.now self.new) }
+        ensures memory { IfErr result (λ e. e ≡ Shortage.Memory) }
+    {
+        match change {
+            OwnerChange::Nothing | OwnerChange::Keeps(_) | OwnerChange::Drops(_) => Ok(()),
+            OwnerChange::Records(name) | OwnerChange::Restarts(name) => {
+                Ok(self.owners.reserve(name)?)
+            }
+        }
+    }
+
+    /// Makes what the entry with this number means for an owner, for which there has to be room. It takes no memory.
+    pub(crate) fn commit_owner(&mut self, update: OwnerUpdate, number: u32)
+        requires room { HasUpdateRoom update self.old }
+        ensures state { (change : OwnerChange) (kept : Kept) → update ≡ update_of change kept
+            → HasOwnerPlace change (state_of self.old)
+            → state_of self.new ≡ with_owner_change change number (state_of self.old) }
+        ensures owners { self.new.owners.owners ≡ owners_after update number self.old.owners.owners }
+        ensures room { (change : Change) → HasRoom change self.old → HasRoom change self.new }
+    {
+        match update {
+            OwnerUpdate::Nothing => {}
+            OwnerUpdate::Keeps(name, kept) => self.owners.keep(name, number, kept),
+            OwnerUpdate::Restarts(name, kept) => {
+                self.remove_owner(&name);
+                self.owners.keep(name, number, kept);
+            }
+            OwnerUpdate::Drops(name) => self.remove_owner(&name),
+        }
+    }
+
+    // Forgets the owner, and frees its opens.
+    fn remove_owner(&mut self, name: &OpenOwner)
+        ensures stored { stored_of self.new ≡ record (stored_of self.old) {
+          owners = without_owner name.now self.old.owners.owners;
+          opens = map (without (is_of name.now)) (opens_in self.old.opens);
+        } }
+        ensures room { (change : Change) → HasRoom change self.old → HasRoom change self.new }
+        ensures owner_room { self.old.owners.room ≤ self.new.owners.room }
+        ensures owner_places { (other : OpenOwner) → IsTrue (has_place other self.old.owners.owners)
+            → IsTrue (has_place other self.new.owners.owners) }
+    {
+        self.owners.remove(name);
+        self.opens.remove_owner(name);
+    }
+
+    /// Makes the change, for which there has to be room. It takes no memory.
+    pub(crate) fn commit(&mut self, change: Change)
+        requires room { HasRoom change self.old }
+        requires numbers { HasNumbers change (state_of self.old) }
+        ensures state { state_of self.new ≡ changed change (state_of self.old) }
+        ensures kept { (journal : History)
+            → Agrees journal self.old.owners.owners → Agrees journal self.new.owners.owners }
+    {
+        match change {
+            Change::Nothing => {}
+            Change::Clients(change) => self.commit_clients(change),
+            Change::Opens { node, owner, share } => self.commit_open(node, owner, share),
+            Change::Confirms {
+                node,
+                number,
+                owner,
+            } => {
+                self.owners.confirm(&owner);
+                self.opens.advance(node, number);
+            }
+            Change::Downgrades {
+                node,
+                number,
+                share,
+            } => self.opens.keep_within(node, number, share),
+            Change::Closes { node, number } => self.opens.close(node, number),
+        }
+    }
+
+    // Adds the share to the owner's open, or makes an open with the next number.
+    fn commit_open(&mut self, node: u32, owner: OpenOwner, share: Share)
+        requires room { HasRoomAt node self.old.opens }
+        requires numbers { self.old.numbers < 2 ^ 32 - 1 }
+        ensures state { state_of self.new ≡ changed (changes.Opens node owner share) (state_of self.old) }
+        ensures owners { self.new.owners ≡ self.old.owners }
+    {
+        let number = self.numbers.upcoming();
+        if self.opens.open_of(node, &owner).is_none() {
+            self.numbers.next();
+        }
+        self.opens.grant(node, owner, share, number);
+    }
+
+    // Changes the clients' records. A client that is replaced loses its owners and its opens.
+    fn commit_clients(&mut self, change: ClientChange)
+        requires room { HasRoomFor change self.old.clients }
+        requires numbers { HasNumbersFor change self.old.clients.registry }
+        ensures state { state_of self.new ≡ changed (changes.Clients change) (state_of self.old) }
+        ensures kept { (journal : History)
+            → Agrees journal self.old.owners.owners → Agrees journal self.new.owners.owners }
+    {
+        self.leave(&change);
+        self.clients.commit(change);
+    }
+
+    // Forgets the owners and the opens of a client that is replaced.
+    fn leave(&mut self, change: &ClientChange)
+        ensures state { state_of self.new ≡ left_by change.now (state_of self.old) }
+        ensures clients { self.new.clients ≡ self.old.clients }
+        ensures kept { (journal : History)
+            → Agrees journal self.old.owners.owners → Agrees journal self.new.owners.owners }
+    {
+        if let ClientChange::Replaces(_, client) = change {
+            self.owners.remove_client(*client);
+            self.opens.remove_client(*client);
+        }
+    }
+}
