@@ -6,8 +6,7 @@ use Rattle.std.specs.Prelude.{is_some}
 use Rattle.nfs_state.specs.declared.request.Request.{Request}
 use Rattle.nfs_share.specs.AllOpens.{opens_of}
 use Rattle.nfs_share.specs.Opens.{open_of}
-use Rattle.nfs_rules.specs.operations.{IsRuled}
-use Rattle.nfs_core.proofs.Uniqueness.{ruled_once}
+use Rattle.nfs_rules.specs.operations.{AtMostOneDecision, IsRuled}
 use Rattle.nfs_state.specs.declared.owner_change.OwnerChange.{OwnerChange}
 use Rattle.nfs_state.specs.declared.owner_change.OwnerChange.TheVariants.{Nothing}
 use Rattle.nfs_state.specs.Changes.{with_owner_change}
@@ -48,16 +47,16 @@ Lawful-step journal old new entry lawful step =
     Leads-append (record journal { entries = [] }) (empty_server journal.nodes) old new journal.entries entry lawful step
 
 -- a rule that gives a decision doesn't also give none
-pub decides_something : (op : Op) (journal : History) (old : State) (request : Request) (decision : Decision) → IsRuled op journal old request (Some decision) → IsRuled op journal old request None → ⊥
-decides_something op journal old request decision is none =
-    let same = ruled_once op journal old request None (Some decision) none is in
+pub decides_something : AtMostOneDecision → (journal : History) (old : State) (request : Request) (decision : Decision) → IsRuled request.op journal old request (Some decision) → IsRuled request.op journal old request None → ⊥
+decides_something once journal old request decision is none =
+    let same = once journal old request None (Some decision) none is in
     cc
 
 -- if the rule gives no decision, or the journal is full, no call may come next
-pub none_follows : (journal : History) (old : State) (call : Call) (new : State) → IsRuled call.request.op journal old call.request None ⊎ (JOURNAL_LIMIT ≤ length journal.entries) → Follows journal old call new → ⊥
-none_follows journal old call new (inl none) follows =
-    decides_something call.request.op journal old call.request follows.0 follows.1 none
-none_follows journal old call new (inr full) follows = omega (arith, follows.2.below)
+pub none_follows : AtMostOneDecision → (journal : History) (old : State) (call : Call) (new : State) → IsRuled call.request.op journal old call.request None ⊎ (JOURNAL_LIMIT ≤ length journal.entries) → Follows journal old call new → ⊥
+none_follows once journal old call new (inl none) follows =
+    decides_something once journal old call.request follows.0 follows.1 none
+none_follows once journal old call new (inr full) follows = omega (arith, follows.2.below)
 
 -- a lawful core that answers a call stays lawful
 pub Lawful-applies : (old new : Server) (request : Request) (answer : OpResult) (number : ℕ) → IsLawful old → Applies old new request answer (Some number) → IsLawful new
@@ -65,9 +64,9 @@ Lawful-applies old new request answer number lawful applies =
     let P : History → Type 0 = λ journal. Lawful journal (meaning new.stored) in
     subst P (sym applies.1) (Lawful-step old.journal (meaning old.stored) (meaning new.stored) (entry_of request answer) lawful applies.2)
 
-pub Step-unique : AtMostOneStep
-Step-unique journal old request answer answer' new new' s s' =
-    let same : Some s.0 ≡ Some s'.0 = ruled_once request.op journal old request (Some s.0) (Some s'.0) s.1 s'.1 in
+pub Step-unique : AtMostOneDecision → AtMostOneStep
+Step-unique once journal old request answer answer' new new' s s' =
+    let same : Some s.0 ≡ Some s'.0 = once journal old request (Some s.0) (Some s'.0) s.1 s'.1 in
     search (same, s.2.answer, s'.2.answer, s.2.state, s'.2.state)
 
 -- a core that hasn't changed is as lawful as before

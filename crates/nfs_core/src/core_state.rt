@@ -147,6 +147,7 @@ fn enter(
     ensures same { OnErr result
         ((journal.new ≡ journal.old) × (stored_of tables.new ≡ stored_of tables.old)) }
 {
+    at_most_one_decision();
     if journal.is_full() {
         return Err(Shortage::Limit);
     }
@@ -160,4 +161,6 @@ fn enter(
 /// The law that a request has at most one answer in a state, and leads to at most one state.
 pub fn at_most_one_step()
     ensures { AtMostOneStep }
-{}
+{
+    at_most_one_decision();
+}

@@ -21,7 +21,7 @@ use Rattle.nfs_owners.specs.declared.owner.TheConstants.{OWNER_LIMIT}
 use Rattle.nfs_owners.specs.Owner as stored
 use Rattle.nfs_owners.specs.Owners as stored_owners
 use Rattle.nfs_owners.specs.Owners.{has_place}
-use Rattle.nfs_rules.specs.Sequences as sequences
+use Rattle.nfs_state.specs.Changes as changes
 use Rattle.nfs_rules.specs.Sequences.{before_own}
 use Rattle.nfs_state.specs.State.{State, History}
 use Rattle.nfs_rules.specs.Stateids as stateids
@@ -72,15 +72,15 @@ refused_in : (found : Option OpenAt) → refusal_of_target (target_in found) ≡
 refused_in None = refl
 refused_in (Some at) = refl
 
-refusal_same : (epoch : ℕ) (state : State) (name : OpenOwner) (id : Stateid) → refusal_of_target (target_of epoch (sequences.without name state) id) ≡ refusal_of_target (target_of epoch state id)
+refusal_same : (epoch : ℕ) (state : State) (name : OpenOwner) (id : Stateid) → refusal_of_target (target_of epoch (changes.without name state) id) ≡ refusal_of_target (target_of epoch state id)
 refusal_same epoch state name id =
-    grind (arith, refused_in (named_in id (sequences.without name state).opens), refused_in (named_in id state.opens))
+    grind (arith, refused_in (named_in id (changes.without name state).opens), refused_in (named_in id state.opens))
 
-delegated_same : (journal : History) (state : State) (name : OpenOwner) (claim : Claim) (node : ℕ) → unless_delegated journal (sequences.without name state) claim node ≡ unless_delegated journal state claim node
+delegated_same : (journal : History) (state : State) (name : OpenOwner) (claim : Claim) (node : ℕ) → unless_delegated journal (changes.without name state) claim node ≡ unless_delegated journal state claim node
 delegated_same journal state name (claims.DelegateCur id file) node = ap Err (refusal_same journal.epoch state name id)
 delegated_same journal state name claim node = refl
 
-denied_same : (state : State) (name : OpenOwner) (share : Share) (node : ℕ) → unless_denied (sequences.without name state) name share node ≡ unless_denied state name share node
+denied_same : (state : State) (name : OpenOwner) (share : Share) (node : ℕ) → unless_denied (changes.without name state) name share node ≡ unless_denied state name share node
 denied_same state name share node =
     ap (λ b. if b then Err refusals.ShareDenied else Ok (record { node = node; share = share }))
     (ap (is_refused name share) (opens_without (is_of name) node state.opens) ∙ refused_without name share (opens_of node state.opens))
@@ -89,9 +89,9 @@ and_so : {A B : Type 0} (r : Result A Refusal) (f g : A → Result B Refusal) �
 and_so (Err refusal) f g same = refl
 and_so (Ok a) f g same = same a
 
-without_same : (journal : History) (state : State) (directory : ℕ) (args : Open) → opening journal (sequences.without args.owner state) directory args ≡ opening journal state directory args
+without_same : (journal : History) (state : State) (directory : ℕ) (args : Open) → opening journal (changes.without args.owner state) directory args ≡ opening journal state directory args
 without_same journal state directory args =
-    let left = sequences.without args.owner state in
+    let left = changes.without args.owner state in
     and_so (name_of args.claim) _ _ λ name.
     and_so (share_asked (share_of_numbers args.access args.deny)) _ _ λ share.
     and_so (found_by args.how (resolved journal.nodes directory name)) _ _ λ found.

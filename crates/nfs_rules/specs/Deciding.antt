@@ -1,7 +1,5 @@
 -- What the functions that decide an operation guarantee; used only in the contracts of this crate's own functions.
 use Rattle.std.specs.Prelude.{◌≡◌, ◌≢◌, ◌≤◌, ⊤, length, Option, Some, None, Result, Ok, Err}
-use Rattle.nfs_owners.specs.declared.owners_error.OwnersError.{OwnersError}
-use Rattle.nfs_owners.specs.declared.owners_error.OwnersError.TheVariants as errors
 use Rattle.nfs_state.specs.declared.entry.TheConstants.{ANSWER_LIMIT}
 use Rattle.nfs_rules.specs.declared.decision.Decision.{Decision}
 use Rattle.nfs_state.specs.declared.request.Request.{Request}
@@ -9,12 +7,10 @@ use Rattle.nfs_state.specs.declared.shortage.Shortage.{Shortage}
 use Rattle.nfs_state.specs.declared.shortage.Shortage.TheVariants.{Limit, Memory}
 use Rattle.nfs_rules.specs.declared.ruling.Ruling.{Ruling}
 use Rattle.nfs_state.specs.Room.{HasNumbers, HasOwnerPlace}
-use Rattle.nfs_rules.specs.Deciding.{IsPassage}
 use Rattle.nfs_rules.specs.Sequences.{Requester, Refused, Owner, Sequence, Answered, GoesOn}
 use Rattle.nfs_rules.specs.declared.passage.Passage.{Passage}
 use Rattle.nfs_state.specs.State.{State, History}
-use Rattle.nfs_core.specs.Step.{Step}
-use Rattle.nfs_state.specs.Entries.{entry_of, resource}
+use Rattle.nfs_state.specs.Entries.{IsSendable}
 use Rattle.nfs_forms.specs.declared.status.Refusal.TheVariants as refusals
 use Rattle.nfs_xdr.specs.declared.op.Op.{Op}
 use Rattle.nfs_xdr.specs.declared.op.Op.TheVariants as ops

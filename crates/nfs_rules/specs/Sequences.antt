@@ -12,6 +12,8 @@ use Rattle.nfs_rules.specs.declared.passage.Passage.{Passage}
 use Rattle.nfs_rules.specs.declared.passage.Passage.TheVariants as passages
 use Rattle.nfs_state.specs.declared.request.Request.{Request}
 use Rattle.nfs_rules.specs.declared.ruling.Ruling.{Ruling}
+use Rattle.nfs_state.specs.Changes.{without}
+use Rattle.nfs_state.specs.Kept.{kept_for, seqid_of}
 use Rattle.nfs_state.specs.Owners.{KnownOwner, owner_of, with_kept_entry, with_record, without_owner}
 use Rattle.nfs_rules.specs.Stateids as stateids
 use Rattle.nfs_rules.specs.Stateids.{Target, target_of}

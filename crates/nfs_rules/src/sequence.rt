@@ -74,7 +74,7 @@ fn closer_of(tables: &Tables, stateid: Stateid) -> Requester<'_>
 }
 
 /// Whether the request is answered already, or goes on to its own rule.
-pub(crate) fn sequence<'a>(
+pub(crate) fn sequence_of<'a>(
     tables: &Tables,
     journal: &Journal,
     request: &Request,

@@ -29,7 +29,6 @@ use Rattle.nfs_owners.specs.Owners.{has_place, with_change, with_confirmed, with
 use Rattle.nfs_share.specs.AllOpens.{with_opens}
 use Rattle.nfs_share.specs.Opens as opens
 use Rattle.nfs_share.specs.declared.open_state.OpenState.{OpenState}
-use Rattle.std.specs.List.{AllByRecursion}
 use Rattle.std.proofs.lemmas.Bool.{cond_both}
 
 -- a filter that looks at what the rules see is the same before and after

@@ -14,7 +14,7 @@ use super::{close, open, open_confirm, open_downgrade};
 use crate::decision::Decision;
 use crate::passage::Passage;
 use crate::ruling::Ruling;
-use crate::sequence::{Requester, Sequence, sequence};
+use crate::sequence::{Requester, Sequence, sequence_of};
 use nfs_state::{Change, Journal, OwnerChange, Request, Shortage, Tables};
 use nfs_xdr::{Op, OpResult, OpenOwner, Refusal, Status};
 use std::alloc::{AllocError, Global};
@@ -40,7 +40,7 @@ pub(super) fn decide(
     let Some(node) = request.filehandle else {
         return Ok(unsequenced(request.op.opnum().refusal(Refusal::NoFileHandle)));
     };
-    match sequence(tables, journal, request, requester)? {
+    match sequence_of(tables, journal, request, requester)? {
         Sequence::Answered(answer) => Ok(unsequenced(answer)),
         Sequence::GoesOn(passage, name) => {
             let ruling = rule(alloc, tables, journal, node, passage, &request.op)?;

@@ -36,12 +36,12 @@ returns-in_err-decision-clause-limit c is_limit answer new follows =
     let state = state_of c.args.tables.now in
     let request = c.args.request in
     let none = limited (IsRuled request.op journal state request) state request.op c.decide.result c.decide.ensures (search (rules, is_limit)) in
-    none_follows journal state (record { request = request; answer = answer }) new (inl none) follows
+    none_follows c.at_most_one_decision.ensures journal state (record { request = request; answer = answer }) new (inl none) follows
 
 pub returns-in_err-answer-clause-memory : goal.returns-in_err-answer-clause-memory
 returns-in_err-answer-clause-memory c is_memory =
-    (search rules, decides_something c.args.request.op c.args.journal.now (state_of c.args.tables.now) c.args.request c.in_ok-decision.decision c.in_ok-decision.ensures.0)
+    (search rules, decides_something c.at_most_one_decision.ensures c.args.journal.now (state_of c.args.tables.now) c.args.request c.in_ok-decision.decision c.in_ok-decision.ensures.0)
 
 pub returns-in_err-number-clause-memory : goal.returns-in_err-number-clause-memory
 returns-in_err-number-clause-memory c is_memory =
-    (search rules, decides_something c.args.request.op c.args.journal.now (state_of c.args.tables.now) c.args.request c.in_ok-decision.decision c.in_ok-decision.ensures.0)
+    (search rules, decides_something c.at_most_one_decision.ensures c.args.journal.now (state_of c.args.tables.now) c.args.request c.in_ok-decision.decision c.in_ok-decision.ensures.0)

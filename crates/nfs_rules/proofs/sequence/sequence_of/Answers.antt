@@ -12,7 +12,7 @@ use Rattle.nfs_state.specs.Room.{state_of}
 use Rattle.nfs_rules.specs.Sequences.{GoesOn, IsOfKnown, IsSequence, is_open}
 use Rattle.nfs_rules.proofs.Sequencing.{kept_found, known_sequence, passage_known, passage_unknown, unknown_sequence}
 use Rattle.nfs_owners.specs.Owner.{owner_of}
-use Rattle.nfs_rules.proofs.sequence.sequence.Goals as goal
+use Rattle.nfs_rules.proofs.sequence.sequence_of.Goals as goal
 
 none : (c : goal.After-begin) → owner_of c.in-Owner.name.now c.args.tables.now.owners.owners ≡ None
 none c = sym c.find.ensures ∙ ap option_copied c.in-None.is
