@@ -9,7 +9,7 @@ use Rattle.nfs_state.specs.declared.owner_change.OwnerChange.{OwnerChange}
 use Rattle.nfs_state.specs.declared.owner_change.OwnerChange.TheVariants as owner_changes
 use Rattle.nfs_state.specs.Owners.{has_name, with_confirmation, with_record}
 use Rattle.nfs_state.specs.Changes.{with_owner_change}
-use Rattle.nfs_rules.specs.Sequences as sequences
+use Rattle.nfs_state.specs.Changes as state_changes
 use Rattle.nfs_state.specs.State.{State}
 use Rattle.nfs_core.specs.Step.{after}
 use Rattle.nfs_state.specs.Changes.{changed}
@@ -52,7 +52,7 @@ abbrev pub IsReady : ℕ → State → Decision → Type 0
 IsReady number old decision =
     IsOwnerReady decision.owner old × IsChangeReady decision.change (with_owner_change decision.owner number old)
 
-sound_dropped : OpensStay → (name : OpenOwner) (old : State) → IsSound old → IsSound (sequences.without name old)
+sound_dropped : OpensStay → (name : OpenOwner) (old : State) → IsSound old → IsSound (state_changes.without name old)
 sound_dropped law name old sound = record {
   live = dropped_live (λ n. is_same_owner n name) old.clients.records old.owners sound.live;
   known = dropped_known (λ n. is_same_owner n name) old.owners old.opens sound.known;
@@ -81,7 +81,7 @@ sound_owner law (owner_changes.Keeps name) number old ready sound = record {
 }
 sound_owner law (owner_changes.Records name) number old ready sound = sound_recorded number name old ready sound
 sound_owner law (owner_changes.Restarts name) number old ready sound =
-    sound_recorded number name (sequences.without name old) ready (sound_dropped law name old sound)
+    sound_recorded number name (state_changes.without name old) ready (sound_dropped law name old sound)
 sound_owner law (owner_changes.Drops name) number old ready sound = sound_dropped law name old sound
 
 -- a change of the clients' records keeps the state sound

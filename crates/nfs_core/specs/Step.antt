@@ -1,31 +1,16 @@
 -- How one entry of the journal leads from a state to the next.
-use Rattle.std.specs.Prelude.{◌≡◌, ◌≢◌, ℕ, ◌+◌, ◌<◌, Bool, not, [], ◌∷◌, ◌++◌, filter, length, map, Option, Some, IfSome, is_some, if◌then◌else◌}
-use Rattle.nfs_state.specs.declared.change.Change.{Change}
-use Rattle.nfs_state.specs.declared.change.Change.TheVariants as changes
+use Rattle.std.specs.Prelude.{◌≡◌, ◌≢◌, ℕ, ◌<◌, length, Some}
 use Rattle.nfs_rules.specs.declared.decision.Decision.{Decision}
 use Rattle.nfs_state.specs.declared.entry.Call.{Call}
 use Rattle.nfs_state.specs.declared.entry.Entry.{Entry}
 use Rattle.nfs_state.specs.declared.entry.Entry.TheVariants as entries
 use Rattle.nfs_state.specs.declared.entry.TheConstants.{JOURNAL_LIMIT}
 use Rattle.nfs_state.specs.declared.request.Request.{Request}
-use Rattle.nfs_owners.specs.ClientChange.{with_change}
-use Rattle.nfs_owners.specs.declared.clients.client_change.ClientChange.{ClientChange}
-use Rattle.nfs_owners.specs.declared.clients.client_change.ClientChange.TheVariants as client_changes
-use Rattle.nfs_share.specs.AllOpens.{opens_of, with_opens}
-use Rattle.nfs_share.specs.Opens.{after_downgrade, is_numbered, is_of_client, open_of, with_each, with_next_seqid, with_opening, without}
-use Rattle.nfs_forms.specs.ClientId.{is_same_client}
-use Rattle.nfs_forms.specs.declared.client_id.ClientId.{ClientId}
+use Rattle.nfs_state.specs.Changes.{changed, with_owner_change}
+use Rattle.nfs_state.specs.Entries.{IsFilehandle, entry_of, resource}
 use Rattle.nfs_rules.specs.operations.{IsRuled}
-use Rattle.nfs_state.specs.Owners.{with_confirmation}
-use Rattle.nfs_state.specs.Changes.{with_owner_change}
 use Rattle.nfs_state.specs.State.{State, History}
-use Rattle.nfs_tree.specs.Tree.{node_count}
-use Rattle.nfs_xdr.specs.declared.op.Op.{Op}
 use Rattle.nfs_xdr.specs.declared.op_result.OpResult.{OpResult}
-use Rattle.nfs_forms.specs.declared.principal.Principal.{Principal}
-use Rattle.nfs_forms.specs.declared.status.Refusal.TheVariants.{Resource}
-use Rattle.nfs_xdr.specs.Op.{opnum_of}
-use Rattle.nfs_xdr.specs.OpResult.{refusal_of}
 
 -- the state after an entry with this number: first what it means for an owner, and then the operation's own change
 abbrev pub after : ℕ → Decision → State → State

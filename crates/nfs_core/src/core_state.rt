@@ -20,7 +20,7 @@ use crate::laws::lawful_is_safe;
 use crate::CoreError;
 use nfs_rules::{at_most_one_decision, decide};
 use nfs_state::{
-    Call, JOURNAL_LIMIT, Journal, LEASE_MAX, LEASE_MIN, Moment, Request, Shortage, Tables, copy_of_answer,
+    ANSWER_LIMIT, Call, JOURNAL_LIMIT, Journal, LEASE_MAX, LEASE_MIN, Moment, Request, Shortage, Tables, copy_of_answer,
     take_in,
 };
 use nfs_tree::{Policy, Tree};

@@ -1,5 +1,5 @@
 pub mod Sendable
 pub mod Sequenced
 pub mod Sequencing
-pub mod Opening
+pub mod OpeningLaws
 pub mod Uniqueness

@@ -11,7 +11,7 @@ use Rattle.nfs_rules.proofs.Sequencing.{kept_found, owner_known}
 use Rattle.nfs_rules.proofs.Uniqueness.{Once, downgrades_once, next_differs, some_once, sequenced_once}
 use Rattle.nfs_state.specs.declared.change.Change.TheVariants as changes
 use Rattle.nfs_rules.specs.declared.decision.Decision.{Decision}
-use Rattle.nfs_rules.specs.declared.operations.«open».Opening.{Opening}
+use Rattle.nfs_rules.specs.declared.opening.Opening.{Opening}
 use Rattle.nfs_state.specs.declared.owner_change.OwnerChange.TheVariants.{Nothing, Keeps, Records, Restarts, Drops}
 use Rattle.nfs_rules.specs.declared.passage.Passage.{Passage}
 use Rattle.nfs_rules.specs.declared.passage.Passage.TheVariants as passages

@@ -1,21 +1,17 @@
 -- What the functions that decide an operation guarantee; used only in the contracts of this crate's own functions.
-use Rattle.std.specs.Prelude.{◌≡◌, ◌≢◌, ◌≤◌, ⊤, length, Option, Some, None, Result, Ok, Err}
-use Rattle.nfs_state.specs.declared.entry.TheConstants.{ANSWER_LIMIT}
+use Rattle.std.specs.Prelude.{◌≡◌, ◌≢◌, ⊤, Option, Some, None, Result, Ok, Err}
 use Rattle.nfs_rules.specs.declared.decision.Decision.{Decision}
-use Rattle.nfs_state.specs.declared.request.Request.{Request}
 use Rattle.nfs_state.specs.declared.shortage.Shortage.{Shortage}
 use Rattle.nfs_state.specs.declared.shortage.Shortage.TheVariants.{Limit, Memory}
 use Rattle.nfs_rules.specs.declared.ruling.Ruling.{Ruling}
 use Rattle.nfs_state.specs.Room.{HasNumbers, HasOwnerPlace}
 use Rattle.nfs_rules.specs.Sequences.{Requester, Refused, Owner, Sequence, Answered, GoesOn}
 use Rattle.nfs_rules.specs.declared.passage.Passage.{Passage}
-use Rattle.nfs_state.specs.State.{State, History}
+use Rattle.nfs_state.specs.State.{State}
 use Rattle.nfs_state.specs.Entries.{IsSendable}
 use Rattle.nfs_forms.specs.declared.status.Refusal.TheVariants as refusals
 use Rattle.nfs_xdr.specs.declared.op.Op.{Op}
 use Rattle.nfs_xdr.specs.declared.op.Op.TheVariants as ops
-use Rattle.nfs_xdr.specs.declared.op_result.OpResult.{OpResult}
-use Rattle.nfs_xdr.specs.OpResult.{op_result}
 use Rattle.std.specs.Prelude.{IsFalse, IsTrue}
 use Rattle.nfs_forms.specs.declared.open_owner.OpenOwner.{OpenOwner}
 use Rattle.nfs_rules.specs.declared.passage.Passage.TheVariants as passages

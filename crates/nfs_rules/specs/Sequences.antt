@@ -1,11 +1,9 @@
 -- Sequenced operations: OPEN, OPEN_CONFIRM, OPEN_DOWNGRADE and CLOSE go by the sequence id of an owner, so that a
 -- request that comes again is answered as it was (RFC 7530, sections 9.1.7 to 9.1.11). In turn: the filehandle, the
 -- owner, its sequence id, and then the operation's own rule.
-use Rattle.std.specs.Prelude.{◌≡◌, ℕ, Bool, true, false, not, ◌&&◌, filter, map, find, slice_get, Option, Some, None, option_map, is_some, if◌then◌else◌}
+use Rattle.std.specs.Prelude.{◌≡◌, ℕ, Bool, true, false, not, ◌&&◌, find, Option, Some, None, option_map, is_some, if◌then◌else◌}
 use Rattle.nfs_state.specs.declared.change.Change.TheVariants as changes
 use Rattle.nfs_rules.specs.declared.decision.Decision.{Decision}
-use Rattle.nfs_state.specs.declared.entry.Entry.{Entry}
-use Rattle.nfs_state.specs.declared.entry.Entry.TheVariants as entries
 use Rattle.nfs_state.specs.declared.owner_change.OwnerChange.{OwnerChange}
 use Rattle.nfs_state.specs.declared.owner_change.OwnerChange.TheVariants.{Nothing, Keeps, Records, Restarts, Drops}
 use Rattle.nfs_rules.specs.declared.passage.Passage.{Passage}
@@ -14,7 +12,7 @@ use Rattle.nfs_state.specs.declared.request.Request.{Request}
 use Rattle.nfs_rules.specs.declared.ruling.Ruling.{Ruling}
 use Rattle.nfs_state.specs.Changes.{without}
 use Rattle.nfs_state.specs.Kept.{kept_for, seqid_of}
-use Rattle.nfs_state.specs.Owners.{KnownOwner, owner_of, with_kept_entry, with_record, without_owner}
+use Rattle.nfs_state.specs.Owners.{KnownOwner, owner_of}
 use Rattle.nfs_rules.specs.Stateids as stateids
 use Rattle.nfs_rules.specs.Stateids.{Target, target_of}
 use Rattle.nfs_state.specs.State.{State, History}
@@ -24,7 +22,6 @@ use Rattle.nfs_forms.specs.declared.status.Refusal.{Refusal}
 use Rattle.nfs_forms.specs.declared.status.Refusal.TheVariants as refusals
 use Rattle.nfs_forms.specs.declared.status.Status.{Status}
 use Rattle.nfs_forms.specs.declared.status.Status.TheVariants as statuses
-use Rattle.nfs_forms.specs.OpenOwner.{is_same_owner}
 use Rattle.nfs_owners.specs.declared.kept.Kept.{Kept}
 use Rattle.nfs_owners.specs.declared.kept.Verdict.{Verdict}
 use Rattle.nfs_owners.specs.declared.kept.Verdict.TheVariants as verdicts

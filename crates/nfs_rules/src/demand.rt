@@ -1,8 +1,8 @@
 /// What an operation demands of the open that its stateid names.
 #[derive(Clone, Copy, Debug)]
-pub(crate) struct Demand {
+pub struct Demand {
     /// The node of the current filehandle, whose file has to be the open's.
-    pub(crate) node: u32,
+    pub node: u32,
     /// An unconfirmed owner's open is accepted as well.
-    pub(crate) also_unconfirmed: bool,
+    pub also_unconfirmed: bool,
 }

@@ -4,6 +4,7 @@
 mod decision;
 mod demand;
 mod laws;
+mod opening;
 mod operations;
 mod passage;
 mod ruling;
@@ -11,5 +12,9 @@ mod sequence;
 mod stateids;
 
 pub use decision::Decision;
+pub use demand::Demand;
 pub use laws::at_most_one_decision;
+pub use opening::Opening;
 pub use operations::decide;
+pub use passage::Passage;
+pub use ruling::Ruling;

@@ -3,7 +3,7 @@ use nfs_xdr::OpResult;
 
 /// The answer of a sequenced operation's own rule, and what it changes.
 #[derive(Debug, Drop)]
-pub(crate) struct Ruling {
-    pub(crate) answer: OpResult,
-    pub(crate) change: Change,
+pub struct Ruling {
+    pub answer: OpResult,
+    pub change: Change,
 }

@@ -4,7 +4,7 @@ use Rattle.nfs_state.specs.declared.change.Change.TheVariants.{Nothing, Opens}
 use Rattle.nfs_rules.specs.declared.passage.Passage.{Passage}
 use Rattle.nfs_rules.specs.declared.passage.Passage.TheVariants.{Continues}
 use Rattle.nfs_state.specs.declared.limits.TheConstants.{OPEN_LIMIT}
-use Rattle.nfs_rules.specs.declared.operations.«open».Opening.{Opening}
+use Rattle.nfs_rules.specs.declared.opening.Opening.{Opening}
 use Rattle.nfs_rules.specs.declared.ruling.Ruling.{Ruling}
 use Rattle.nfs_rules.specs.Sequences.{Own, before_own}
 use Rattle.nfs_rules.specs.Stateids as stateids

@@ -12,6 +12,7 @@ ghost use Rattle.nfs_share.specs.AllOpens.{open_count, opens_of};
 ghost use Rattle.nfs_share.specs.Opens.{open_of};
 ghost use Rattle.nfs_xdr.specs.OpResult.{op_result};
 
+use crate::opening::Opening;
 use crate::passage::Passage;
 use crate::ruling::Ruling;
 use crate::stateids::{Target, target_of};
@@ -23,13 +24,6 @@ use nfs_xdr::{
     Refusal, Stateid,
 };
 use std::alloc::Global;
-
-/// What an OPEN opens, and for which share.
-#[derive(Clone, Copy, Debug)]
-pub(crate) struct Opening {
-    pub(crate) node: u32,
-    pub(crate) share: Share,
-}
 
 /// The own rule of OPEN, under the current filehandle `directory`.
 pub(super) fn rule(

@@ -1,4 +1,4 @@
-use Rattle.nfs_rules.proofs.Opening.{owner_place}
+use Rattle.nfs_rules.proofs.OpeningLaws.{owner_place}
 use Rattle.nfs_rules.proofs.operations.open.has_owner_place.Goals as goal
 
 pub returns : goal.returns

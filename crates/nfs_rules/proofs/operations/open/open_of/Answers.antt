@@ -1,5 +1,5 @@
 use Rattle.nfs_state.specs.Room.{state_of}
-use Rattle.nfs_rules.proofs.Opening.{none_left}
+use Rattle.nfs_rules.proofs.OpeningLaws.{none_left}
 use Rattle.nfs_rules.proofs.operations.open.open_of.Goals as goal
 
 pub returns-in-Restarts : goal.returns-in-Restarts

@@ -6,7 +6,7 @@ use Rattle.nfs_rules.specs.Sequences.{before_own}
 use Rattle.nfs_state.specs.declared.change.Change.TheVariants.{Nothing}
 use Rattle.nfs_rules.specs.declared.ruling.Ruling.{Ruling}
 use Rattle.nfs_rules.specs.operations.Open.{opening, ruling_of}
-use Rattle.nfs_rules.proofs.Opening.{not_resource, opening_same}
+use Rattle.nfs_rules.proofs.OpeningLaws.{not_resource, opening_same}
 use Rattle.nfs_xdr.specs.declared.op.Op.TheVariants as ops
 use Rattle.nfs_rules.proofs.operations.open.rule.Goals as goal
 

@@ -1,5 +1,5 @@
 use Rattle.nfs_state.specs.Room.{state_of}
-use Rattle.nfs_rules.proofs.Opening.{delegated_refused}
+use Rattle.nfs_rules.proofs.OpeningLaws.{delegated_refused}
 use Rattle.nfs_rules.proofs.operations.open.unless_delegated.Goals as goal
 
 pub returns : goal.returns

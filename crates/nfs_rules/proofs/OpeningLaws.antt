@@ -6,7 +6,7 @@ use Rattle.std.proofs.lemmas.List.{length-map}
 use Rattle.nfs_rules.specs.declared.passage.Passage.{Passage}
 use Rattle.nfs_rules.specs.declared.passage.Passage.TheVariants as passages
 use Rattle.nfs_state.specs.declared.change.Change.TheVariants.{Opens}
-use Rattle.nfs_rules.specs.declared.operations.«open».Opening.{Opening}
+use Rattle.nfs_rules.specs.declared.opening.Opening.{Opening}
 use Rattle.nfs_rules.specs.declared.ruling.Ruling.{Ruling}
 use Rattle.nfs_rules.specs.operations.Open.{◌>>=◌, answer_of, file_at, found_by, has_open_place, has_owner_place, name_of, opening, refusal_of_target, ruling_of, share_asked, stateid_after, unless_delegated, unless_denied}
 use Rattle.nfs_rules.specs.operations.OpenGrant.{granted, granted_stateid}

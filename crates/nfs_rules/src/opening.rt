@@ -1,0 +1,8 @@
+use nfs_share::Share;
+
+/// What an OPEN opens, and for which share.
+#[derive(Clone, Copy, Debug)]
+pub struct Opening {
+    pub node: u32,
+    pub share: Share,
+}
