@@ -16,12 +16,12 @@ ghost use Rattle.nfs_rules.specs.operations.{IsRuled};
 ghost use Rattle.nfs_xdr.specs.Op.{has_entry};
 ghost use Rattle.nfs_xdr.specs.OpResult.{op_result};
 
-use crate::laws::lawful_is_safe;
 use crate::CoreError;
+use crate::laws::lawful_is_safe;
 use nfs_rules::{at_most_one_decision, decide};
 use nfs_state::{
-    ANSWER_LIMIT, Call, JOURNAL_LIMIT, Journal, LEASE_MAX, LEASE_MIN, Moment, Request, Shortage, Tables, copy_of_answer,
-    take_in,
+    ANSWER_LIMIT, Call, JOURNAL_LIMIT, Journal, LEASE_MAX, LEASE_MIN, Moment, Request, Shortage,
+    Tables, copy_of_answer, take_in,
 };
 use nfs_tree::{Policy, Tree};
 use nfs_xdr::{Op, OpResult, Principal, Refusal};

@@ -17,7 +17,7 @@ use crate::passage::Passage;
 use crate::ruling::Ruling;
 use crate::stateids::{Target, target_of};
 use nfs_share::{OpenState, Share};
-use nfs_state::{ANSWER_LIMIT, OPEN_LIMIT, Change, Journal, Shortage, Tables};
+use nfs_state::{ANSWER_LIMIT, Change, Journal, OPEN_LIMIT, Shortage, Tables};
 use nfs_xdr::operations::open::{Open, OpenOk};
 use nfs_xdr::{
     Answer, Bitmap, ChangeInfo, Claim, CreateHow, Op, OpResult, OpenDelegation, OpenHow, OpenOwner,
