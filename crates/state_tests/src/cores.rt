@@ -1,14 +1,17 @@
 //! A core that begins.
 
+ghost use Rattle.nfs_core.specs.Safe.{IsSafe};
 ghost use Rattle.nfs_core.specs.Server.{IsLawful};
+ghost use Rattle.nfs_state.specs.Stored.{meaning};
 
-use nfs_core::{Core, LEASE_MAX, at_most_one_step};
+use nfs_core::{Core, LEASE_MAX, at_most_one_step, lawful_is_safe};
 use nfs_tree::Tree;
 use std::test::Fail;
 
-/// How many entries a core has that anybody lends: its journal leads to what it stores.
+/// How many entries a core has that anybody lends: its journal leads to what it stores, and that is safe.
 fn lawful_entries(core: &Core) -> usize
-    ensures { IsLawful core.now }
+    ensures lawful { IsLawful core.now }
+    ensures safe { IsSafe (meaning core.now.stored) }
 {
     core.journal().entries().len()
 }
@@ -22,5 +25,6 @@ fn a_core_begins_with_an_empty_journal(rt: HostRuntime) -> Result<(), Fail> {
     assert!(rt; journal.epoch() == 7 && journal.lease() == 86_400);
     assert!(rt; journal.tree().nodes().len() == 1);
     at_most_one_step();
+    lawful_is_safe();
     Ok(())
 }
