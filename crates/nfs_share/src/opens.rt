@@ -1,4 +1,4 @@
-ghost use Rattle.std.specs.Prelude.{◌≡◌, ◌<◌, ℕ, [], IfOk, IfSome, OnOk, length, map, nat_lt, option_map, position, replicate};
+ghost use Rattle.std.specs.Prelude.{◌≡◌, ◌<◌, ℕ, [], IfOk, IfSome, IsOk, OnOk, length, map, nat_lt, option_map, position, replicate};
 ghost use Rattle.std.specs.List.{list_any};
 ghost use Rattle.std.specs.Option.{option_copied};
 ghost use Rattle.nfs_share.specs.AllOpens.{HasRoomAt, at_node, named_in, open_count, opens_in, opens_of, with_opens};
@@ -109,6 +109,7 @@ impl Opens {
     pub fn reserve(&mut self, node: u32) -> Result<(), AllocError>
         ensures opens { opens_in self.new ≡ opens_in self.old }
         ensures room { OnOk result (HasRoomAt node self.new) }
+        ensures ready { HasRoomAt node self.old → IsOk result }
     {
         let node = node as usize;
         if node < self.files.len() {
