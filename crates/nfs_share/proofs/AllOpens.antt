@@ -1,8 +1,6 @@
 -- Lemmas on the opens of all files.
-use Rattle.std.proofs.Common.{◌≡◌, ℕ, zero, suc, ◌+◌, ◌-◌, ◌<◌, ◌≤◌, Bool, false, ◌||◌, List, [], ◌∷◌, ◌++◌, drop, length, get_or, map, set, take, refl, sym, ◌∙◌, ap, arith}
-use Rattle.std.specs.Prelude.{nat_lt}
+use Rattle.std.proofs.Common.{◌≡◌, ℕ, zero, suc, ◌+◌, ◌-◌, ◌<◌, ◌≤◌, Bool, ◌||◌, List, [], ◌∷◌, ◌++◌, drop, length, get_or, map, set, take, refl, sym, ◌∙◌, ap, arith}
 use Rattle.std.specs.List.{list_any}
-use Rattle.std.proofs.lemmas.Bool.{le-ltb, lt-ltb, ltb-true, ltb_from_iff}
 use Rattle.std.proofs.lemmas.List.{append-nil, drop_all, get_or-map, length-map, map-set, take_all}
 use Rattle.std.proofs.lemmas.List.Edits.{map_over_more}
 use Rattle.nfs_share.specs.AllOpens.{HasRoomAt, open_count, opens_in}
@@ -45,24 +43,12 @@ count_from (opens ∷ all) (suc i) d below =
     let next : suc i + 1 ≡ suc (i + 1) = omega arith in
     rw next (count_from all i d (omega arith))
 
-less_than_rest : (a b left : ℕ) → a < left → nat_lt (a + b) left ≡ nat_lt b (left - a)
-less_than_rest a b left more = ltb_from_iff ((λ h. omega (arith, ltb-true _ _ h)), (λ h. lt-ltb _ _ (omega (arith, h))))
-
--- there are places left after one more file
-pub place_left : (all : List (List OpenState)) (i : ℕ) (d : List OpenState) (left taken : ℕ) (whole : Bool) → i < length all
-    → taken ≡ length (get_or all i d) → taken < left → nat_lt (open_count (drop i all)) left ≡ whole
-    → nat_lt (open_count (drop (i + 1) all)) (left - taken) ≡ whole
-place_left all i d left taken whole below is more so_far =
-    sym (less_than_rest taken (open_count (drop (i + 1) all)) left more)
-    ∙ ap (λ n. nat_lt n left) (ap (λ n. n + open_count (drop (i + 1) all)) is ∙ sym (count_from all i d below))
-    ∙ so_far
-
--- one more file takes all places that are left
-pub no_place_left : (all : List (List OpenState)) (i : ℕ) (d : List OpenState) (left taken : ℕ) (whole : Bool) → i < length all
-    → taken ≡ length (get_or all i d) → left ≤ taken → nat_lt (open_count (drop i all)) left ≡ whole
-    → false ≡ whole
-no_place_left all i d left taken whole below is full so_far =
-    sym (le-ltb (open_count (drop i all)) left (omega (arith, count_from all i d below, is))) ∙ so_far
+-- the places that are left after one more file
+pub place_taken : (all : List (List OpenState)) (i : ℕ) (d : List OpenState) (left taken next whole : ℕ) → i < length all
+    → taken ≡ length (get_or all i d) → next ≡ left - taken → left - open_count (drop i all) ≡ whole
+    → next - open_count (drop (i + 1) all) ≡ whole
+place_taken all i d left taken next whole below is less so_far =
+    omega (arith, count_from all i d below, is, less, so_far)
 
 -- after the loop the opens of all files are changed
 pub all_changed : (f : List OpenState → List OpenState) (old new : List FileOpens) (i : ℕ) → length old ≤ i
@@ -81,12 +67,6 @@ pub opens_at : (f : List OpenState → List OpenState) (files : List FileOpens) 
 opens_at f files i d e below =
     sym (get_or-map f (opens_in files) i (get_or files i d).opens e (omega (arith, length-map files (λ (g : FileOpens). g.opens)))
     ∙ ap f (get_or-map (λ (g : FileOpens). g.opens) files i d (get_or files i d).opens below))
-
--- the loop has passed all files
-pub none_remain : (all : List (List OpenState)) (i left : ℕ) (whole : Bool) → length all ≤ i
-    → nat_lt (open_count (drop i all)) left ≡ whole → nat_lt 0 left ≡ whole
-none_remain all i left whole past so_far =
-    ap (λ rest. nat_lt (open_count rest) left) (sym (drop_all i all past)) ∙ so_far
 
 pub opens_seen : (files : List FileOpens) (i : ℕ) (d : FileOpens) (e : List OpenState) → i < length files
     → (get_or files i d).opens ≡ get_or (opens_in files) i e

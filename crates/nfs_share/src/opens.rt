@@ -1,4 +1,4 @@
-ghost use Rattle.std.specs.Prelude.{◌≡◌, ◌<◌, ℕ, [], IfOk, IfSome, IsOk, OnOk, length, map, nat_lt, option_map, position, replicate};
+ghost use Rattle.std.specs.Prelude.{◌≡◌, ◌<◌, ◌-◌, ℕ, [], IfOk, IfSome, IsOk, OnOk, length, map, nat_lt, option_map, position, replicate};
 ghost use Rattle.std.specs.List.{list_any};
 ghost use Rattle.std.specs.Option.{option_copied};
 ghost use Rattle.nfs_share.specs.AllOpens.{HasRoomAt, at_node, named_in, open_count, opens_in, opens_of, with_opens};
@@ -94,7 +94,7 @@ impl Opens {
     pub fn has_place(&self, limit: usize) -> bool
         ensures { result ≡ nat_lt (open_count (opens_in self.now)) limit }
     {
-        has_place_in(&self.files, limit)
+        places_left(&self.files, limit) > 0
     }
 
     /// Whether there are fewer opens of other owners than this limit.
@@ -102,7 +102,7 @@ impl Opens {
         ensures { result
             ≡ nat_lt (open_count (map (without (is_of owner.now)) (opens_in self.now))) limit }
     {
-        has_place_without_in(&self.files, owner, limit)
+        places_left_without(&self.files, owner, limit) > 0
     }
 
     /// Makes room for an open of the node's file.
@@ -187,33 +187,26 @@ fn has_client_in(files: &[FileShare], client: ClientId) -> bool
     files.iter().any(|file| file.has_client(client))
 }
 
-fn has_place_in(files: &[FileShare], limit: usize) -> bool
-    ensures { result ≡ nat_lt (open_count (opens_in files.now)) limit }
+// How many places of this limit the opens leave.
+fn places_left(files: &[FileShare], limit: usize) -> usize
+    ensures { result ≡ limit - open_count (opens_in files.now) }
 {
     let mut left = limit;
     for file in files.iter() {
-        let taken = file.opens().len();
-        if left <= taken {
-            return false;
-        }
-        left -= taken;
+        left = left.saturating_sub(file.opens().len());
     }
-    left > 0
+    left
 }
 
-fn has_place_without_in(files: &[FileShare], owner: &OpenOwner, limit: usize) -> bool
-    ensures { result
-        ≡ nat_lt (open_count (map (without (is_of owner.now)) (opens_in files.now))) limit }
+// How many places of this limit the opens of other owners leave.
+fn places_left_without(files: &[FileShare], owner: &OpenOwner, limit: usize) -> usize
+    ensures { result ≡ limit - open_count (map (without (is_of owner.now)) (opens_in files.now)) }
 {
     let mut left = limit;
     for file in files.iter() {
-        let taken = file.count_without(owner);
-        if left <= taken {
-            return false;
-        }
-        left -= taken;
+        left = left.saturating_sub(file.count_without(owner));
     }
-    left > 0
+    left
 }
 
 fn remove_owner_in(files: &mut [FileShare], owner: &OpenOwner)
