@@ -1,4 +1,4 @@
-ghost use Rattle.std.specs.Prelude.{◌≡◌, ◌<◌, ◌≤◌, OnOk};
+ghost use Rattle.std.specs.Prelude.{◌≡◌, ◌<◌, ◌≤◌, IsOk, OnOk};
 ghost use Rattle.std.specs.Vec.{vec_len, vec_capacity};
 ghost use Rattle.nfs_owners.specs.ClientChange.{with_confirmed, with_unconfirmed};
 
@@ -120,6 +120,7 @@ impl Clients {
     pub fn make_room(&mut self, change: &ClientChange) -> Result<(), AllocError>
         ensures same { self.new.registry ≡ self.old.registry }
         ensures room { OnOk result (HasRoomFor change.now self.new) }
+        ensures ready { HasRoomFor change.now self.old → IsOk result }
     {
         match change {
             ClientChange::Nothing => Ok(()),
