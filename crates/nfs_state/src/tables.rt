@@ -1,4 +1,4 @@
-ghost use Rattle.std.specs.Prelude.{◌≡◌, ◌<◌, ◌≤◌, ◌-◌, ◌^◌, IfErr, IfOk, IsTrue, OnOk, map};
+ghost use Rattle.std.specs.Prelude.{◌≡◌, ◌<◌, ◌≤◌, ◌-◌, ◌^◌, IfErr, IfOk, IsOk, IsTrue, OnOk, map};
 
 use crate::change::Change;
 use crate::owner_change::OwnerChange;
@@ -82,11 +82,13 @@ impl Tables {
         self.opens.has_client(client)
     }
 
-    /// Makes room for the change, and for what the entry means for an owner. Fails for want of memory alone.
+    /// Makes room for the change, and for what the entry means for an owner. Fails for want of memory alone, and never
+    /// where there is room already.
     pub(crate) fn make_room(&mut self, change: &Change, owner: &OwnerChange) -> Result<(), Shortage>
         requires place { HasOwnerPlace owner.now (state_of self.old) }
         ensures same { stored_of self.new ≡ stored_of self.old }
         ensures room { OnOk result (HasRoom change.now self.new × HasOwnerRoom owner.now self.new) }
+        ensures ready { HasRoom change.now self.old → HasOwnerRoom owner.now self.old → IsOk result }
         ensures memory { IfErr result (λ e. e ≡ Shortage.Memory) }
     {
         self.make_owner_room(owner)?;
@@ -106,6 +108,8 @@ impl Tables {
         requires place { HasOwnerPlace change.now (state_of self.old) }
         ensures same { stored_of self.new ≡ stored_of self.old }
         ensures room { OnOk result (HasOwnerRoom change.now self.new) }
+        ensures ready { HasOwnerRoom change.now self.old → IsOk result }
+        ensures others { (other : Change) → HasRoom other self.old → HasRoom other self.new }
         ensures memory { IfErr result (λ e. e ≡ Shortage.Memory) }
     {
         match change {

@@ -8,3 +8,8 @@ pub returns-in_err-reserve-in-Records-clause-memory : goal.returns-in_err-reserv
 returns-in_err-reserve-in-Records-clause-memory c =
     let place : has_place c.in-Records.name c.args.self.now.owners.owners ≡ true = records_place (stored_of c.args.self.now) c.in-Records.name c.args.change.now c.in-Records.is c.requires.place in
     search (rules, place)
+
+pub returns-in_err-reserve-in-Records-clause-ready : goal.returns-in_err-reserve-in-Records-clause-ready
+returns-in_err-reserve-in-Records-clause-ready c = λ roomy.
+    let place : has_place c.in-Records.name c.args.self.now.owners.owners ≡ true = records_place (stored_of c.args.self.now) c.in-Records.name c.args.change.now c.in-Records.is c.requires.place in
+    search (rules, place, roomy)
