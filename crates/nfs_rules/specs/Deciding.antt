@@ -9,12 +9,14 @@ use Rattle.nfs_rules.specs.Sequences.{IsSequence, Requester, Refused, Owner, Seq
 use Rattle.nfs_rules.specs.declared.passage.Passage.{Passage}
 use Rattle.nfs_state.specs.State.{State, History}
 use Rattle.nfs_state.specs.Kept.{kept_for, seqid_of}
-use Rattle.nfs_state.specs.Owners.{KnownOwner, owner_of}
+use Rattle.nfs_state.specs.Owners.{KnownOwner, is_confirmed, owner_of}
 use Rattle.nfs_state.specs.declared.request.Request.{Request}
 use Rattle.nfs_owners.specs.declared.kept.Kept.{Kept}
 use Rattle.nfs_owners.specs.Kept.{IsAgain, request_of}
 use Rattle.nfs_state.specs.Entries.{IsSendable}
+use Rattle.nfs_forms.specs.declared.status.Refusal.{Refusal}
 use Rattle.nfs_forms.specs.declared.status.Refusal.TheVariants as refusals
+use Rattle.nfs_share.specs.AllOpens.{OpenAt}
 use Rattle.nfs_xdr.specs.declared.op.Op.{Op}
 use Rattle.nfs_xdr.specs.declared.op.Op.TheVariants as ops
 use Rattle.std.specs.Prelude.{IsFalse, IsTrue}
@@ -86,3 +88,8 @@ Rules own state op (Ok ruling) =
     own (Some ruling) × IsSendable op ruling.answer × HasNumbers ruling.change state
 Rules own state op (Err Limit) = own None
 Rules own state op (Err Memory) = own None → ⊥
+
+-- OPEN_CONFIRM's stateid names an open, by the verdict on it, whose owner isn't confirmed yet.
+abbrev pub IsConfirmable : State → Result OpenAt Refusal → Type 0
+IsConfirmable state (Err refusal) = ⊥
+IsConfirmable state (Ok at) = IsFalse (is_confirmed at.state.owner state.owners)
