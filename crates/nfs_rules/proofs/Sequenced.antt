@@ -1,13 +1,8 @@
 -- What is decided for a sequenced operation, from whether it is answered without its own rule, and from that rule.
-use Rattle.std.proofs.Common.{◌≡◌, ◌≢◌, ℕ, ◌<◌, ◌≤◌, Bool, true, false, nat_lt, List, map, option_map, Option, Some, None, Result, Ok, Err, length, refl, sym, ap, ◌∙◌, subst, arith}
+use Rattle.std.proofs.Common.{◌≡◌, ◌≢◌, ℕ, ◌<◌, ◌≤◌, Bool, true, false, nat_lt, Option, Some, None, Result, Ok, Err, length, refl, sym, ap, ◌∙◌, subst, arith}
 use Rattle.std.specs.Result.{IsErr, IsErrAnd}
 use Rattle.std.specs.Prelude.{IsTrue, IsFalse, not, ◌&&◌, if◌then◌else◌}
 use Rattle.nfs_owners.specs.Kept.{IsAgain, request_of}
-use Rattle.nfs_owners.specs.Owner as owners
-use Rattle.nfs_owners.specs.declared.owner.Owner as stored_owner
-use Rattle.nfs_state.specs.Kept.{Agrees}
-use Rattle.nfs_state.specs.Stored.{known_owner}
-use Rattle.nfs_rules.proofs.Sequencing.{kept_found, owner_known}
 use Rattle.nfs_rules.proofs.Uniqueness.{Once, downgrades_once, next_differs, some_once, sequenced_once}
 use Rattle.nfs_state.specs.declared.change.Change.TheVariants as changes
 use Rattle.nfs_rules.specs.declared.decision.Decision.{Decision}
@@ -19,7 +14,7 @@ use Rattle.nfs_state.specs.declared.request.Request.{Request}
 use Rattle.nfs_rules.specs.declared.ruling.Ruling.{Ruling}
 use Rattle.nfs_state.specs.declared.shortage.Shortage.{Shortage}
 use Rattle.nfs_state.specs.declared.shortage.Shortage.TheVariants.{Limit, Memory}
-use Rattle.nfs_rules.specs.Deciding.{Decides, HasPassage, IsSendableSequence, Rules}
+use Rattle.nfs_rules.specs.Deciding.{Decides, HasPassage, IsReplay, IsReplayOf, IsSendableSequence, Rules}
 use Rattle.nfs_state.specs.Entries.{IsSendable}
 use Rattle.nfs_rules.specs.operations.{own_of}
 use Rattle.nfs_rules.specs.operations.Open.{has_open_place, opening, ruling_of}
@@ -172,17 +167,6 @@ ruled_has_room journal state requester request filehandle node sequence passage 
     let same = sequenced_once journal state requester own (own_once request.op journal state) filehandle request None (Some (decision_of passage name ruling)) none decided in
     cc
 
-no_decision : (s : Sequence) (node : ℕ) (own : Own) → ((passage : Passage) (name : OpenOwner) → s ≡ GoesOn passage name → ⊥) → IsDecided s node own None → ⊥
-no_decision (Answered answer) node own stays none = absurd cc
-no_decision (GoesOn passage name) node own stays none = stays passage name refl
-
--- a request that doesn't go on to the operation's own rule is within the limits
-pub answered_has_room : (own : Own) (journal : History) (state : State) (requester : Requester) (request : Request) (filehandle : Option ℕ) (node : ℕ) → filehandle ≡ Some node → ((passage : Passage) (name : OpenOwner) → IsSequence journal state requester request (GoesOn passage name) → ⊥) → IsSequenced journal state requester own filehandle request None → ⊥
-answered_has_room own journal state requester request None node has stays none = absurd cc
-answered_has_room own journal state requester request (Some at) node has stays none =
-    let Q : Sequence → Type 0 = λ s. IsSequence journal state requester request s in
-    no_decision none.0 at own (λ passage name is. stays passage name (subst Q is none.1)) none.2
-
 -- want of memory, where the limits leave room
 pub memory_decides : (ruled : Option Decision → Type 0) (state : State) (op : Op) (result : Result Decision Shortage) → IsErr result → IsErrAnd result (λ e. e ≡ Memory) → (ruled None → ⊥) → Decides ruled state op result
 memory_decides ruled state op (Ok decision) err memory room = absurd cc
@@ -190,29 +174,33 @@ memory_decides ruled state op (Err Limit) err memory room = absurd cc
 memory_decides ruled state op (Err Memory) err memory room = room
 
 -- the last request again doesn't go on as the next one
-pub judged_stays : (kept : Kept) (name : OpenOwner) (request : Request) → IsAgain kept (seqid_of request.op) (request_of request.op request.filehandle) → (passage : Passage) (owner : OpenOwner) → IsJudged kept name request (GoesOn passage owner) → ⊥
+judged_stays : (kept : Kept) (name : OpenOwner) (request : Request) → IsAgain kept (seqid_of request.op) (request_of request.op request.filehandle) → (passage : Passage) (owner : OpenOwner) → IsJudged kept name request (GoesOn passage owner) → ⊥
 judged_stays kept name request again passage owner (verdicts.New, is, same) = next_differs kept.seqid (sym again.0 ∙ is)
 judged_stays kept name request again passage owner (verdicts.Replay answer, is, same) = absurd cc
 judged_stays kept name request again passage owner (verdicts.Bad, is, same) = absurd cc
 
--- Only the stored kept request decides on a known owner's next one.
-pub known_back : (journal : History) (name : OpenOwner) (stored : List stored_owner.Owner) (o : stored_owner.Owner) (request : Request) (s : Sequence) → Agrees journal stored → owners.owner_of name stored ≡ Some o → IsOfOwner journal (owner_of name (map known_owner stored)) name request s → IsOfKnown (is_open request.op && not o.confirmed) o.kept name request s
-known_back journal name stored o request s agrees found is =
-    let of_owner : Option KnownOwner → Type 0 = λ known. IsOfOwner journal known name request s in
-    let of_kept : Kept → Type 0 = λ kept. IsOfKnown (is_open request.op && not o.confirmed) kept name request s in
-    let of_known : IsOfOwner journal (Some (known_owner o)) name request s = subst of_owner (owner_known name stored ∙ ap (option_map known_owner) found) is in
-    subst of_kept (some_once (kept_for journal (known_owner o)) of_known.0 o.kept of_known.1 (kept_found journal name stored o agrees found).entry) of_known.2
+known_stays : (b : Bool) (kept : Kept) (name : OpenOwner) (request : Request) → IsAgain kept (seqid_of request.op) (request_of request.op request.filehandle) → (passage : Passage) (owner : OpenOwner) → IsOfKnown b kept name request (GoesOn passage owner) → ⊥
+known_stays true kept name request again passage owner is = is.0 again
+known_stays false kept name request again passage owner is = judged_stays kept name request again passage owner is
 
-pub known_stays : (b : Bool) (kept : Kept) (name : OpenOwner) (request : Request) → b ≡ false → ((passage : Passage) (owner : OpenOwner) → IsJudged kept name request (GoesOn passage owner) → ⊥) → (passage : Passage) (owner : OpenOwner) → IsOfKnown b kept name request (GoesOn passage owner) → ⊥
-known_stays true kept name request off stays passage owner is = absurd cc
-known_stays false kept name request off stays passage owner is = stays passage owner is
+owner_stays : (journal : History) (found : Option KnownOwner) (name : OpenOwner) (request : Request) → IsReplayOf journal found request → (passage : Passage) (owner : OpenOwner) → IsOfOwner journal found name request (GoesOn passage owner) → ⊥
+owner_stays journal None name request replay passage owner is = absurd replay
+owner_stays journal (Some o) name request replay passage owner is =
+    let again : Kept → Type 0 = λ kept. IsAgain kept (seqid_of request.op) (request_of request.op request.filehandle) in
+    known_stays (is_open request.op && not o.confirmed) is.0 name request (subst again (some_once (kept_for journal o) replay.0 is.0 replay.1 is.1) replay.2) passage owner is.2
 
-pub left_false : (a b : Bool) → a ≡ false → (a && b) ≡ false
-left_false true b off = absurd cc
-left_false false b off = refl
+-- the last request again doesn't go on to its own rule
+pub replay_stays : (journal : History) (state : State) (requester : Requester) (request : Request) → IsReplay journal state requester request → (passage : Passage) (owner : OpenOwner) → IsSequence journal state requester request (GoesOn passage owner) → ⊥
+replay_stays journal state (Refused refusal) request replay passage owner is = absurd replay
+replay_stays journal state (Owner name) request replay passage owner is = owner_stays journal (owner_of name state.owners) name request replay passage owner is
 
-pub right_false : (a b : Bool) → b ≡ true → (a && not b) ≡ false
-right_false true true on = refl
-right_false false true on = refl
-right_false true false on = absurd cc
-right_false false false on = refl
+no_decision : (s : Sequence) (node : ℕ) (own : Own) → ((passage : Passage) (name : OpenOwner) → s ≡ GoesOn passage name → ⊥) → IsDecided s node own None → ⊥
+no_decision (Answered answer) node own stays none = absurd cc
+no_decision (GoesOn passage name) node own stays none = stays passage name refl
+
+-- the last request again is within the limits, since it doesn't go on to the operation's own rule
+pub answered_has_room : (own : Own) (journal : History) (state : State) (requester : Requester) (request : Request) (filehandle : Option ℕ) (node : ℕ) → filehandle ≡ Some node → IsReplay journal state requester request → IsSequenced journal state requester own filehandle request None → ⊥
+answered_has_room own journal state requester request None node has replay none = absurd cc
+answered_has_room own journal state requester request (Some at) node has replay none =
+    let Q : Sequence → Type 0 = λ s. IsSequence journal state requester request s in
+    no_decision none.0 at own (λ passage name is. replay_stays journal state requester request replay passage name (subst Q is none.1)) none.2

@@ -2,7 +2,7 @@
 use Rattle.std.proofs.Common.{◌≡◌, ℕ, Bool, true, false, Option, Some, None, List, [], ◌∷◌, refl, sym, ap, ◌∙◌, subst, length, ◌≤◌, arith}
 use Rattle.std.specs.Prelude.{◌≢◌, ◌&&◌, not, map, find, option_map, is_some, if◌then◌else◌}
 use Rattle.std.specs.List.{AllByRecursion}
-use Rattle.nfs_rules.specs.Deciding.{HasPassage}
+use Rattle.nfs_rules.specs.Deciding.{HasPassage, IsReplayOf}
 use Rattle.nfs_state.specs.Entries.{IsSendable}
 use Rattle.nfs_rules.specs.Finding.{stored_or_bad}
 use Rattle.nfs_state.specs.Kept.{Agrees, IsKeptIn}
@@ -11,7 +11,7 @@ use Rattle.nfs_rules.specs.declared.passage.Passage.TheVariants as passages
 use Rattle.nfs_state.specs.declared.request.Request.{Request}
 use Rattle.nfs_state.specs.Room.{is_known}
 use Rattle.nfs_rules.specs.Sequences.{IsOfKnown, IsOfOwner, IsOfUnknown, IsRestart, Sequence, Answered, GoesOn, by_verdict, has_closed, is_open, owner_or_bad, refusal_to}
-use Rattle.nfs_state.specs.Kept.{kept_for}
+use Rattle.nfs_state.specs.Kept.{kept_for, seqid_of}
 use Rattle.nfs_state.specs.State.{State, History}
 use Rattle.nfs_state.specs.Stored.{known_owner}
 use Rattle.nfs_forms.specs.declared.open_owner.OpenOwner.{OpenOwner}
@@ -99,6 +99,12 @@ pub known_sequence : (journal : History) (name : OpenOwner) (stored : List Owner
 known_sequence journal name stored o request s agrees found is =
     let of_owner : Option KnownOwner → Type 0 = λ known. IsOfOwner journal known name request s in
     subst of_owner (sym (owner_known name stored ∙ ap (option_map known_owner) found)) (o.kept, (kept_found journal name stored o agrees found).entry, is)
+
+-- The last request again by what is stored of the owner is the last one again by what is kept for the known owner.
+pub known_replay : (journal : History) (name : OpenOwner) (stored : List Owner) (o : Owner) (request : Request) → Agrees journal stored → owners.owner_of name stored ≡ Some o → IsAgain o.kept (seqid_of request.op) (request_of request.op request.filehandle) → IsReplayOf journal (owner_of name (map known_owner stored)) request
+known_replay journal name stored o request agrees found again =
+    let of_owner : Option KnownOwner → Type 0 = λ known. IsReplayOf journal known request in
+    subst of_owner (sym (owner_known name stored ∙ ap (option_map known_owner) found)) (o.kept, (kept_found journal name stored o agrees found).entry, again)
 
 pub unknown_sequence : (journal : History) (name : OpenOwner) (stored : List Owner) (request : Request) (s : Sequence) → owners.owner_of name stored ≡ None → IsOfUnknown name request s → IsOfOwner journal (owner_of name (map known_owner stored)) name request s
 unknown_sequence journal name stored request s none is =

@@ -1,15 +1,22 @@
 -- What the functions that decide an operation guarantee; used only in the contracts of this crate's own functions.
-use Rattle.std.specs.Prelude.{◌≡◌, ◌≢◌, ⊤, Option, Some, None, Result, Ok, Err}
+use Rattle.std.specs.Prelude.{◌≡◌, ◌≢◌, ◌⊎◌, ⊤, Option, Some, None, is_some, Result, Ok, Err}
 use Rattle.nfs_rules.specs.declared.decision.Decision.{Decision}
 use Rattle.nfs_state.specs.declared.shortage.Shortage.{Shortage}
 use Rattle.nfs_state.specs.declared.shortage.Shortage.TheVariants.{Limit, Memory}
 use Rattle.nfs_rules.specs.declared.ruling.Ruling.{Ruling}
 use Rattle.nfs_state.specs.Room.{HasNumbers, HasOwnerPlace}
-use Rattle.nfs_rules.specs.Sequences.{Requester, Refused, Owner, Sequence, Answered, GoesOn}
+use Rattle.nfs_rules.specs.Sequences.{IsSequence, Requester, Refused, Owner, Sequence, Answered, GoesOn}
 use Rattle.nfs_rules.specs.declared.passage.Passage.{Passage}
-use Rattle.nfs_state.specs.State.{State}
+use Rattle.nfs_state.specs.State.{State, History}
+use Rattle.nfs_state.specs.Kept.{kept_for, seqid_of}
+use Rattle.nfs_state.specs.Owners.{KnownOwner, is_confirmed, owner_of}
+use Rattle.nfs_state.specs.declared.request.Request.{Request}
+use Rattle.nfs_owners.specs.declared.kept.Kept.{Kept}
+use Rattle.nfs_owners.specs.Kept.{IsAgain, request_of}
 use Rattle.nfs_state.specs.Entries.{IsSendable}
+use Rattle.nfs_forms.specs.declared.status.Refusal.{Refusal}
 use Rattle.nfs_forms.specs.declared.status.Refusal.TheVariants as refusals
+use Rattle.nfs_share.specs.AllOpens.{OpenAt}
 use Rattle.nfs_xdr.specs.declared.op.Op.{Op}
 use Rattle.nfs_xdr.specs.declared.op.Op.TheVariants as ops
 use Rattle.std.specs.Prelude.{IsFalse, IsTrue}
@@ -46,6 +53,25 @@ abbrev pub IsRequesterOf : Op → Requester → Type 0
 IsRequesterOf (ops.Open args) (Owner name) = name ≡ args.owner
 IsRequesterOf op requester = ⊤
 
+-- The request is the last one again of its owner, by what is kept for it in the journal.
+abbrev pub IsReplayOf : History → Option KnownOwner → Request → Type 0
+IsReplayOf journal None request = ⊥
+IsReplayOf journal (Some o) request =
+    (kept : Kept)
+    × (kept_for journal o ≡ Some kept)
+    × IsAgain kept (seqid_of request.op) (request_of request.op request.filehandle)
+
+abbrev pub IsReplay : History → State → Requester → Request → Type 0
+IsReplay journal state (Refused refusal) request = ⊥
+IsReplay journal state (Owner name) request = IsReplayOf journal (owner_of name state.owners) request
+
+-- The request isn't refused before its own rule: there is a filehandle, and it is the last one again, or it goes on.
+abbrev pub IsAdmitted : History → State → Requester → Request → Type 0
+IsAdmitted journal state requester request =
+    IsTrue (is_some request.filehandle)
+    × (IsReplay journal state requester request
+    ⊎ ((passage : Passage) × (name : OpenOwner) × IsSequence journal state requester request (GoesOn passage name)))
+
 -- A request without an owner isn't refused with NFS4ERR_RESOURCE, which would have no entry in the journal.
 abbrev pub HasOtherRefusal : Requester → Type 0
 HasOtherRefusal (Refused refusal) = refusal ≢ refusals.Resource
@@ -62,3 +88,8 @@ Rules own state op (Ok ruling) =
     own (Some ruling) × IsSendable op ruling.answer × HasNumbers ruling.change state
 Rules own state op (Err Limit) = own None
 Rules own state op (Err Memory) = own None → ⊥
+
+-- OPEN_CONFIRM's stateid names an open, by the verdict on it, whose owner isn't confirmed yet.
+abbrev pub IsConfirmable : State → Result OpenAt Refusal → Type 0
+IsConfirmable state (Err refusal) = ⊥
+IsConfirmable state (Ok at) = IsFalse (is_confirmed at.state.owner state.owners)

@@ -1,14 +1,12 @@
 ghost use Rattle.std.specs.Prelude.{◌≡◌, ◌≢◌, ◌&&◌, not, IfOk, OnErr, find};
 ghost use Rattle.nfs_rules.specs.Finding.{requester_seen, sequence_seen, stored_or_bad};
-ghost use Rattle.nfs_rules.specs.Deciding.{HasOtherRefusal, HasPassage, IsSendableSequence};
+ghost use Rattle.nfs_rules.specs.Deciding.{HasOtherRefusal, HasPassage, IsReplay, IsSendableSequence};
 ghost use Rattle.nfs_state.specs.Entries.{IsSendable};
 ghost use Rattle.nfs_state.specs.Kept.{Agrees};
 ghost use Rattle.nfs_state.specs.Room.{state_of};
-ghost use Rattle.nfs_rules.specs.declared.passage.Passage.{Passage};
-ghost use Rattle.nfs_forms.specs.declared.open_owner.OpenOwner.{OpenOwner};
-ghost use Rattle.nfs_rules.specs.Sequences.{GoesOn, IsJudged, IsOfKnown, IsOfUnknown, IsRestart, IsSequence, is_open, refusal_to, requester_of_open, requester_of_stateid};
+ghost use Rattle.nfs_rules.specs.Sequences.{IsJudged, IsOfKnown, IsOfUnknown, IsRestart, IsSequence, is_open, refusal_to, requester_of_open, requester_of_stateid};
 ghost use Rattle.nfs_state.specs.Kept.{seqid_of};
-ghost use Rattle.nfs_owners.specs.Kept.{closes};
+ghost use Rattle.nfs_owners.specs.Kept.{IsAgain, closes, request_of};
 
 use crate::passage::Passage;
 use crate::stateids::{Target, target_of};
@@ -86,9 +84,8 @@ pub(crate) fn sequence_of<'a>(
         (requester_seen requester.entry) request.now (sequence_seen s)) }
     ensures sendable { IfOk result (λ s. IsSendableSequence request.now.op (sequence_seen s)) }
     ensures passage { IfOk result (λ s. HasPassage (state_of tables.now) (sequence_seen s)) }
-    ensures memory { OnErr result ((passage : Passage) (owner : OpenOwner)
-        → IsSequence journal.now (state_of tables.now) (requester_seen requester.entry)
-        request.now (GoesOn passage owner) → ⊥) }
+    ensures memory { OnErr result (IsReplay journal.now (state_of tables.now)
+        (requester_seen requester.entry) request.now) }
 {
     let name = match requester {
         Requester::Refused(refusal) => return Ok(refusal_to(&request.op, refusal)),
@@ -123,9 +120,8 @@ fn resume<'a>(
         (is_open request.now.op && not owner.now.confirmed)
         owner.now.kept name.now request.now (sequence_seen s)) }
     ensures sendable { IfOk result (λ s. IsSendableSequence request.now.op (sequence_seen s)) }
-    ensures memory { OnErr result ((passage : Passage) (other : OpenOwner)
-        → IsOfKnown (is_open request.now.op && not owner.now.confirmed)
-        owner.now.kept name.now request.now (GoesOn passage other) → ⊥) }
+    ensures memory { OnErr result (IsAgain owner.now.kept (seqid_of request.now.op)
+        (request_of request.now.op request.now.filehandle)) }
 {
     if is_open(&request.op) && !owner.confirmed {
         restart(&owner.kept, request, name)
@@ -143,8 +139,8 @@ fn judge<'a>(
     requires { IsSendable kept.now.request.op kept.now.answer }
     ensures sequence { IfOk result (λ s. IsJudged kept.now name.now request.now (sequence_seen s)) }
     ensures sendable { IfOk result (λ s. IsSendableSequence request.now.op (sequence_seen s)) }
-    ensures memory { OnErr result ((passage : Passage) (owner : OpenOwner)
-        → IsJudged kept.now name.now request.now (GoesOn passage owner) → ⊥) }
+    ensures memory { OnErr result (IsAgain kept.now (seqid_of request.now.op)
+        (request_of request.now.op request.now.filehandle)) }
 {
     match kept.judge(seqid_of(&request.op), &request.op, request.filehandle) {
         Verdict::New => Ok(Sequence::GoesOn(Passage::Continues, name)),
@@ -163,8 +159,8 @@ fn restart<'a>(
     ensures sequence { IfOk result (λ s.
         IsRestart kept.now name.now request.now (sequence_seen s)) }
     ensures sendable { IfOk result (λ s. IsSendableSequence request.now.op (sequence_seen s)) }
-    ensures memory { OnErr result ((passage : Passage) (owner : OpenOwner)
-        → IsRestart kept.now name.now request.now (GoesOn passage owner) → ⊥) }
+    ensures memory { OnErr result (IsAgain kept.now (seqid_of request.now.op)
+        (request_of request.now.op request.now.filehandle)) }
 {
     match kept.judge(seqid_of(&request.op), &request.op, request.filehandle) {
         Verdict::Replay(answer) => Ok(Sequence::Answered(answer.clone()?)),

@@ -1,6 +1,6 @@
-ghost use Rattle.std.specs.Prelude.{◌≡◌, ◌≤◌, ◌<◌, ◌-◌, ◌^◌, Ok, nat_lt, length};
+ghost use Rattle.std.specs.Prelude.{◌≡◌, ◌≤◌, ◌<◌, ◌-◌, ◌^◌, Ok, OnErr, nat_lt, length};
 ghost use Rattle.std.specs.Option.{option_copied};
-ghost use Rattle.std.specs.Result.{result_map_both};
+ghost use Rattle.std.specs.Result.{IsOk, result_map_both};
 ghost use Rattle.nfs_rules.specs.Deciding.{Rules};
 ghost use Rattle.nfs_rules.specs.Finding.{target_seen};
 ghost use Rattle.nfs_rules.specs.Deciding.{IsPassage};
@@ -36,8 +36,10 @@ pub(super) fn rule(
 ) -> Result<Ruling, Shortage>
     requires states { tables.now.numbers < 2 ^ 32 - 1 }
     requires passage { IsPassage passage args.now.owner (state_of tables.now) }
-    ensures { Rules (own journal.now (state_of tables.now) args.now directory passage)
+    ensures rules { Rules (own journal.now (state_of tables.now) args.now directory passage)
         (state_of tables.now) (Op.Open args.now) result }
+    ensures error { OnErr result
+        (IsOk (opening journal.now (state_of tables.now) directory args.now)) }
 {
     match find_opening(tables, journal, directory, args) {
         Ok(opening) => grant(alloc, tables, passage, args, opening),

@@ -1,8 +1,10 @@
-ghost use Rattle.std.specs.Prelude.{◌≡◌, IfOk, Some};
+ghost use Rattle.std.specs.Prelude.{◌≡◌, IfOk, OnErr, Some, true};
 ghost use Rattle.nfs_state.specs.Entries.{IsSendable};
 ghost use Rattle.nfs_state.specs.Room.{HasNumbers, state_of};
 ghost use Rattle.nfs_rules.specs.declared.passage.Passage.{Passage};
 ghost use Rattle.nfs_rules.specs.operations.OpenConfirm.{own, refusal_of};
+ghost use Rattle.nfs_rules.specs.Deciding.{IsConfirmable};
+ghost use Rattle.nfs_rules.specs.Stateids as stateids;
 
 use crate::demand::Demand;
 use crate::ruling::Ruling;
@@ -23,6 +25,9 @@ pub(super) fn rule(
         → own journal.now (state_of tables.now) args.now node passage (Some r)) }
     ensures sendable { IfOk result (λ r. IsSendable (Op.OpenConfirm args.now) r.answer) }
     ensures numbers { IfOk result (λ r. HasNumbers r.change (state_of tables.now)) }
+    ensures memory { OnErr result (IsConfirmable (state_of tables.now)
+        (stateids.verdict (record { node = node; also_unconfirmed = true }) journal.now.epoch
+        (state_of tables.now) args.now.stateid)) }
 {
     let demand = Demand {
         node,

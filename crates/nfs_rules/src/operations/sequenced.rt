@@ -1,7 +1,7 @@
 //! The frame of the operations that go by the sequence id of an owner (RFC 7530, sections 9.1.7 to 9.1.11).
 
-ghost use Rattle.std.specs.Prelude.{◌≡◌, ◌<◌, ◌-◌, ◌^◌, IfOk, IsTrue};
-ghost use Rattle.nfs_rules.specs.Deciding.{Decides, HasOtherRefusal, IsPassageOf, IsRequesterOf, Rules};
+ghost use Rattle.std.specs.Prelude.{◌≡◌, ◌<◌, ◌-◌, ◌^◌, IfOk, IsTrue, OnErr};
+ghost use Rattle.nfs_rules.specs.Deciding.{Decides, HasOtherRefusal, IsAdmitted, IsPassageOf, IsRequesterOf, Rules};
 ghost use Rattle.nfs_rules.specs.Finding.{requester_seen};
 ghost use Rattle.nfs_state.specs.Kept.{Agrees};
 ghost use Rattle.nfs_state.specs.Room.{state_of};
@@ -33,9 +33,11 @@ pub(super) fn decide(
     requires states { tables.now.numbers < 2 ^ 32 - 1 }
     requires kept { Agrees journal.now tables.now.owners.owners }
     requires owner { IsRequesterOf request.now.op (requester_seen requester) }
-    ensures { Decides (IsSequenced journal.now (state_of tables.now) (requester_seen requester.entry)
-        (own_of request.now.op journal.now (state_of tables.now)) request.now.filehandle request.now)
-        (state_of tables.now) request.now.op result }
+    ensures decides { Decides (IsSequenced journal.now (state_of tables.now)
+        (requester_seen requester.entry) (own_of request.now.op journal.now (state_of tables.now))
+        request.now.filehandle request.now) (state_of tables.now) request.now.op result }
+    ensures error { OnErr result (IsAdmitted journal.now (state_of tables.now)
+        (requester_seen requester.entry) request.now) }
 {
     let Some(node) = request.filehandle else {
         return Ok(unsequenced(request.op.opnum().refusal(Refusal::NoFileHandle)));

@@ -15,7 +15,7 @@ returns-in-Open c =
     let by_requester : Requester → Type 0 = λ r. Decides (IsSequenced journal state r (own_of request.op journal state) request.filehandle request) state request.op result in
     let by_own : Op → Type 0 = λ op. Decides (IsSequenced journal state (requester_of_open state c.in-Open.args.owner) (own_of op journal state) request.filehandle request) state request.op result in
     let ruled : Op → Type 0 = λ op. Decides (IsRuled op journal state request) state request.op result in
-    subst ruled (sym c.in-Open.is) (subst by_own c.in-Open.is (subst by_requester c.requester_of_open-requester.ensures.requester c.decide-in-Open.ensures))
+    subst ruled (sym c.in-Open.is) (subst by_own c.in-Open.is (subst by_requester c.requester_of_open-requester.ensures.requester c.decide-in-Open.ensures.decides))
 
 pub returns-in-OpenDowngrade : goal.returns-in-OpenDowngrade
 returns-in-OpenDowngrade c =

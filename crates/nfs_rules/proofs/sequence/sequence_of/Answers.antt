@@ -1,16 +1,13 @@
 use Rattle.std.proofs.Common.{◌≡◌, None, refl, sym, ap, ◌∙◌, subst}
 use Rattle.std.specs.Option.{option_copied}
 use Rattle.std.proofs.lemmas.Result.{IfOk-weaker, on_err_weaker}
-use Rattle.std.specs.Prelude.{not, ◌&&◌}
-use Rattle.nfs_rules.specs.declared.passage.Passage.{Passage}
-use Rattle.nfs_forms.specs.declared.open_owner.OpenOwner.{OpenOwner}
-use Rattle.nfs_rules.proofs.Sequenced.{known_back}
+use Rattle.nfs_rules.specs.Deciding.{IsReplay}
 use Rattle.nfs_rules.specs.declared.sequence.Requester.{Requester}
 use Rattle.nfs_rules.specs.declared.sequence.Sequence.{Sequence}
 use Rattle.nfs_rules.specs.Finding.{requester_seen, sequence_seen}
 use Rattle.nfs_state.specs.Room.{state_of}
-use Rattle.nfs_rules.specs.Sequences.{GoesOn, IsOfKnown, IsSequence, is_open}
-use Rattle.nfs_rules.proofs.Sequencing.{kept_found, known_sequence, passage_known, passage_unknown, unknown_sequence}
+use Rattle.nfs_rules.specs.Sequences.{IsSequence}
+use Rattle.nfs_rules.proofs.Sequencing.{kept_found, known_replay, known_sequence, passage_known, passage_unknown, unknown_sequence}
 use Rattle.nfs_owners.specs.Owner.{owner_of}
 use Rattle.nfs_rules.proofs.sequence.sequence_of.Goals as goal
 
@@ -45,13 +42,7 @@ returns-in-Some-clause-passage c =
 
 pub returns-in-Some-clause-memory : goal.returns-in-Some-clause-memory
 returns-in-Some-clause-memory c =
-    let journal = c.args.journal.now in
-    let request = c.args.request.now in
-    let name = c.in-Owner.name.now in
-    let stored = c.args.tables.now.owners.owners in
-    let o = c.in-Some.owner.now in
-    let weaker : ((passage : Passage) (other : OpenOwner) → IsOfKnown (is_open request.op && not o.confirmed) o.kept name request (GoesOn passage other) → ⊥) → (passage : Passage) (owner : OpenOwner) → IsSequence journal (state_of c.args.tables.now) (requester_seen c.args.requester) request (GoesOn passage owner) → ⊥ =
-    λ stays passage owner is.
-    let is_sequence : Requester → Type 0 = λ r. IsSequence journal (state_of c.args.tables.now) (requester_seen r) request (GoesOn passage owner) in
-    stays passage owner (known_back journal name stored o request (GoesOn passage owner) c.requires.kept (sym c.find.ensures ∙ ap option_copied c.in-Some.is) (subst is_sequence c.in-Owner.is is)) in
-    on_err_weaker c.resume.result weaker c.resume.ensures.memory
+    let is_replay : Requester → Type 0 = λ r. IsReplay c.args.journal.now (state_of c.args.tables.now) (requester_seen r) c.args.request.now in
+    on_err_weaker c.resume.result
+    (λ again. subst is_replay (sym c.in-Owner.is) (known_replay c.args.journal.now c.in-Owner.name.now c.args.tables.now.owners.owners c.in-Some.owner.now c.args.request.now c.requires.kept (sym c.find.ensures ∙ ap option_copied c.in-Some.is) again))
+    c.resume.ensures.memory

@@ -10,8 +10,8 @@ use Rattle.nfs_rules.proofs.OpeningLaws.{not_resource, opening_same}
 use Rattle.nfs_xdr.specs.declared.op.Op.TheVariants as ops
 use Rattle.nfs_rules.proofs.operations.open.rule.Goals as goal
 
-pub returns-in-Ok : goal.returns-in-Ok
-returns-in-Ok c =
+pub returns-in-Ok-clause-rules : goal.returns-in-Ok-clause-rules
+returns-in-Ok-clause-rules c =
     let args = c.args.args.now in
     let state = state_of c.args.tables.now in
     let seen = before_own c.args.passage args.owner state in
@@ -20,8 +20,8 @@ returns-in-Ok c =
     sym c.in-Ok.is ∙ c.find_opening.ensures ∙ sym (opening_same c.args.passage c.args.journal.now state c.args.directory args) in
     subst rules (ap (ruling_of seen c.args.passage args.owner) same) c.grant.ensures
 
-pub returns-in-Err : goal.returns-in-Err
-returns-in-Err c =
+pub returns-in-Err-clause-rules : goal.returns-in-Err-clause-rules
+returns-in-Err-clause-rules c =
     let args = c.args.args.now in
     let journal = c.args.journal.now in
     let state = state_of c.args.tables.now in

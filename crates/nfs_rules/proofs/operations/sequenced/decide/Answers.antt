@@ -10,16 +10,16 @@ use Rattle.nfs_xdr.specs.declared.op_result.OpResult.{OpResult}
 use Rattle.nfs_xdr.specs.declared.opnum.Opnum.{Opnum}
 use Rattle.nfs_xdr.specs.OpResult.{refusal_of}
 
-pub returns-in_default : goal.returns-in_default
-returns-in_default c =
+pub returns-in_default-clause-decides : goal.returns-in_default-clause-decides
+returns-in_default-clause-decides c =
     let request = c.args.request.now in
     let journal = c.args.journal.now in
     let state = state_of c.args.tables.now in
     let refused : Opnum → OpResult = λ o. refusal_of o NoFileHandle in
     without_filehandle (own_of request.op journal state) journal state (requester_seen c.args.requester) request request.filehandle c.refusal.result c.unsequenced.result c.in_default.not-Some (c.refusal.ensures.value ∙ ap refused c.opnum.ensures) c.refusal.ensures.form c.refusal.ensures.short c.unsequenced.ensures
 
-pub returns-in_err-answer : goal.returns-in_err-answer
-returns-in_err-answer c =
+pub returns-in_err-answer-clause-decides : goal.returns-in_err-answer-clause-decides
+returns-in_err-answer-clause-decides c =
     let request = c.args.request.now in
     let journal = c.args.journal.now in
     let state = state_of c.args.tables.now in
@@ -27,8 +27,8 @@ returns-in_err-answer c =
     let own = own_of request.op journal state in
     memory_decides (IsSequenced journal state requester own request.filehandle request) state request.op c.from_residual.result c.from_residual.ensures.0 c.from_residual.ensures.1 (answered_has_room own journal state requester request request.filehandle c.in-Some.node c.in-Some.is c.in_err-answer.ensures.memory)
 
-pub returns-in_err-decision_of-in-GoesOn : goal.returns-in_err-decision_of-in-GoesOn
-returns-in_err-decision_of-in-GoesOn c =
+pub returns-in_err-decision_of-in-GoesOn-clause-decides : goal.returns-in_err-decision_of-in-GoesOn-clause-decides
+returns-in_err-decision_of-in-GoesOn-clause-decides c =
     let request = c.args.request.now in
     let journal = c.args.journal.now in
     let state = state_of c.args.tables.now in
@@ -38,16 +38,16 @@ returns-in_err-decision_of-in-GoesOn c =
     let failed = c.from_residual-in_err-decision_of-in-GoesOn in
     memory_decides (IsSequenced journal state requester own request.filehandle request) state request.op failed.result failed.ensures.0 failed.ensures.1 (ruled_has_room journal state requester request request.filehandle c.in-Some.node (sequence_seen found.field-0) c.in-GoesOn.passage c.in-GoesOn.name.now c.in_ok-ruling-in-GoesOn.ruling c.in-Some.is (ap sequence_seen c.in-GoesOn.is) found.ensures.sequence c.in_ok-ruling-in-GoesOn.ensures.0)
 
-pub returns-in-Answered : goal.returns-in-Answered
-returns-in-Answered c =
+pub returns-in-Answered-clause-decides : goal.returns-in-Answered-clause-decides
+returns-in-Answered-clause-decides c =
     let request = c.args.request.now in
     let journal = c.args.journal.now in
     let state = state_of c.args.tables.now in
     let found = c.in_ok-answer in
     answered (own_of request.op journal state) journal state (requester_seen c.args.requester) request request.filehandle c.in-Some.node (sequence_seen found.field-0) c.in-Answered.answer c.unsequenced-in-Answered.result c.in-Some.is (ap sequence_seen c.in-Answered.is) found.ensures.sequence found.ensures.sendable c.unsequenced-in-Answered.ensures
 
-pub returns-in_ok-decision_of-in-GoesOn : goal.returns-in_ok-decision_of-in-GoesOn
-returns-in_ok-decision_of-in-GoesOn c =
+pub returns-in_ok-decision_of-in-GoesOn-clause-decides : goal.returns-in_ok-decision_of-in-GoesOn-clause-decides
+returns-in_ok-decision_of-in-GoesOn-clause-decides c =
     let request = c.args.request.now in
     let journal = c.args.journal.now in
     let state = state_of c.args.tables.now in
