@@ -58,13 +58,13 @@ def owners_at_their_limit(limit=OWNERS_LIMIT):
     for owner in range(limit):
         yield opening(owner, 1, 0, number=owner + 1, flags=6)
     yield opening(limit, 1, 0, status=Status.RESOURCE)
-    # An OPEN of an owner that isn't confirmed begins the owner anew, in the place that it had.
+    # An OPEN of an owner that isn't confirmed starts the owner anew, in the place that it had.
     yield opening(0, 5, 0, number=limit + 1, flags=6) + confirming(6, limit + 1)
     yield opening(limit, 1, 0, status=Status.RESOURCE)
     # A closed owner is still known.
     yield closing(7, 2, limit + 1, 0)
     yield opening(limit, 1, 0, status=Status.RESOURCE)
-    # An owner that isn't confirmed leaves its place by an OPEN that begins it anew and fails: there is no such file.
+    # An owner that isn't confirmed leaves its place by an OPEN that starts it anew and fails: there is no such file.
     yield opening(1, 9, FILES, status=Status.NOENT)
     yield opening(limit, 1, 0, number=limit + 2, flags=6)
     yield opening(1, 9, 0, status=Status.RESOURCE)

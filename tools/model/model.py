@@ -80,7 +80,7 @@ class Request:
 
 @dataclass
 class Kept:
-    """The last request of an owner that counted, and its answer (section 9.1.8)."""
+    """The last request of an owner that counted, with its answer (section 9.1.8)."""
     seqid: int
     request: Request
     answer: Result
@@ -583,13 +583,13 @@ def answer(rule):
 
 
 def replay(kept, request):
-    """The kept answer to a retransmission of the last request, or None (section 9.1.8)."""
+    """The kept answer to a retransmission of the kept request, or None (section 9.1.8)."""
     is_same = (kept.seqid, kept.request) == (request.arguments.seqid, request)
     return kept.answer if is_same else None
 
 
 def closed_by(kept, stateid):
-    """Whether the last request closed the open that the stateid names."""
+    """Whether the kept request closed the open that the stateid names."""
     if kept.request.opnum != Opnum.CLOSE or kept.answer.status != Status.OK:
         return False
     return kept.request.arguments.stateid[1:] == stateid[1:]

@@ -1,4 +1,4 @@
--- What is kept of an owner's last request, and the verdict on the one that comes (RFC 7530, sections 9.1.7 and 9.1.8).
+-- The request that is kept for an owner, and the verdict on the one that comes (RFC 7530, sections 9.1.7 and 9.1.8).
 use Rattle.std.specs.Prelude.{◌≡◌, ◌≢◌, ℕ, ◌+◌, ◌-◌, ◌^◌, ◌==◌, Bool, true, false, ◌&&◌, Option, if◌then◌else◌}
 use Rattle.nfs_owners.specs.declared.kept.Kept.{Kept}
 use Rattle.nfs_owners.specs.declared.kept.KeptRequest.{KeptRequest}
@@ -20,11 +20,11 @@ request_of op filehandle = record { op = op; filehandle = filehandle }
 abbrev pub next_seqid : ℕ → ℕ
 next_seqid seqid = if seqid == 2 ^ 32 - 1 then 0 else seqid + 1
 
--- The request is the last one again: with its sequence id, operation, arguments and current filehandle.
+-- The request is the kept one again: with its sequence id, operation, arguments and current filehandle.
 abbrev pub IsAgain : Kept → ℕ → KeptRequest → Type 0
 IsAgain kept seqid request = (seqid ≡ kept.seqid) × (request ≡ kept.request)
 
--- The verdict on a request, given the owner's last one: it is the next one, or the last one again, or neither.
+-- The verdict on a request, given the kept one: it is the next one, or the kept one again, or neither.
 abbrev pub IsVerdict : Kept → ℕ → KeptRequest → Verdict → Type 0
 IsVerdict kept seqid request verdicts.New = seqid ≡ next_seqid kept.seqid
 IsVerdict kept seqid request (verdicts.Replay answer) = IsAgain kept seqid request × (answer.now ≡ kept.answer)

@@ -38,7 +38,7 @@ IsJudged (Some o) seqid request (Some verdict) = IsVerdict o.kept seqid request 
 abbrev pub with_change : (Owner → Owner) → OpenOwner → List Owner → List Owner
 with_change change name owners = map (λ o. if has_name name o then change o else o) owners
 
--- The owner's last request is now this one, in the journal's entry of this number. An owner that was unknown is
+-- The owner's kept request is now this one, in the journal's entry of this number. An owner that was unknown is
 -- recorded by it.
 abbrev pub with_kept : OpenOwner → ℕ → Kept → List Owner → List Owner
 with_kept name number kept owners =

@@ -3,7 +3,7 @@ ghost use Rattle.nfs_owners.specs.Kept.{IsVerdict, closes, is_close, next_seqid,
 
 use nfs_xdr::{Answer, ClientId, Op, OpResult};
 
-/// An owner's last request, with its sequence id, and the answer to it (RFC 7530, section 9.1.8).
+/// The request that is kept for an owner, with its sequence id, and the answer to it (RFC 7530, section 9.1.8).
 #[derive(Debug, Drop)]
 pub struct Kept {
     pub seqid: u32,
@@ -20,12 +20,12 @@ pub struct KeptRequest {
     pub filehandle: Option<u32>,
 }
 
-/// The verdict on a request, given the owner's last one (RFC 7530, section 9.1.7).
+/// The verdict on a request, given the one that is kept for its owner (RFC 7530, section 9.1.7).
 #[derive(Clone, Copy, Debug)]
 pub enum Verdict<'a> {
     /// It is the owner's next request.
     New,
-    /// It is the owner's last request again, which had this answer.
+    /// It is the kept request again, which had this answer.
     Replay(&'a OpResult),
     /// It is neither.
     Bad,

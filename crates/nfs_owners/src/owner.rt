@@ -4,7 +4,7 @@ ghost use Rattle.nfs_owners.specs.Owner.{has_client, has_name, new_owner};
 use crate::Kept;
 use nfs_xdr::{ClientId, OpenOwner};
 
-/// An owner that the server knows (RFC 7530, section 9.1.5), and its last request.
+/// An owner that the server knows (RFC 7530, section 9.1.5), and its kept request, the last one that counted.
 #[derive(Debug, Drop)]
 pub struct Owner {
     pub name: OpenOwner,
@@ -12,9 +12,9 @@ pub struct Owner {
     pub confirmed: bool,
     /// The number of the journal's entry that recorded the owner.
     pub recorded: u32,
-    /// The number of the journal's entry of the last request.
+    /// The number of the journal's entry of the kept request.
     pub number: u32,
-    /// The last request with its answer.
+    /// The kept request with its answer.
     pub kept: Kept,
 }
 
@@ -59,7 +59,7 @@ impl Owner {
         self.name.client == client
     }
 
-    /// Makes this the last request, in the journal's entry of this number.
+    /// Makes this the kept request, in the journal's entry of this number.
     pub fn keep(&mut self, number: u32, kept: Kept)
         ensures { self.new ≡ record self.old { number = number; kept = kept } }
     {

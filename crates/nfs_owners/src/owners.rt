@@ -120,7 +120,7 @@ impl Owners {
         Ok(self.owners.reserve(1)?)
     }
 
-    /// Makes this the last request of the owner with this name, in the journal's entry `number`; an unknown owner is
+    /// Makes this the kept request of the owner with this name, in the journal's entry `number`; an unknown owner is
     /// recorded by it. It takes no memory.
     pub fn keep(&mut self, name: OpenOwner, number: u32, kept: Kept)
         requires place { IsTrue (has_place name self.old.owners) }

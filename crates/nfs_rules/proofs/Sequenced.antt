@@ -173,7 +173,7 @@ memory_decides ruled state op (Ok decision) err memory room = absurd cc
 memory_decides ruled state op (Err Limit) err memory room = absurd cc
 memory_decides ruled state op (Err Memory) err memory room = room
 
--- the last request again doesn't go on as the next one
+-- the kept request again doesn't go on as the next one
 judged_stays : (kept : Kept) (name : OpenOwner) (request : Request) → IsAgain kept (seqid_of request.op) (request_of request.op request.filehandle) → (passage : Passage) (owner : OpenOwner) → IsJudged kept name request (GoesOn passage owner) → ⊥
 judged_stays kept name request again passage owner (verdicts.New, is, same) = next_differs kept.seqid (sym again.0 ∙ is)
 judged_stays kept name request again passage owner (verdicts.Replay answer, is, same) = absurd cc

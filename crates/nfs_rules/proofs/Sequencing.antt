@@ -76,7 +76,7 @@ closer_known journal id stored agrees =
     ap owner_or_bad (find_known (λ o. has_closed id (kept_for journal o)) (λ o. closes id.client id.number o.kept) stored (closed_same journal id stored agrees))
     ∙ stored_as_known (find (λ o. closes id.client id.number o.kept) stored)
 
--- The last request again has the same operation, whose answer can be sent as before.
+-- The kept request again has the same operation, whose answer can be sent as before.
 pub replay_sendable : (kept : Kept) (seqid : ℕ) (op : Op) (filehandle : Option ℕ) (answer : OpResult) → IsSendable kept.request.op kept.answer → IsAgain kept seqid (request_of op filehandle) → answer ≡ kept.answer → IsSendable op answer
 replay_sendable kept seqid op filehandle answer sendable again is =
     let same : op ≡ kept.request.op = ap (λ (r : KeptRequest). r.op) again.1 in

@@ -1,4 +1,4 @@
--- What the functions that decide an operation guarantee; used only in the contracts of this crate's own functions.
+-- What the functions that decide an operation guarantee: `decide`, and the crate's own functions below it.
 use Rattle.std.specs.Prelude.{◌≡◌, ◌≢◌, ◌⊎◌, ⊤, Option, Some, None, is_some, Result, Ok, Err}
 use Rattle.nfs_rules.specs.declared.decision.Decision.{Decision}
 use Rattle.nfs_state.specs.declared.shortage.Shortage.{Shortage}

@@ -110,14 +110,14 @@ by_verdict name op verdicts.New = GoesOn passages.Continues name
 by_verdict name op (verdicts.Replay answer) = Answered answer.now
 by_verdict name op verdicts.Bad = refusal_to op refusals.BadSeqId
 
--- The owner's next request goes on, its last one again is answered as it was, and any other is NFS4ERR_BAD_SEQID.
+-- The owner's next request goes on, its kept one again is answered as it was, and any other is NFS4ERR_BAD_SEQID.
 abbrev pub IsJudged : Kept → OpenOwner → Request → Sequence → Type 0
 IsJudged kept name request sequence =
     (verdict : Verdict)
     × IsVerdict kept (seqid_of request.op) (request_of request.op request.filehandle) verdict
     × (sequence ≡ by_verdict name request.op verdict)
 
--- An OPEN of an unconfirmed owner: the last one again is answered as it was. Any other starts the owner anew, whatever
+-- An OPEN of an unconfirmed owner: the kept one again is answered as it was. Any other starts the owner anew, whatever
 -- its sequence id.
 abbrev pub IsRestart : Kept → OpenOwner → Request → Sequence → Type 0
 IsRestart kept name request (Answered answer) =

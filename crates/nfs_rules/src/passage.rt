@@ -5,6 +5,6 @@ pub enum Passage {
     Continues,
     /// It is an OPEN of an owner that isn't known.
     Begins,
-    /// It is an OPEN of an unconfirmed owner, and not its last request again: the owner starts anew.
+    /// It is an OPEN of an unconfirmed owner, and not its kept request again: the owner starts anew.
     Restarts,
 }

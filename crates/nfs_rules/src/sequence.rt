@@ -41,7 +41,7 @@ pub(crate) fn requester_of_open<'a>(tables: &Tables, owner: &'a OpenOwner) -> Re
     }
 }
 
-/// The owner that a stateid names, also by an open that it has closed by its last request.
+/// The owner that a stateid names, also by an open that it has closed by its kept request.
 pub(crate) fn requester_of_stateid<'a>(
     tables: &'a Tables,
     journal: &Journal,
@@ -130,7 +130,7 @@ fn resume<'a>(
     }
 }
 
-// The owner's next request goes on, its last one again is answered as it was, and any other is NFS4ERR_BAD_SEQID.
+// The owner's next request goes on, its kept one again is answered as it was, and any other is NFS4ERR_BAD_SEQID.
 fn judge<'a>(
     kept: &Kept,
     request: &Request,
@@ -149,7 +149,7 @@ fn judge<'a>(
     }
 }
 
-// An OPEN of an unconfirmed owner: the last one again is answered as it was, and any other starts the owner anew.
+// An OPEN of an unconfirmed owner: the kept one again is answered as it was, and any other starts the owner anew.
 fn restart<'a>(
     kept: &Kept,
     request: &Request,

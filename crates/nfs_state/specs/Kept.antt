@@ -17,7 +17,7 @@ use Rattle.nfs_state.specs.declared.entry.Entry.TheVariants as entries
 use Rattle.nfs_xdr.specs.declared.op.Op.{Op}
 use Rattle.nfs_xdr.specs.declared.op.Op.TheVariants as ops
 
--- the sequence id in the operation's arguments
+-- the sequence id in the operation's arguments; 0 if it has none
 abbrev pub seqid_of : Op → ℕ
 seqid_of (ops.Open args) = args.seqid
 seqid_of (ops.OpenConfirm args) = args.seqid

@@ -61,7 +61,7 @@ HasUpdateRoom (updates.Drops name) tables = ⊤
 abbrev pub is_known : OpenOwner → State → Bool
 is_known name state = is_some (owner_of name state.owners)
 
--- What is known of the owner before the entry: one that keeps it or begins anew is known; one that is recorded isn't,
+-- What is known of the owner before the entry: one that keeps it or starts anew is known; one that is recorded isn't,
 -- and there is a place for it.
 abbrev pub HasOwnerPlace : OwnerChange → State → Type 0
 HasOwnerPlace owner_changes.Nothing state = ⊤

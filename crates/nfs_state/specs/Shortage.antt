@@ -4,7 +4,7 @@ use Rattle.nfs_owners.specs.declared.owners_error.OwnersError.TheVariants as err
 use Rattle.nfs_state.specs.declared.shortage.Shortage.{Shortage}
 use Rattle.nfs_state.specs.declared.shortage.Shortage.TheVariants.{Limit, Memory}
 
--- the shortage that an error of the clients' records leads to
+-- the shortage that the error leads to
 abbrev pub shortage_of : OwnersError → Shortage
 shortage_of errors.Full = Limit
 shortage_of errors.Memory = Memory

@@ -56,7 +56,7 @@ pub fn copy_of_answer(answer: &OpResult) -> Result<OpResult, AllocError>
     answer.clone()
 }
 
-/// The sequence id in the operation's arguments.
+/// The sequence id in the operation's arguments; 0 if it has none.
 pub fn seqid_of(op: &Op) -> u32
     ensures { result ≡ seqid_of op.now }
 {

@@ -1,4 +1,4 @@
-//! Owners with their last requests, the clients' records, and the numbers of states, each in a short run.
+//! Owners with their kept requests, the clients' records, and the numbers of states, each in a short run.
 
 use nfs_owners::{
     Clients, Kept, KeptRequest, Numbers, OwnerStanding, Owners, OwnersError, PathMark, Verdict,
@@ -25,7 +25,7 @@ fn kept_answer() -> OpResult {
     Opnum::Getattr.refusal(Refusal::NoEnt)
 }
 
-/// The last request, SAVEFH of node 3 with this sequence id.
+/// The kept request, SAVEFH of node 3 with this sequence id.
 fn kept(seqid: u32) -> Kept {
     let request = KeptRequest {
         op: Op::Savefh,

@@ -102,7 +102,7 @@ stateid_after state owner None =
 stateid_after state owner (Some o) = next_stateid_of o
 
 -- OPEN4_RESULT_LOCKTYPE_POSIX, which is 4, and OPEN4_RESULT_CONFIRM, which is 2, for an owner that isn't confirmed: one
--- that begins, for the first time or anew
+-- that begins, or that starts anew
 abbrev pub rflags_of : Passage → ℕ
 rflags_of Continues = 4
 rflags_of passage = 4 + 2

@@ -278,8 +278,8 @@ fn refused(refusal: Refusal) -> OpResult
     OpResult::Open(Answer::Refused(refusal))
 }
 
-// OPEN4_RESULT_LOCKTYPE_POSIX, and OPEN4_RESULT_CONFIRM for an owner that isn't confirmed: one that begins, for the first
-// time or anew.
+// OPEN4_RESULT_LOCKTYPE_POSIX, and OPEN4_RESULT_CONFIRM for an owner that isn't confirmed: one that begins, or that
+// starts anew.
 fn rflags_of(passage: Passage) -> u32
     ensures { result ≡ rflags_of passage }
 {
