@@ -1,18 +1,12 @@
-ghost use Rattle.std.specs.Prelude.{◌≡◌, None, ◌≢◌, ◌≤◌, ◌<◌, [], IfErr, IfOk, OnOk, OnErr, IsErrOf, IsTrue, Some, length};
-ghost use Rattle.nfs_core.specs.Server.{Applies, IsLawful};
-ghost use Rattle.nfs_core.specs.Step.{AtMostOneStep};
-ghost use Rattle.nfs_state.specs.Entries.{IsFilehandle, request_of, with_entry};
-ghost use Rattle.nfs_state.specs.Changes.{changed};
+ghost use Rattle.std.specs.Prelude.{◌≡◌, None, ◌≤◌, ◌<◌, [], IfOk, OnErr, IsErrOf, IsTrue, Some, length};
 ghost use Rattle.nfs_core.specs.Safe.{IsSafe};
-ghost use Rattle.nfs_state.specs.Stored.{empty_store, meaning};
-ghost use Rattle.nfs_core.specs.Step.{HasNoStep};
-ghost use Rattle.nfs_state.specs.Entries.{IsSendable};
-ghost use Rattle.nfs_state.specs.Kept.{Agrees, owners_after, update_of};
-ghost use Rattle.nfs_state.specs.Room.{HasNumbers, HasOwnerPlace, state_of, stored_of};
-ghost use Rattle.nfs_state.specs.Kept.{kept_of};
-ghost use Rattle.nfs_state.specs.Changes.{with_owner_change};
-ghost use Rattle.nfs_state.specs.State.{History};
+ghost use Rattle.nfs_core.specs.Server.{Applies, IsLawful};
+ghost use Rattle.nfs_core.specs.Step.{AtMostOneStep, HasNoStep};
 ghost use Rattle.nfs_rules.specs.operations.{IsRuled};
+ghost use Rattle.nfs_state.specs.Entries.{IsFilehandle, IsSendable, request_of};
+ghost use Rattle.nfs_state.specs.Kept.{Agrees};
+ghost use Rattle.nfs_state.specs.Room.{state_of, stored_of};
+ghost use Rattle.nfs_state.specs.Stored.{empty_store, meaning};
 ghost use Rattle.nfs_xdr.specs.Op.{has_entry};
 ghost use Rattle.nfs_xdr.specs.OpResult.{op_result};
 
