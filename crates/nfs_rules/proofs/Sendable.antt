@@ -16,8 +16,6 @@ use Rattle.nfs_forms.specs.declared.stateid.Stateid.{Stateid}
 use Rattle.nfs_forms.specs.declared.status.Refusal.{Refusal}
 use Rattle.nfs_forms.specs.declared.status.Refusal.TheVariants as refusals
 use Rattle.nfs_forms.specs.Answer.{answer}
-use Rattle.nfs_forms.specs.ClientId.{client_id}
-use Rattle.nfs_forms.specs.Stateid.{stateid}
 use Rattle.nfs_forms.specs.Status.{number_of_refusal, status}
 use Rattle.nfs_xdr.specs.declared.op.Op.TheVariants as ops
 use Rattle.nfs_xdr.specs.declared.op_result.OpResult.TheVariants as results
@@ -83,14 +81,6 @@ close_refused args refusal other = record {
   short = omega arith;
 }
 
-pub close_done : (args : Close) (id : Stateid) → stateid.Fits id → IsSendable (ops.Close args) (results.Close (answers.Done id))
-unfolding op_result opnum answer status stateid client_id written_number
-close_done args id fits = record {
-  not_resource = λ same. cc;
-  form = (omega arith, (omega arith, fits));
-  short = omega arith;
-}
-
 pub confirm_refused : (args : OpenConfirm) (refusal : Refusal) → refusal ≢ refusals.Resource → IsSendable (ops.OpenConfirm args) (results.OpenConfirm (answers.Refused refusal))
 unfolding op_result opnum answer status written_number
 confirm_refused args refusal other = record {
@@ -99,26 +89,10 @@ confirm_refused args refusal other = record {
   short = omega arith;
 }
 
-pub confirm_done : (args : OpenConfirm) (id : Stateid) → stateid.Fits id → IsSendable (ops.OpenConfirm args) (results.OpenConfirm (answers.Done id))
-unfolding op_result opnum answer status stateid client_id written_number
-confirm_done args id fits = record {
-  not_resource = λ same. cc;
-  form = (omega arith, (omega arith, fits));
-  short = omega arith;
-}
-
 pub downgrade_refused : (args : OpenDowngrade) (refusal : Refusal) → refusal ≢ refusals.Resource → IsSendable (ops.OpenDowngrade args) (results.OpenDowngrade (answers.Refused refusal))
 unfolding op_result opnum answer status written_number
 downgrade_refused args refusal other = record {
   not_resource = λ same. other (search same);
   form = (omega arith, (refusal_fits refusal, tt));
-  short = omega arith;
-}
-
-pub downgrade_done : (args : OpenDowngrade) (id : Stateid) → stateid.Fits id → IsSendable (ops.OpenDowngrade args) (results.OpenDowngrade (answers.Done id))
-unfolding op_result opnum answer status stateid client_id written_number
-downgrade_done args id fits = record {
-  not_resource = λ same. cc;
-  form = (omega arith, (omega arith, fits));
   short = omega arith;
 }

@@ -1,4 +1,6 @@
-ghost use Rattle.std.specs.Prelude.{Some};
+ghost use Rattle.std.specs.Prelude.{◌≡◌, ◌≤◌, Some, length};
+ghost use Rattle.nfs_share.specs.Opens.{next_stateid_of};
+ghost use Rattle.nfs_xdr.specs.OpResult.{op_result};
 ghost use Rattle.nfs_state.specs.Entries.{IsSendable};
 ghost use Rattle.nfs_state.specs.Room.{HasNumbers, state_of};
 ghost use Rattle.nfs_rules.specs.declared.passage.Passage.{Passage};
@@ -7,7 +9,8 @@ ghost use Rattle.nfs_rules.specs.operations.Close.{own};
 use crate::demand::Demand;
 use crate::ruling::Ruling;
 use crate::stateids::verdict;
-use nfs_state::{Change, Journal, Tables};
+use nfs_share::OpenState;
+use nfs_state::{ANSWER_LIMIT, Change, Journal, Tables};
 use nfs_xdr::operations::close::Close;
 use nfs_xdr::{Answer, Op, OpResult};
 
@@ -28,11 +31,21 @@ pub(super) fn rule(tables: &Tables, journal: &Journal, node: u32, args: &Close) 
             change: Change::Nothing,
         },
         Ok(found) => Ruling {
-            answer: OpResult::Close(Answer::Done(found.state.next_stateid())),
+            answer: freed(&found.state),
             change: Change::Closes {
                 node: found.node,
                 number: found.state.number,
             },
         },
     }
+}
+
+// The answer to a CLOSE that frees the open: its stateid with the next seqid.
+#[tactic(auto, unfolding(nfs_xdr::specs::OpResult::op_result, nfs_xdr::specs::Opnum::opnum, nfs_forms::specs::Status::status, xdr::specs::Writing::written_number, nfs_forms::specs::Answer::answer, nfs_forms::specs::Stateid::stateid, nfs_forms::specs::ClientId::client_id))]
+fn freed(state: &OpenState) -> OpResult
+    ensures value { result ≡ OpResult.Close (Answer.Done (next_stateid_of state.now)) }
+    ensures form { op_result.Fits result }
+    ensures short { length (op_result.spelling result) ≤ ANSWER_LIMIT }
+{
+    OpResult::Close(Answer::Done(state.next_stateid()))
 }

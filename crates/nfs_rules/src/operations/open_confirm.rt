@@ -1,4 +1,6 @@
-ghost use Rattle.std.specs.Prelude.{◌≡◌, IfOk, OnErr, Some, true};
+ghost use Rattle.std.specs.Prelude.{◌≡◌, ◌≤◌, IfOk, OnErr, Some, length, true};
+ghost use Rattle.nfs_share.specs.Opens.{next_stateid_of};
+ghost use Rattle.nfs_xdr.specs.OpResult.{op_result};
 ghost use Rattle.nfs_state.specs.Entries.{IsSendable};
 ghost use Rattle.nfs_state.specs.Room.{HasNumbers, state_of};
 ghost use Rattle.nfs_rules.specs.declared.passage.Passage.{Passage};
@@ -9,7 +11,8 @@ ghost use Rattle.nfs_rules.specs.Stateids as stateids;
 use crate::demand::Demand;
 use crate::ruling::Ruling;
 use crate::stateids::{is_confirmed, verdict};
-use nfs_state::{Change, Journal, Tables};
+use nfs_share::OpenState;
+use nfs_state::{ANSWER_LIMIT, Change, Journal, Tables};
 use nfs_xdr::operations::open_confirm::OpenConfirm;
 use nfs_xdr::{Answer, Op, OpResult, Refusal};
 use std::alloc::AllocError;
@@ -41,7 +44,7 @@ pub(super) fn rule(
         return Ok(refused(Refusal::BadStateId));
     }
     Ok(Ruling {
-        answer: OpResult::OpenConfirm(Answer::Done(found.state.next_stateid())),
+        answer: confirmed(&found.state),
         change: Change::Confirms {
             node: found.node,
             number: found.state.number,
@@ -50,11 +53,24 @@ pub(super) fn rule(
     })
 }
 
+#[tactic(auto, unfolding(nfs_xdr::specs::OpResult::op_result, nfs_xdr::specs::Opnum::opnum, nfs_forms::specs::Status::status, xdr::specs::Writing::written_number, nfs_forms::specs::Answer::answer))]
 fn refused(refusal: Refusal) -> Ruling
-    ensures { result ≡ refusal_of refusal }
+    ensures value { result ≡ refusal_of refusal }
+    ensures form { op_result.Fits result.answer }
+    ensures short { length (op_result.spelling result.answer) ≤ ANSWER_LIMIT }
 {
     Ruling {
         answer: OpResult::OpenConfirm(Answer::Refused(refusal)),
         change: Change::Nothing,
     }
+}
+
+// The answer to an OPEN_CONFIRM that is granted: the open's stateid with the next seqid.
+#[tactic(auto, unfolding(nfs_xdr::specs::OpResult::op_result, nfs_xdr::specs::Opnum::opnum, nfs_forms::specs::Status::status, xdr::specs::Writing::written_number, nfs_forms::specs::Answer::answer, nfs_forms::specs::Stateid::stateid, nfs_forms::specs::ClientId::client_id))]
+fn confirmed(state: &OpenState) -> OpResult
+    ensures value { result ≡ OpResult.OpenConfirm (Answer.Done (next_stateid_of state.now)) }
+    ensures form { op_result.Fits result }
+    ensures short { length (op_result.spelling result) ≤ ANSWER_LIMIT }
+{
+    OpResult::OpenConfirm(Answer::Done(state.next_stateid()))
 }

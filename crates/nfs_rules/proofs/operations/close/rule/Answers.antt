@@ -1,15 +1,8 @@
-use Rattle.std.proofs.Common.{rules, false}
-use Rattle.nfs_rules.proofs.Sendable.{close_done, close_refused, verdict_other}
+use Rattle.std.proofs.Common.{false}
+use Rattle.nfs_rules.proofs.Sendable.{close_refused, verdict_other}
 use Rattle.nfs_state.specs.Room.{state_of}
 use Rattle.nfs_rules.proofs.operations.close.rule.Goals as goal
-use Rattle.nfs_forms.specs.ClientId.{client_id}
-use Rattle.nfs_forms.specs.Stateid.{stateid}
 
 pub returns-in-Err-clause-sendable : goal.returns-in-Err-clause-sendable
 returns-in-Err-clause-sendable c =
     close_refused c.args.args.now c.in-Err.refusal (verdict_other (record { node = c.args.node; also_unconfirmed = false }) c.epoch.result (state_of c.args.tables.now) c.args.args.now.stateid c.in-Err.refusal c.in-Err.ensures)
-
-pub returns-in-Ok-clause-sendable : goal.returns-in-Ok-clause-sendable
-unfolding stateid client_id
-returns-in-Ok-clause-sendable c =
-    close_done c.args.args.now c.next_stateid.result (search (rules, c.next_stateid.type_inv))
