@@ -2,14 +2,14 @@
 use Rattle.std.proofs.Common.{◌≡◌, Bool, true, false, ℕ, ◌≤◌, ◌⊎◌, inl, inr, Option, Some, None, List, [], ◌∷◌, ◌++◌, length, refl, sym, ap, ◌+◌, subst, append_assoc, append-nil, arith}
 use Rattle.nfs_state.specs.declared.entry.Call.{Call}
 use Rattle.nfs_state.specs.declared.entry.TheConstants.{JOURNAL_LIMIT}
-use Rattle.std.specs.Prelude.{is_some}
+use Rattle.std.specs.Prelude.{is_some, IsErrOf, Result, Ok, Err}
 use Rattle.nfs_state.specs.declared.request.Request.{Request}
 use Rattle.nfs_share.specs.AllOpens.{opens_of}
 use Rattle.nfs_share.specs.Opens.{open_of}
 use Rattle.nfs_rules.specs.operations.{AtMostOneDecision, IsRuled}
 use Rattle.nfs_state.specs.declared.owner_change.OwnerChange.{OwnerChange}
 use Rattle.nfs_state.specs.declared.owner_change.OwnerChange.TheVariants.{Nothing}
-use Rattle.nfs_state.specs.Changes.{with_owner_change}
+use Rattle.nfs_state.specs.Changes.{with_owner_change, changed, last_state_after}
 use Rattle.nfs_owners.specs.Registry.{Registry}
 use Rattle.nfs_state.specs.Stored.{Stored, meaning}
 use Rattle.nfs_xdr.specs.declared.op.Op.{Op}
@@ -23,13 +23,11 @@ use Rattle.nfs_state.specs.declared.entry.Entry.TheVariants as entries
 use Rattle.nfs_rules.specs.Deciding.{Decides}
 use Rattle.nfs_state.specs.declared.shortage.Shortage.{Shortage}
 use Rattle.nfs_state.specs.declared.shortage.Shortage.TheVariants.{Limit, Memory}
-use Rattle.std.specs.Prelude.{IsErrOf, Result, Ok, Err}
 use Rattle.nfs_core.specs.Lawful.{Leads, Lawful}
 use Rattle.nfs_core.specs.Server.{Server, Applies, IsLawful}
 use Rattle.nfs_state.specs.State.{State, History, empty_server}
 use Rattle.nfs_core.specs.Step.{Follows, Step, AtMostOneStep}
 use Rattle.nfs_state.specs.Entries.{entry_of, with_entry}
-use Rattle.nfs_state.specs.Changes.{changed, last_state_after}
 
 -- entries that lead to a state, and one more entry that leads on from there
 Leads-append : (journal : History) (old mid new : State) (entries : List Entry) (entry : Entry) → Leads journal old entries mid → Step (record journal { entries = journal.entries ++ entries }) mid entry new → Leads journal old (entries ++ entry ∷ []) new

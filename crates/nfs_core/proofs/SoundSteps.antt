@@ -8,11 +8,10 @@ use Rattle.nfs_rules.specs.declared.decision.Decision.{Decision}
 use Rattle.nfs_state.specs.declared.owner_change.OwnerChange.{OwnerChange}
 use Rattle.nfs_state.specs.declared.owner_change.OwnerChange.TheVariants as owner_changes
 use Rattle.nfs_state.specs.Owners.{has_name, with_confirmation, with_record}
-use Rattle.nfs_state.specs.Changes.{with_owner_change}
+use Rattle.nfs_state.specs.Changes.{with_owner_change, changed}
 use Rattle.nfs_state.specs.Changes as state_changes
 use Rattle.nfs_state.specs.State.{State}
 use Rattle.nfs_core.specs.Step.{after}
-use Rattle.nfs_state.specs.Changes.{changed}
 use Rattle.nfs_core.proofs.SafeLists.{all_filter, all_push, all_set}
 use Rattle.nfs_core.proofs.Sound.{IsKnownIn, IsOnlyOf, IsSound, OpensStay, at_node, dropped_compatible, dropped_known, dropped_live, each_known, is_live_in, live_confirmed, live_replaced, live_unconfirmed, mapped_known, mapped_live, name_kept, opening_known, recorded_known, set_node, single_confirmed, single_unconfirmed}
 use Rattle.nfs_forms.specs.ClientId.{is_same_client}

@@ -14,17 +14,15 @@ use Rattle.nfs_state.specs.declared.request.Request.{Request}
 use Rattle.nfs_rules.specs.declared.ruling.Ruling.{Ruling}
 use Rattle.nfs_state.specs.declared.shortage.Shortage.{Shortage}
 use Rattle.nfs_state.specs.declared.shortage.Shortage.TheVariants.{Limit, Memory}
-use Rattle.nfs_rules.specs.Deciding.{Decides, HasPassage, IsReplay, IsReplayOf, IsSendableSequence, Rules}
-use Rattle.nfs_state.specs.Entries.{IsSendable}
+use Rattle.nfs_rules.specs.Deciding.{Decides, HasPassage, IsReplay, IsReplayOf, IsSendableSequence, Rules, IsPassage}
+use Rattle.nfs_state.specs.Entries.{IsSendable, resource}
 use Rattle.nfs_rules.specs.operations.{own_of}
 use Rattle.nfs_rules.specs.operations.Open.{has_open_place, opening, ruling_of}
 use Rattle.nfs_state.specs.Owners.{KnownOwner, owner_of}
 use Rattle.nfs_state.specs.Room.{HasOwnerPlace, is_known}
-use Rattle.nfs_rules.specs.Deciding.{IsPassage}
 use Rattle.nfs_rules.specs.Sequences.{Answered, GoesOn, IsDecided, IsJudged, IsOfKnown, IsOfOwner, IsSequence, IsSequenced, Own, Owner, Refused, Requester, Sequence, counts, decision_of, is_ok_status, is_open, owner_change_of}
 use Rattle.nfs_state.specs.Kept.{kept_for, seqid_of}
 use Rattle.nfs_state.specs.State.{State, History}
-use Rattle.nfs_state.specs.Entries.{resource}
 use Rattle.nfs_forms.specs.declared.open_owner.OpenOwner.{OpenOwner}
 use Rattle.nfs_forms.specs.declared.status.Refusal.{Refusal}
 use Rattle.nfs_forms.specs.declared.status.Refusal.TheVariants as refusals

@@ -5,13 +5,12 @@ use Rattle.std.specs.List.{AllByRecursion}
 use Rattle.nfs_rules.specs.Deciding.{HasPassage, IsReplayOf}
 use Rattle.nfs_state.specs.Entries.{IsSendable}
 use Rattle.nfs_rules.specs.Finding.{stored_or_bad}
-use Rattle.nfs_state.specs.Kept.{Agrees, IsKeptIn}
+use Rattle.nfs_state.specs.Kept.{Agrees, IsKeptIn, kept_for, seqid_of}
 use Rattle.nfs_state.specs.Owners.{KnownOwner, confirmed_if_known, has_name, is_confirmed, owner_of}
 use Rattle.nfs_rules.specs.declared.passage.Passage.TheVariants as passages
 use Rattle.nfs_state.specs.declared.request.Request.{Request}
 use Rattle.nfs_state.specs.Room.{is_known}
 use Rattle.nfs_rules.specs.Sequences.{IsOfKnown, IsOfOwner, IsOfUnknown, IsRestart, Sequence, Answered, GoesOn, by_verdict, has_closed, is_open, owner_or_bad, refusal_to}
-use Rattle.nfs_state.specs.Kept.{kept_for, seqid_of}
 use Rattle.nfs_state.specs.State.{State, History}
 use Rattle.nfs_state.specs.Stored.{known_owner}
 use Rattle.nfs_forms.specs.declared.open_owner.OpenOwner.{OpenOwner}

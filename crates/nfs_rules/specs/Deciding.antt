@@ -1,10 +1,10 @@
 -- What the functions that decide an operation guarantee: `decide`, and the crate's own functions below it.
-use Rattle.std.specs.Prelude.{◌≡◌, ◌≢◌, ◌⊎◌, ⊤, Option, Some, None, is_some, Result, Ok, Err}
+use Rattle.std.specs.Prelude.{◌≡◌, ◌≢◌, ◌⊎◌, ⊤, Option, Some, None, is_some, Result, Ok, Err, IsFalse, IsTrue}
 use Rattle.nfs_rules.specs.declared.decision.Decision.{Decision}
 use Rattle.nfs_state.specs.declared.shortage.Shortage.{Shortage}
 use Rattle.nfs_state.specs.declared.shortage.Shortage.TheVariants.{Limit, Memory}
 use Rattle.nfs_rules.specs.declared.ruling.Ruling.{Ruling}
-use Rattle.nfs_state.specs.Room.{HasNumbers, HasOwnerPlace}
+use Rattle.nfs_state.specs.Room.{HasNumbers, HasOwnerPlace, is_known}
 use Rattle.nfs_rules.specs.Sequences.{IsSequence, Requester, Refused, Owner, Sequence, Answered, GoesOn}
 use Rattle.nfs_rules.specs.declared.passage.Passage.{Passage}
 use Rattle.nfs_state.specs.State.{State, History}
@@ -19,10 +19,8 @@ use Rattle.nfs_forms.specs.declared.status.Refusal.TheVariants as refusals
 use Rattle.nfs_share.specs.AllOpens.{OpenAt}
 use Rattle.nfs_xdr.specs.declared.op.Op.{Op}
 use Rattle.nfs_xdr.specs.declared.op.Op.TheVariants as ops
-use Rattle.std.specs.Prelude.{IsFalse, IsTrue}
 use Rattle.nfs_forms.specs.declared.open_owner.OpenOwner.{OpenOwner}
 use Rattle.nfs_rules.specs.declared.passage.Passage.TheVariants as passages
-use Rattle.nfs_state.specs.Room.{is_known}
 
 -- How the owner's request goes on fits what is known of the owner.
 abbrev pub IsPassage : Passage → OpenOwner → State → Type 0

@@ -2,10 +2,9 @@ ghost use Rattle.std.specs.Prelude.{◌≡◌, ◌≢◌, ◌&&◌, not, IfOk, O
 ghost use Rattle.nfs_rules.specs.Finding.{requester_seen, sequence_seen, stored_or_bad};
 ghost use Rattle.nfs_rules.specs.Deciding.{HasOtherRefusal, HasPassage, IsReplay, IsSendableSequence};
 ghost use Rattle.nfs_state.specs.Entries.{IsSendable};
-ghost use Rattle.nfs_state.specs.Kept.{Agrees};
+ghost use Rattle.nfs_state.specs.Kept.{Agrees, seqid_of};
 ghost use Rattle.nfs_state.specs.Room.{state_of};
 ghost use Rattle.nfs_rules.specs.Sequences.{IsJudged, IsOfKnown, IsOfUnknown, IsRestart, IsSequence, is_open, refusal_to, requester_of_open, requester_of_stateid};
-ghost use Rattle.nfs_state.specs.Kept.{seqid_of};
 ghost use Rattle.nfs_owners.specs.Kept.{IsAgain, closes, request_of};
 
 use crate::passage::Passage;

@@ -4,11 +4,9 @@ use Rattle.std.specs.Prelude.{not, option_map, slice_get, if◌then◌else◌}
 use Rattle.nfs_state.specs.declared.entry.Entry.{Entry}
 use Rattle.nfs_state.specs.declared.owner_change.OwnerChange.{OwnerChange}
 use Rattle.nfs_state.specs.declared.owner_change.OwnerChange.TheVariants as owner_changes
-use Rattle.nfs_state.specs.Entries.{IsSendable}
-use Rattle.nfs_state.specs.Kept.{Agrees, IsKeptIn, owners_after, update_of}
-use Rattle.nfs_state.specs.Kept.{kept_of}
+use Rattle.nfs_state.specs.Entries.{IsSendable, with_entry}
+use Rattle.nfs_state.specs.Kept.{Agrees, IsKeptIn, owners_after, update_of, kept_of}
 use Rattle.nfs_state.specs.State.{History}
-use Rattle.nfs_state.specs.Entries.{with_entry}
 use Rattle.nfs_forms.specs.declared.open_owner.OpenOwner.{OpenOwner}
 use Rattle.nfs_owners.specs.declared.kept.Kept.{Kept}
 use Rattle.nfs_owners.specs.declared.owner.Owner.{Owner}

@@ -6,9 +6,8 @@ use Rattle.nfs_state.specs.Kept.{Agrees, IsKeptIn, update_of}
 use Rattle.nfs_state.specs.Owners as known
 use Rattle.nfs_state.specs.Owners.{KnownOwner}
 use Rattle.nfs_state.specs.Room.{HasOwnerPlace}
-use Rattle.nfs_state.specs.Changes.{with_owner_change, without}
+use Rattle.nfs_state.specs.Changes.{with_owner_change, without, changed, left_by, without_client}
 use Rattle.nfs_state.specs.State.{History, State}
-use Rattle.nfs_state.specs.Changes.{changed, left_by, without_client}
 use Rattle.nfs_state.specs.declared.change.Change.{Change}
 use Rattle.nfs_state.specs.declared.change.Change.TheVariants as own_changes
 use Rattle.nfs_state.specs.Stored.{Stored, known_owner, meaning}

@@ -1,6 +1,5 @@
 ghost use Rattle.std.specs.Prelude.{◌≡◌, IfOk};
-ghost use Rattle.nfs_state.specs.Kept.{update_of};
-ghost use Rattle.nfs_state.specs.Kept.{kept_of};
+ghost use Rattle.nfs_state.specs.Kept.{update_of, kept_of};
 
 use crate::owner_change::OwnerChange;
 use crate::{Call, Entry};

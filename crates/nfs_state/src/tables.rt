@@ -24,11 +24,9 @@ pub struct Tables {
 
 impl Tables {
     ghost use Rattle.std.specs.Option.{option_copied};
-    ghost use Rattle.nfs_state.specs.State.{change_of, file_of, has_state, record_has_state, size_of};
+    ghost use Rattle.nfs_state.specs.State.{change_of, file_of, has_state, record_has_state, size_of, History};
     ghost use Rattle.nfs_state.specs.Kept.{Agrees, owners_after, update_of};
-    ghost use Rattle.nfs_state.specs.Changes.{with_owner_change};
-    ghost use Rattle.nfs_state.specs.State.{History};
-    ghost use Rattle.nfs_state.specs.Changes.{changed, left_by};
+    ghost use Rattle.nfs_state.specs.Changes.{with_owner_change, changed, left_by};
     ghost use Rattle.nfs_state.specs.Room.{HasNumbers, HasOwnerPlace, HasOwnerRoom, HasRoom, HasUpdateRoom, state_of, stored_of};
     ghost use Rattle.nfs_state.specs.declared.owner_change.OwnerChange.{OwnerChange};
     ghost use Rattle.nfs_owners.specs.declared.kept.Kept.{Kept};

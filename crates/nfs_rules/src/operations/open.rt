@@ -1,9 +1,8 @@
 ghost use Rattle.std.specs.Prelude.{◌≡◌, ◌≤◌, ◌<◌, ◌-◌, ◌^◌, Ok, OnErr, nat_lt, length};
 ghost use Rattle.std.specs.Option.{option_copied};
 ghost use Rattle.std.specs.Result.{IsOk, result_map_both};
-ghost use Rattle.nfs_rules.specs.Deciding.{Rules};
+ghost use Rattle.nfs_rules.specs.Deciding.{Rules, IsPassage};
 ghost use Rattle.nfs_rules.specs.Finding.{target_seen};
-ghost use Rattle.nfs_rules.specs.Deciding.{IsPassage};
 ghost use Rattle.nfs_state.specs.Room.{state_of};
 ghost use Rattle.nfs_rules.specs.Sequences.{before_own};
 ghost use Rattle.nfs_rules.specs.operations.Open.{file_at, found_by, has_owner_place, name_of, opening, own, refusal_of_target, rflags_of, ruling_of, unless_delegated, unless_denied, wants_new};

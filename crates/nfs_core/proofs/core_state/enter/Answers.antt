@@ -1,5 +1,4 @@
-use Rattle.std.proofs.Common.{rules, ◌∙◌, ap, refl}
-use Rattle.std.proofs.Common.{inl}
+use Rattle.std.proofs.Common.{rules, ◌∙◌, ap, refl, inl}
 use Rattle.nfs_state.specs.Room.{state_of}
 use Rattle.nfs_state.specs.Entries.{entry_of, with_entry}
 use Rattle.nfs_rules.specs.operations.{IsRuled}

@@ -1,8 +1,7 @@
 use Rattle.std.proofs.Common.{◌∙◌, ap, sym, subst}
 use Rattle.nfs_state.specs.declared.entry.Entry.TheVariants as entries
-use Rattle.nfs_state.specs.Kept.{Agrees, owners_after, update_of}
+use Rattle.nfs_state.specs.Kept.{Agrees, owners_after, update_of, kept_of}
 use Rattle.nfs_state.specs.Room.{HasOwnerPlace, HasUpdateRoom}
-use Rattle.nfs_state.specs.Kept.{kept_of}
 use Rattle.nfs_state.specs.Stored.{Stored, meaning}
 use Rattle.nfs_state.proofs.OwnerRoom.{update_room}
 use Rattle.nfs_state.proofs.intake.make_changes.Goals as goal
