@@ -1,5 +1,5 @@
 -- How a change of a range's mode changes the number of runs.
-use Rattle.std.proofs.Common.{◌≡◌, ℕ, zero, suc, ◌+◌, ◌-◌, ◌^◌, ◌<◌, ◌≤◌, ◌⊎◌, Bool, true, false, ◌&&◌, ◌||◌, not, ◌==◌, is_some, nat_le, min, if◌then◌else◌, Option, inl, inr, refl, sym, ◌∙◌, ap, subst, arith}
+use Rattle.std.proofs.Common.{◌≡◌, ℕ, suc, ◌+◌, ◌-◌, ◌^◌, ◌<◌, ◌≤◌, Bool, true, false, ◌&&◌, ◌||◌, not, ◌==◌, is_some, nat_le, if◌then◌else◌, Option, inl, inr, refl, sym, ◌∙◌, ap, subst, add-one, arith}
 use Rattle.std.proofs.Math.Bool.{and-false}
 use Rattle.std.proofs.lemmas.Bool.{cases_lt, le-leb, lt-leb}
 use Rattle.nfs_ranges.specs.Bytes.{has}
@@ -64,14 +64,14 @@ begin_inside range mode modes ordered =
 
 not_behind : (behind : Bool) (many first n m : ℕ) → behind ≡ false → many ≡ (if behind then 1 else 0) + first
     → m ≡ first + n → n + many ≡ m
-not_behind true many first n m no is counted = absurd cc
-not_behind false many first n m no is counted = omega (arith, is, counted)
+not_behind true many first n m fails is counted = absurd cc
+not_behind false many first n m fails is counted = omega (arith, is, counted)
 
 -- With whether one begins behind, these are all that begin at the reach of a change.
 pub begin_at_reach : (range : Range) (mode : Option Mode) (modes : ℕ → Option Mode) (behind : Bool) (many : ℕ)
     → range.first ≤ range.last → range.last ≤ 2 ^ 64 - 1
     → (range.last ≡ 2 ^ 64 - 1 → behind ≡ false)
-    → (range.last < 2 ^ 64 - 1 → behind ≡ begins (with_mode range mode modes) (suc range.last))
+    → (range.last < 2 ^ 64 - 1 → behind ≡ begins (with_mode range mode modes) (range.last + 1))
     → many ≡ (if behind then 1 else 0) + (if begins (with_mode range mode modes) range.first then 1 else 0)
     → BeginIn (with_mode range mode modes) range.first (reach range) many
 begin_at_reach range mode modes behind many ordered bounded at_end before is =
@@ -79,7 +79,7 @@ begin_at_reach range mode modes behind many ordered bounded at_end before is =
       | inl less ↦
           let there : suc (suc range.last) ≡ reach range = omega (arith, less) in
           subst (λ (n : ℕ). count_below (begins (with_mode range mode modes)) range.first + many ≡ count_below (begins (with_mode range mode modes)) n) there
-          (omega (arith, is, ap (λ t. if t then 1 else 0) (before less), count_next (begins (with_mode range mode modes)) (suc range.last), begin_inside range mode modes ordered))
+          (omega (arith, is, ap {B = ℕ} (λ t. if t then 1 else 0) (before less ∙ ap (begins (with_mode range mode modes)) (add-one range.last)), count_next (begins (with_mode range mode modes)) (suc range.last), begin_inside range mode modes ordered))
       | inr most ↦
           let there : suc range.last ≡ reach range = omega (arith, bounded, most) in
           subst (λ (n : ℕ). count_below (begins (with_mode range mode modes)) range.first + many ≡ count_below (begins (with_mode range mode modes)) n) there

@@ -1,10 +1,10 @@
 -- How many numbers below one pass a test, and how many runs begin in a stretch of one mode.
-use Rattle.std.proofs.Common.{◌≡◌, ℕ, zero, suc, ◌+◌, ◌-◌, ◌<◌, ◌≤◌, Bool, true, false, ◌&&◌, ◌||◌, not, ◌==◌, is_some, if◌then◌else◌, Option, Some, None, refl, sym, ◌∙◌, ap, subst, arith}
+use Rattle.std.proofs.Common.{◌≡◌, ℕ, zero, suc, ◌+◌, ◌-◌, ◌^◌, ◌<◌, ◌≤◌, ◌↔◌, Bool, true, false, ◌&&◌, ◌||◌, not, ◌==◌, is_some, IsTrue, if◌then◌else◌, Option, Some, None, refl, sym, ◌∙◌, ap, subst, arith}
 use Rattle.std.proofs.Math.Bool.{and-false}
-use Rattle.std.proofs.lemmas.Bool.{ne_eqb}
+use Rattle.std.proofs.lemmas.Bool.{eq-eqb, eqb-true, ne_eqb}
 use Rattle.nfs_ranges.specs.Modes.{is_same}
 use Rattle.nfs_ranges.specs.Questions.{AreAs}
-use Rattle.nfs_ranges.specs.Runs.{begins, count_below}
+use Rattle.nfs_ranges.specs.Runs.{BeginIn, begins, count_below, runs}
 use Rattle.nfs_ranges.specs.declared.mode.Mode.{Mode}
 use Rattle.nfs_ranges.specs.declared.mode.Mode.TheVariants.{Read, Write}
 use Rattle.nfs_ranges.proofs.Pieces.{same_self}
@@ -20,8 +20,8 @@ count_none test = refl
 
 -- a number that doesn't pass isn't counted
 pub not_counted : (t : Bool) (n k : ℕ) → t ≡ false → k ≡ (if t then 1 else 0) + n → k ≡ n
-not_counted true n k no is = absurd cc
-not_counted false n k no is = omega (arith, is)
+not_counted true n k fails is = absurd cc
+not_counted false n k fails is = omega (arith, is)
 
 -- below more numbers there are no fewer
 count_up : (test : ℕ → Bool) (n more m : ℕ) → m ≡ more + n → count_below test n ≤ count_below test m
@@ -54,8 +54,7 @@ count_agree_from p q start zero stop is agree =
     subst (λ (k : ℕ). count_below q k + count_below p start ≡ count_below p k + count_below q start) there (omega arith)
 count_agree_from p q start (suc more) stop is agree =
     let there : suc (stop - 1) ≡ stop = omega (arith, is) in
-    let here : (if q (stop - 1) then 1 else 0) ≡ (if p (stop - 1) then 1 else 0) =
-    ap (λ t. if t then 1 else 0) (agree (stop - 1) (omega (arith, is)) (omega (arith, is))) in
+    let here = ap {B = ℕ} (λ t. if t then 1 else 0) (agree (stop - 1) (omega (arith, is)) (omega (arith, is))) in
     let others = count_agree_from p q start more (stop - 1) (omega (arith, is)) (λ b above below. agree b above (omega (arith, below))) in
     subst (λ (k : ℕ). count_below q k + count_below p start ≡ count_below p k + count_below q start) there
     (omega (arith, here, count_next q (stop - 1), count_next p (stop - 1), others))
@@ -88,6 +87,15 @@ pub count_stretch_to : (modes : ℕ → Option Mode) (byte last stop : ℕ) → 
     → count_below (begins modes) (suc last) ≡ (if begins modes byte then 1 else 0) + count_below (begins modes) byte
 count_stretch_to modes byte last stop low high same =
     count_stretch modes byte (last - byte) last (omega (arith, low)) (λ b above below. same b above (omega (arith, below, high)))
+
+-- the runs that begin up to a byte of the next stretch, where those before it are counted
+pub begin_next : (modes : ℕ → Option Mode) (first byte last stop next : ℕ) (start : Bool) (count many : ℕ)
+    → start ≡ begins modes byte → many ≡ (if start then 1 else 0) + count → BeginIn modes first byte count
+    → byte ≤ last → last ≤ stop → AreAs modes byte byte stop → next ≡ last + 1 → BeginIn modes first next many
+begin_next modes first byte last stop next start count many here is counted low high same behind =
+    let there : suc last ≡ next = omega (arith, behind) in
+    subst (λ (n : ℕ). BeginIn modes first n many) there
+    (omega (arith, is, counted, ap {B = ℕ} (λ t. if t then 1 else 0) here, count_stretch_to modes byte last stop low high same))
 
 counts_none : (t : Bool) (n : ℕ) → (if t then 1 else 0) + n ≡ 0 → t ≡ false
 counts_none true n none = absurd (omega (arith, none))
@@ -132,3 +140,11 @@ no_runs modes (suc n) free =
     (ap (λ m. is_some m && (n == 0 || not (is_same m (modes (n - 1))))) (free n (omega arith)))
     (count_next (begins modes) n)
     ∙ no_runs modes n (λ b below. free b (omega (arith, below)))
+
+-- there is no run exactly where no byte is held
+pub no_runs_free : (modes : ℕ → Option Mode) (count : ℕ) → count ≡ runs modes
+    → IsTrue (count == 0) ↔ ((byte : ℕ) → byte ≤ 2 ^ 64 - 1 → modes byte ≡ None)
+no_runs_free modes count is = (
+  (λ empty byte below. none_held modes (2 ^ 64) (sym is ∙ eqb-true count 0 empty) byte (omega (arith, below))),
+  (λ free. eq-eqb count 0 (is ∙ no_runs modes (2 ^ 64) (λ byte below. free byte (omega (arith, below))))),
+)

@@ -1,5 +1,5 @@
 -- What a list of pieces means, and stretches of bytes in one mode.
-use Rattle.std.proofs.Common.{◌≡◌, ℕ, ◌+◌, ◌<◌, ◌≤◌, Bool, true, false, if◌then◌else◌, List, [], ◌∷◌, ◌++◌, length, get_or, take, Option, Some, None, refl, sym, ◌∙◌, ap, arith}
+use Rattle.std.proofs.Common.{◌≡◌, ℕ, ◌+◌, ◌<◌, ◌≤◌, true, if◌then◌else◌, List, [], ◌∷◌, ◌++◌, length, get_or, take, Option, Some, None, refl, sym, ◌∙◌, ap, subst, arith}
 use Rattle.std.proofs.lemmas.List.{take_more}
 use Rattle.nfs_ranges.specs.Bytes.{has}
 use Rattle.nfs_ranges.specs.Modes.{is_same, mode_from, modes_of, with_mode}
@@ -31,13 +31,16 @@ stretch_more pieces piece byte first last start stop low high same alike b above
     ∙ ap (λ m. if has piece.range byte then piece.mode else m) (same b (omega (arith, low, above)) (omega (arith, below, high)))
     ∙ sym (mode_more None pieces piece byte)
 
-pub stretch_next : (pieces : List Piece) (i : ℕ) (d : Piece) (byte first last start stop : ℕ) → i < length pieces
-    → first ≤ start → stop ≤ last → AreAs (modes_of (take i pieces)) byte first last
-    → ((b : ℕ) → start ≤ b → b ≤ stop → has (get_or pieces i d).range b ≡ has (get_or pieces i d).range byte)
+-- the same, where the piece is the next one of a list
+pub stretch_next : (pieces : List Piece) (i : ℕ) (piece : Piece) (byte first last start stop : ℕ) → i < length pieces
+    → piece ≡ get_or pieces i piece → first ≤ start → stop ≤ last → AreAs (modes_of (take i pieces)) byte first last
+    → ((b : ℕ) → start ≤ b → b ≤ stop → has piece.range b ≡ has piece.range byte)
     → AreAs (modes_of (take (i + 1) pieces)) byte start stop
-stretch_next pieces i d byte first last start stop inside low high same alike =
-    rw (take_more pieces i d inside)
-    (stretch_more (take i pieces) (get_or pieces i d) byte first last start stop low high same alike)
+stretch_next pieces i piece byte first last start stop inside is low high same alike =
+    let next : take i pieces ++ piece ∷ [] ≡ take (i + 1) pieces =
+    ap (λ p. take i pieces ++ p ∷ []) is ∙ sym (take_more pieces i piece inside) in
+    subst (λ (ps : List Piece). AreAs (modes_of ps) byte start stop) next
+    (stretch_more (take i pieces) piece byte first last start stop low high same alike)
 
 -- modes that are the same are equal, and equal ones the same
 pub same_self : (mode : Option Mode) → is_same mode mode ≡ true

@@ -1,4 +1,4 @@
-ghost use Rattle.std.specs.Prelude.{◌≡◌, ◌≤◌, ◌+◌, if◌then◌else◌};
+ghost use Rattle.std.specs.Prelude.{◌≡◌, ◌≤◌, ◌<◌, ◌+◌, ◌-◌, ◌^◌, false, if◌then◌else◌};
 ghost use Rattle.nfs_ranges.specs.Modes.{changed, modes_of};
 ghost use Rattle.nfs_ranges.specs.Runs.{BeginIn, begins, reach, runs};
 ghost use Rattle.nfs_ranges.specs.declared.limits.TheConstants.{RUN_LIMIT};
@@ -65,9 +65,17 @@ fn begin_with(pieces: &[Piece], change: Piece) -> usize
         change.range.first (reach change.range) result }
 {
     let first = is_start_with(pieces, change, change.range.first);
-    let behind = change.range.last < u64::MAX
-        && is_start_with(pieces, change, change.range.last + 1);
+    let behind = is_start_behind(pieces, change);
     counted(counted(0, first), behind)
+}
+
+// Whether a run begins, after the change, behind its last byte.
+fn is_start_behind(pieces: &[Piece], change: Piece) -> bool
+    ensures at_end { change.range.last ≡ 2 ^ 64 - 1 → result ≡ false }
+    ensures before { change.range.last < 2 ^ 64 - 1
+        → result ≡ begins (changed change (modes_of pieces.now)) (change.range.last + 1) }
+{
+    change.range.last < u64::MAX && is_start_with(pieces, change, change.range.last + 1)
 }
 
 // Whether a run begins at the byte after the change.

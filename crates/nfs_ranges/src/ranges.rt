@@ -128,7 +128,6 @@ impl Ranges {
     }
 
     // Adds the piece, with which there are so many runs.
-    #[tactic(auto, using(crate::proofs::Pieces::modes_more))]
     fn put(&mut self, piece: Piece, count: usize)
         requires room { 0 < self.old.room }
         requires count { count ≡ runs (modes_after piece self.old) }
@@ -154,7 +153,6 @@ impl Ranges {
     }
 
     /// Whether no byte is held.
-    #[tactic(auto, using(crate::proofs::Counting::no_runs))]
     pub fn is_empty(&self) -> bool
         ensures free { IsTrue result ↔ IsFree self.now }
         ensures count { IsTrue result ↔ (runs (modes_in self.now) ≡ 0) }
