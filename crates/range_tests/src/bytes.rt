@@ -1,5 +1,7 @@
 //! The bytes that an offset and a length name, near byte 0 and near byte 2^64 - 1.
 
+ghost use Rattle.std.specs.Prelude.{◌≤◌};
+
 use nfs_ranges::{Range, range_of};
 
 const LAST: u64 = 18_446_744_073_709_551_615;

@@ -1,5 +1,7 @@
 //! As many runs as an owner may have of a file, and one more.
 
+ghost use Rattle.std.specs.Prelude.{◌≤◌, ◌<◌};
+
 use nfs_ranges::{Mode, Piece, Range, Ranges, RangesError};
 use std::alloc::Global;
 use std::test::Fail;

@@ -1,5 +1,7 @@
 //! What ranges hold after locks and unlocks, and where a lock of another owner meets them.
 
+ghost use Rattle.std.specs.Prelude.{◌≤◌};
+
 use nfs_ranges::{Mode, Piece, Range, Ranges, RangesError};
 use std::alloc::Global;
 use std::test::Fail;
@@ -95,11 +97,13 @@ fn bytes_that_are_not_held_are_unlocked(rt: HostRuntime) -> Result<(), Fail> {
 #[test]
 fn a_change_after_a_reserve(rt: HostRuntime) -> Result<(), Fail> {
     let mut ranges = Ranges::new(rt.alloc());
-    ranges.reserve()?;
-    ranges.change(Piece {
+    let change = Piece {
         range: span(1, 2),
         mode: Some(Mode::Write),
-    });
+    };
+    ranges.reserve()?;
+    assert!(rt; ranges.has_place_for(change));
+    ranges.change(change);
     assert!(rt; ranges.run_at(2) == Some((span(1, 2), Mode::Write)));
     Ok(())
 }
