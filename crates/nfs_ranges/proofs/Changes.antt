@@ -75,16 +75,19 @@ pub begin_at_reach : (range : Range) (mode : Option Mode) (modes : ℕ → Optio
     → many ≡ (if behind then 1 else 0) + (if begins (with_mode range mode modes) range.first then 1 else 0)
     → BeginIn (with_mode range mode modes) range.first (reach range) many
 begin_at_reach range mode modes behind many ordered bounded at_end before is =
+    let after : ℕ → Option Mode = with_mode range mode modes in
+    let inside = begin_inside range mode modes ordered in
     elim (cases_lt range.last (2 ^ 64 - 1)) [
       | inl less ↦
           let there : suc (suc range.last) ≡ reach range = omega (arith, less) in
-          subst (λ (n : ℕ). count_below (begins (with_mode range mode modes)) range.first + many ≡ count_below (begins (with_mode range mode modes)) n) there
-          (omega (arith, is, ap {B = ℕ} (λ t. if t then 1 else 0) (before less ∙ ap (begins (with_mode range mode modes)) (add-one range.last)), count_next (begins (with_mode range mode modes)) (suc range.last), begin_inside range mode modes ordered))
+          let next = ap {B = ℕ} (λ t. if t then 1 else 0) (before less ∙ ap (begins after) (add-one range.last)) in
+          subst (λ (n : ℕ). BeginIn after range.first n many) there
+          (omega (arith, is, next, count_next (begins after) (suc range.last), inside))
       | inr most ↦
           let there : suc range.last ≡ reach range = omega (arith, bounded, most) in
-          subst (λ (n : ℕ). count_below (begins (with_mode range mode modes)) range.first + many ≡ count_below (begins (with_mode range mode modes)) n) there
-          (not_behind behind many (if begins (with_mode range mode modes) range.first then 1 else 0) (count_below (begins (with_mode range mode modes)) range.first) (count_below (begins (with_mode range mode modes)) (suc range.last))
-          (at_end (omega (arith, bounded, most))) is (begin_inside range mode modes ordered))
+          subst (λ (n : ℕ). BeginIn after range.first n many) there
+          (not_behind behind many (if begins after range.first then 1 else 0) (count_below (begins after) range.first)
+          (count_below (begins after) (suc range.last)) (at_end (omega (arith, bounded, most))) is inside)
     ]
 
 -- The runs after a change are those before, without those that began at its reach, with those that begin there now.
@@ -94,12 +97,11 @@ pub runs_changed : (range : Range) (mode : Option Mode) (modes : ℕ → Option 
     → BeginIn (with_mode range mode modes) range.first (reach range) come
     → (gone ≤ runs modes) × (runs (with_mode range mode modes) ≡ runs modes - gone + come)
 runs_changed range mode modes gone come ordered bounded old new =
-    let below : count_below (begins (with_mode range mode modes)) range.first ≡ count_below (begins modes) range.first =
-    count_agree (begins modes) (begins (with_mode range mode modes)) range.first (λ b less. starts_before range mode modes b less) in
-    let above : count_below (begins (with_mode range mode modes)) (2 ^ 64) + count_below (begins modes) (reach range)
-    ≡ count_below (begins modes) (2 ^ 64) + count_below (begins (with_mode range mode modes)) (reach range) =
-    count_agree_from (begins modes) (begins (with_mode range mode modes)) (reach range) (2 ^ 64 - reach range) (2 ^ 64) (omega arith)
+    let after : ℕ → Option Mode = with_mode range mode modes in
+    let below =
+    count_agree (begins modes) (begins after) range.first (λ b less. starts_before range mode modes b less) in
+    let above =
+    count_agree_from (begins modes) (begins after) (reach range) (2 ^ 64 - reach range) (2 ^ 64) (omega arith)
     (λ b more less. starts_behind range mode modes b (omega (arith, more, less))) in
-    let most : count_below (begins modes) (reach range) ≤ count_below (begins modes) (2 ^ 64) =
-    count_mono (begins modes) (reach range) (2 ^ 64) (omega arith) in
+    let most = count_mono (begins modes) (reach range) (2 ^ 64) (omega arith) in
     (omega (arith, old, most), omega (arith, old, new, below, above, most))

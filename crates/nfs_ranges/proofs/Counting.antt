@@ -55,12 +55,14 @@ count_agree_from p q start zero stop is agree =
 count_agree_from p q start (suc more) stop is agree =
     let there : suc (stop - 1) ≡ stop = omega (arith, is) in
     let here = ap {B = ℕ} (λ t. if t then 1 else 0) (agree (stop - 1) (omega (arith, is)) (omega (arith, is))) in
-    let others = count_agree_from p q start more (stop - 1) (omega (arith, is)) (λ b above below. agree b above (omega (arith, below))) in
+    let others =
+    count_agree_from p q start more (stop - 1) (omega (arith, is)) (λ b above below. agree b above (omega (arith, below))) in
     subst (λ (k : ℕ). count_below q k + count_below p start ≡ count_below p k + count_below q start) there
     (omega (arith, here, count_next q (stop - 1), count_next p (stop - 1), others))
 
 -- no run begins at a byte with the mode of the one before
-pub no_start : (modes : ℕ → Option Mode) (byte : ℕ) → 0 < byte → modes (byte - 1) ≡ modes byte → begins modes byte ≡ false
+pub no_start : (modes : ℕ → Option Mode) (byte : ℕ) → 0 < byte → modes (byte - 1) ≡ modes byte
+    → begins modes byte ≡ false
 no_start modes byte above same =
     ap (λ t. is_some (modes byte) && (byte == 0 || not t)) (ap (is_same (modes byte)) same ∙ same_self (modes byte))
     ∙ ap (λ t. is_some (modes byte) && (t || false)) (ne_eqb byte 0 (λ e. omega (arith, above, e)))
@@ -71,8 +73,7 @@ pub count_stretch : (modes : ℕ → Option Mode) (byte more last : ℕ) → las
     → count_below (begins modes) (suc last) ≡ (if begins modes byte then 1 else 0) + count_below (begins modes) byte
 count_stretch modes byte zero last is same =
     let there : byte ≡ last = omega (arith, is) in
-    subst (λ (k : ℕ). count_below (begins modes) (suc k) ≡ (if begins modes byte then 1 else 0) + count_below (begins modes) byte) there
-    (count_next (begins modes) byte)
+    ap (λ k. count_below (begins modes) (suc k)) (sym there) ∙ count_next (begins modes) byte
 count_stretch modes byte (suc more) last is same =
     let there : suc (last - 1) ≡ last = omega (arith, is) in
     let alike : modes (last - 1) ≡ modes last =
@@ -80,13 +81,16 @@ count_stretch modes byte (suc more) last is same =
     not_counted (begins modes last) (count_below (begins modes) last) (count_below (begins modes) (suc last))
     (no_start modes last (omega (arith, is)) alike) (count_next (begins modes) last)
     ∙ ap (count_below (begins modes)) (sym there)
-    ∙ count_stretch modes byte more (last - 1) (omega (arith, is)) (λ b above below. same b above (omega (arith, below)))
+    ∙ count_stretch modes byte more (last - 1) (omega (arith, is))
+    (λ b above below. same b above (omega (arith, below)))
 
 -- the same, up to a byte of the stretch
-pub count_stretch_to : (modes : ℕ → Option Mode) (byte last stop : ℕ) → byte ≤ last → last ≤ stop → AreAs modes byte byte stop
+pub count_stretch_to : (modes : ℕ → Option Mode) (byte last stop : ℕ) → byte ≤ last → last ≤ stop
+    → AreAs modes byte byte stop
     → count_below (begins modes) (suc last) ≡ (if begins modes byte then 1 else 0) + count_below (begins modes) byte
 count_stretch_to modes byte last stop low high same =
-    count_stretch modes byte (last - byte) last (omega (arith, low)) (λ b above below. same b above (omega (arith, below, high)))
+    count_stretch modes byte (last - byte) last (omega (arith, low))
+    (λ b above below. same b above (omega (arith, below, high)))
 
 -- the runs that begin up to a byte of the next stretch, where those before it are counted
 pub begin_next : (modes : ℕ → Option Mode) (first byte last stop next : ℕ) (start : Bool) (count many : ℕ)
@@ -94,8 +98,9 @@ pub begin_next : (modes : ℕ → Option Mode) (first byte last stop next : ℕ)
     → byte ≤ last → last ≤ stop → AreAs modes byte byte stop → next ≡ last + 1 → BeginIn modes first next many
 begin_next modes first byte last stop next start count many here is counted low high same behind =
     let there : suc last ≡ next = omega (arith, behind) in
+    let more = ap {B = ℕ} (λ t. if t then 1 else 0) here in
     subst (λ (n : ℕ). BeginIn modes first n many) there
-    (omega (arith, is, counted, ap {B = ℕ} (λ t. if t then 1 else 0) here, count_stretch_to modes byte last stop low high same))
+    (omega (arith, is, counted, more, count_stretch_to modes byte last stop low high same))
 
 counts_none : (t : Bool) (n : ℕ) → (if t then 1 else 0) + n ≡ 0 → t ≡ false
 counts_none true n none = absurd (omega (arith, none))
@@ -117,11 +122,13 @@ next_free None none = refl
 next_free (Some Read) none = absurd cc
 next_free (Some Write) none = absurd cc
 
-stays_free : (modes : ℕ → Option Mode) (byte before : ℕ) → byte ≡ suc before → modes before ≡ None → begins modes byte ≡ false → modes byte ≡ None
+stays_free : (modes : ℕ → Option Mode) (byte before : ℕ) → byte ≡ suc before → modes before ≡ None
+    → begins modes byte ≡ false → modes byte ≡ None
 stays_free modes byte before is free none =
     let back : byte - 1 ≡ before = omega (arith, is) in
     next_free (modes byte)
-    (ap (λ t. is_some (modes byte) && (t || not (is_same (modes byte) None))) (sym (ne_eqb byte 0 (λ e. omega (arith, is, e))))
+    (ap (λ t. is_some (modes byte) && (t || not (is_same (modes byte) None)))
+    (sym (ne_eqb byte 0 (λ e. omega (arith, is, e))))
     ∙ ap (λ m. is_some (modes byte) && (byte == 0 || not (is_same (modes byte) m))) (sym (ap modes back ∙ free))
     ∙ none)
 
@@ -130,7 +137,8 @@ pub none_held : (modes : ℕ → Option Mode) (n : ℕ) → count_below (begins 
 none_held modes n none zero below =
     first_free (modes 0) (not (is_same (modes 0) (modes 0))) (no_start_below modes n 0 none below)
 none_held modes n none (suc b) below =
-    stays_free modes (suc b) b refl (none_held modes n none b (omega (arith, below))) (no_start_below modes n (suc b) none below)
+    stays_free modes (suc b) b refl (none_held modes n none b (omega (arith, below)))
+    (no_start_below modes n (suc b) none below)
 
 -- where no byte is held, no run begins
 pub no_runs : (modes : ℕ → Option Mode) (n : ℕ) → ((b : ℕ) → b < n → modes b ≡ None) → count_below (begins modes) n ≡ 0

@@ -10,7 +10,8 @@ use Rattle.nfs_ranges.specs.declared.piece.Piece.{Piece}
 
 -- one piece more at the end
 pub mode_more : (mode : Option Mode) (pieces : List Piece) (piece : Piece) (byte : ℕ)
-    → mode_from mode (pieces ++ piece ∷ []) byte ≡ (if has piece.range byte then piece.mode else mode_from mode pieces byte)
+    → mode_from mode (pieces ++ piece ∷ []) byte
+    ≡ (if has piece.range byte then piece.mode else mode_from mode pieces byte)
 mode_more mode [] piece byte = refl
 mode_more mode (p ∷ pieces) piece byte =
     mode_more (if has p.range byte then p.mode else mode) pieces piece byte
@@ -28,7 +29,8 @@ pub stretch_more : (pieces : List Piece) (piece : Piece) (byte first last start 
 stretch_more pieces piece byte first last start stop low high same alike b above below =
     mode_more None pieces piece b
     ∙ ap (λ t. if t then piece.mode else modes_of pieces b) (alike b above below)
-    ∙ ap (λ m. if has piece.range byte then piece.mode else m) (same b (omega (arith, low, above)) (omega (arith, below, high)))
+    ∙ ap (λ m. if has piece.range byte then piece.mode else m)
+    (same b (omega (arith, low, above)) (omega (arith, below, high)))
     ∙ sym (mode_more None pieces piece byte)
 
 -- the same, where the piece is the next one of a list

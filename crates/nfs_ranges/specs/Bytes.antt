@@ -3,8 +3,8 @@
 use Rattle.std.specs.Prelude.{◌≡◌, ◌≢◌, ◌↔◌, ◌⊎◌, ℕ, ◌+◌, ◌-◌, ◌^◌, ◌<◌, ◌≤◌, ◌==◌, Bool, ◌&&◌, nat_le, Option, Some, None, if◌then◌else◌}
 use Rattle.nfs_ranges.specs.declared.range.Range.{Range}
 
--- The two name bytes: the length isn't 0 and, unless it is all ones, they add up to at most 2^64 - 1. So byte 2^64 - 1 is
--- named by all ones alone.
+-- The two name bytes: the length isn't 0 and, unless it is all ones, they add up to at most 2^64 - 1. So byte
+-- 2^64 - 1 is named by all ones alone.
 abbrev pub HasBytes : ℕ → ℕ → Type 0
 HasBytes offset length =
     (length ≢ 0) × ((length ≡ 2 ^ 64 - 1) ⊎ (offset + length ≤ 2 ^ 64 - 1))

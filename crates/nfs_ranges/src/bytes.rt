@@ -3,8 +3,8 @@ ghost use Rattle.nfs_ranges.specs.Bytes.{IsRangeOf, has, length_of};
 
 use crate::Range;
 
-/// The bytes from the offset on that the length names, if it names any: a length with all its bits set goes through byte
-/// 2^64 - 1, and any other must end before that byte (RFC 7530, section 16.10).
+/// The bytes from the offset on that the length names, if it names any: a length with all its bits set goes through
+/// byte 2^64 - 1, and any other must end before that byte (RFC 7530, section 16.10).
 pub fn range_of(offset: u64, length: u64) -> Option<Range>
     ensures { IsRangeOf offset length result }
 {

@@ -58,7 +58,8 @@ fn is_start(pieces: &[Piece], byte: u64) -> bool
     mode.is_some() && (byte == 0 || !are_alike(mode, mode_at(pieces, byte - 1)))
 }
 
-// How many runs begin, after the change, at its bytes and the one behind: one at most at its first byte, and one behind.
+// How many runs begin, after the change, at its bytes and the one behind: one at most at its first byte, and one
+// behind.
 fn begin_with(pieces: &[Piece], change: Piece) -> usize
     ensures few { result ≤ 2 }
     ensures count { BeginIn (changed change (modes_of pieces.now))

@@ -1,4 +1,5 @@
-ghost use Rattle.std.specs.Prelude.{◌≡◌, ◌≤◌, ◌<◌, ◌↔◌, [], nat_le, IsErrOf, IsOk, IsTrue, OnErr, OnOk, Some, None};
+ghost use Rattle.std.specs.Prelude.{◌≡◌, ◌≤◌, ◌<◌, ◌↔◌, [], nat_le, Some, None};
+ghost use Rattle.std.specs.Prelude.{IsErrOf, IsOk, IsTrue, OnErr, OnOk};
 ghost use Rattle.nfs_ranges.specs.Held.{IsFree, modes_after, modes_in};
 ghost use Rattle.nfs_ranges.specs.Modes.{with_mode};
 ghost use Rattle.nfs_ranges.specs.Questions.{IsFirstConflict, IsRunAt};

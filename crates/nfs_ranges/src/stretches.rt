@@ -27,8 +27,8 @@ fn mode_after(piece: Piece, byte: u64, mode: Option<Mode>) -> Option<Mode>
     }
 }
 
-/// A byte up to which all have the mode of this one, in one walk over the pieces. The next byte may have it too: each piece
-/// that begins or ends counts, also where later pieces cover it.
+/// A byte up to which all have the mode of this one, in one walk over the pieces. The next byte may have it too: each
+/// piece that begins or ends counts, also where later pieces cover it.
 pub(crate) fn same_until(pieces: &[Piece], byte: u64) -> u64
     ensures behind { byte ≤ result }
     ensures same { AreAs (modes_of pieces.now) byte byte result }

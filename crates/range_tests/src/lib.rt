@@ -1,4 +1,5 @@
-//! The tests of `nfs_ranges`, through what is public of it: what ranges hold after changes, and what is answered of them.
+//! The tests of `nfs_ranges`, through what is public of it: what ranges hold after changes, and what is answered of
+//! them.
 #![tactic(auto)]
 
 #[cfg(test)]

@@ -5,6 +5,8 @@ use Rattle.nfs_ranges.proofs.counts.begin_with.Goals as goal
 
 pub returns-clause-count : goal.returns-clause-count
 returns-clause-count c =
-    begin_at_reach c.args.change.range c.args.change.mode (modes_of c.args.pieces.now) c.is_start_behind-behind.result c.counted-2.result
-    c.args.change.range.ordered (omega arith) c.is_start_behind-behind.ensures.at_end c.is_start_behind-behind.ensures.before
-    (omega (arith, c.counted-2.ensures, c.counted.ensures, ap {B = ℕ} (λ t. if t then 1 else 0) c.is_start_with-first.ensures))
+    let first = ap {B = ℕ} (λ t. if t then 1 else 0) c.is_start_with-first.ensures in
+    begin_at_reach c.args.change.range c.args.change.mode (modes_of c.args.pieces.now)
+    c.is_start_behind-behind.result c.counted-2.result c.args.change.range.ordered (omega arith)
+    c.is_start_behind-behind.ensures.at_end c.is_start_behind-behind.ensures.before
+    (omega (arith, c.counted-2.ensures, c.counted.ensures, first))

@@ -6,4 +6,5 @@ use Rattle.nfs_ranges.proofs.ranges.Ranges.is_empty.Goals as goal
 
 pub returns-clause-free : goal.returns-clause-free
 returns-clause-free c =
-    no_runs_free (modes_in c.args.self.now) c.self.inside.count (c.self.invariant.0 ∙ ap (λ held. runs (modes_in held)) c.self.view_is)
+    no_runs_free (modes_in c.args.self.now) c.self.inside.count
+    (c.self.invariant.0 ∙ ap (λ held. runs (modes_in held)) c.self.view_is)
