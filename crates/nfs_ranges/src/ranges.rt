@@ -1,5 +1,5 @@
 ghost use Rattle.std.specs.Prelude.{◌≡◌, ◌≤◌, ◌<◌, ◌↔◌, [], nat_le, Some, None};
-ghost use Rattle.std.specs.Prelude.{IsErrOf, IsOk, IsTrue, OnErr, OnOk};
+ghost use Rattle.std.specs.Prelude.{IfErr, IsErrOf, IsOk, IsTrue, OnErr, OnOk};
 ghost use Rattle.nfs_ranges.specs.Held.{IsFree, modes_after, modes_in};
 ghost use Rattle.nfs_ranges.specs.Modes.{with_mode};
 ghost use Rattle.nfs_ranges.specs.Questions.{IsFirstConflict, IsRunAt};
@@ -9,7 +9,7 @@ ghost use Rattle.nfs_ranges.specs.declared.limits.TheConstants.{RUN_LIMIT};
 use crate::counts::runs_after;
 use crate::walks::{conflict_in, run_in};
 use crate::{Mode, Piece, RUN_LIMIT, Range, RangesError};
-use std::alloc::{AllocError, Global};
+use std::alloc::Global;
 use std::marker::Model;
 
 /// The bytes of a file that one lock owner holds, each in the mode of the last change that had it.
@@ -52,13 +52,15 @@ impl Ranges {
     }
 
     /// Makes room, so that the next change takes no memory.
-    pub fn reserve(&mut self) -> Result<(), AllocError>
+    pub fn reserve(&mut self) -> Result<(), RangesError>
         ensures pieces { self.new.pieces ≡ self.old.pieces }
         ensures room { OnOk result (0 < self.new.room) }
         ensures grows { self.old.room ≤ self.new.room }
         ensures ready { 0 < self.old.room → IsOk result }
+        ensures memory { IfErr result (λ e. e ≡ RangesError.Memory) }
     {
-        self.pieces.reserve(1)
+        self.pieces.reserve(1)?;
+        Ok(())
     }
 
     /// LOCK (RFC 7530, section 16.10): the owner holds the bytes in this mode, also those that it held in another.
