@@ -4,7 +4,7 @@ use Rattle.nfs_ranges.specs.Modes.{changed, modes_of}
 use Rattle.nfs_ranges.specs.declared.mode.Mode.{Mode}
 use Rattle.nfs_ranges.specs.declared.piece.Piece.{Piece}
 
--- pieces that give each byte its mode, and how many changes can come without taking memory
+-- pieces that give each byte its mode, and the room, which is above 0 where the next change takes no memory
 pub record Held : Type 0 where
   pub pieces : List Piece
   pub room : ℕ
