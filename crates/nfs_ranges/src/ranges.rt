@@ -59,8 +59,7 @@ impl Ranges {
         ensures ready { 0 < self.old.room → IsOk result }
         ensures memory { IfErr result (λ e. e ≡ RangesError.Memory) }
     {
-        self.pieces.reserve(1)?;
-        Ok(())
+        Ok(self.pieces.reserve(1)?)
     }
 
     /// LOCK (RFC 7530, section 16.10): the owner holds the bytes in this mode, also those that it held in another.
