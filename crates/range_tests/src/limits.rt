@@ -63,6 +63,29 @@ fn no_run_is_split_where_there_are_as_many_as_may_be(rt: HostRuntime) -> Result<
 }
 
 #[test]
+fn a_change_to_what_is_there_is_never_full(rt: HostRuntime) -> Result<(), Fail> {
+    let mut ranges = full(rt.alloc(), 3)?;
+    ranges.lock(span(1, 1), Mode::Write)?;
+    ranges.lock(span(4, 6), Mode::Write)?;
+    ranges.unlock(span(3, 3))?;
+    assert!(rt; ranges.run_at(1) == Some((span(0, 2), Mode::Write)));
+    assert!(rt; ranges.lock(span(1, 1), Mode::Read) == Err(RangesError::Full));
+    Ok(())
+}
+
+#[test]
+fn the_last_place_is_for_one_run(rt: HostRuntime) -> Result<(), Fail> {
+    let mut ranges = full(rt.alloc(), 3)?;
+    ranges.unlock(span(0, 2))?;
+    assert!(rt; ranges.lock(span(5, 5), Mode::Read) == Err(RangesError::Full));
+    assert!(rt; ranges.run_at(5) == Some((span(4, 6), Mode::Write)));
+    ranges.lock(span(5, 6), Mode::Read)?;
+    assert!(rt; ranges.run_at(5) == Some((span(5, 6), Mode::Read)));
+    assert!(rt; ranges.unlock(span(9, 9)) == Err(RangesError::Full));
+    Ok(())
+}
+
+#[test]
 fn a_place_is_told_before_the_change(rt: HostRuntime) -> Result<(), Fail> {
     let mut ranges = full(rt.alloc(), 1)?;
     let more = Piece {

@@ -65,6 +65,21 @@ fn the_last_change_of_a_byte_counts(rt: HostRuntime) -> Result<(), Fail> {
 }
 
 #[test]
+fn a_change_inside_a_run_makes_three(rt: HostRuntime) -> Result<(), Fail> {
+    let alloc = rt.alloc();
+    let table = [(Mode::Read, Mode::Write), (Mode::Write, Mode::Read)];
+    for (outer, inner) in &table {
+        let mut ranges = held(alloc, span(10, 99), *outer)?;
+        ranges.lock(span(40, 59), *inner)?;
+        assert!(rt; ranges.run_at(39) == Some((span(10, 39), *outer)));
+        assert!(rt; ranges.run_at(40) == Some((span(40, 59), *inner)));
+        assert!(rt; ranges.run_at(60) == Some((span(60, 99), *outer)));
+        assert!(rt; ranges.run_at(9).is_none() && ranges.run_at(100).is_none());
+    }
+    Ok(())
+}
+
+#[test]
 fn neighbours_of_different_modes_stay_apart(rt: HostRuntime) -> Result<(), Fail> {
     let mut ranges = held(rt.alloc(), span(0, 9), Mode::Read)?;
     ranges.lock(span(10, 19), Mode::Write)?;
