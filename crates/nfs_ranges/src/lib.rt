@@ -1,0 +1,21 @@
+//! The bytes of a file that one lock owner holds, each for reading or for writing (RFC 7530, sections 9.2 and 9.3).
+#![tactic(auto)]
+
+mod bytes;
+mod counts;
+mod limits;
+mod mode;
+mod piece;
+mod range;
+mod ranges;
+mod ranges_error;
+mod stretches;
+mod walks;
+
+pub use bytes::range_of;
+pub use limits::{RUN_LIMIT, limit_of_runs};
+pub use mode::Mode;
+pub use piece::Piece;
+pub use range::Range;
+pub use ranges::Ranges;
+pub use ranges_error::RangesError;

@@ -1,0 +1,39 @@
+ghost use Rattle.std.specs.Prelude.{◌≡◌};
+ghost use Rattle.nfs_ranges.specs.Modes.{conflicts, is_same};
+
+/// What a lock is for: to read bytes while others may read them, or to write them alone (RFC 7530, section 16.10).
+#[derive(Clone, Copy, Debug, PartialEq, Eq)]
+pub enum Mode {
+    /// Others may read the bytes.
+    Read,
+    /// Others may neither read nor write them.
+    Write,
+}
+
+impl Mode {
+    /// Whether a lock for this is refused by the mode in which another owner holds a byte.
+    pub fn conflicts_with(self, held: Option<Mode>) -> bool
+        ensures { result ≡ conflicts self held }
+    {
+        match held {
+            None => false,
+            Some(Mode::Write) => true,
+            Some(Mode::Read) => match self {
+                Mode::Read => false,
+                Mode::Write => true,
+            },
+        }
+    }
+}
+
+/// Whether two bytes with these modes are held alike.
+pub(crate) fn are_alike(a: Option<Mode>, b: Option<Mode>) -> bool
+    ensures { result ≡ is_same a b }
+{
+    match (a, b) {
+        (None, None) => true,
+        (Some(Mode::Read), Some(Mode::Read)) => true,
+        (Some(Mode::Write), Some(Mode::Write)) => true,
+        _ => false,
+    }
+}
