@@ -2,6 +2,10 @@ pub mod Principal
 pub mod ClientId
 pub mod Stateid
 pub mod OpenOwner
+pub mod LockOwner
+pub mod LockType
+pub mod LockDenied
+pub mod Locker
 pub mod Verifier
 pub mod Callback
 pub mod Bitmap

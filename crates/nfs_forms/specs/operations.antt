@@ -3,12 +3,16 @@ pub mod Access
 pub mod Close
 pub mod Getattr
 pub mod Getfh
+pub mod Lock
+pub mod Lockt
+pub mod Locku
 pub mod Lookup
 pub mod Open
 pub mod OpenConfirm
 pub mod OpenDowngrade
 pub mod Putfh
 pub mod Putrootfh
+pub mod ReleaseLockowner
 pub mod Restorefh
 pub mod Savefh
 pub mod Setclientid
