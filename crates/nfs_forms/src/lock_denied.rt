@@ -35,13 +35,7 @@ impl Wire for LockDenied {
 
     #[tactic(auto, unfolding(crate::specs::LockDenied::lock_denied))]
     fn write(&self, out: &mut Vec<u8>) -> Result<(), WireError> {
-        write_four(
-            out,
-            &self.offset,
-            &self.length,
-            &self.locktype,
-            &self.owner,
-        )
+        write_four(out, &self.offset, &self.length, &self.locktype, &self.owner)
     }
 }
 

@@ -42,12 +42,6 @@ impl Wire for Lockt {
 
     #[tactic(auto, unfolding(crate::specs::operations::Lockt::arguments))]
     fn write(&self, out: &mut Vec<u8>) -> Result<(), WireError> {
-        write_four(
-            out,
-            &self.locktype,
-            &self.offset,
-            &self.length,
-            &self.owner,
-        )
+        write_four(out, &self.locktype, &self.offset, &self.length, &self.owner)
     }
 }
