@@ -19,4 +19,3 @@ pub mod Claim
 pub mod FileHandle
 pub mod Status
 pub mod Answer
-pub mod operations

@@ -1,5 +1,4 @@
-//! The types of NFSv4.0, and the arguments and results of its operations, as values and as bytes (RFC 7530, section 16;
-//! RFC 7531).
+//! The types of NFSv4.0, as values and as bytes (RFC 7530, section 16; RFC 7531).
 #![tactic(auto)]
 
 mod answer;
@@ -20,7 +19,6 @@ mod locker;
 mod open_delegation;
 mod open_how;
 mod open_owner;
-pub mod operations;
 mod principal;
 mod stateid;
 mod status;
