@@ -56,6 +56,9 @@ pub enum Op {
     Close(of::close::Arguments),
     Getattr(of::getattr::Arguments),
     Getfh,
+    Lock(of::lock::Arguments),
+    Lockt(of::lockt::Arguments),
+    Locku(of::locku::Arguments),
     Lookup(of::lookup::Arguments),
     Open(of::open::Arguments),
     OpenConfirm(of::open_confirm::Arguments),
@@ -66,6 +69,7 @@ pub enum Op {
     Savefh,
     Setclientid(of::setclientid::Arguments),
     SetclientidConfirm(of::setclientid_confirm::Arguments),
+    ReleaseLockowner(of::release_lockowner::Arguments),
 }
 
 impl Op {

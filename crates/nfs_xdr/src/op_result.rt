@@ -91,6 +91,9 @@ pub enum OpResult {
     Close(of::close::Outcome),
     Getattr(of::getattr::Outcome),
     Getfh(of::getfh::Outcome),
+    Lock(of::lock::Outcome),
+    Lockt(of::lockt::Outcome),
+    Locku(of::locku::Outcome),
     Lookup(of::lookup::Outcome),
     Open(of::open::Outcome),
     OpenConfirm(of::open_confirm::Outcome),
@@ -101,6 +104,7 @@ pub enum OpResult {
     Savefh(of::savefh::Outcome),
     Setclientid(of::setclientid::Outcome),
     SetclientidConfirm(of::setclientid_confirm::Outcome),
+    ReleaseLockowner(of::release_lockowner::Outcome),
     /// NFS4ERR_NOTSUPP, the result of an operation that this server doesn't implement.
     Unsupported(Unsupported),
     /// The result for an operation that doesn't exist.
