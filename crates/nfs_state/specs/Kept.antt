@@ -17,29 +17,47 @@ use Rattle.nfs_state.specs.declared.entry.Entry.TheVariants as entries
 use Rattle.nfs_xdr.specs.declared.op.Op.{Op}
 use Rattle.nfs_xdr.specs.declared.op.Op.TheVariants as ops
 
+-- The sequence ids in the arguments of a LOCK: that of the stateid's owner, and that of the lock owner. They differ where
+-- the LOCK has a new lock owner.
+abbrev pub locker_seqid : Locker → ℕ
+locker_seqid (lockers.New locker) = locker.open_seqid
+locker_seqid (lockers.Known locker) = locker.lock_seqid
+
+abbrev pub lock_owner_seqid : Locker → ℕ
+lock_owner_seqid (lockers.New locker) = locker.lock_seqid
+lock_owner_seqid (lockers.Known locker) = locker.lock_seqid
+
 -- the sequence id in the operation's arguments; 0 if it has none
 abbrev pub seqid_of : Op → ℕ
 seqid_of (ops.Open args) = args.seqid
 seqid_of (ops.OpenConfirm args) = args.seqid
 seqid_of (ops.OpenDowngrade args) = args.seqid
 seqid_of (ops.Close args) = args.seqid
+seqid_of (ops.Lock args) = locker_seqid args.locker
+seqid_of (ops.Locku args) = args.seqid
 seqid_of op = 0
 
--- the request and the answer of an entry, as they are kept for an owner
-abbrev pub kept_of : Entry → Kept
-kept_of (entries.Call call) = record {
-  seqid = seqid_of call.request.op;
+-- the sequence id that an owner of this kind keeps of the operation
+abbrev pub seqid_for : OwnerKind → Op → ℕ
+seqid_for kinds.Open op = seqid_of op
+seqid_for kinds.Lock (ops.Lock args) = lock_owner_seqid args.locker
+seqid_for kinds.Lock op = seqid_of op
+
+-- the request and the answer of an entry, as they are kept for an owner of this kind
+abbrev pub kept_of : OwnerKind → Entry → Kept
+kept_of kind (entries.Call call) = record {
+  seqid = seqid_for kind call.request.op;
   request = request_of call.request.op call.request.filehandle;
   answer = call.answer;
 }
 
 -- what is kept for the owner
 abbrev pub kept_for : History → KnownOwner → Option Kept
-kept_for journal o = option_map kept_of (slice_get journal.entries o.kept_entry)
+kept_for journal o = option_map (kept_of o.name.kind) (slice_get journal.entries o.kept_entry)
 
 -- the owner keeps the request and the answer of its entry, which can be sent again
 pub record IsKeptIn (journal : History) (o : Owner) : Type 0 where
-  pub entry : option_map kept_of (slice_get journal.entries o.number) ≡ Some o.kept
+  pub entry : option_map (kept_of o.name.kind) (slice_get journal.entries o.number) ≡ Some o.kept
   pub sendable : IsSendable o.kept.request.op o.kept.answer
 
 abbrev pub Agrees : History → List Owner → Type 0

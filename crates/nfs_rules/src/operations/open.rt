@@ -133,7 +133,7 @@ fn refusal_of_target(found: Target<'_>) -> Refusal
 {
     match found {
         Target::Refused(refusal) => refusal,
-        Target::AnOpen(_) | Target::NoOpen => Refusal::BadStateId,
+        Target::AnOpen(_) | Target::ALock(_) | Target::NoState => Refusal::BadStateId,
     }
 }
 
@@ -238,8 +238,7 @@ fn new_stateid(tables: &Tables, passage: Passage, owner: &OpenOwner) -> Option<S
 
 // Whether there is a place for one more open. An owner that starts anew leaves its own places.
 fn has_open_place(tables: &Tables, passage: Passage, owner: &OpenOwner) -> bool
-    ensures { result ≡ nat_lt
-        (open_count (before_own passage owner.now (state_of tables.now)).opens) OPEN_LIMIT }
+    ensures { result ≡ has_state_place (before_own passage owner.now (state_of tables.now)) }
 {
     match passage {
         Passage::Restarts => tables.opens.has_place_without(owner, OPEN_LIMIT),

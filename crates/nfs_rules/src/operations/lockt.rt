@@ -1,0 +1,66 @@
+ghost use Rattle.std.specs.Prelude.{◌≡◌};
+ghost use Rattle.nfs_rules.specs.Deciding.{Decides};
+ghost use Rattle.nfs_rules.specs.operations.Lockt.{IsRuled, file_asked, only};
+ghost use Rattle.nfs_state.specs.Room.{state_of};
+
+use crate::decision::Decision;
+use crate::locking::{denied_by, mode_of};
+use nfs_forms::LockDenied;
+use nfs_operations::lockt::Lockt;
+use nfs_ranges::range_of;
+use nfs_state::{Change, Journal, OwnerChange, Request, Shortage, Tables};
+use nfs_xdr::{Answer, Op, OpResult, Refusal};
+use std::alloc::AllocError;
+
+/// Decides a LOCKT: its answer, and that it changes nothing.
+pub(super) fn decide(
+    tables: &Tables,
+    journal: &Journal,
+    request: &Request,
+    args: &Lockt,
+) -> Result<Decision, Shortage>
+    ensures { Decides (IsRuled journal.now (state_of tables.now) request.now.filehandle args.now)
+        (state_of tables.now) (Op.Lockt args.now) result }
+{
+    let answer = match file_asked(tables, journal, request.filehandle, args) {
+        Ok(node) => test(tables, node, args)?,
+        Err(refusal) => Answer::Refused(refusal),
+    };
+    Ok(Decision {
+        answer: OpResult::Lockt(answer),
+        change: Change::Nothing,
+        owner: OwnerChange::Nothing,
+    })
+}
+
+// The node of the file that is asked about, or the first refusal.
+fn file_asked(
+    tables: &Tables,
+    journal: &Journal,
+    filehandle: Option<u32>,
+    args: &Lockt,
+) -> Result<u32, Refusal>
+    ensures { result
+        ≡ file_asked journal.now (state_of tables.now) filehandle args.now }
+{
+    let node = filehandle.ok_or(Refusal::NoFileHandle)?;
+    if tables.clients.of(args.owner.client).is_none() {
+        Err(Refusal::StaleClientId)
+    } else if journal.tree().is_directory(node) {
+        Err(Refusal::IsDir)
+    } else {
+        Ok(node)
+    }
+}
+
+// Whether a LOCK of the node's file would be refused, and for which lock.
+fn test(tables: &Tables, node: u32, args: &Lockt) -> Result<Answer<(), LockDenied>, AllocError>
+{
+    let Some(range) = range_of(args.offset, args.length) else {
+        return Ok(Answer::Refused(Refusal::Inval));
+    };
+    match tables.locks.report(node, &args.owner, range, mode_of(args.locktype)) {
+        None => Ok(Answer::Done(())),
+        Some(report) => Ok(Answer::Denied(denied_by(report)?)),
+    }
+}

@@ -1,0 +1,72 @@
+ghost use Rattle.std.specs.Prelude.{◌≡◌, ◌≤◌, length};
+ghost use Rattle.nfs_locks.specs.Locks.{next_stateid_of};
+ghost use Rattle.nfs_rules.specs.Deciding.{Rules};
+ghost use Rattle.nfs_rules.specs.operations.Locku.{own, refusal_of};
+ghost use Rattle.nfs_state.specs.Room.{state_of};
+ghost use Rattle.nfs_xdr.specs.OpResult.{op_result};
+
+use crate::locking::unlock_of_bytes;
+use crate::ruling::Ruling;
+use crate::stateids::lock_verdict;
+use nfs_locks::{LockFound, LockState};
+use nfs_operations::locku::Locku;
+use nfs_ranges::{Range, range_of};
+use nfs_state::{ANSWER_LIMIT, Change, Journal, Shortage, Tables};
+use nfs_xdr::{Answer, Op, OpResult, Refusal};
+
+/// The own rule of LOCKU, under the current filehandle `node`.
+pub(super) fn rule(
+    tables: &Tables,
+    journal: &Journal,
+    node: u32,
+    args: &Locku,
+) -> Result<Ruling, Shortage>
+    ensures { Rules (λ ruling. (passage : Passage)
+        → own journal.now (state_of tables.now) args.now node passage ruling)
+        (state_of tables.now) (Op.Locku args.now) result }
+{
+    match lock_verdict(tables, node, journal.epoch(), args.stateid) {
+        Err(refusal) => Ok(refused(refusal)),
+        Ok(found) => match range_of(args.offset, args.length) {
+            None => Ok(refused(Refusal::Inval)),
+            Some(range) => unlock(tables, found, range),
+        },
+    }
+}
+
+// Frees the bytes, unless the runs of the lock state would be too many.
+fn unlock(tables: &Tables, found: LockFound<'_>, range: Range) -> Result<Ruling, Shortage>
+{
+    let LockFound { node, state } = found;
+    let change = unlock_of_bytes(range);
+    if tables.locks.is_full_for(node, state.number, change) {
+        return Err(Shortage::Limit);
+    }
+    Ok(Ruling {
+        answer: unlocked(state),
+        change: Change::Locks {
+            node,
+            number: state.number,
+            change,
+        },
+    })
+}
+
+fn refused(refusal: Refusal) -> Ruling
+    ensures value { result ≡ refusal_of refusal }
+    ensures form { op_result.Fits result.answer }
+    ensures short { length (op_result.spelling result.answer) ≤ ANSWER_LIMIT }
+{
+    Ruling {
+        answer: OpResult::Locku(Answer::Refused(refusal)),
+        change: Change::Nothing,
+    }
+}
+
+// The answer to a LOCKU that is granted: the lock state's stateid with the next seqid.
+fn unlocked(state: &LockState) -> OpResult
+    ensures form { op_result.Fits result }
+    ensures short { length (op_result.spelling result) ≤ ANSWER_LIMIT }
+{
+    OpResult::Locku(Answer::Done(state.next_stateid()))
+}
