@@ -23,6 +23,7 @@ stored_of tables = record {
   clients = tables.clients.registry;
   owners = tables.owners.owners;
   opens = opens_in tables.opens;
+  locks = stored_in tables.locks;
   last_state = tables.numbers;
   files = tables.files;
 }
@@ -39,6 +40,9 @@ HasRoom (changes.Opens node owner share) tables = HasRoomAt node tables.opens
 HasRoom (changes.Confirms node number owner) tables = ⊤
 HasRoom (changes.Downgrades node number share) tables = ⊤
 HasRoom (changes.Closes node number) tables = ⊤
+HasRoom (changes.Begins node first) tables = HasLockRoomAt node tables.locks
+HasRoom (changes.Locks node number change) tables = HasRoomFor node number tables.locks
+HasRoom (changes.Releases owner) tables = ⊤
 
 -- what the entry means for an owner takes no memory
 abbrev pub HasOwnerRoom : OwnerChange → Tables → Type 0

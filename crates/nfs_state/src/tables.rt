@@ -5,7 +5,9 @@ use crate::owner_change::OwnerChange;
 use crate::owner_update::OwnerUpdate;
 use crate::shortage::Shortage;
 use crate::stored_files::StoredFiles;
-use nfs_owners::{ClientChange, ClientRecord, Clients, Numbers, Owners};
+use crate::STATE_LIMIT;
+use nfs_locks::{FirstLock, Locks};
+use nfs_owners::{ClientChange, ClientRecord, Clients, Numbers, OwnerRef, Owners};
 use nfs_share::{Opens, Share};
 use nfs_tree::Tree;
 use nfs_xdr::{ClientId, OpenOwner};
@@ -17,7 +19,8 @@ pub struct Tables {
     pub clients: Clients,
     pub owners: Owners,
     pub opens: Opens,
-    /// The numbers of the opens.
+    pub locks: Locks,
+    /// The numbers of the opens and lock states.
     pub numbers: Numbers,
     pub files: StoredFiles,
 }
@@ -47,6 +50,7 @@ impl Tables {
             clients: Clients::new(alloc),
             owners: Owners::new(alloc),
             opens: Opens::new(alloc, tree.len())?,
+            locks: Locks::new(alloc, tree.len())?,
             numbers: Numbers::new(),
             files: StoredFiles::of_tree(alloc, tree)?,
         })
@@ -77,7 +81,21 @@ impl Tables {
     fn has_state(&self, client: ClientId) -> bool
         ensures { result ≡ has_state (state_of self.now) client }
     {
-        self.opens.has_client(client)
+        self.opens.has_client(client) || self.locks.has_client(client)
+    }
+
+    /// Whether there is a place for one more open or lock state.
+    pub fn has_state_place(&self) -> bool
+        ensures { result ≡ has_state_place (state_of self.now) }
+    {
+        self.opens.has_place(self.locks.places_left(STATE_LIMIT))
+    }
+
+    /// Whether there is a place for one more open or lock state without the opens of this owner.
+    pub fn has_state_place_without(&self, owner: &OpenOwner) -> bool
+        ensures { result ≡ has_state_place (without owner.now (state_of self.now)) }
+    {
+        self.opens.has_place_without(owner, self.locks.places_left(STATE_LIMIT))
     }
 
     /// Makes room for the change, and for what the entry means for an owner. Fails for want of memory alone, and never
@@ -93,10 +111,13 @@ impl Tables {
         match change {
             Change::Clients(change) => self.clients.make_room(change)?,
             Change::Opens { node, .. } => self.opens.reserve(*node)?,
+            Change::Begins { node, .. } => self.locks.reserve(alloc, *node)?,
+            Change::Locks { node, number, .. } => self.locks.reserve_change(*node, *number)?,
             Change::Nothing
             | Change::Confirms { .. }
             | Change::Downgrades { .. }
-            | Change::Closes { .. } => {}
+            | Change::Closes { .. }
+            | Change::Releases { .. } => {}
         }
         Ok(())
     }
@@ -178,7 +199,20 @@ impl Tables {
                 number,
                 share,
             } => self.opens.keep_within(node, number, share),
-            Change::Closes { node, number } => self.opens.close(node, number),
+            Change::Closes { node, number } => {
+                self.opens.close(node, number);
+                self.locks.close(node, number);
+            }
+            Change::Begins { node, first } => self.commit_first_lock(node, first),
+            Change::Locks {
+                node,
+                number,
+                change,
+            } => self.locks.change(node, number, change),
+            Change::Releases { owner } => {
+                self.owners.remove(OwnerRef::of_lock(&owner));
+                self.locks.remove_owner(&owner);
+            }
         }
     }
 
@@ -196,7 +230,19 @@ impl Tables {
         self.opens.grant(node, owner, share, number);
     }
 
-    // Changes the clients' records. A client that is replaced loses its owners and its opens.
+    // Makes a lock state with the next number.
+    fn commit_first_lock(&mut self, node: u32, first: FirstLock)
+        requires room { HasLockRoomAt node self.old.locks }
+        requires numbers { self.old.numbers < 2 ^ 32 - 1 }
+        ensures state { state_of self.new ≡ changed (changes.Begins node first) (state_of self.old) }
+        ensures owners { self.new.owners ≡ self.old.owners }
+    {
+        let number = self.numbers.upcoming();
+        self.numbers.next();
+        self.locks.begin(node, first, number);
+    }
+
+    // Changes the clients' records. A client that is replaced loses its owners, its opens and its lock states.
     fn commit_clients(&mut self, change: ClientChange)
         requires room { HasRoomFor change self.old.clients }
         requires numbers { HasNumbersFor change self.old.clients.registry }
@@ -208,7 +254,7 @@ impl Tables {
         self.clients.commit(change);
     }
 
-    // Forgets the owners and the opens of a client that is replaced.
+    // Forgets the owners, the opens and the lock states of a client that is replaced.
     fn leave(&mut self, change: &ClientChange)
         ensures state { state_of self.new ≡ left_by change.now (state_of self.old) }
         ensures clients { self.new.clients ≡ self.old.clients }
@@ -218,6 +264,7 @@ impl Tables {
         if let ClientChange::Replaces(_, client) = change {
             self.owners.remove_client(*client);
             self.opens.remove_client(*client);
+            self.locks.remove_client(*client);
         }
     }
 }
