@@ -10,7 +10,7 @@ ghost use Rattle.nfs_state.specs.declared.change.Change.TheVariants as changes;
 ghost use Rattle.nfs_state.specs.declared.owner_change.OwnerChange.TheVariants as owner_changes;
 ghost use Rattle.nfs_rules.specs.operations.{own_of};
 
-use super::{close, open, open_confirm, open_downgrade};
+use super::{close, lock, locku, open, open_confirm, open_downgrade};
 use crate::decision::Decision;
 use crate::passage::Passage;
 use crate::ruling::Ruling;
@@ -46,7 +46,8 @@ pub(super) fn decide(
         Sequence::Answered(answer) => Ok(unsequenced(answer)),
         Sequence::GoesOn(passage, name) => {
             let ruling = rule(alloc, tables, journal, node, passage, &request.op)?;
-            Ok(decision_of(passage, name, ruling)?)
+            let newcomer = newcomer_of(tables, name.client, &request.op);
+            Ok(decision_of(passage, name, newcomer, ruling)?)
         }
     }
 }
@@ -83,6 +84,8 @@ fn rule(
         Op::OpenConfirm(args) => Ok(open_confirm::rule(tables, journal, node, args)?),
         Op::OpenDowngrade(args) => Ok(open_downgrade::rule(tables, journal, node, args)),
         Op::Close(args) => Ok(close::rule(tables, journal, node, args)),
+        Op::Lock(args) => lock::rule(tables, journal, node, args),
+        Op::Locku(args) => locku::rule(tables, journal, node, args),
         _ => unreachable!(),
     }
 }
