@@ -19,11 +19,35 @@ use Rattle.nfs_owners.specs.declared.owner.Owner.{Owner}
 abbrev pub target_seen : Target → stateids.Target
 target_seen (targets.Refused refusal) = stateids.Refused refusal
 target_seen (targets.AnOpen found) = stateids.AnOpen (open_seen found)
-target_seen targets.NoOpen = stateids.NoOpen
+target_seen (targets.ALock found) = stateids.ALock (lock_seen found)
+target_seen targets.NoState = stateids.NoState
 
 abbrev pub open_or_refusal_seen : Result OpenFound Refusal → Result OpenAt Refusal
 open_or_refusal_seen (Ok found) = Ok (open_seen found)
 open_or_refusal_seen (Err refusal) = Err refusal
+
+abbrev pub lock_or_refusal_seen : Result LockFound Refusal → Result LockAt Refusal
+lock_or_refusal_seen (Ok found) = Ok (lock_seen found)
+lock_or_refusal_seen (Err refusal) = Err refusal
+
+abbrev pub newcomer_seen : Newcomer → newcomers.Newcomer
+newcomer_seen found_newcomers.Nobody = newcomers.Nobody
+newcomer_seen (found_newcomers.Known name) = newcomers.Known name.now
+newcomer_seen (found_newcomers.Unknown name) = newcomers.Unknown name.now
+
+-- what a LOCK is to hold, as its rule speaks of it
+abbrev pub locking_seen : Locking → lock.Locking
+locking_seen l = record {
+  node = l.node;
+  owner = l.owner.now;
+  mode = l.mode;
+  open_number = l.open_number;
+  state = option_map byte_locks_of (option_copied l.state.entry);
+}
+
+abbrev pub locking_or_refusal_seen : Result Locking Refusal → Result lock.Locking Refusal
+locking_or_refusal_seen (Ok l) = Ok (locking_seen l)
+locking_or_refusal_seen (Err refusal) = Err refusal
 
 abbrev pub requester_seen : Requester → sequences.Requester
 requester_seen (requesters.Refused refusal) = sequences.Refused refusal

@@ -1,4 +1,4 @@
-ghost use Rattle.std.specs.Prelude.{◌≡◌, ◌≤◌, ◌<◌, ◌-◌, ◌^◌, Ok, OnErr, nat_lt, length};
+ghost use Rattle.std.specs.Prelude.{◌≡◌, ◌≤◌, ◌<◌, ◌-◌, ◌^◌, Ok, OnErr, length};
 ghost use Rattle.std.specs.Option.{option_copied};
 ghost use Rattle.std.specs.Result.{IsOk, result_map_both};
 ghost use Rattle.nfs_rules.specs.Deciding.{Rules, IsPassage};
@@ -7,7 +7,8 @@ ghost use Rattle.nfs_state.specs.Room.{state_of};
 ghost use Rattle.nfs_rules.specs.Sequences.{before_own};
 ghost use Rattle.nfs_rules.specs.operations.Open.{file_at, found_by, has_owner_place, name_of, opening, own, refusal_of_target, rflags_of, ruling_of, unless_delegated, unless_denied, wants_new};
 ghost use Rattle.nfs_rules.specs.operations.OpenGrant.{granted, granted_stateid, new_stateid};
-ghost use Rattle.nfs_share.specs.AllOpens.{open_count, opens_of};
+ghost use Rattle.nfs_share.specs.AllOpens.{opens_of};
+ghost use Rattle.nfs_state.specs.Places.{has_state_place};
 ghost use Rattle.nfs_share.specs.Opens.{open_of};
 ghost use Rattle.nfs_xdr.specs.OpResult.{op_result};
 
@@ -16,7 +17,7 @@ use crate::passage::Passage;
 use crate::ruling::Ruling;
 use crate::stateids::{Target, target_of};
 use nfs_share::{OpenState, Share};
-use nfs_state::{ANSWER_LIMIT, Change, Journal, OPEN_LIMIT, Shortage, Tables};
+use nfs_state::{ANSWER_LIMIT, Change, Journal, Shortage, Tables};
 use nfs_xdr::operations::open::{Open, OpenOk};
 use nfs_xdr::{
     Answer, Bitmap, ChangeInfo, Claim, CreateHow, Op, OpResult, OpenDelegation, OpenHow, OpenOwner,
@@ -226,7 +227,7 @@ fn new_stateid(tables: &Tables, passage: Passage, owner: &OpenOwner) -> Option<S
     requires states { tables.now.numbers < 2 ^ 32 - 1 }
     ensures { result ≡ new_stateid (before_own passage owner.now (state_of tables.now)) owner.now }
 {
-    if !has_open_place(tables, passage, owner) {
+    if !has_state_place(tables, passage, owner) {
         return None;
     }
     Some(Stateid {
@@ -237,12 +238,12 @@ fn new_stateid(tables: &Tables, passage: Passage, owner: &OpenOwner) -> Option<S
 }
 
 // Whether there is a place for one more open. An owner that starts anew leaves its own places.
-fn has_open_place(tables: &Tables, passage: Passage, owner: &OpenOwner) -> bool
+fn has_state_place(tables: &Tables, passage: Passage, owner: &OpenOwner) -> bool
     ensures { result ≡ has_state_place (before_own passage owner.now (state_of tables.now)) }
 {
     match passage {
-        Passage::Restarts => tables.opens.has_place_without(owner, OPEN_LIMIT),
-        Passage::Continues | Passage::Begins => tables.opens.has_place(OPEN_LIMIT),
+        Passage::Restarts => tables.has_state_place_without(owner),
+        Passage::Continues | Passage::Begins => tables.has_state_place(),
     }
 }
 
