@@ -1,13 +1,13 @@
 //! The arguments and results of OPEN and of the operations on opens, with their bytes worked out by hand.
 
-use nfs_forms::operations::close::Close;
-use nfs_forms::operations::open::{Open, OpenOk};
-use nfs_forms::operations::open_confirm::OpenConfirm;
-use nfs_forms::operations::open_downgrade::OpenDowngrade;
 use nfs_forms::{
     Bitmap, ChangeInfo, Claim, ClientId, CreateHow, DelegationType, Fattr, OpenDelegation, OpenHow,
     OpenOwner, Stateid, Verifier,
 };
+use nfs_operations::close::Close;
+use nfs_operations::open::{Open, OpenOk};
+use nfs_operations::open_confirm::OpenConfirm;
+use nfs_operations::open_downgrade::OpenDowngrade;
 use std::alloc::Global;
 use std::cmp::PartialEq;
 use std::test::Fail;

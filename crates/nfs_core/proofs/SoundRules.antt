@@ -35,8 +35,8 @@ use Rattle.nfs_forms.specs.declared.answer.Answer.TheVariants.{Done}
 use Rattle.nfs_xdr.specs.declared.op_result.OpResult.TheVariants as results
 use Rattle.nfs_forms.specs.Principal.{is_same_principal}
 use Rattle.nfs_forms.specs.declared.open_owner.OpenOwner.{OpenOwner}
-use Rattle.nfs_forms.specs.declared.operations.setclientid.Setclientid.{Setclientid}
-use Rattle.nfs_forms.specs.declared.operations.setclientid_confirm.SetclientidConfirm.{SetclientidConfirm}
+use Rattle.nfs_operations.specs.declared.setclientid.Setclientid.{Setclientid}
+use Rattle.nfs_operations.specs.declared.setclientid_confirm.SetclientidConfirm.{SetclientidConfirm}
 use Rattle.nfs_forms.specs.declared.principal.Principal.{Principal}
 use Rattle.nfs_owners.specs.Addresses.{is_within_limit}
 use Rattle.nfs_owners.specs.Confirmation as confirmations
@@ -47,8 +47,8 @@ use Rattle.nfs_owners.specs.Registry.{Registry, confirmed_named_by, confirmed_of
 use Rattle.nfs_owners.specs.declared.client_record.ClientRecord.{ClientRecord}
 use Rattle.nfs_owners.specs.declared.client_record.PathMark.{PathMark}
 use Rattle.nfs_owners.specs.declared.clients.client_change.ClientChange.{ClientChange}
-use Rattle.nfs_forms.specs.declared.operations.open_downgrade.OpenDowngrade.{OpenDowngrade}
-use Rattle.nfs_forms.specs.declared.operations.«open».Open.{Open}
+use Rattle.nfs_operations.specs.declared.open_downgrade.OpenDowngrade.{OpenDowngrade}
+use Rattle.nfs_operations.specs.declared.«open».Open.{Open}
 use Rattle.nfs_forms.specs.declared.status.Refusal.{Refusal}
 use Rattle.nfs_forms.specs.declared.status.Refusal.TheVariants as refusals
 use Rattle.nfs_forms.specs.declared.status.Status.{Status}

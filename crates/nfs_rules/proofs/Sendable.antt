@@ -9,9 +9,9 @@ use Rattle.nfs_state.specs.State.{State}
 use Rattle.nfs_rules.specs.Stateids.{Target, Refused, AnOpen, NoOpen, by_seqid, is_special, open_at, target_in, target_of, verdict}
 use Rattle.nfs_share.specs.AllOpens.{OpenAt, named_in}
 use Rattle.nfs_forms.specs.declared.answer.Answer.TheVariants as answers
-use Rattle.nfs_forms.specs.declared.operations.close.Close.{Close}
-use Rattle.nfs_forms.specs.declared.operations.open_confirm.OpenConfirm.{OpenConfirm}
-use Rattle.nfs_forms.specs.declared.operations.open_downgrade.OpenDowngrade.{OpenDowngrade}
+use Rattle.nfs_operations.specs.declared.close.Close.{Close}
+use Rattle.nfs_operations.specs.declared.open_confirm.OpenConfirm.{OpenConfirm}
+use Rattle.nfs_operations.specs.declared.open_downgrade.OpenDowngrade.{OpenDowngrade}
 use Rattle.nfs_forms.specs.declared.stateid.Stateid.{Stateid}
 use Rattle.nfs_forms.specs.declared.status.Refusal.{Refusal}
 use Rattle.nfs_forms.specs.declared.status.Refusal.TheVariants as refusals

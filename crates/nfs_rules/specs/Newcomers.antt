@@ -4,9 +4,9 @@ use Rattle.std.specs.Prelude.{ℕ, ◌==◌, Bool, true, false, Option, Some, No
 use Rattle.nfs_forms.specs.ClientId.{is_same_client}
 use Rattle.nfs_forms.specs.declared.client_id.ClientId.{ClientId}
 use Rattle.nfs_forms.specs.declared.lock_owner.LockOwner.{LockOwner}
-use Rattle.nfs_operations.specs.declared.lock.Locker.{Locker}
-use Rattle.nfs_operations.specs.declared.lock.Locker.TheVariants as lockers
-use Rattle.nfs_operations.specs.declared.lock.NewLocker.{NewLocker}
+use Rattle.nfs_forms.specs.declared.locker.Locker.{Locker}
+use Rattle.nfs_forms.specs.declared.locker.Locker.TheVariants as lockers
+use Rattle.nfs_forms.specs.declared.locker.NewLocker.{NewLocker}
 use Rattle.nfs_owners.specs.Kept.{precedes}
 use Rattle.nfs_owners.specs.StateOwner.{lock_owner}
 use Rattle.nfs_owners.specs.declared.kept.Kept.{Kept}

@@ -19,8 +19,8 @@ use Rattle.nfs_rules.specs.Stateids.{Target, target_of}
 use Rattle.nfs_state.specs.State.{State, History}
 use Rattle.nfs_forms.specs.declared.client_id.ClientId.{ClientId}
 use Rattle.nfs_forms.specs.declared.open_owner.OpenOwner.{OpenOwner}
-use Rattle.nfs_operations.specs.declared.lock.Locker.{Locker}
-use Rattle.nfs_operations.specs.declared.lock.Locker.TheVariants as lockers
+use Rattle.nfs_forms.specs.declared.locker.Locker.{Locker}
+use Rattle.nfs_forms.specs.declared.locker.Locker.TheVariants as lockers
 use Rattle.nfs_owners.specs.StateOwner.{lock_owner, open_owner}
 use Rattle.nfs_owners.specs.declared.state_owner.StateOwner.{StateOwner}
 use Rattle.nfs_forms.specs.declared.stateid.Stateid.{Stateid}

@@ -4,8 +4,8 @@ ghost use Rattle.nfs_rules.specs.Newcomers.{has_turn, newcomer_by, newcomer_in, 
 ghost use Rattle.nfs_state.specs.Kept.{Agrees};
 ghost use Rattle.nfs_state.specs.Room.{state_of};
 
-use nfs_forms::{ClientId, LockOwner};
-use nfs_operations::lock::{Locker, NewLocker};
+use nfs_forms::{ClientId, LockOwner, Locker, NewLocker};
+
 use nfs_owners::OwnerRef;
 use nfs_state::{Journal, Tables};
 use nfs_xdr::Op;

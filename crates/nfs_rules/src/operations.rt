@@ -23,7 +23,7 @@ mod setclientid_confirm;
 
 use crate::decision::Decision;
 use crate::sequence::{requester_of_open, requester_of_stateid};
-use nfs_operations::lock::Locker;
+use nfs_forms::Locker;
 use nfs_state::{Journal, Request, Shortage, Tables};
 use nfs_xdr::{Op, Stateid};
 use std::alloc::Global;

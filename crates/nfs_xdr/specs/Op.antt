@@ -5,7 +5,7 @@ use Rattle.nfs_xdr.specs.declared.op.Op.{Op}
 use Rattle.nfs_xdr.specs.declared.op.Op.TheVariants as ops
 use Rattle.nfs_xdr.specs.declared.opnum.Opnum.{Opnum}
 use Rattle.nfs_xdr.specs.declared.opnum.Opnum.TheVariants as opnums
-use Rattle.nfs_forms.specs.operations as of
+use Rattle.nfs_operations.specs as of
 use Rattle.nfs_xdr.specs.Opnum.{class_of, is_on_state, is_of_tree, opnum}
 use Rattle.xdr.specs.Form.{Form}
 use Rattle.xdr.specs.Switch.{Case, Content, case, no_case, Arm, arm_in, Agrees, IsRead}

@@ -13,7 +13,7 @@ use Rattle.nfs_forms.specs.declared.status.Refusal.TheVariants as refusals
 use Rattle.nfs_forms.specs.declared.status.Status.{Status}
 use Rattle.nfs_forms.specs.declared.status.Status.TheVariants as statuses
 use Rattle.nfs_forms.specs.Answer as answer
-use Rattle.nfs_forms.specs.operations as of
+use Rattle.nfs_operations.specs as of
 use Rattle.nfs_xdr.specs.Opnum.{opnum}
 use Rattle.xdr.specs.Form.{Form, ◌and◌, nothing, constant}
 use Rattle.xdr.specs.Switch.{Case, Content, case, Arm, arm_in, Agrees, IsRead}

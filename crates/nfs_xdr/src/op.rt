@@ -5,7 +5,8 @@ ghost use Rattle.xdr.specs.Reading.{Gives};
 ghost use Rattle.xdr.specs.Switch.{case_at};
 
 use crate::opnum::each_operation;
-use crate::{Class, Opnum, operations as of};
+use crate::{Class, Opnum};
+use nfs_operations as of;
 use std::alloc::Global;
 use xdr::{Wire, WireError, write_two};
 
@@ -85,6 +86,7 @@ impl Op {
     {
         match (self, other) {
             (Op::Open(open), Op::Open(other)) => open.is_same(other),
+            (Op::Lock(lock), Op::Lock(other)) => lock.is_same(other),
             _ => self == other,
         }
     }

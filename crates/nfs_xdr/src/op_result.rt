@@ -9,7 +9,8 @@ ghost use Rattle.xdr.specs.Switch.{case_at};
 ghost use Rattle.xdr.specs.Writing.{Writes};
 
 use crate::opnum::each_operation;
-use crate::{Answer, Opnum, Refusal, Status, Unsupported, operations as of};
+use crate::{Answer, Opnum, Refusal, Status, Unsupported};
+use nfs_operations as of;
 use std::alloc::Global;
 use xdr::{Measure, Wire, WireError, read_constant, write_three, write_two};
 

@@ -1,11 +1,11 @@
 //! Owners with their kept requests, the clients' records, and the numbers of states, each in a short run.
 
+use nfs_operations::setclientid::Setclientid;
+use nfs_operations::setclientid_confirm::{Outcome, SetclientidConfirm};
 use nfs_owners::{
     Clients, Kept, KeptRequest, Numbers, OwnerStanding, Owners, OwnersError, PathMark, Verdict,
     numbers_rise,
 };
-use nfs_xdr::operations::setclientid::Setclientid;
-use nfs_xdr::operations::setclientid_confirm::{Outcome, SetclientidConfirm};
 use nfs_xdr::{
     Address, Callback, ClientId, Op, OpResult, OpenOwner, Opnum, Principal, Refusal, Verifier,
 };

@@ -10,9 +10,9 @@ use Rattle.nfs_locks.specs.AllLocks.{LockAt, is_full_for, locks_of}
 use Rattle.nfs_locks.specs.Locks.{ByteLocks, lock_of, next_stateid_of}
 use Rattle.nfs_locks.specs.Report.{IsReport, Report}
 use Rattle.nfs_operations.specs.declared.lock.Lock.{Lock}
-use Rattle.nfs_operations.specs.declared.lock.Locker.{Locker}
-use Rattle.nfs_operations.specs.declared.lock.Locker.TheVariants as lockers
-use Rattle.nfs_operations.specs.declared.lock.NewLocker.{NewLocker}
+use Rattle.nfs_forms.specs.declared.locker.Locker.{Locker}
+use Rattle.nfs_forms.specs.declared.locker.Locker.TheVariants as lockers
+use Rattle.nfs_forms.specs.declared.locker.NewLocker.{NewLocker}
 use Rattle.nfs_owners.specs.StateOwner.{lock_owner}
 use Rattle.nfs_ranges.specs.Bytes.{IsRangeOf}
 use Rattle.nfs_ranges.specs.declared.mode.Mode.{Mode}

@@ -27,8 +27,8 @@ use Rattle.nfs_forms.specs.declared.open_delegation.OpenDelegation.TheVariants a
 use Rattle.nfs_forms.specs.declared.open_how.OpenHow.{OpenHow}
 use Rattle.nfs_forms.specs.declared.open_how.OpenHow.TheVariants as hows
 use Rattle.nfs_forms.specs.declared.open_owner.OpenOwner.{OpenOwner}
-use Rattle.nfs_forms.specs.declared.operations.«open».Open.{Open}
-use Rattle.nfs_forms.specs.declared.operations.«open».OpenOk.{OpenOk}
+use Rattle.nfs_operations.specs.declared.«open».Open.{Open}
+use Rattle.nfs_operations.specs.declared.«open».OpenOk.{OpenOk}
 use Rattle.nfs_forms.specs.declared.stateid.Stateid.{Stateid}
 use Rattle.nfs_forms.specs.declared.status.Refusal.{Refusal}
 use Rattle.nfs_forms.specs.declared.status.Refusal.TheVariants as refusals

@@ -9,9 +9,9 @@ ghost use Rattle.nfs_rules.specs.operations.Close.{own};
 use crate::demand::Demand;
 use crate::ruling::Ruling;
 use crate::stateids::verdict;
+use nfs_operations::close::Close;
 use nfs_share::OpenState;
 use nfs_state::{ANSWER_LIMIT, Change, Journal, Tables};
-use nfs_xdr::operations::close::Close;
 use nfs_xdr::{Answer, Op, OpResult};
 
 /// The own rule of CLOSE, under the current filehandle `node`.

@@ -16,9 +16,9 @@ use crate::opening::Opening;
 use crate::passage::Passage;
 use crate::ruling::Ruling;
 use crate::stateids::{Target, target_of};
+use nfs_operations::open::{Open, OpenOk};
 use nfs_share::{OpenState, Share};
 use nfs_state::{ANSWER_LIMIT, Change, Journal, Shortage, Tables};
-use nfs_xdr::operations::open::{Open, OpenOk};
 use nfs_xdr::{
     Answer, Bitmap, ChangeInfo, Claim, CreateHow, Op, OpResult, OpenDelegation, OpenHow, OpenOwner,
     Refusal, Stateid,
@@ -248,7 +248,7 @@ fn has_state_place(tables: &Tables, passage: Passage, owner: &OpenOwner) -> bool
 }
 
 // The answer to an OPEN that is granted.
-#[tactic(auto, unfolding(nfs_xdr::specs::OpResult::op_result, nfs_xdr::specs::Opnum::opnum, nfs_forms::specs::Status::status, xdr::specs::Writing::written_number, nfs_forms::specs::Answer::answer, nfs_forms::specs::operations::Open::open_ok, nfs_forms::specs::Stateid::stateid, nfs_forms::specs::ClientId::client_id, nfs_forms::specs::ChangeInfo::change_info, nfs_forms::specs::DelegationType::delegation_type, nfs_forms::specs::OpenDelegation::open_delegation))]
+#[tactic(auto, unfolding(nfs_xdr::specs::OpResult::op_result, nfs_xdr::specs::Opnum::opnum, nfs_forms::specs::Status::status, xdr::specs::Writing::written_number, nfs_forms::specs::Answer::answer, nfs_operations::specs::Open::open_ok, nfs_forms::specs::Stateid::stateid, nfs_forms::specs::ClientId::client_id, nfs_forms::specs::ChangeInfo::change_info, nfs_forms::specs::DelegationType::delegation_type, nfs_forms::specs::OpenDelegation::open_delegation))]
 fn granted(alloc: Global, passage: Passage, stateid: Stateid) -> OpResult
     ensures value { result ≡ granted passage stateid }
     ensures form { op_result.Fits result }

@@ -11,9 +11,9 @@ ghost use Rattle.nfs_rules.specs.Stateids as stateids;
 use crate::demand::Demand;
 use crate::ruling::Ruling;
 use crate::stateids::{is_confirmed, verdict};
+use nfs_operations::open_confirm::OpenConfirm;
 use nfs_share::OpenState;
 use nfs_state::{ANSWER_LIMIT, Change, Journal, Tables};
-use nfs_xdr::operations::open_confirm::OpenConfirm;
 use nfs_xdr::{Answer, Op, OpResult, Refusal};
 use std::alloc::AllocError;
 

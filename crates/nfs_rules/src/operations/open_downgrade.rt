@@ -9,9 +9,9 @@ ghost use Rattle.nfs_rules.specs.operations.OpenDowngrade.{own, refusal_of};
 use crate::demand::Demand;
 use crate::ruling::Ruling;
 use crate::stateids::verdict;
+use nfs_operations::open_downgrade::OpenDowngrade;
 use nfs_share::{OpenState, Share};
 use nfs_state::{ANSWER_LIMIT, Change, Journal, Tables};
-use nfs_xdr::operations::open_downgrade::OpenDowngrade;
 use nfs_xdr::{Answer, Op, OpResult, Refusal};
 
 /// The own rule of OPEN_DOWNGRADE, under the current filehandle `node`.
