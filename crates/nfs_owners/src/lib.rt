@@ -9,8 +9,10 @@ mod kept;
 mod limits;
 mod numbers;
 mod owner;
+mod owner_ref;
 mod owners;
 mod owners_error;
+mod state_owner;
 
 pub use client_callback::{ADDRESS_LIMIT, ClientCallback};
 pub use client_record::{CLIENT_LIMIT, ClientRecord, PathMark};
@@ -19,5 +21,7 @@ pub use kept::{Kept, KeptRequest, Verdict};
 pub use limits::limits_of_owners;
 pub use numbers::{Numbers, numbers_rise};
 pub use owner::{OWNER_LIMIT, Owner, OwnerStanding};
+pub use owner_ref::OwnerRef;
 pub use owners::Owners;
 pub use owners_error::OwnersError;
+pub use state_owner::{OwnerKind, StateOwner};
