@@ -1,0 +1,1 @@
+//! Lock states.
