@@ -4,7 +4,7 @@ use Rattle.nfs_rules.specs.declared.decision.Decision.{Decision}
 use Rattle.nfs_state.specs.declared.shortage.Shortage.{Shortage}
 use Rattle.nfs_state.specs.declared.shortage.Shortage.TheVariants.{Limit, Memory}
 use Rattle.nfs_rules.specs.declared.ruling.Ruling.{Ruling}
-use Rattle.nfs_state.specs.Room.{HasNumbers, HasOwnerPlace, is_known}
+use Rattle.nfs_state.specs.Room.{IsWithinLimits, HasOwnerPlace, is_known}
 use Rattle.nfs_rules.specs.Sequences.{IsSequence, Requester, Refused, Owner, Sequence, Answered, GoesOn}
 use Rattle.nfs_rules.specs.declared.passage.Passage.{Passage}
 use Rattle.nfs_state.specs.State.{State, History}
@@ -31,7 +31,7 @@ IsPassage passage name state = IsTrue (is_known name state)
 -- gives no decision.
 abbrev pub Decides : (Option Decision → Type 0) → State → Op → Result Decision Shortage → Type 0
 Decides ruled state op (Ok decision) =
-    ruled (Some decision) × IsSendable op decision.answer × HasNumbers decision.change state
+    ruled (Some decision) × IsSendable op decision.answer × IsWithinLimits decision.change state
     × HasOwnerPlace decision.owner state
 Decides ruled state op (Err Limit) = ruled None
 Decides ruled state op (Err Memory) = ruled None → ⊥
@@ -83,7 +83,7 @@ IsPassageOf op passage state = ⊤
 -- In this state, the answer and the change of the operation's own rule. Limit is returned exactly if it gives none.
 abbrev pub Rules : (Option Ruling → Type 0) → State → Op → Result Ruling Shortage → Type 0
 Rules own state op (Ok ruling) =
-    own (Some ruling) × IsSendable op ruling.answer × HasNumbers ruling.change state
+    own (Some ruling) × IsSendable op ruling.answer × IsWithinLimits ruling.change state
 Rules own state op (Err Limit) = own None
 Rules own state op (Err Memory) = own None → ⊥
 

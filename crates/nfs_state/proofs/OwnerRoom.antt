@@ -8,7 +8,7 @@ use Rattle.nfs_state.specs.declared.owner_change.OwnerChange.TheVariants as owne
 use Rattle.nfs_state.specs.declared.tables.Tables.{Tables}
 use Rattle.nfs_state.specs.Kept.{update_of}
 use Rattle.nfs_state.specs.Owners as known
-use Rattle.nfs_state.specs.Room.{HasNumbers, HasOwnerPlace, HasOwnerRoom, HasUpdateRoom, state_of}
+use Rattle.nfs_state.specs.Room.{IsWithinLimits, HasOwnerPlace, HasOwnerRoom, HasUpdateRoom, state_of}
 use Rattle.nfs_state.specs.Changes.{with_owner_change}
 use Rattle.nfs_state.specs.State.{State}
 use Rattle.nfs_state.specs.Stored.{known_owner}
@@ -42,7 +42,7 @@ update_room (owner_changes.Restarts name) kept tables place room = (known_place 
 update_room (owner_changes.Drops name) kept tables place room = tt
 
 -- what an entry means for an owner uses no numbers
-numbers_alike : (change : Change) (old new : State) → new.clients ≡ old.clients → new.last_state ≡ old.last_state → HasNumbers change old → HasNumbers change new
+numbers_alike : (change : Change) (old new : State) → new.clients ≡ old.clients → new.last_state ≡ old.last_state → IsWithinLimits change old → IsWithinLimits change new
 numbers_alike (changes.Clients change) old new clients states has = subst (HasNumbersFor change) (sym clients) has
 numbers_alike (changes.Opens node owner share) old new clients states has = omega (arith, states, has)
 numbers_alike changes.Nothing old new clients states has = tt
@@ -58,6 +58,6 @@ same_last_state : (owner : OwnerChange) (number : ℕ) (old : State) → (with_o
 same_last_state owner_changes.Nothing number old = refl
 same_last_state owner number old = refl
 
-pub numbers_after : (change : Change) (owner : OwnerChange) (number : ℕ) (old : State) → HasNumbers change old → HasNumbers change (with_owner_change owner number old)
+pub numbers_after : (change : Change) (owner : OwnerChange) (number : ℕ) (old : State) → IsWithinLimits change old → IsWithinLimits change (with_owner_change owner number old)
 numbers_after change owner number old has =
     numbers_alike change old (with_owner_change owner number old) (same_clients owner number old) (same_last_state owner number old) has

@@ -1,13 +1,15 @@
 ghost use Rattle.std.specs.Prelude.{◌≡◌, ◌<◌, ◌≤◌, ◌-◌, ◌^◌, IfErr, IfOk, IsOk, IsTrue, OnOk, map};
 
 use crate::change::Change;
+use crate::limits::STATE_LIMIT;
 use crate::owner_change::OwnerChange;
-use crate::owner_update::OwnerUpdate;
+use crate::owner_update::{Keeping, OwnerUpdate};
 use crate::shortage::Shortage;
 use crate::stored_files::StoredFiles;
-use crate::STATE_LIMIT;
 use nfs_locks::{FirstLock, Locks};
-use nfs_owners::{ClientChange, ClientRecord, Clients, Numbers, OwnerRef, Owners};
+use nfs_owners::{
+    ClientChange, ClientRecord, Clients, Numbers, OwnerRef, Owners, StateOwner,
+};
 use nfs_share::{Opens, Share};
 use nfs_tree::Tree;
 use nfs_xdr::{ClientId, OpenOwner};
@@ -28,13 +30,19 @@ pub struct Tables {
 impl Tables {
     ghost use Rattle.std.specs.Option.{option_copied};
     ghost use Rattle.nfs_state.specs.State.{change_of, file_of, has_state, record_has_state, size_of, History};
-    ghost use Rattle.nfs_state.specs.Kept.{Agrees, owners_after, update_of};
+    ghost use Rattle.nfs_state.specs.Kept.{Agrees, kept_by, owners_after, update_of};
     ghost use Rattle.nfs_state.specs.Changes.{with_owner_change, changed, left_by};
-    ghost use Rattle.nfs_state.specs.Room.{HasNumbers, HasOwnerPlace, HasOwnerRoom, HasRoom, HasUpdateRoom, state_of, stored_of};
+    ghost use Rattle.nfs_state.specs.Changes as changed_state;
+    ghost use Rattle.nfs_state.specs.Room.{IsWithinLimits, HasOwnerPlace, HasOwnerRoom, HasRoom, HasUpdateRoom, CanKeep, state_of, stored_of};
     ghost use Rattle.nfs_state.specs.declared.owner_change.OwnerChange.{OwnerChange};
     ghost use Rattle.nfs_owners.specs.declared.kept.Kept.{Kept};
     ghost use Rattle.nfs_state.specs.declared.change.Change.{Change};
-    ghost use Rattle.nfs_forms.specs.declared.open_owner.OpenOwner.{OpenOwner};
+    ghost use Rattle.nfs_owners.specs.Owner.{is_known};
+    ghost use Rattle.nfs_owners.specs.StateOwner.{open_owner};
+    ghost use Rattle.nfs_owners.specs.declared.state_owner.OwnerKind.{OwnerKind};
+    ghost use Rattle.nfs_owners.specs.declared.state_owner.StateOwner.{StateOwner};
+    ghost use Rattle.nfs_locks.specs.AllLocks.{HasLockRoomAt};
+    ghost use Rattle.nfs_state.specs.Places.{has_state_place};
     ghost use Rattle.nfs_owners.specs.Owners.{has_place, without_owner};
     ghost use Rattle.nfs_share.specs.AllOpens.{HasRoomAt, opens_in};
     ghost use Rattle.nfs_share.specs.Opens.{is_of, without};
@@ -93,14 +101,19 @@ impl Tables {
 
     /// Whether there is a place for one more open or lock state without the opens of this owner.
     pub fn has_state_place_without(&self, owner: &OpenOwner) -> bool
-        ensures { result ≡ has_state_place (without owner.now (state_of self.now)) }
+        ensures { result ≡ has_state_place (changed_state.without owner.now (state_of self.now)) }
     {
         self.opens.has_place_without(owner, self.locks.places_left(STATE_LIMIT))
     }
 
     /// Makes room for the change, and for what the entry means for an owner. Fails for want of memory alone, and never
     /// where there is room already.
-    pub(crate) fn make_room(&mut self, change: &Change, owner: &OwnerChange) -> Result<(), Shortage>
+    pub(crate) fn make_room(
+        &mut self,
+        alloc: Global,
+        change: &Change,
+        owner: &OwnerChange,
+    ) -> Result<(), Shortage>
         requires place { HasOwnerPlace owner.now (state_of self.old) }
         ensures same { stored_of self.new ≡ stored_of self.old }
         ensures room { OnOk result (HasRoom change.now self.new × HasOwnerRoom owner.now self.new) }
@@ -132,9 +145,13 @@ impl Tables {
         ensures memory { IfErr result (λ e. e ≡ Shortage.Memory) }
     {
         match change {
-            OwnerChange::Nothing | OwnerChange::Keeps(_) | OwnerChange::Drops(_) => Ok(()),
-            OwnerChange::Records(name) | OwnerChange::Restarts(name) => {
-                Ok(self.owners.reserve(name)?)
+            OwnerChange::Nothing
+            | OwnerChange::Keeps(_)
+            | OwnerChange::KeepsBoth(_, _)
+            | OwnerChange::Drops(_) => Ok(()),
+            OwnerChange::Introduces(_, newcomer) => Ok(self.owners.reserve(newcomer.as_ref())?),
+            OwnerChange::Records(owner) | OwnerChange::Restarts(owner) => {
+                Ok(self.owners.reserve(OwnerRef::of_open(owner))?)
             }
         }
     }
@@ -142,7 +159,7 @@ impl Tables {
     /// Makes what the entry with this number means for an owner, for which there has to be room. It takes no memory.
     pub(crate) fn commit_owner(&mut self, update: OwnerUpdate, number: u32)
         requires room { HasUpdateRoom update self.old }
-        ensures state { (change : OwnerChange) (kept : Kept) → update ≡ update_of change kept
+        ensures state { (change : OwnerChange) (kept : OwnerKind → Kept) → update ≡ update_of change kept
             → HasOwnerPlace change (state_of self.old)
             → state_of self.new ≡ with_owner_change change number (state_of self.old) }
         ensures owners { self.new.owners.owners ≡ owners_after update number self.old.owners.owners }
@@ -150,34 +167,51 @@ impl Tables {
     {
         match update {
             OwnerUpdate::Nothing => {}
-            OwnerUpdate::Keeps(name, kept) => self.owners.keep(name, number, kept),
-            OwnerUpdate::Restarts(name, kept) => {
-                self.remove_owner(&name);
-                self.owners.keep(name, number, kept);
+            OwnerUpdate::Keeps(keeping) => self.keep(keeping, number),
+            OwnerUpdate::KeepsBoth(keeping, newcomer) => {
+                self.keep(keeping, number);
+                self.keep(newcomer, number);
             }
-            OwnerUpdate::Drops(name) => self.remove_owner(&name),
+            OwnerUpdate::Restarts(owner, kept) => {
+                self.remove_owner(&owner);
+                self.owners.keep(StateOwner::of_open(owner), number, kept);
+            }
+            OwnerUpdate::Drops(owner) => self.remove_owner(&owner),
         }
+    }
+
+    // Makes the request and the answer the kept ones of an owner, in the entry with this number.
+    fn keep(&mut self, keeping: Keeping, number: u32)
+        requires room { CanKeep keeping.owner self.old.owners }
+        ensures stored { stored_of self.new ≡ record (stored_of self.old) {
+          owners = kept_by keeping number self.old.owners.owners;
+        } }
+        ensures room { (change : Change) → HasRoom change self.old → HasRoom change self.new }
+        ensures known { (other : StateOwner) → IsTrue (is_known keeping.owner self.old.owners.owners)
+            → CanKeep other self.old.owners → CanKeep other self.new.owners }
+    {
+        self.owners.keep(keeping.owner, number, keeping.kept);
     }
 
     // Forgets the owner, and frees its opens.
     fn remove_owner(&mut self, name: &OpenOwner)
         ensures stored { stored_of self.new ≡ record (stored_of self.old) {
-          owners = without_owner name.now self.old.owners.owners;
+          owners = without_owner (open_owner name.now) self.old.owners.owners;
           opens = map (without (is_of name.now)) (opens_in self.old.opens);
         } }
         ensures room { (change : Change) → HasRoom change self.old → HasRoom change self.new }
         ensures owner_room { self.old.owners.room ≤ self.new.owners.room }
-        ensures owner_places { (other : OpenOwner) → IsTrue (has_place other self.old.owners.owners)
+        ensures owner_places { (other : StateOwner) → IsTrue (has_place other self.old.owners.owners)
             → IsTrue (has_place other self.new.owners.owners) }
     {
-        self.owners.remove(name);
+        self.owners.remove(OwnerRef::of_open(name));
         self.opens.remove_owner(name);
     }
 
     /// Makes the change, for which there has to be room. It takes no memory.
     pub(crate) fn commit(&mut self, change: Change)
         requires room { HasRoom change self.old }
-        requires numbers { HasNumbers change (state_of self.old) }
+        requires numbers { IsWithinLimits change (state_of self.old) }
         ensures state { state_of self.new ≡ changed change (state_of self.old) }
         ensures kept { (journal : History)
             → Agrees journal self.old.owners.owners → Agrees journal self.new.owners.owners }
@@ -191,7 +225,7 @@ impl Tables {
                 number,
                 owner,
             } => {
-                self.owners.confirm(&owner);
+                self.owners.confirm(OwnerRef::of_open(&owner));
                 self.opens.advance(node, number);
             }
             Change::Downgrades {

@@ -2,7 +2,7 @@ ghost use Rattle.std.specs.Prelude.{◌≡◌, ◌≤◌, Some, length};
 ghost use Rattle.nfs_share.specs.Opens.{next_stateid_of};
 ghost use Rattle.nfs_xdr.specs.OpResult.{op_result};
 ghost use Rattle.nfs_state.specs.Entries.{IsSendable};
-ghost use Rattle.nfs_state.specs.Room.{HasNumbers, state_of};
+ghost use Rattle.nfs_state.specs.Room.{IsWithinLimits, state_of};
 ghost use Rattle.nfs_rules.specs.declared.passage.Passage.{Passage};
 ghost use Rattle.nfs_rules.specs.operations.OpenDowngrade.{own, refusal_of};
 
@@ -19,7 +19,7 @@ pub(super) fn rule(tables: &Tables, journal: &Journal, node: u32, args: &OpenDow
     ensures own { (passage : Passage)
         → own journal.now (state_of tables.now) args.now node passage (Some result) }
     ensures sendable { IsSendable (Op.OpenDowngrade args.now) result.answer }
-    ensures numbers { HasNumbers result.change (state_of tables.now) }
+    ensures numbers { IsWithinLimits result.change (state_of tables.now) }
 {
     let demand = Demand {
         node,
