@@ -3,6 +3,7 @@
 
 mod bytes;
 mod counts;
+mod laws;
 mod limits;
 mod mode;
 mod piece;
@@ -13,6 +14,7 @@ mod stretches;
 mod walks;
 
 pub use bytes::range_of;
+pub use laws::at_most_one_first_conflict;
 pub use limits::{RUN_LIMIT, limit_of_runs};
 pub use mode::Mode;
 pub use piece::Piece;
