@@ -14,7 +14,9 @@ mod stretches;
 mod walks;
 
 pub use bytes::range_of;
-pub use laws::at_most_one_first_conflict;
+pub use laws::{
+    at_most_one_first_conflict, at_most_one_range, at_most_one_run, first_change_has_place,
+};
 pub use limits::{RUN_LIMIT, limit_of_runs};
 pub use mode::Mode;
 pub use piece::Piece;
