@@ -1,9 +1,9 @@
 -- The questions have one answer each.
-use Rattle.std.proofs.Common.{◌≡◌, ℕ, ◌+◌, ◌-◌, ◌^◌, ◌<◌, ◌≤◌, ◌↔◌, ◌⊎◌, true, false, Option, Some, None, inl, inr, refl, sym, ◌∙◌, ap, subst, arith}
+use Rattle.std.proofs.Common.{◌≡◌, ℕ, ◌+◌, ◌-◌, ◌^◌, ◌≤◌, true, false, Option, Some, None, inl, inr, refl, sym, ◌∙◌, ap, arith}
 use Rattle.std.proofs.Math.Bridge.{le_prop}
 use Rattle.std.proofs.Math.Path.{to_path_p}
 use Rattle.std.proofs.lemmas.Bool.{cases_lt}
-use Rattle.nfs_ranges.specs.Bytes.{HasBytes, IsByteOf, IsIn, IsRangeOf}
+use Rattle.nfs_ranges.specs.Bytes.{IsIn, IsRangeOf}
 use Rattle.nfs_ranges.specs.Modes.{conflicts, is_same}
 use Rattle.nfs_ranges.specs.Questions.{AreAs, IsFirstConflict, IsLastSame, IsLeastSame, IsRunAt}
 use Rattle.nfs_ranges.specs.declared.mode.Mode.{Mode}
@@ -31,8 +31,11 @@ one_first_conflict modes range asked (Some a) None is none =
     let fails : true ≡ false = sym is.1 ∙ none a is.0 in
     absurd cc
 one_first_conflict modes range asked (Some a) (Some b) is other =
-    ap Some (omega (arith, no_earlier modes range asked a b is.0 is.1 other,
-    no_earlier modes range asked b a other.0 other.1 is))
+    ap Some (omega (
+      arith,
+      no_earlier modes range asked a b is.0 is.1 other,
+      no_earlier modes range asked b a other.0 other.1 is,
+    ))
 
 -- ranges with the same first and last byte are one
 same_range : (a b : Range) → a.first ≡ b.first → a.last ≡ b.last → a ≡ b
@@ -68,14 +71,14 @@ no_lower modes byte first other is same =
     elim (cases_lt other first) [
       | inr most ↦ most
       | inl less ↦ elim is.2 [
-          | inl zero ↦ omega (arith, zero, less)
-          | inr differs ↦
-              let alike : modes (first - 1) ≡ modes byte =
-              same (first - 1) (omega (arith, less)) (omega (arith, is.0)) in
-              let fails : true ≡ false =
-              sym (ap (λ m. is_same m (modes byte)) alike ∙ same_self (modes byte)) ∙ differs in
-              absurd cc
-        ]
+        | inl zero ↦ omega (arith, zero, less)
+        | inr differs ↦
+            let alike : modes (first - 1) ≡ modes byte =
+            same (first - 1) (omega (arith, less)) (omega (arith, is.0)) in
+            let fails : true ≡ false =
+            sym (ap (λ m. is_same m (modes byte)) alike ∙ same_self (modes byte)) ∙ differs in
+            absurd cc
+      ]
     ]
 
 no_higher : (modes : ℕ → Option Mode) (byte last other : ℕ) → IsLastSame modes byte last → other ≤ 2 ^ 64 - 1
@@ -84,14 +87,14 @@ no_higher modes byte last other is bounded same =
     elim (cases_lt last other) [
       | inr most ↦ most
       | inl less ↦ elim is.3 [
-          | inl end ↦ omega (arith, end, bounded)
-          | inr differs ↦
-              let alike : modes (last + 1) ≡ modes byte =
-              same (last + 1) (omega (arith, is.0)) (omega (arith, less)) in
-              let fails : true ≡ false =
-              sym (ap (λ m. is_same m (modes byte)) alike ∙ same_self (modes byte)) ∙ differs in
-              absurd cc
-        ]
+        | inl end ↦ omega (arith, end, bounded)
+        | inr differs ↦
+            let alike : modes (last + 1) ≡ modes byte =
+            same (last + 1) (omega (arith, is.0)) (omega (arith, less)) in
+            let fails : true ≡ false =
+            sym (ap (λ m. is_same m (modes byte)) alike ∙ same_self (modes byte)) ∙ differs in
+            absurd cc
+      ]
     ]
 
 pub one_run : (modes : ℕ → Option Mode) (byte : ℕ) (a b : Option (Range × Mode)) → IsRunAt modes byte a
@@ -105,11 +108,17 @@ one_run modes byte (Some a) None is free =
     absurd cc
 one_run modes byte (Some a) (Some b) is other =
     let first : a.0.first ≡ b.0.first =
-    omega (arith, no_lower modes byte a.0.first b.0.first is.1 other.1.1,
-    no_lower modes byte b.0.first a.0.first other.1 is.1.1) in
+    omega (
+      arith,
+      no_lower modes byte a.0.first b.0.first is.1 other.1.1,
+      no_lower modes byte b.0.first a.0.first other.1 is.1.1,
+    ) in
     let last : a.0.last ≡ b.0.last =
-    omega (arith, no_higher modes byte a.0.last b.0.last is.2 other.2.1 other.2.2,
-    no_higher modes byte b.0.last a.0.last other.2 is.2.1 is.2.2) in
+    omega (
+      arith,
+      no_higher modes byte a.0.last b.0.last is.2 other.2.1 other.2.2,
+      no_higher modes byte b.0.last a.0.last other.2 is.2.1 is.2.2,
+    ) in
     let range = same_range a.0 b.0 first last in
     let held : Some a.1 ≡ Some b.1 = sym is.0 ∙ other.0 in
     let mode : a.1 ≡ b.1 = cc in
