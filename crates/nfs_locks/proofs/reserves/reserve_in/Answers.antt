@@ -1,7 +1,7 @@
 use Rattle.std.proofs.Common.{◌∙◌, arith}
 use Rattle.nfs_locks.specs.AllLocks.{HasRangeRoom}
 use Rattle.nfs_locks.proofs.Elements.{all_left, all_set}
-use Rattle.nfs_locks.proofs.Reserves.{same_set}
+use Rattle.nfs_locks.proofs.SameSet.{same_set}
 use Rattle.nfs_locks.proofs.reserves.reserve_in.Goals as goal
 
 pub loop-state-preserved : goal.loop-state-preserved
