@@ -23,7 +23,7 @@ owners_total =
     (then_total (on_total (λ (o : LockOwner). o.client.number) nat_cmp_total) (on_total (λ (o : LockOwner). o.name) nat_list_cmp_total))
 
 -- the order the other way round
-gt_reverse : (r : Ordering) → is_gt (ordering_reverse r) ≡ is_lt r
+pub gt_reverse : (r : Ordering) → is_gt (ordering_reverse r) ≡ is_lt r
 gt_reverse Less = refl
 gt_reverse Equal = refl
 gt_reverse Greater = refl
