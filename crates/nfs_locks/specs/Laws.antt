@@ -8,6 +8,7 @@ use Rattle.nfs_locks.specs.Report.{IsReport}
 use Rattle.nfs_ranges.specs.Modes.{conflicts}
 use Rattle.nfs_ranges.specs.declared.mode.Mode.{Mode}
 use Rattle.nfs_ranges.specs.declared.piece.Piece.{Piece}
+use Rattle.nfs_ranges.specs.declared.range.Range.{Range}
 
 -- a byte may be held in both modes by two owners: one of them doesn't hold it, or both read
 abbrev pub may_both : Option Mode → Option Mode → Bool
@@ -27,10 +28,12 @@ AllLocksAreCompatible locks =
 abbrev pub AreOfDistinctOwners : List ByteLocks → Type 0
 AreOfDistinctOwners locks = IsDistinct (λ a b. is_same_lock_owner a.owner b.owner) locks
 
--- no lock of another owner is in the way of the owner's change; one that frees bytes is in nobody's way
+-- The bytes are free for the owner to hold them in this mode: no lock of another owner is in the way. To hold them no
+-- longer is in nobody's way.
+abbrev pub IsFreeIn : LockOwner → Option Mode → Range → List ByteLocks → Type 0
+IsFreeIn owner None range locks = ⊤
+IsFreeIn owner (Some mode) range locks = IsReport locks owner range mode None
+
+-- the bytes are free for the owner's change
 abbrev pub IsFreeFor : LockOwner → Piece → List ByteLocks → Type 0
-IsFreeFor owner change locks = IsFreeIn owner change.mode change locks
-  where
-    abbrev IsFreeIn : LockOwner → Option Mode → Piece → List ByteLocks → Type 0
-    IsFreeIn owner None change locks = ⊤
-    IsFreeIn owner (Some mode) change locks = IsReport locks owner change.range mode None
+IsFreeFor owner change locks = IsFreeIn owner change.mode change.range locks

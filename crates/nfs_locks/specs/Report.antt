@@ -2,7 +2,8 @@
 use Rattle.std.specs.Prelude.{◌≡◌, ℕ, ◌<◌, ◌≤◌, Bool, ◌&&◌, false, true, not, List, Option, Some, None, slice_get}
 use Rattle.std.specs.Cmp.Lexicographic.{slice_cmp}
 use Rattle.std.specs.List.{AllByRecursion}
-use Rattle.std.specs.Ordering.{Ordering, is_gt, nat_cmp, ordering_then}
+use Rattle.std.specs.Ordering.{is_gt, nat_cmp, ordering_then}
+use Rattle.std.specs.declared.cmp.Ordering.{Ordering}
 use Rattle.nfs_forms.specs.declared.lock_owner.LockOwner.{LockOwner}
 use Rattle.nfs_locks.specs.Locks.{ByteLocks, is_lock_of}
 use Rattle.nfs_ranges.specs.Bytes.{IsIn}

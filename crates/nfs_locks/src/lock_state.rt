@@ -1,6 +1,6 @@
 use crate::FirstLock;
 use nfs_forms::{ClientId, LockOwner, Stateid};
-use nfs_ranges::{Piece, Ranges};
+use nfs_ranges::{Piece, Ranges, first_change_has_place};
 
 /// What one lock owner holds of a file (RFC 7530, section 9.1.4).
 #[derive(Debug, Drop)]
@@ -34,6 +34,7 @@ impl LockState {
             change,
         } = first;
         let mut ranges = ranges;
+        first_change_has_place();
         ranges.change(change);
         LockState {
             owner,

@@ -2,7 +2,6 @@
 use Rattle.std.proofs.Common.{◌≡◌, ℕ, ◌<◌, Bool, true, false, Some, None, List, [], ◌∷◌, ◌++◌, length, slice_index_or, slice_set, refl, sym, ap, ◌∙◌, arith}
 use Rattle.std.specs.Prelude.{◌&&◌, ◌||◌, nat_lt, not, filter, if◌then◌else◌}
 use Rattle.std.specs.List.{position, position_or_len}
-use Rattle.std.specs.Str.{bytes_eq}
 use Rattle.std.proofs.lemmas.Bool.{eqb-true, ltb-true}
 use Rattle.std.proofs.lemmas.List.{length-append, length-map}
 use Rattle.std.proofs.lemmas.List.Filters.{length-filter_both}
@@ -39,7 +38,7 @@ kind_same kinds.Open = refl
 kind_same kinds.Lock = refl
 
 -- the test of a name decides whether the names are equal
-name_exact : (name : StateOwner) (o : Owner) → has_name name o ≡ true → o.name ≡ name
+pub name_exact : (name : StateOwner) (o : Owner) → has_name name o ≡ true → o.name ≡ name
 name_exact name o same = grind (arith, kind_exact o.name.kind name.kind, bytes_eq-Decides o.name.name name.name, same, eqb-true, both)
 
 name_swap : (a b : Owner) → has_name a.name b ≡ has_name b.name a

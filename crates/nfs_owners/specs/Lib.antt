@@ -8,4 +8,5 @@ pub mod Kept
 pub mod StateOwner
 pub mod Owner
 pub mod Owners
+pub mod OwnerLaws
 pub mod Numbers

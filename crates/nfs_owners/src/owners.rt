@@ -87,7 +87,8 @@ impl Owners {
     /// Whether the owner is known, or can be recorded without exceeding the limit.
     pub fn has_place(&self, name: OwnerRef<'_>) -> bool
         ensures place { result ≡ has_place (owner_seen name.entry) self.now.owners }
-        ensures left { IsTrue result → length (without_owner (owner_seen name.entry) self.now.owners) < OWNER_LIMIT }
+        ensures left { IsTrue result
+            → length (without_owner (owner_seen name.entry) self.now.owners) < OWNER_LIMIT }
     {
         self.is_known(name) || self.owners.len() < OWNER_LIMIT
     }
@@ -111,9 +112,11 @@ impl Owners {
         ensures same { self.new.owners ≡ self.old.owners }
         ensures room { OnOk result (0 < self.new.room) }
         ensures grows { self.old.room ≤ self.new.room }
-        ensures ready { 0 < self.old.room → IsTrue (has_place (owner_seen name.entry) self.old.owners) → IsOk result }
+        ensures ready { 0 < self.old.room
+            → IsTrue (has_place (owner_seen name.entry) self.old.owners) → IsOk result }
         ensures place { OnOk result (IsTrue (has_place (owner_seen name.entry) self.new.owners)) }
-        ensures full { IsErrOf result OwnersError.Full ↔ has_place (owner_seen name.entry) self.old.owners ≡ false }
+        ensures full { IsErrOf result OwnersError.Full
+            ↔ has_place (owner_seen name.entry) self.old.owners ≡ false }
     {
         if !self.has_place(name) {
             return Err(OwnersError::Full);
