@@ -51,7 +51,7 @@ locking_or_refusal_seen (Err refusal) = Err refusal
 
 abbrev pub requester_seen : Requester → sequences.Requester
 requester_seen (requesters.Refused refusal) = sequences.Refused refusal
-requester_seen (requesters.Owner name) = sequences.Owner name.now
+requester_seen (requesters.Owner name) = sequences.Owner (owner_seen name)
 
 -- the owner that was found among the stored ones, or NFS4ERR_BAD_STATEID
 abbrev pub stored_or_bad : Option Owner → sequences.Requester
@@ -60,4 +60,4 @@ stored_or_bad (Some o) = sequences.Owner o.name
 
 abbrev pub sequence_seen : Sequence → sequences.Sequence
 sequence_seen (found_sequences.Answered answer) = sequences.Answered answer
-sequence_seen (found_sequences.GoesOn passage name) = sequences.GoesOn passage name.now
+sequence_seen (found_sequences.GoesOn passage name) = sequences.GoesOn passage (owner_seen name)

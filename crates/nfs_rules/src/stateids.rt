@@ -1,5 +1,6 @@
 ghost use Rattle.std.specs.Prelude.{◌≡◌};
 ghost use Rattle.nfs_locks.specs.AllLocks.{lock_named_in};
+ghost use Rattle.nfs_owners.specs.StateOwner.{open_owner};
 ghost use Rattle.nfs_rules.specs.Finding.{lock_or_refusal_seen, open_or_refusal_seen, target_seen};
 ghost use Rattle.nfs_state.specs.Owners.{is_confirmed};
 ghost use Rattle.nfs_state.specs.Room.{state_of};
@@ -8,8 +9,8 @@ ghost use Rattle.nfs_rules.specs.Stateids.{by_seqid, is_all, is_special, lock_ve
 ghost use Rattle.nfs_share.specs.AllOpens.{named_in};
 
 use crate::demand::Demand;
-use nfs_owners::OwnerStanding;
 use nfs_locks::LockFound;
+use nfs_owners::{OwnerRef, OwnerStanding};
 use nfs_share::OpenFound;
 use nfs_state::Tables;
 use nfs_xdr::{OpenOwner, Refusal, Stateid};
@@ -61,9 +62,9 @@ fn target_in(tables: &Tables, stateid: Stateid) -> Target<'_>
 
 /// Whether the owner is known and confirmed.
 pub(crate) fn is_confirmed(tables: &Tables, owner: &OpenOwner) -> bool
-    ensures { result ≡ is_confirmed owner.now (state_of tables.now).owners }
+    ensures { result ≡ is_confirmed (open_owner owner.now) (state_of tables.now).owners }
 {
-    tables.owners.known(owner) == OwnerStanding::Confirmed
+    tables.owners.known(OwnerRef::of_open(owner)) == OwnerStanding::Confirmed
 }
 
 /// The open that the stateid names, if it is as the operation demands, or why it isn't.

@@ -1,6 +1,7 @@
 ghost use Rattle.std.specs.Prelude.{◌≡◌, ◌≤◌, ◌<◌, ◌-◌, ◌^◌, Ok, OnErr, length};
 ghost use Rattle.std.specs.Option.{option_copied};
 ghost use Rattle.std.specs.Result.{IsOk, result_map_both};
+ghost use Rattle.nfs_owners.specs.StateOwner.{open_owner};
 ghost use Rattle.nfs_rules.specs.Deciding.{Rules, IsPassage};
 ghost use Rattle.nfs_rules.specs.Finding.{target_seen};
 ghost use Rattle.nfs_state.specs.Room.{state_of};
@@ -17,6 +18,7 @@ use crate::passage::Passage;
 use crate::ruling::Ruling;
 use crate::stateids::{Target, target_of};
 use nfs_operations::open::{Open, OpenOk};
+use nfs_owners::OwnerRef;
 use nfs_share::{OpenState, Share};
 use nfs_state::{ANSWER_LIMIT, Change, Journal, Shortage, Tables};
 use nfs_xdr::{
@@ -35,7 +37,7 @@ pub(super) fn rule(
     args: &Open,
 ) -> Result<Ruling, Shortage>
     requires states { tables.now.numbers < 2 ^ 32 - 1 }
-    requires passage { IsPassage passage args.now.owner (state_of tables.now) }
+    requires passage { IsPassage passage (open_owner args.now.owner) (state_of tables.now) }
     ensures rules { Rules (own journal.now (state_of tables.now) args.now directory passage)
         (state_of tables.now) (Op.Open args.now) result }
     ensures error { OnErr result
@@ -162,7 +164,7 @@ fn grant(
     opening: Opening,
 ) -> Result<Ruling, Shortage>
     requires states { tables.now.numbers < 2 ^ 32 - 1 }
-    requires passage { IsPassage passage args.now.owner (state_of tables.now) }
+    requires passage { IsPassage passage (open_owner args.now.owner) (state_of tables.now) }
     ensures { Rules (λ ruling. ruling ≡ ruling_of
         (before_own passage args.now.owner (state_of tables.now))
         passage args.now.owner (Ok opening))
@@ -184,7 +186,7 @@ fn grant(
 // The stateid that the owner gets for the file; `None` if a limit would be exceeded.
 fn stateid_for(tables: &Tables, passage: Passage, owner: &OpenOwner, node: u32) -> Option<Stateid>
     requires states { tables.now.numbers < 2 ^ 32 - 1 }
-    requires passage { IsPassage passage owner.now (state_of tables.now) }
+    requires passage { IsPassage passage (open_owner owner.now) (state_of tables.now) }
     ensures { result ≡ granted_stateid passage
         (before_own passage owner.now (state_of tables.now)) owner.now node }
 {
@@ -199,11 +201,11 @@ fn stateid_for(tables: &Tables, passage: Passage, owner: &OpenOwner, node: u32) 
 
 // Whether there is a place for the owner. One that starts anew has left its own.
 fn has_owner_place(tables: &Tables, passage: Passage, owner: &OpenOwner) -> bool
-    requires passage { IsPassage passage owner.now (state_of tables.now) }
+    requires passage { IsPassage passage (open_owner owner.now) (state_of tables.now) }
     ensures { result
         ≡ has_owner_place passage (before_own passage owner.now (state_of tables.now)) }
 {
-    tables.owners.has_place(owner)
+    tables.owners.has_place(OwnerRef::of_open(owner))
 }
 
 // The open that the owner has of the node's file. One that starts anew has none.

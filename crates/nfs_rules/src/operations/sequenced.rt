@@ -2,21 +2,24 @@
 
 ghost use Rattle.std.specs.Prelude.{◌≡◌, ◌<◌, ◌-◌, ◌^◌, IfOk, IsTrue, OnErr};
 ghost use Rattle.nfs_rules.specs.Deciding.{Decides, HasOtherRefusal, IsAdmitted, IsPassageOf, IsRequesterOf, Rules};
-ghost use Rattle.nfs_rules.specs.Finding.{requester_seen};
+ghost use Rattle.nfs_owners.specs.StateOwner.{owner_seen};
+ghost use Rattle.nfs_rules.specs.Finding.{newcomer_seen, requester_seen};
 ghost use Rattle.nfs_state.specs.Kept.{Agrees};
 ghost use Rattle.nfs_state.specs.Room.{state_of};
-ghost use Rattle.nfs_rules.specs.Sequences.{IsSequenced, decision_of, counts, is_sequenced, owner_change_of};
+ghost use Rattle.nfs_rules.specs.Sequences.{IsSequenced, decision_of, counts, is_sequenced, kept_with, owner_change_of};
 ghost use Rattle.nfs_state.specs.declared.change.Change.TheVariants as changes;
 ghost use Rattle.nfs_state.specs.declared.owner_change.OwnerChange.TheVariants as owner_changes;
 ghost use Rattle.nfs_rules.specs.operations.{own_of};
 
 use super::{close, lock, locku, open, open_confirm, open_downgrade};
 use crate::decision::Decision;
+use crate::newcomer::{Newcomer, newcomer_of};
 use crate::passage::Passage;
 use crate::ruling::Ruling;
 use crate::sequence::{Requester, Sequence, sequence_of};
+use nfs_owners::OwnerRef;
 use nfs_state::{Change, Journal, OwnerChange, Request, Shortage, Tables};
-use nfs_xdr::{Op, OpResult, OpenOwner, Refusal, Status};
+use nfs_xdr::{Op, OpResult, Refusal, Status};
 use std::alloc::{AllocError, Global};
 
 /// Decides a sequenced operation of this requester: the filehandle, the owner and its sequence id come before the
@@ -90,11 +93,17 @@ fn rule(
     }
 }
 
-// The ruling, and what its answer means for the owner.
-fn decision_of(passage: Passage, name: &OpenOwner, ruling: Ruling) -> Result<Decision, AllocError>
-    ensures { IfOk result (λ d. d ≡ decision_of passage name.now ruling) }
+// The ruling, and what its answer means for the owners.
+fn decision_of(
+    passage: Passage,
+    name: OwnerRef<'_>,
+    newcomer: Newcomer<'_>,
+    ruling: Ruling,
+) -> Result<Decision, AllocError>
+    ensures { IfOk result (λ d. d ≡ decision_of passage (owner_seen name.entry)
+        (newcomer_seen newcomer.entry) ruling) }
 {
-    let owner = owner_change_of(passage, name, ruling.answer.status())?;
+    let owner = owner_change_of(passage, name, newcomer, ruling.answer.status())?;
     Ok(Decision {
         answer: ruling.answer,
         change: ruling.change,
@@ -102,20 +111,43 @@ fn decision_of(passage: Passage, name: &OpenOwner, ruling: Ruling) -> Result<Dec
     })
 }
 
-// What an answer with this status means for the owner.
+// What an answer with this status means for the owner of the request, and for the lock owner that it introduces.
 fn owner_change_of(
     passage: Passage,
-    name: &OpenOwner,
+    name: OwnerRef<'_>,
+    newcomer: Newcomer<'_>,
     status: Status,
 ) -> Result<OwnerChange, AllocError>
-    ensures { IfOk result (λ c. c ≡ owner_change_of passage name.now status) }
+    ensures { IfOk result (λ c. c ≡ owner_change_of passage (owner_seen name.entry)
+        (newcomer_seen newcomer.entry) status) }
 {
     Ok(match passage {
-        Passage::Continues if counts(status) => OwnerChange::Keeps(name.clone()?),
-        Passage::Begins if status == Status::Ok => OwnerChange::Records(name.clone()?),
-        Passage::Restarts if status == Status::Ok => OwnerChange::Restarts(name.clone()?),
-        Passage::Restarts => OwnerChange::Drops(name.clone()?),
+        Passage::Continues if counts(status) => kept_with(name, newcomer, status)?,
+        Passage::Begins if status == Status::Ok => OwnerChange::Records(name.to_open_owner()?),
+        Passage::Restarts if status == Status::Ok => OwnerChange::Restarts(name.to_open_owner()?),
+        Passage::Restarts => OwnerChange::Drops(name.to_open_owner()?),
         _ => OwnerChange::Nothing,
+    })
+}
+
+// What an answer that counts means for the two.
+fn kept_with(
+    name: OwnerRef<'_>,
+    newcomer: Newcomer<'_>,
+    status: Status,
+) -> Result<OwnerChange, AllocError>
+    ensures { IfOk result (λ c. c ≡ kept_with (owner_seen name.entry)
+        (newcomer_seen newcomer.entry) status) }
+{
+    let owner = name.to_owned()?;
+    Ok(match newcomer {
+        Newcomer::Known(newcomer) => {
+            OwnerChange::KeepsBoth(owner, OwnerRef::of_lock(newcomer).to_owned()?)
+        }
+        Newcomer::Unknown(newcomer) if status == Status::Ok => {
+            OwnerChange::Introduces(owner, OwnerRef::of_lock(newcomer).to_owned()?)
+        }
+        _ => OwnerChange::Keeps(owner),
     })
 }
 
