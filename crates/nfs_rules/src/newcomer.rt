@@ -3,9 +3,9 @@ ghost use Rattle.nfs_rules.specs.Finding.{newcomer_seen};
 ghost use Rattle.nfs_rules.specs.Newcomers.{has_turn, newcomer_by, newcomer_in, newcomer_of};
 ghost use Rattle.nfs_state.specs.Kept.{Agrees};
 ghost use Rattle.nfs_state.specs.Room.{state_of};
+ghost use Rattle.nfs_state.specs.State.{History};
 
 use nfs_forms::{ClientId, LockOwner, Locker, NewLocker};
-
 use nfs_owners::OwnerRef;
 use nfs_state::{Journal, Tables};
 use nfs_xdr::Op;
