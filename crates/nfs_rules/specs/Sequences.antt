@@ -214,9 +214,9 @@ abbrev pub IsSequenced : History → State → Requester → Own → Request →
 IsSequenced journal state requester own request decision =
     IsUnder request.filehandle request.op
     (λ node.
-        (sequence : Sequence)
-        × IsSequence journal state requester request sequence
-        × IsDecided sequence (λ client. newcomer_of journal state client request.op) (own node) decision)
+    (sequence : Sequence)
+    × IsSequence journal state requester request sequence
+    × IsDecided sequence (λ client. newcomer_of journal state client request.op) (own node) decision)
     decision
 
 -- the state that an OPEN's own rule sees: without the owner that it starts anew

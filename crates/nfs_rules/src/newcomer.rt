@@ -48,9 +48,10 @@ fn newcomer_by<'a>(tables: &Tables, locker: &'a NewLocker) -> Newcomer<'a>
     ensures { (journal : History) → Agrees journal tables.now.owners.owners
         → newcomer_seen result ≡ newcomer_by journal (state_of tables.now) locker.now }
 {
-    match tables.owners.find(OwnerRef::of_lock(&locker.lock_owner)) {
-        None => Newcomer::Unknown(&locker.lock_owner),
-        Some(owner) if owner.kept.precedes(locker.lock_seqid) => Newcomer::Known(&locker.lock_owner),
+    let newcomer = &locker.lock_owner;
+    match tables.owners.find(OwnerRef::of_lock(newcomer)) {
+        None => Newcomer::Unknown(newcomer),
+        Some(owner) if owner.kept.precedes(locker.lock_seqid) => Newcomer::Known(newcomer),
         Some(_) => Newcomer::Nobody,
     }
 }

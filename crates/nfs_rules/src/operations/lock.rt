@@ -58,7 +58,8 @@ pub(super) fn rule(
     let Some(range) = range_of(args.offset, args.length) else {
         return Ok(refused(Refusal::Inval));
     };
-    if !allows(locking.mode, tables.opens.numbered(locking.node, locking.open_number)) {
+    let open = tables.opens.numbered(locking.node, locking.open_number);
+    if !allows(locking.mode, open) {
         return Ok(refused(Refusal::OpenMode));
     }
     lock(tables, locking, range)
@@ -156,7 +157,12 @@ fn lock(tables: &Tables, locking: Locking<'_>, range: Range) -> Result<Ruling, S
         → Rules (IsAllowed true (state_of tables.now) (locking_seen locking.entry) range)
         (state_of tables.now) (Op.Lock args) result }
 {
-    let Locking { node, owner, mode, .. } = locking;
+    let Locking {
+        node,
+        owner,
+        mode,
+        ..
+    } = locking;
     match tables.locks.report(node, owner, range, mode) {
         Some(report) => Ok(Ruling {
             answer: OpResult::Lock(Answer::Denied(denied_by(report)?)),

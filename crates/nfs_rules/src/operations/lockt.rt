@@ -65,7 +65,8 @@ fn test(tables: &Tables, node: u32, args: &Lockt) -> Result<Answer<(), LockDenie
     let Some(range) = range_of(args.offset, args.length) else {
         return Ok(Answer::Refused(Refusal::Inval));
     };
-    match tables.locks.report(node, &args.owner, range, mode_of(args.locktype)) {
+    let mode = mode_of(args.locktype);
+    match tables.locks.report(node, &args.owner, range, mode) {
         None => Ok(Answer::Done(())),
         Some(report) => Ok(Answer::Denied(denied_by(report)?)),
     }
