@@ -1,8 +1,8 @@
--- Lemmas on lists: what holds of each element, and elements at a place.
-use Rattle.std.proofs.Common.{◌≡◌, ℕ, zero, suc, ◌+◌, ◌<◌, Bool, true, false, cond, ◌||◌, List, [], ◌∷◌, ◌++◌, length, drop, get_or, map, set, take, Some, None, refl, sym, ◌∙◌, ap, subst, arith}
+-- Lemmas on lists: what holds of each element, and what a search finds.
+use Rattle.std.proofs.Common.{inl, inr, ◌≡◌, ℕ, zero, suc, ◌+◌, ◌<◌, Bool, true, false, cond, ◌||◌, List, [], ◌∷◌, ◌++◌, length, drop, get_or, map, set, take, Some, None, refl, sym, ◌∙◌, ap, subst, arith}
 use Rattle.std.specs.Prelude.{⊤, filter, find, option_map, slice_get, unwrap_or}
-use Rattle.std.specs.List.{AllByRecursion, IsDistinct, list_any}
-use Rattle.std.proofs.lemmas.Bool.{false≢true}
+use Rattle.std.specs.List.{AllByRecursion, list_any}
+use Rattle.std.proofs.lemmas.Bool.{cases_Bool, cond-false, cond-true}
 
 module _ {X : Type 0} where
   pub all_weaken : (P Q : X → Type 0) → ((x : X) → P x → Q x) → (xs : List X) → AllByRecursion P xs → AllByRecursion Q xs
@@ -13,21 +13,30 @@ module _ {X : Type 0} where
   all_push P [] x h last = (last, tt)
   all_push P (y ∷ xs) x h last = (h.0, all_push P xs x h.1 last)
 
-  pub all_at : (P : X → Type 0) (xs : List X) (place : ℕ) (x : X) → AllByRecursion P xs → slice_get xs place ≡ Some x → P x
-  all_at P [] place x h is = absurd (cc)
-  all_at P (y ∷ xs) zero x h is = subst P (ap (λ o. unwrap_or o y) is) h.0
-  all_at P (y ∷ xs) (suc place) x h is = all_at P xs place x h.1 is
+  -- what holds of each element holds of the one that is found, which passes the test
+  pub all_found : (P : X → Type 0) (p : X → Bool) (xs : List X) (x : X) → AllByRecursion P xs → find p xs ≡ Some x → P x × (p x ≡ true)
+  all_found P p [] x h is = absurd (cc)
+  all_found P p (y ∷ xs) x h is =
+      elim (cases_Bool (p y)) [
+        | inl passes ↦
+            let here : Some y ≡ Some x = sym (cond-true (p y) (Some y) (find p xs) passes) ∙ is in
+            let same : y ≡ x = ap (λ o. unwrap_or o y) here in
+            (subst P same h.0, ap p (sym same) ∙ passes)
+        | inr fails ↦ all_found P p xs x h.1 (sym (cond-false (p y) (Some y) (find p xs) fails) ∙ is)
+      ]
 
-  pub get_left : (xs ys : List X) (place : ℕ) (x : X) → slice_get xs place ≡ Some x → slice_get (xs ++ ys) place ≡ Some x
-  get_left [] ys place x is = cc
-  get_left (y ∷ xs) ys zero x is = is
-  get_left (y ∷ xs) ys (suc place) x is = get_left xs ys place x is
+  -- a search in two lists, the first of which has nothing, or has something
+  pub find_behind : (p : X → Bool) (xs ys : List X) → AllByRecursion (λ x. p x ≡ false) xs → find p (xs ++ ys) ≡ find p ys
+  find_behind p [] ys none = refl
+  find_behind p (x ∷ xs) ys none = cond-false (p x) (Some x) (find p (xs ++ ys)) none.0 ∙ find_behind p xs ys none.1
 
-  pub get_right : (xs ys : List X) (place : ℕ) → slice_get (xs ++ ys) (length xs + place) ≡ slice_get ys place
-  get_right [] ys place = ap (slice_get ys) (omega arith)
-  get_right (x ∷ xs) ys place =
-      let next : length (x ∷ xs) + place ≡ suc (length xs + place) = omega arith in
-      ap (slice_get (x ∷ (xs ++ ys))) next ∙ get_right xs ys place
+  pub find_before : (p : X → Bool) (xs ys : List X) (x : X) → find p xs ≡ Some x → find p (xs ++ ys) ≡ Some x
+  find_before p [] ys x is = absurd (cc)
+  find_before p (y ∷ xs) ys x is =
+      elim (cases_Bool (p y)) [
+        | inl passes ↦ cond-true (p y) (Some y) (find p (xs ++ ys)) passes ∙ sym (cond-true (p y) (Some y) (find p xs) passes) ∙ is
+        | inr fails ↦ cond-false (p y) (Some y) (find p (xs ++ ys)) fails ∙ find_before p xs ys x (sym (cond-false (p y) (Some y) (find p xs) fails) ∙ is)
+      ]
 
   -- one more element of a list that a loop changes
   pub all_set : (P : X → Type 0) (xs : List X) (i : ℕ) (x : X) → i < length xs → AllByRecursion P (take i xs) → P x → AllByRecursion P (take (i + 1) (set xs i x))
@@ -94,19 +103,6 @@ module _ {X : Type 0} where
     pairs_filter p xs all =
         all_filter (λ a. AllByRecursion (R a) (filter p xs)) p xs
         (all_weaken (λ a. AllByRecursion (R a) xs) (λ a. AllByRecursion (R a) (filter p xs)) (λ a h. all_filter (R a) p xs h) xs all)
-
-  -- of distinct elements no two at different places tie
-  pub one_place : (e : X → X → Bool) (xs : List X) (i j : ℕ) (x y : X) → IsDistinct e xs → slice_get xs i ≡ Some x → slice_get xs j ≡ Some y
-      → e x y ≡ true → e y x ≡ true → x ≡ y
-  unfolding IsDistinct
-  one_place e [] i j x y distinct at there tie back = absurd (cc)
-  one_place e (z ∷ xs) zero zero x y distinct at there tie back =
-      sym (ap (λ o. unwrap_or o z) at) ∙ ap (λ o. unwrap_or o z) there
-  one_place e (z ∷ xs) zero (suc j) x y distinct at there tie back =
-      absurd (false≢true (sym (all_at (λ y. e z y ≡ false) xs j y distinct.0 there) ∙ ap (λ o. e (unwrap_or o z) y) at ∙ tie))
-  one_place e (z ∷ xs) (suc i) zero x y distinct at there tie back =
-      absurd (false≢true (sym (all_at (λ y. e z y ≡ false) xs i x distinct.0 at) ∙ ap (λ o. e (unwrap_or o z) x) there ∙ back))
-  one_place e (z ∷ xs) (suc i) (suc j) x y distinct at there tie back = one_place e xs i j x y distinct.1 at there tie back
 
 -- Lists under a function that says what is seen of each element.
 module _ {X Y : Type 0} (v : X → Y) where

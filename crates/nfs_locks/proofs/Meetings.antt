@@ -1,18 +1,18 @@
 -- A report among more lock states, and that there is one report.
 use Rattle.std.proofs.Common.{inl, inr, ◌≡◌, ℕ, zero, suc, ◌+◌, ◌<◌, ◌≤◌, ◌==◌, nat_lt, Bool, true, false, ◌&&◌, ◌||◌, not, cond, List, [], ◌∷◌, ◌++◌, length, Some, None, Option, refl, sym, ◌∙◌, ap, arith}
-use Rattle.std.specs.Prelude.{slice_get}
 use Rattle.std.specs.Cmp.{IsTotalOrder, nat_cmp_total, on_total, then_total, upto}
 use Rattle.std.specs.Cmp.Lexicographic.{nat_list_cmp_total, slice_cmp}
 use Rattle.std.specs.List.{AllByRecursion}
 use Rattle.std.specs.declared.cmp.Ordering.{Ordering}
 use Rattle.std.specs.declared.cmp.Ordering.TheVariants.{Less, Equal, Greater}
 use Rattle.std.specs.Ordering.{is_gt, is_lt, nat_cmp, ordering_reverse, ordering_then}
-use Rattle.std.proofs.lemmas.Bool.{and_parts, cases_Bool, cond_both, eqb-false, eqb-true, false≢true, ltb-false, ltb-true, or_cases, or_parts}
+use Rattle.std.proofs.lemmas.Bool.{and_parts, and_right, cases_Bool, cond_both, eqb-false, eqb-true, false≢true, false_from_ne_true, ltb-false, ltb-true, or_cases, or_parts}
 use Rattle.nfs_forms.specs.declared.lock_owner.LockOwner.{LockOwner}
-use Rattle.nfs_locks.specs.Locks.{ByteLocks}
-use Rattle.nfs_locks.specs.Report.{IsClear, IsMeeting, IsNotAfter, IsOf, IsReportAt, Report, owner_order, refuses}
+use Rattle.nfs_locks.specs.Locks.{ByteLocks, is_lock_of}
+use Rattle.nfs_locks.specs.Report.{IsClear, IsMeeting, IsNotAfter, IsReportAt, Report, owner_order, refuses, refuses_for}
 use Rattle.nfs_locks.specs.ReportSeen.{comes_before, first_of}
-use Rattle.nfs_locks.proofs.Elements.{all_push, all_weaken, get_left, get_right}
+use Rattle.nfs_locks.proofs.Compatible.{equal_owners}
+use Rattle.nfs_locks.proofs.Elements.{all_push, all_weaken, find_before, find_behind}
 use Rattle.nfs_ranges.specs.Bytes.{IsIn}
 use Rattle.nfs_ranges.specs.declared.mode.Mode.{Mode}
 use Rattle.nfs_ranges.specs.declared.range.Range.{Range}
@@ -44,17 +44,18 @@ module _ (owner : LockOwner) (range : Range) (mode : Mode) where
   not_refused : (first : LockOwner) (byte : ℕ) (l : ByteLocks) → refuses owner mode byte l ≡ false → IsNotAfter first owner mode byte l
   not_refused first byte l none = λ refused. absurd (false≢true (sym none ∙ refused))
 
-  -- the report of one more lock state stays that of all, if nobody else refuses a byte before it, nor this byte with an
-  -- owner that comes first
+  -- The report of one more lock state is that of all, if nobody else refuses a byte before it, nor this byte with an
+  -- owner that comes first or is the same.
   of_last : (locks : List ByteLocks) (x : ByteLocks) (byte : ℕ) (report : Report)
       → AllByRecursion (IsClear owner mode range.first byte) locks
       → AllByRecursion (IsNotAfter report.owner owner mode byte) locks
+      → AllByRecursion (λ l. refuses_for report.owner owner mode byte l ≡ false) locks
       → IsReportAt (x ∷ []) owner range mode byte report → IsReportAt (locks ++ x ∷ []) owner range mode byte report
-  of_last locks x byte report clear first at = (
+  of_last locks x byte report clear first none at = (
     at.0,
     all_push (IsClear owner mode range.first byte) locks x clear at.1.0,
     all_push (IsNotAfter report.owner owner mode byte) locks x first at.2.0,
-    (length locks + at.3.0, at.3.1, get_right locks (x ∷ []) at.3.0 ∙ at.3.2, at.3.3),
+    (at.3.0, find_behind (refuses_for report.owner owner mode byte) locks (x ∷ []) none ∙ at.3.1, at.3.2),
   )
 
   of_others : (locks : List ByteLocks) (x : ByteLocks) (byte : ℕ) (report : Report)
@@ -64,8 +65,23 @@ module _ (owner : LockOwner) (range : Range) (mode : Mode) where
     at.0,
     all_push (IsClear owner mode range.first byte) locks x at.1 clear,
     all_push (IsNotAfter report.owner owner mode byte) locks x at.2 first,
-    (at.3.0, at.3.1, get_left locks (x ∷ []) at.3.0 at.3.1 at.3.2, at.3.3),
+    (at.3.0, find_before (refuses_for report.owner owner mode byte) locks (x ∷ []) at.3.0 at.3.1, at.3.2),
   )
+
+  -- a lock state that doesn't refuse the byte, doesn't for any owner
+  refuses_for_none : (first : LockOwner) (byte : ℕ) (l : ByteLocks) → refuses owner mode byte l ≡ false → refuses_for first owner mode byte l ≡ false
+  refuses_for_none first byte l none = and_right (is_lock_of first l) (refuses owner mode byte l) none
+
+  -- nor does one for an owner that comes before those that do
+  refuses_for_other : (first second : LockOwner) (byte : ℕ) (l : ByteLocks) → is_lt (owner_order first second) ≡ true
+      → IsNotAfter second owner mode byte l → refuses_for first owner mode byte l ≡ false
+  refuses_for_other first second byte l less after =
+      false_from_ne_true (refuses_for first owner mode byte l)
+      (λ both.
+          let parts = and_parts (is_lock_of first l) (refuses owner mode byte l) both in
+          let not_gt : is_gt (owner_order second first) ≡ false =
+          ap (λ o. is_gt (owner_order second o)) (sym (equal_owners l.owner first parts.0)) ∙ after parts.1 in
+          false≢true (sym not_gt ∙ ap is_gt (owners_total.antisymm second first) ∙ gt_reverse (owner_order first second) ∙ less))
 
   -- the meeting with one more lock state comes before
   last_wins : (locks : List ByteLocks) (x : ByteLocks) (a b : ℕ × Report)
@@ -78,6 +94,7 @@ module _ (owner : LockOwner) (range : Range) (mode : Mode) where
             of_last locks x b.0 b.1
             (all_weaken (IsClear owner mode range.first a.0) (IsClear owner mode range.first b.0) (λ l. clear_less l b.0 a.0 (omega (arith, below))) locks here.1)
             (all_weaken (IsClear owner mode range.first a.0) (IsNotAfter b.1.owner owner mode b.0) (λ l clear. not_refused b.1.owner b.0 l (clear b.0 there.0.0 below)) locks here.1)
+            (all_weaken (IsClear owner mode range.first a.0) (λ l. refuses_for b.1.owner owner mode b.0 l ≡ false) (λ l clear. refuses_for_none b.1.owner b.0 l (clear b.0 there.0.0 below)) locks here.1)
             there
         | inr tied ↦
             let both = and_parts (b.0 == a.0) (is_lt (owner_order b.1.owner a.1.owner)) tied in
@@ -86,6 +103,9 @@ module _ (owner : LockOwner) (range : Range) (mode : Mode) where
             (all_weaken (IsClear owner mode range.first a.0) (IsClear owner mode range.first b.0) (λ l. clear_less l b.0 a.0 (omega (arith, same))) locks here.1)
             (all_weaken (IsNotAfter a.1.owner owner mode a.0) (IsNotAfter b.1.owner owner mode b.0)
             (λ l after refused. upto owners_total b.1.owner a.1.owner l.owner (lt_not_gt _ both.1) (after (ap (λ byte. refuses owner mode byte l) (sym same) ∙ refused)))
+            locks here.2)
+            (all_weaken (IsNotAfter a.1.owner owner mode a.0) (λ l. refuses_for b.1.owner owner mode b.0 l ≡ false)
+            (λ l after. refuses_for_other b.1.owner a.1.owner b.0 l both.1 (λ refused. after (ap (λ byte. refuses owner mode byte l) (sym same) ∙ refused)))
             locks here.2)
             there
       ]
@@ -126,6 +146,7 @@ one_more locks x owner range mode None (Some b) here there =
     of_last owner range mode locks x b.0 b.1
     (all_weaken _ (IsClear owner mode range.first b.0) (λ l. clear_to owner range mode l b.0 (omega (arith, there.0.1))) locks here)
     (all_weaken _ (IsNotAfter b.1.owner owner mode b.0) (λ l none. not_refused owner range mode b.1.owner b.0 l (none b.0 there.0)) locks here)
+    (all_weaken _ (λ l. refuses_for b.1.owner owner mode b.0 l ≡ false) (λ l none. refuses_for_none owner range mode b.1.owner b.0 l (none b.0 there.0)) locks here)
     there
 one_more locks x owner range mode (Some a) None here there =
     of_others owner range mode locks x a.0 a.1

@@ -1,7 +1,6 @@
 -- What holds of the lock states of a file at all times.
 use Rattle.std.specs.Prelude.{ℕ, Bool, true, ◌||◌, not, List, IsTrue, Option, Some, None, ⊤}
-use Rattle.std.specs.List.{AllByRecursion, IsDistinct}
-use Rattle.nfs_forms.specs.LockOwner.{is_same_lock_owner}
+use Rattle.std.specs.List.{AllByRecursion}
 use Rattle.nfs_forms.specs.declared.lock_owner.LockOwner.{LockOwner}
 use Rattle.nfs_locks.specs.Locks.{ByteLocks, is_lock_of}
 use Rattle.nfs_locks.specs.Report.{IsReport}
@@ -23,10 +22,6 @@ are_compatible byte a b = is_lock_of a.owner b || may_both (a.modes byte) (b.mod
 abbrev pub AllLocksAreCompatible : List ByteLocks → Type 0
 AllLocksAreCompatible locks =
     (byte : ℕ) → AllByRecursion (λ a. AllByRecursion (λ b. IsTrue (are_compatible byte a b)) locks) locks
-
--- no owner has two lock states of the file
-abbrev pub AreOfDistinctOwners : List ByteLocks → Type 0
-AreOfDistinctOwners locks = IsDistinct (λ a b. is_same_lock_owner a.owner b.owner) locks
 
 -- The bytes are free for the owner to hold them in this mode: no lock of another owner is in the way. To hold them no
 -- longer is in nobody's way.

@@ -1,5 +1,5 @@
 -- The lock that is in the way of another one (RFC 7530, sections 16.10 and 16.11).
-use Rattle.std.specs.Prelude.{◌≡◌, ℕ, ◌<◌, ◌≤◌, Bool, ◌&&◌, false, true, not, List, Option, Some, None, slice_get}
+use Rattle.std.specs.Prelude.{◌≡◌, ℕ, ◌<◌, ◌≤◌, Bool, ◌&&◌, false, true, not, List, Option, Some, None, find}
 use Rattle.std.specs.Cmp.Lexicographic.{slice_cmp}
 use Rattle.std.specs.List.{AllByRecursion}
 use Rattle.std.specs.Ordering.{is_gt, nat_cmp, ordering_then}
@@ -39,20 +39,24 @@ abbrev pub IsNotAfter : LockOwner → LockOwner → Mode → ℕ → ByteLocks �
 IsNotAfter first owner mode byte l =
     refuses owner mode byte l ≡ true → is_gt (owner_order first l.owner) ≡ false
 
--- the report is of this lock state, which refuses the byte: the run of the byte there
-abbrev pub IsOf : LockOwner → Mode → ℕ → Report → ByteLocks → Type 0
-IsOf owner mode byte report l =
-    (refuses owner mode byte l ≡ true) × (report.owner ≡ l.owner)
+-- this owner has the lock state, which refuses the byte
+abbrev pub refuses_for : LockOwner → LockOwner → Mode → ℕ → ByteLocks → Bool
+refuses_for first owner mode byte l = is_lock_of first l && refuses owner mode byte l
+
+-- the report is of the first lock state by which its owner refuses the byte: the run of the byte there
+abbrev pub IsOfFirst : List ByteLocks → LockOwner → Mode → ℕ → Report → Type 0
+IsOfFirst locks owner mode byte report =
+    (l : ByteLocks) × (find (refuses_for report.owner owner mode byte) locks ≡ Some l)
     × IsRunAt l.modes byte (Some (report.range, report.mode))
 
--- The first byte of the range that is refused, by which lock states, is this one; and the report is of the one whose
--- owner comes first.
+-- The first byte of the range that is refused is this one, and the report is of the owner that comes first of those by
+-- whose locks it is.
 abbrev pub IsReportAt : List ByteLocks → LockOwner → Range → Mode → ℕ → Report → Type 0
 IsReportAt locks owner range mode byte report =
     IsIn range byte
     × AllByRecursion (IsClear owner mode range.first byte) locks
     × AllByRecursion (IsNotAfter report.owner owner mode byte) locks
-    × ((place : ℕ) × (l : ByteLocks) × (slice_get locks place ≡ Some l) × IsOf owner mode byte report l)
+    × IsOfFirst locks owner mode byte report
 
 -- The first byte of the range that is refused, with the report, if a byte of it is refused.
 abbrev pub IsMeeting : List ByteLocks → LockOwner → Range → Mode → Option (ℕ × Report) → Type 0

@@ -1,7 +1,7 @@
 ghost use Rattle.std.specs.Prelude.{◌≡◌, ℕ, Bool, true, List, Option, IsTrue};
 ghost use Rattle.std.specs.List.{AllByRecursion};
 ghost use Rattle.nfs_forms.specs.declared.lock_owner.LockOwner.{LockOwner};
-ghost use Rattle.nfs_locks.specs.Laws.{AllLocksAreCompatible, AreOfDistinctOwners, IsFreeFor};
+ghost use Rattle.nfs_locks.specs.Laws.{AllLocksAreCompatible, IsFreeFor};
 ghost use Rattle.nfs_locks.specs.Locks.{ByteLocks, is_lock_of, is_numbered, with_first_lock, with_lock_change, without};
 ghost use Rattle.nfs_locks.specs.Report.{IsReport};
 ghost use Rattle.nfs_locks.specs.Report as reports;
@@ -28,10 +28,10 @@ pub fn locks_stay_compatible()
         AllLocksAreCompatible locks → AllLocksAreCompatible (without test locks) }
 {}
 
-/// There is at most one report, where no owner has two lock states of the file.
+/// There is at most one report.
 pub fn at_most_one_report()
     ensures { (locks : List ByteLocks) (owner : LockOwner) (range : Range) (mode : Mode)
-        (a b : Option reports.Report) → AreOfDistinctOwners locks →
+        (a b : Option reports.Report) →
         IsReport locks owner range mode a → IsReport locks owner range mode b → a ≡ b }
 {
     at_most_one_run();
