@@ -1,6 +1,7 @@
 -- What holds of the state at all times (RFC 7530, sections 9.1 and 9.9).
 use Rattle.std.specs.Prelude.{IsTrue, is_some}
 use Rattle.std.specs.List.{AllByRecursion}
+use Rattle.nfs_owners.specs.StateOwner.{open_owner}
 use Rattle.nfs_state.specs.Owners.{owner_of}
 use Rattle.nfs_state.specs.State.{State}
 use Rattle.nfs_owners.specs.Registry.{record_of}
@@ -9,7 +10,7 @@ use Rattle.nfs_share.specs.declared.open_state.OpenState.{OpenState}
 
 -- the open's owner is known
 abbrev pub HasKnownOwner : State → OpenState → Type 0
-HasKnownOwner state o = IsTrue (is_some (owner_of o.owner state.owners))
+HasKnownOwner state o = IsTrue (is_some (owner_of (open_owner o.owner) state.owners))
 
 -- the client of the open's owner has a confirmed record
 abbrev pub HasLiveClient : State → OpenState → Type 0
