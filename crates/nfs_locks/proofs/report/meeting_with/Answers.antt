@@ -13,8 +13,7 @@ returns c =
     let l = lock_seen c.args.state.now in
     let other : is_lock_of c.args.owner.now l ≡ false = sym c.is_of.ensures ∙ c.if-is_of.false in
     let refuses_as : (byte : ℕ) → refuses c.args.owner.now c.args.mode byte l ≡ conflicts c.args.mode (l.modes byte) =
-    λ byte. ap (λ own. not own && conflicts c.args.mode (l.modes byte)) other in
-    (
+    λ byte. ap (λ own. not own && conflicts c.args.mode (l.modes byte)) other in (
       c.in_ok-byte.ensures.0,
       ((λ byte from below. refuses_as byte ∙ c.in_ok-byte.ensures.2 byte from below), tt),
       ((λ refused. ap is_gt (tied_itself owners_total l.owner)), tt),
