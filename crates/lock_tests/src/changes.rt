@@ -13,7 +13,13 @@ use std::test::Fail;
 fn one_lock(alloc: Global) -> Result<Locks, AllocError> {
     let mut locks = no_locks(alloc)?;
     let owner = locker(alloc, CLIENT, b"a")?;
-    hold(alloc, &mut locks, owner, 7, locked(span(0, 99), Mode::Write))?;
+    hold(
+        alloc,
+        &mut locks,
+        owner,
+        7,
+        locked(span(0, 99), Mode::Write),
+    )?;
     Ok(locks)
 }
 
@@ -24,7 +30,11 @@ fn a_first_lock_begins_a_lock_state(rt: HostRuntime) -> Result<(), Fail> {
     assert!(rt; found(&locks, CLIENT, 7) == Some((FILE, 1)));
     assert!(rt; found(&locks, OTHER_CLIENT, 7).is_none() && found(&locks, CLIENT, 8).is_none());
     assert!(rt; run_of(&locks, &owner, 7) == Some((span(0, 99), Mode::Write)));
-    assert!(rt; locks.lock_of(FILE, &owner).is_some_and(|l| l.open_number == OPEN && l.number == 7));
+    assert!(rt;
+        locks
+            .lock_of(FILE, &owner)
+            .is_some_and(|l| l.open_number == OPEN && l.number == 7)
+    );
     assert!(rt; locks.lock_of(OTHER_FILE, &owner).is_none());
     assert!(rt; locks.holds(&owner) && locks.has_client(CLIENT) && !locks.has_client(OTHER_CLIENT));
     assert_eq!(rt; locks.places_left(3), 2);

@@ -16,9 +16,19 @@ fn full(alloc: Global) -> Result<Locks, AllocError> {
     let owner = locker(alloc, CLIENT, b"a")?;
     hold(alloc, &mut locks, owner, 7, locked(span(0, 0), Mode::Read))?;
     let other = locker(alloc, CLIENT, b"b")?;
-    hold(alloc, &mut locks, other, 8, locked(span(2047, 2047), Mode::Read))?;
+    hold(
+        alloc,
+        &mut locks,
+        other,
+        8,
+        locked(span(2047, 2047), Mode::Read),
+    )?;
     for place in 1..1024_u64 {
-        change(&mut locks, 7, locked(span(place * 2, place * 2), Mode::Read))?;
+        change(
+            &mut locks,
+            7,
+            locked(span(place * 2, place * 2), Mode::Read),
+        )?;
     }
     Ok(locks)
 }

@@ -2,8 +2,8 @@
 //! a refusal must have left the lock states as they were. So each test passes with ample memory, and where any one growth
 //! is refused.
 
-ghost use Rattle.std.specs.Prelude.{◌≡◌, ◌≤◌, OnOk};
-ghost use Rattle.nfs_locks.specs.AllLocks.{HasLockRoomAt, HasRoomFor, stored_in};
+ghost use Rattle.std.specs.Prelude.{◌≤◌, OnOk};
+ghost use Rattle.nfs_locks.specs.AllLocks.{HasLockRoomAt, HasRoomFor};
 
 use nfs_forms::{ClientId, LockOwner, OWNER_NAME_LIMIT, Stateid};
 use nfs_locks::{FirstLock, Locks};
@@ -47,7 +47,11 @@ pub(crate) fn unlocked(range: Range) -> Piece {
 }
 
 /// The client's lock owner with this name.
-pub(crate) fn locker(alloc: Global, client: ClientId, name: &[u8]) -> Result<LockOwner, AllocError> {
+pub(crate) fn locker(
+    alloc: Global,
+    client: ClientId,
+    name: &[u8],
+) -> Result<LockOwner, AllocError> {
     let copy = match Opaque::<OWNER_NAME_LIMIT>::copy_of(alloc, name) {
         Err(_) => Opaque::copy_of(alloc, name),
         copy => copy,
