@@ -19,11 +19,12 @@ use Rattle.nfs_forms.specs.declared.status.Refusal.TheVariants as refusals
 use Rattle.nfs_share.specs.AllOpens.{OpenAt}
 use Rattle.nfs_xdr.specs.declared.op.Op.{Op}
 use Rattle.nfs_xdr.specs.declared.op.Op.TheVariants as ops
-use Rattle.nfs_forms.specs.declared.open_owner.OpenOwner.{OpenOwner}
+use Rattle.nfs_owners.specs.StateOwner.{open_owner}
+use Rattle.nfs_owners.specs.declared.state_owner.StateOwner.{StateOwner}
 use Rattle.nfs_rules.specs.declared.passage.Passage.TheVariants as passages
 
 -- How the owner's request goes on fits what is known of the owner.
-abbrev pub IsPassage : Passage → OpenOwner → State → Type 0
+abbrev pub IsPassage : Passage → StateOwner → State → Type 0
 IsPassage passages.Begins name state = IsFalse (is_known name state)
 IsPassage passage name state = IsTrue (is_known name state)
 
@@ -48,7 +49,7 @@ HasPassage state (GoesOn passage name) = IsPassage passage name state
 
 -- An OPEN goes by the sequence id of the owner in its arguments.
 abbrev pub IsRequesterOf : Op → Requester → Type 0
-IsRequesterOf (ops.Open args) (Owner name) = name ≡ args.owner
+IsRequesterOf (ops.Open args) (Owner name) = name ≡ open_owner args.owner
 IsRequesterOf op requester = ⊤
 
 -- The request is the last one again of its owner, by what is kept for it in the journal.
@@ -68,7 +69,7 @@ abbrev pub IsAdmitted : History → State → Requester → Request → Type 0
 IsAdmitted journal state requester request =
     IsTrue (is_some request.filehandle)
     × (IsReplay journal state requester request
-    ⊎ ((passage : Passage) × (name : OpenOwner) × IsSequence journal state requester request (GoesOn passage name)))
+    ⊎ ((passage : Passage) × (name : StateOwner) × IsSequence journal state requester request (GoesOn passage name)))
 
 -- A request without an owner isn't refused with NFS4ERR_RESOURCE, which would have no entry in the journal.
 abbrev pub HasOtherRefusal : Requester → Type 0
@@ -77,7 +78,7 @@ HasOtherRefusal (Owner name) = ⊤
 
 -- How an OPEN goes on fits what is known of the owner in its arguments.
 abbrev pub IsPassageOf : Op → Passage → State → Type 0
-IsPassageOf (ops.Open args) passage state = IsPassage passage args.owner state
+IsPassageOf (ops.Open args) passage state = IsPassage passage (open_owner args.owner) state
 IsPassageOf op passage state = ⊤
 
 -- In this state, the answer and the change of the operation's own rule. Limit is returned exactly if it gives none.
@@ -90,4 +91,4 @@ Rules own state op (Err Memory) = own None → ⊥
 -- OPEN_CONFIRM's stateid names an open, by the verdict on it, whose owner isn't confirmed yet.
 abbrev pub IsConfirmable : State → Result OpenAt Refusal → Type 0
 IsConfirmable state (Err refusal) = ⊥
-IsConfirmable state (Ok at) = IsFalse (is_confirmed at.state.owner state.owners)
+IsConfirmable state (Ok at) = IsFalse (is_confirmed (open_owner at.state.owner) state.owners)

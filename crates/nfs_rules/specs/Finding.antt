@@ -1,25 +1,36 @@
 -- What the functions that look up a stateid and an owner return, as the rules speak of it; used only in the contracts
 -- of this crate's own functions.
-use Rattle.std.specs.Prelude.{Option, Some, None, Result, Ok, Err}
+use Rattle.std.specs.Prelude.{Option, Some, None, option_map, Result, Ok, Err}
+use Rattle.std.specs.Option.{option_copied}
+use Rattle.nfs_locks.specs.AllLocks.{LockAt}
+use Rattle.nfs_locks.specs.LockFound.{lock_found_seen}
+use Rattle.nfs_locks.specs.StoredLocks.{lock_seen}
+use Rattle.nfs_locks.specs.declared.locks.LockFound.{LockFound}
 use Rattle.nfs_share.specs.declared.opens.OpenFound.{OpenFound}
 use Rattle.nfs_share.specs.OpenFound.{open_seen}
+use Rattle.nfs_rules.specs.declared.newcomer.Newcomer.{Newcomer}
+use Rattle.nfs_rules.specs.declared.newcomer.Newcomer.TheVariants as found_newcomers
+use Rattle.nfs_rules.specs.declared.operations.lock.Locking.{Locking}
 use Rattle.nfs_rules.specs.declared.stateids.Target.{Target}
 use Rattle.nfs_rules.specs.declared.stateids.Target.TheVariants as targets
 use Rattle.nfs_rules.specs.declared.sequence.Requester.{Requester}
 use Rattle.nfs_rules.specs.declared.sequence.Requester.TheVariants as requesters
 use Rattle.nfs_rules.specs.declared.sequence.Sequence.{Sequence}
 use Rattle.nfs_rules.specs.declared.sequence.Sequence.TheVariants as found_sequences
+use Rattle.nfs_rules.specs.Newcomers as newcomers
 use Rattle.nfs_rules.specs.Sequences as sequences
 use Rattle.nfs_rules.specs.Stateids as stateids
+use Rattle.nfs_rules.specs.operations.Lock as lock
 use Rattle.nfs_share.specs.AllOpens.{OpenAt}
 use Rattle.nfs_forms.specs.declared.status.Refusal.{Refusal}
 use Rattle.nfs_forms.specs.declared.status.Refusal.TheVariants as refusals
+use Rattle.nfs_owners.specs.StateOwner.{owner_seen}
 use Rattle.nfs_owners.specs.declared.owner.Owner.{Owner}
 
 abbrev pub target_seen : Target → stateids.Target
 target_seen (targets.Refused refusal) = stateids.Refused refusal
 target_seen (targets.AnOpen found) = stateids.AnOpen (open_seen found)
-target_seen (targets.ALock found) = stateids.ALock (lock_seen found)
+target_seen (targets.ALock found) = stateids.ALock (lock_found_seen found)
 target_seen targets.NoState = stateids.NoState
 
 abbrev pub open_or_refusal_seen : Result OpenFound Refusal → Result OpenAt Refusal
@@ -27,7 +38,7 @@ open_or_refusal_seen (Ok found) = Ok (open_seen found)
 open_or_refusal_seen (Err refusal) = Err refusal
 
 abbrev pub lock_or_refusal_seen : Result LockFound Refusal → Result LockAt Refusal
-lock_or_refusal_seen (Ok found) = Ok (lock_seen found)
+lock_or_refusal_seen (Ok found) = Ok (lock_found_seen found)
 lock_or_refusal_seen (Err refusal) = Err refusal
 
 abbrev pub newcomer_seen : Newcomer → newcomers.Newcomer
@@ -42,7 +53,7 @@ locking_seen l = record {
   owner = l.owner.now;
   mode = l.mode;
   open_number = l.open_number;
-  state = option_map byte_locks_of (option_copied l.state.entry);
+  state = option_map lock_seen (option_copied l.state);
 }
 
 abbrev pub locking_or_refusal_seen : Result Locking Refusal → Result lock.Locking Refusal

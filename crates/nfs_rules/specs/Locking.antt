@@ -1,6 +1,6 @@
 -- What LOCK, LOCKT and LOCKU have in common (RFC 7530, sections 9.2, 9.3 and 16.10 to 16.12): the mode of a lock's
 -- bytes, and the lock that is in the way of another.
-use Rattle.std.specs.Prelude.{Option, Some, None}
+use Rattle.std.specs.Prelude.{Some, None}
 use Rattle.nfs_forms.specs.declared.lock_denied.LockDenied.{LockDenied}
 use Rattle.nfs_forms.specs.declared.lock_type.LockType.{LockType}
 use Rattle.nfs_forms.specs.declared.lock_type.LockType.TheVariants as types

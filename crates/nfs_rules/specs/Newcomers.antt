@@ -1,6 +1,6 @@
 -- Lock owners that a LOCK introduces (RFC 7530, sections 9.1.7 and 16.10.5): such a LOCK has a sequence id for the owner
 -- of its stateid, and another one for the lock owner.
-use Rattle.std.specs.Prelude.{ℕ, ◌==◌, Bool, true, false, Option, Some, None, if◌then◌else◌}
+use Rattle.std.specs.Prelude.{ℕ, Bool, true, false, Option, Some, None, if◌then◌else◌}
 use Rattle.nfs_forms.specs.ClientId.{is_same_client}
 use Rattle.nfs_forms.specs.declared.client_id.ClientId.{ClientId}
 use Rattle.nfs_forms.specs.declared.lock_owner.LockOwner.{LockOwner}

@@ -21,7 +21,7 @@ use Rattle.nfs_forms.specs.declared.client_id.ClientId.{ClientId}
 use Rattle.nfs_forms.specs.declared.open_owner.OpenOwner.{OpenOwner}
 use Rattle.nfs_forms.specs.declared.locker.Locker.{Locker}
 use Rattle.nfs_forms.specs.declared.locker.Locker.TheVariants as lockers
-use Rattle.nfs_owners.specs.StateOwner.{lock_owner, open_owner}
+use Rattle.nfs_owners.specs.StateOwner.{as_open_owner, lock_owner, open_owner}
 use Rattle.nfs_owners.specs.declared.state_owner.StateOwner.{StateOwner}
 use Rattle.nfs_forms.specs.declared.stateid.Stateid.{Stateid}
 use Rattle.nfs_forms.specs.declared.status.Refusal.{Refusal}
@@ -176,9 +176,9 @@ kept_with name (Unknown newcomer) status =
 abbrev pub owner_change_of : Passage → StateOwner → Newcomer → Status → OwnerChange
 owner_change_of passages.Continues name newcomer status =
     if counts status then kept_with name newcomer status else Nothing
-owner_change_of passages.Begins name newcomer status = if is_ok_status status then Records name else Nothing
+owner_change_of passages.Begins name newcomer status = if is_ok_status status then Records (as_open_owner name) else Nothing
 owner_change_of passages.Restarts name newcomer status =
-    if is_ok_status status then Restarts name else Drops name
+    if is_ok_status status then Restarts (as_open_owner name) else Drops (as_open_owner name)
 
 abbrev pub decision_of : Passage → StateOwner → Newcomer → Ruling → Decision
 decision_of passage name newcomer ruling = record {
@@ -214,9 +214,9 @@ abbrev pub IsSequenced : History → State → Requester → Own → Request →
 IsSequenced journal state requester own request decision =
     IsUnder request.filehandle request.op
     (λ node.
-        (sequence : Sequence)
-        × IsSequence journal state requester request sequence
-        × IsDecided sequence (λ client. newcomer_of journal state client request.op) (own node) decision)
+    (sequence : Sequence)
+    × IsSequence journal state requester request sequence
+    × IsDecided sequence (λ client. newcomer_of journal state client request.op) (own node) decision)
     decision
 
 -- the state that an OPEN's own rule sees: without the owner that it starts anew

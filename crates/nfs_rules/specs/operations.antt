@@ -54,13 +54,13 @@ IsRuled (ops.Open args) journal state request decision =
     request decision
 IsRuled (ops.OpenConfirm args) journal state request decision =
     IsSequenced journal state (requester_of_stateid journal state args.stateid)
-    (open_confirm.own journal state args) request.filehandle request decision
+    (open_confirm.own journal state args) request decision
 IsRuled (ops.OpenDowngrade args) journal state request decision =
     IsSequenced journal state (requester_of_stateid journal state args.stateid)
-    (open_downgrade.own journal state args) request.filehandle request decision
+    (open_downgrade.own journal state args) request decision
 IsRuled (ops.Close args) journal state request decision =
     IsSequenced journal state (requester_of_stateid journal state args.stateid)
-    (close.own journal state args) request.filehandle request decision
+    (close.own journal state args) request decision
 IsRuled (ops.Lock args) journal state request decision =
     IsSequenced journal state (requester_of_stateid journal state (stateid_of args.locker))
     (lock.own journal state args) request decision

@@ -1,7 +1,7 @@
 //! What LOCK, LOCKT and LOCKU have in common (RFC 7530, sections 9.2, 9.3 and 16.10 to 16.12).
 
 ghost use Rattle.std.specs.Prelude.{◌≡◌, IfOk};
-ghost use Rattle.nfs_locks.specs.Report.{report_seen};
+ghost use Rattle.nfs_locks.specs.ReportSeen.{report_seen};
 ghost use Rattle.nfs_rules.specs.Locking.{denied_by, lock_of_bytes, mode_of, type_of, unlock_of_bytes};
 
 use nfs_forms::{LockDenied, LockType};

@@ -3,9 +3,9 @@ ghost use Rattle.nfs_rules.specs.Finding.{newcomer_seen};
 ghost use Rattle.nfs_rules.specs.Newcomers.{has_turn, newcomer_by, newcomer_in, newcomer_of};
 ghost use Rattle.nfs_state.specs.Kept.{Agrees};
 ghost use Rattle.nfs_state.specs.Room.{state_of};
+ghost use Rattle.nfs_state.specs.State.{History};
 
 use nfs_forms::{ClientId, LockOwner, Locker, NewLocker};
-
 use nfs_owners::OwnerRef;
 use nfs_state::{Journal, Tables};
 use nfs_xdr::Op;
@@ -48,9 +48,10 @@ fn newcomer_by<'a>(tables: &Tables, locker: &'a NewLocker) -> Newcomer<'a>
     ensures { (journal : History) → Agrees journal tables.now.owners.owners
         → newcomer_seen result ≡ newcomer_by journal (state_of tables.now) locker.now }
 {
-    match tables.owners.find(OwnerRef::of_lock(&locker.lock_owner)) {
-        None => Newcomer::Unknown(&locker.lock_owner),
-        Some(owner) if owner.kept.precedes(locker.lock_seqid) => Newcomer::Known(&locker.lock_owner),
+    let newcomer = &locker.lock_owner;
+    match tables.owners.find(OwnerRef::of_lock(newcomer)) {
+        None => Newcomer::Unknown(newcomer),
+        Some(owner) if owner.kept.precedes(locker.lock_seqid) => Newcomer::Known(newcomer),
         Some(_) => Newcomer::Nobody,
     }
 }

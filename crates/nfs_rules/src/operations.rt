@@ -1,5 +1,5 @@
 // The operations that have an entry in the journal. Each has its own file, which decides the answer and the change.
-ghost use Rattle.std.specs.Prelude.{◌-◌, ◌^◌, ◌<◌, IsFalse, IsTrue};
+ghost use Rattle.std.specs.Prelude.{◌≡◌, ◌-◌, ◌^◌, ◌<◌, IsFalse, IsTrue};
 ghost use Rattle.nfs_rules.specs.operations.{IsRuled, own_of};
 ghost use Rattle.nfs_rules.specs.Deciding.{Decides};
 ghost use Rattle.nfs_state.specs.Kept.{Agrees};

@@ -132,13 +132,10 @@ fn resume<'a>(
 }
 
 // The owner's next request goes on, its kept one again is answered as it was, and any other is NFS4ERR_BAD_SEQID.
-fn judge<'a>(
-    kept: &Kept,
-    request: &Request,
-    name: OwnerRef<'a>,
-) -> Result<Sequence<'a>, AllocError>
+fn judge<'a>(kept: &Kept, request: &Request, name: OwnerRef<'a>) -> Result<Sequence<'a>, AllocError>
     requires { IsSendable kept.now.request.op kept.now.answer }
-    ensures sequence { IfOk result (λ s. IsJudged kept.now (owner_seen name.entry) request.now (sequence_seen s)) }
+    ensures sequence { IfOk result (λ s.
+        IsJudged kept.now (owner_seen name.entry) request.now (sequence_seen s)) }
     ensures sendable { IfOk result (λ s. IsSendableSequence request.now.op (sequence_seen s)) }
     ensures memory { OnErr result (IsAgain kept.now (seqid_of request.now.op)
         (request_of request.now.op request.now.filehandle)) }

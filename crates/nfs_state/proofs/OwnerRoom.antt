@@ -1,6 +1,6 @@
--- What an entry means for an owner: its room among the stored owners, and the numbers that the change after it uses.
-use Rattle.std.proofs.Common.{◌≡◌, ℕ, suc, true, List, [], ◌∷◌, length, map, refl, sym, ap, subst, arith}
-use Rattle.std.specs.Prelude.{is_some}
+-- What an entry means for an owner: its room among the stored owners, and the limits of the change after it.
+use Rattle.std.proofs.Common.{◌≡◌, ℕ, suc, true, List, [], ◌∷◌, length, map, refl, sym, ap, ◌∙◌, subst, arith}
+use Rattle.std.specs.Prelude.{IsFalse, is_some}
 use Rattle.nfs_state.specs.declared.change.Change.{Change}
 use Rattle.nfs_state.specs.declared.change.Change.TheVariants as changes
 use Rattle.nfs_state.specs.declared.owner_change.OwnerChange.{OwnerChange}
@@ -8,11 +8,14 @@ use Rattle.nfs_state.specs.declared.owner_change.OwnerChange.TheVariants as owne
 use Rattle.nfs_state.specs.declared.tables.Tables.{Tables}
 use Rattle.nfs_state.specs.Kept.{update_of}
 use Rattle.nfs_state.specs.Owners as known
-use Rattle.nfs_state.specs.Room.{IsWithinLimits, HasOwnerPlace, HasOwnerRoom, HasUpdateRoom, state_of}
+use Rattle.nfs_locks.specs.AllLocks.{is_full_for, locks_of}
+use Rattle.nfs_state.specs.Room.{IsWithinLimits, HasOwnerPlace, HasOwnerRoom, CanKeep, HasUpdateRoom, IsNewcomer, is_known as is_known_in, state_of}
 use Rattle.nfs_state.specs.Changes.{with_owner_change}
 use Rattle.nfs_state.specs.State.{State}
 use Rattle.nfs_state.specs.Stored.{known_owner}
-use Rattle.nfs_forms.specs.declared.open_owner.OpenOwner.{OpenOwner}
+use Rattle.nfs_owners.specs.StateOwner.{open_owner}
+use Rattle.nfs_owners.specs.declared.state_owner.OwnerKind.{OwnerKind}
+use Rattle.nfs_owners.specs.declared.state_owner.StateOwner.{StateOwner}
 use Rattle.nfs_owners.specs.ClientRoom.{HasNumbersFor}
 use Rattle.nfs_owners.specs.declared.kept.Kept.{Kept}
 use Rattle.nfs_owners.specs.declared.owner.Owner.{Owner}
@@ -20,7 +23,7 @@ use Rattle.nfs_owners.specs.Owner.{is_known}
 use Rattle.nfs_owners.specs.Owners.{has_place}
 
 -- the state knows the owners that are stored
-known_alike : (name : OpenOwner) (owners : List Owner) → is_some (known.owner_of name (map known_owner owners)) ≡ is_known name owners
+known_alike : (name : StateOwner) (owners : List Owner) → is_some (known.owner_of name (map known_owner owners)) ≡ is_known name owners
 known_alike name [] = refl
 known_alike name (o ∷ owners) = grind (arith, known_alike name owners)
 
@@ -28,27 +31,42 @@ count_alike : (owners : List Owner) → length (map known_owner owners) ≡ leng
 count_alike [] = refl
 count_alike (o ∷ owners) = ap suc (count_alike owners)
 
-known_place : (name : OpenOwner) (owners : List Owner) → is_some (known.owner_of name (map known_owner owners)) ≡ true → has_place name owners ≡ true
+known_place : (name : StateOwner) (owners : List Owner) → is_some (known.owner_of name (map known_owner owners)) ≡ true → has_place name owners ≡ true
 known_place name owners is = grind (arith, known_alike name owners, is)
 
--- where there is a place for what an entry means for an owner, and memory for it, the stored owners have room for it
-pub update_room : (change : OwnerChange) (kept : Kept) (tables : Tables) → HasOwnerPlace change (state_of tables) → HasOwnerRoom change tables → HasUpdateRoom (update_of change kept) tables
-update_room owner_changes.Nothing kept tables place room = tt
-update_room (owner_changes.Keeps name) kept tables place room =
+-- an owner that is known can keep a request, and so can a new one for which there is memory
+can_keep : (name : StateOwner) (tables : Tables) → is_known_in name (state_of tables) ≡ true → CanKeep name tables.owners
+can_keep name tables place =
     (known_place name tables.owners.owners place, λ unknown. absurd (grind (arith, known_alike name tables.owners.owners, place, unknown)))
-update_room (owner_changes.Records name) kept tables place room =
+
+new_can_keep : (name : StateOwner) (tables : Tables) → IsNewcomer name (state_of tables) → 0 < tables.owners.room → CanKeep name tables.owners
+new_can_keep name tables place room =
     (grind (arith, place.1, count_alike tables.owners.owners), λ unknown. room)
-update_room (owner_changes.Restarts name) kept tables place room = (known_place name tables.owners.owners place, room)
+
+-- where there is a place for what an entry means for an owner, and memory for it, the stored owners have room for it
+pub update_room : (change : OwnerChange) (kept : OwnerKind → Kept) (tables : Tables) → HasOwnerPlace change (state_of tables) → HasOwnerRoom change tables → HasUpdateRoom (update_of change kept) tables
+update_room owner_changes.Nothing kept tables place room = tt
+update_room (owner_changes.Keeps name) kept tables place room = can_keep name tables place
+update_room (owner_changes.KeepsBoth name newcomer) kept tables place room =
+    (sym (known_alike name tables.owners.owners) ∙ place.0, can_keep newcomer tables place.1)
+update_room (owner_changes.Introduces name newcomer) kept tables place room =
+    (sym (known_alike name tables.owners.owners) ∙ place.0, new_can_keep newcomer tables place.1 room)
+update_room (owner_changes.Records name) kept tables place room = new_can_keep (open_owner name) tables place room
+update_room (owner_changes.Restarts name) kept tables place room = (known_place (open_owner name) tables.owners.owners place, room)
 update_room (owner_changes.Drops name) kept tables place room = tt
 
--- what an entry means for an owner uses no numbers
-numbers_alike : (change : Change) (old new : State) → new.clients ≡ old.clients → new.last_state ≡ old.last_state → IsWithinLimits change old → IsWithinLimits change new
-numbers_alike (changes.Clients change) old new clients states has = subst (HasNumbersFor change) (sym clients) has
-numbers_alike (changes.Opens node owner share) old new clients states has = omega (arith, states, has)
-numbers_alike changes.Nothing old new clients states has = tt
-numbers_alike (changes.Confirms node number owner) old new clients states has = tt
-numbers_alike (changes.Downgrades node number share) old new clients states has = tt
-numbers_alike (changes.Closes node number) old new clients states has = tt
+-- what an entry means for an owner passes no limit of the change after it
+limits_alike : (change : Change) (old new : State) → new.clients ≡ old.clients → new.last_state ≡ old.last_state → new.locks ≡ old.locks → IsWithinLimits change old → IsWithinLimits change new
+limits_alike (changes.Clients change) old new clients states locks has = subst (HasNumbersFor change) (sym clients) has
+limits_alike (changes.Opens node owner share) old new clients states locks has = omega (arith, states, has)
+limits_alike changes.Nothing old new clients states locks has = tt
+limits_alike (changes.Confirms node number owner) old new clients states locks has = tt
+limits_alike (changes.Downgrades node number share) old new clients states locks has = tt
+limits_alike (changes.Closes node number) old new clients states locks has = tt
+limits_alike (changes.Begins node first) old new clients states locks has = omega (arith, states, has)
+limits_alike (changes.Locks node number change) old new clients states locks has =
+    ap (λ all. is_full_for number change (locks_of node all)) locks ∙ has
+limits_alike (changes.Releases owner) old new clients states locks has = tt
 
 same_clients : (owner : OwnerChange) (number : ℕ) (old : State) → (with_owner_change owner number old).clients ≡ old.clients
 same_clients owner_changes.Nothing number old = refl
@@ -58,6 +76,10 @@ same_last_state : (owner : OwnerChange) (number : ℕ) (old : State) → (with_o
 same_last_state owner_changes.Nothing number old = refl
 same_last_state owner number old = refl
 
-pub numbers_after : (change : Change) (owner : OwnerChange) (number : ℕ) (old : State) → IsWithinLimits change old → IsWithinLimits change (with_owner_change owner number old)
-numbers_after change owner number old has =
-    numbers_alike change old (with_owner_change owner number old) (same_clients owner number old) (same_last_state owner number old) has
+same_locks : (owner : OwnerChange) (number : ℕ) (old : State) → (with_owner_change owner number old).locks ≡ old.locks
+same_locks owner_changes.Nothing number old = refl
+same_locks owner number old = refl
+
+pub limits_after : (change : Change) (owner : OwnerChange) (number : ℕ) (old : State) → IsWithinLimits change old → IsWithinLimits change (with_owner_change owner number old)
+limits_after change owner number old has =
+    limits_alike change old (with_owner_change owner number old) (same_clients owner number old) (same_last_state owner number old) (same_locks owner number old) has

@@ -72,7 +72,7 @@ changed (changes.Opens node owner share) old = record old {
   last_state = last_state_after (is_some (open_of owner (opens_of node old.opens))) old.last_state;
 }
 changed (changes.Confirms node number owner) old = record old {
-  owners = with_confirmation owner old.owners;
+  owners = with_confirmation (open_owner owner) old.owners;
   opens = with_opens node (with_each (is_numbered number) with_next_seqid) old.opens;
 }
 changed (changes.Downgrades node number share) old = record old {

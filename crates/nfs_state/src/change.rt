@@ -1,6 +1,6 @@
-use nfs_owners::ClientChange;
 use nfs_forms::LockOwner;
 use nfs_locks::FirstLock;
+use nfs_owners::ClientChange;
 use nfs_ranges::Piece;
 use nfs_share::Share;
 use nfs_xdr::OpenOwner;

@@ -42,7 +42,10 @@ impl OwnerUpdate {
             OwnerChange::Records(owner) => {
                 OwnerUpdate::Keeps(Keeping::of(StateOwner::of_open(owner), call)?)
             }
-            OwnerChange::Restarts(owner) => OwnerUpdate::Restarts(owner, call.kept(OwnerKind::Open)?),
+            OwnerChange::Restarts(owner) => OwnerUpdate::Restarts(
+                owner,
+                call.kept(OwnerKind::Open)?,
+            ),
             OwnerChange::Drops(owner) => OwnerUpdate::Drops(owner),
         })
     }

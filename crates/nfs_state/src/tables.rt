@@ -7,9 +7,7 @@ use crate::owner_update::{Keeping, OwnerUpdate};
 use crate::shortage::Shortage;
 use crate::stored_files::StoredFiles;
 use nfs_locks::{FirstLock, Locks};
-use nfs_owners::{
-    ClientChange, ClientRecord, Clients, Numbers, OwnerRef, Owners, StateOwner,
-};
+use nfs_owners::{ClientChange, ClientRecord, Clients, Numbers, OwnerRef, Owners, StateOwner};
 use nfs_share::{Opens, Share};
 use nfs_tree::Tree;
 use nfs_xdr::{ClientId, OpenOwner};
@@ -103,7 +101,8 @@ impl Tables {
     pub fn has_state_place_without(&self, owner: &OpenOwner) -> bool
         ensures { result ≡ has_state_place (changed_state.without owner.now (state_of self.now)) }
     {
-        self.opens.has_place_without(owner, self.locks.places_left(STATE_LIMIT))
+        self.opens
+            .has_place_without(owner, self.locks.places_left(STATE_LIMIT))
     }
 
     /// Makes room for the change, and for what the entry means for an owner. Fails for want of memory alone, and never

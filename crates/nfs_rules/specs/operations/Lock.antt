@@ -60,8 +60,8 @@ introduced journal state args locker at =
     })
 
 -- a lock state that is there, which has its open
-abbrev pub found : Lock → LockAt → Result Locking Refusal
-found args at = refused_if args.reclaim refusals.NoGrace (record {
+abbrev pub locking_found : Lock → LockAt → Result Locking Refusal
+locking_found args at = refused_if args.reclaim refusals.NoGrace (record {
   node = at.node;
   owner = at.state.owner;
   mode = mode_of args.locktype;
@@ -78,7 +78,7 @@ locking_of journal state node args (lockers.New locker) =
     introduced journal state args locker at
 locking_of journal state node args (lockers.Known locker) =
     lock_verdict node journal.epoch state locker.lock_stateid >>= λ at.
-    found args at
+    locking_found args at
 
 -- the open, as it is now, may do what a lock in the mode is for
 abbrev pub allows : Mode → Option OpenState → Bool

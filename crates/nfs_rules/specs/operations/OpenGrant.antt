@@ -1,5 +1,5 @@
 -- How an OPEN without a refusal is granted; used only in the contracts of this crate's own functions.
-use Rattle.std.specs.Prelude.{ℕ, true, nat_lt, ◌&&◌, [], Option, Some, None, if◌then◌else◌}
+use Rattle.std.specs.Prelude.{ℕ, true, ◌&&◌, [], Option, Some, None, if◌then◌else◌}
 use Rattle.nfs_state.specs.Places.{has_state_place}
 use Rattle.nfs_rules.specs.declared.passage.Passage.{Passage}
 use Rattle.nfs_rules.specs.operations.Open.{has_open_place, has_owner_place, rflags_of, stateid_after}

@@ -1,11 +1,16 @@
-ghost use Rattle.std.specs.Prelude.{◌≡◌, ◌≤◌, ◌<◌, ◌-◌, ◌^◌, OnErr, length};
+ghost use Rattle.std.specs.Prelude.{◌≡◌, ◌≤◌, ◌<◌, ◌-◌, ◌^◌, length, true};
 ghost use Rattle.std.specs.Option.{option_copied};
-ghost use Rattle.std.specs.Result.{IsOk};
+ghost use Rattle.nfs_locks.specs.LockFound.{lock_found_seen};
+ghost use Rattle.nfs_locks.specs.StoredLocks.{lock_seen};
+ghost use Rattle.nfs_operations.specs.declared.lock.Lock.{Lock};
 ghost use Rattle.nfs_rules.specs.Deciding.{Rules};
 ghost use Rattle.nfs_rules.specs.Finding.{locking_or_refusal_seen, locking_seen};
-ghost use Rattle.nfs_rules.specs.operations.Lock.{addition, allows, beginning, first_stateid, granted, introduced, locking_of, own, refusal_of};
+ghost use Rattle.nfs_rules.specs.declared.passage.Passage.{Passage};
+ghost use Rattle.nfs_rules.specs.operations.Lock.{IsAllowed, addition, allows, beginning, first_stateid, granted, introduced, locking_found, locking_of, own, refusal_of};
+ghost use Rattle.nfs_share.specs.OpenFound.{open_seen};
 ghost use Rattle.nfs_state.specs.Kept.{Agrees};
 ghost use Rattle.nfs_state.specs.Room.{state_of};
+ghost use Rattle.nfs_state.specs.State.{History};
 ghost use Rattle.nfs_xdr.specs.OpResult.{op_result};
 
 use crate::demand::Demand;
@@ -21,7 +26,6 @@ use nfs_ranges::{Mode, Range, range_of};
 use nfs_share::{OpenFound, OpenState};
 use nfs_state::{ANSWER_LIMIT, Change, Journal, Shortage, Tables};
 use nfs_xdr::{Answer, Op, OpResult, Refusal};
-use std::alloc::AllocError;
 
 /// For whom bytes of a node's file are to be held and in which mode, under which open, and the lock state that they are
 /// added to, if there is one.
@@ -41,6 +45,11 @@ pub(super) fn rule(
     node: u32,
     args: &Lock,
 ) -> Result<Ruling, Shortage>
+    requires states { tables.now.numbers < 2 ^ 32 - 1 }
+    requires kept { Agrees journal.now tables.now.owners.owners }
+    ensures { (passage : Passage)
+        → Rules (own journal.now (state_of tables.now) args.now node passage)
+        (state_of tables.now) (Op.Lock args.now) result }
 {
     let locking = match locking_of(tables, journal, node, args) {
         Err(refusal) => return Ok(refused(refusal)),
@@ -49,7 +58,8 @@ pub(super) fn rule(
     let Some(range) = range_of(args.offset, args.length) else {
         return Ok(refused(Refusal::Inval));
     };
-    if !allows(locking.mode, tables.opens.numbered(locking.node, locking.open_number)) {
+    let open = tables.opens.numbered(locking.node, locking.open_number);
+    if !allows(locking.mode, open) {
         return Ok(refused(Refusal::OpenMode));
     }
     lock(tables, locking, range)
@@ -62,6 +72,9 @@ fn locking_of<'a>(
     node: u32,
     args: &'a Lock,
 ) -> Result<Locking<'a>, Refusal>
+    requires { Agrees journal.now tables.now.owners.owners }
+    ensures { locking_or_refusal_seen result
+        ≡ locking_of journal.now (state_of tables.now) node args.now args.now.locker }
 {
     match &args.locker {
         Locker::New(locker) => {
@@ -86,6 +99,9 @@ fn introduce<'a>(
     locker: &'a NewLocker,
     found: OpenFound<'_>,
 ) -> Result<Locking<'a>, Refusal>
+    ensures { (journal : History) → Agrees journal tables.now.owners.owners
+        → locking_or_refusal_seen result
+        ≡ introduced journal (state_of tables.now) args.now locker.now (open_seen found.entry) }
 {
     let owner = &locker.lock_owner;
     if args.reclaim {
@@ -108,6 +124,8 @@ fn introduce<'a>(
 
 // A lock state that is there, which has its open.
 fn locking_found<'a>(args: &Lock, found: LockFound<'a>) -> Result<Locking<'a>, Refusal>
+    ensures { locking_or_refusal_seen result
+        ≡ locking_found args.now (lock_found_seen found.entry) }
 {
     if args.reclaim {
         return Err(Refusal::NoGrace);
@@ -122,20 +140,29 @@ fn locking_found<'a>(args: &Lock, found: LockFound<'a>) -> Result<Locking<'a>, R
 }
 
 // Whether the open, as it is now, may do what a lock in the mode is for.
-fn allows(mode: Mode, open: Option<&OpenState>) -> bool
-    ensures { result ≡ allows mode (option_copied open.entry) }
+fn allows(mode: Mode, found: Option<&OpenState>) -> bool
+    ensures { result ≡ allows mode (option_copied found.entry) }
 {
-    let Some(open) = open else { return false };
+    let Some(state) = found else { return false };
     match mode {
-        Mode::Read => open.share().access.read,
-        Mode::Write => open.share().access.write,
+        Mode::Read => state.share().access.read,
+        Mode::Write => state.share().access.write,
     }
 }
 
 // Holds the bytes, unless another owner's lock is in the way.
 fn lock(tables: &Tables, locking: Locking<'_>, range: Range) -> Result<Ruling, Shortage>
+    requires { tables.now.numbers < 2 ^ 32 - 1 }
+    ensures { (args : Lock)
+        → Rules (IsAllowed true (state_of tables.now) (locking_seen locking.entry) range)
+        (state_of tables.now) (Op.Lock args) result }
 {
-    let Locking { node, owner, mode, .. } = locking;
+    let Locking {
+        node,
+        owner,
+        mode,
+        ..
+    } = locking;
     match tables.locks.report(node, owner, range, mode) {
         Some(report) => Ok(Ruling {
             answer: OpResult::Lock(Answer::Denied(denied_by(report)?)),
@@ -147,6 +174,10 @@ fn lock(tables: &Tables, locking: Locking<'_>, range: Range) -> Result<Ruling, S
 
 // Holds the bytes, unless a limit would be exceeded.
 fn grant(tables: &Tables, locking: Locking<'_>, range: Range) -> Result<Ruling, Shortage>
+    requires { tables.now.numbers < 2 ^ 32 - 1 }
+    ensures { (args : Lock) → let l = locking_seen locking.entry in
+        Rules (λ ruling. ruling ≡ granted (state_of tables.now) l range l.state)
+        (state_of tables.now) (Op.Lock args) result }
 {
     match locking.state {
         None => begin(tables, locking, range),
@@ -156,6 +187,10 @@ fn grant(tables: &Tables, locking: Locking<'_>, range: Range) -> Result<Ruling, 
 
 // A lock state begins.
 fn begin(tables: &Tables, locking: Locking<'_>, range: Range) -> Result<Ruling, Shortage>
+    requires { tables.now.numbers < 2 ^ 32 - 1 }
+    ensures { (args : Lock) → Rules (λ ruling. ruling
+        ≡ beginning (state_of tables.now) (locking_seen locking.entry) range)
+        (state_of tables.now) (Op.Lock args) result }
 {
     let owner = locking.owner;
     if !tables.owners.has_place(OwnerRef::of_lock(owner)) || !tables.has_state_place() {
@@ -181,6 +216,9 @@ fn add(
     range: Range,
     state: &LockState,
 ) -> Result<Ruling, Shortage>
+    ensures { (args : Lock) → Rules (λ ruling. ruling
+        ≡ addition (state_of tables.now) (locking_seen locking.entry) range (lock_seen state.now))
+        (state_of tables.now) (Op.Lock args) result }
 {
     let Locking { node, mode, .. } = locking;
     let change = lock_of_bytes(mode, range);
@@ -199,7 +237,7 @@ fn add(
 
 // The stateid of the owner's first lock of a file.
 fn first_stateid(tables: &Tables, owner: &LockOwner) -> Stateid
-    requires states { tables.now.numbers < 2 ^ 32 - 1 }
+    requires { tables.now.numbers < 2 ^ 32 - 1 }
     ensures { result ≡ first_stateid (state_of tables.now) owner.now }
 {
     Stateid {
@@ -209,6 +247,7 @@ fn first_stateid(tables: &Tables, owner: &LockOwner) -> Stateid
     }
 }
 
+#[tactic(auto, unfolding(nfs_xdr::specs::OpResult::op_result, nfs_xdr::specs::Opnum::opnum, nfs_forms::specs::Status::status, xdr::specs::Writing::written_number, nfs_forms::specs::Answer::answer))]
 fn refused(refusal: Refusal) -> Ruling
     ensures value { result ≡ refusal_of refusal }
     ensures form { op_result.Fits result.answer }
@@ -221,6 +260,7 @@ fn refused(refusal: Refusal) -> Ruling
 }
 
 // The answer to a LOCK that is granted.
+#[tactic(auto, unfolding(nfs_xdr::specs::OpResult::op_result, nfs_xdr::specs::Opnum::opnum, nfs_forms::specs::Status::status, xdr::specs::Writing::written_number, nfs_forms::specs::Answer::answer, nfs_forms::specs::Stateid::stateid, nfs_forms::specs::ClientId::client_id))]
 fn locked(stateid: Stateid) -> OpResult
     ensures value { result ≡ OpResult.Lock (Answer.Done stateid) }
     ensures form { op_result.Fits result }

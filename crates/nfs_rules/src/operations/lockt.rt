@@ -1,7 +1,9 @@
-ghost use Rattle.std.specs.Prelude.{◌≡◌};
+ghost use Rattle.std.specs.Prelude.{◌≡◌, ◌≤◌, ◌-◌, IfOk, Ok, length};
+ghost use Rattle.nfs_operations.specs.Lockt as lockt;
 ghost use Rattle.nfs_rules.specs.Deciding.{Decides};
-ghost use Rattle.nfs_rules.specs.operations.Lockt.{IsRuled, file_asked, only};
+ghost use Rattle.nfs_rules.specs.operations.Lockt.{IsRuled, IsTest, file_asked, only};
 ghost use Rattle.nfs_state.specs.Room.{state_of};
+ghost use Rattle.nfs_state.specs.declared.entry.TheConstants.{ANSWER_LIMIT};
 
 use crate::decision::Decision;
 use crate::locking::{denied_by, mode_of};
@@ -13,6 +15,7 @@ use nfs_xdr::{Answer, Op, OpResult, Refusal};
 use std::alloc::AllocError;
 
 /// Decides a LOCKT: its answer, and that it changes nothing.
+#[tactic(auto, unfolding(nfs_xdr::specs::OpResult::op_result, nfs_xdr::specs::Opnum::opnum, nfs_forms::specs::Status::status, xdr::specs::Writing::written_number, nfs_forms::specs::Answer::answer))]
 pub(super) fn decide(
     tables: &Tables,
     journal: &Journal,
@@ -55,11 +58,15 @@ fn file_asked(
 
 // Whether a LOCK of the node's file would be refused, and for which lock.
 fn test(tables: &Tables, node: u32, args: &Lockt) -> Result<Answer<(), LockDenied>, AllocError>
+    ensures answer { IfOk result (λ a. IsTest (state_of tables.now) args.now (Ok node) (only a)) }
+    ensures form { IfOk result (λ a. lockt.result.Fits a) }
+    ensures short { IfOk result (λ a. length (lockt.result.spelling a) ≤ ANSWER_LIMIT - 4) }
 {
     let Some(range) = range_of(args.offset, args.length) else {
         return Ok(Answer::Refused(Refusal::Inval));
     };
-    match tables.locks.report(node, &args.owner, range, mode_of(args.locktype)) {
+    let mode = mode_of(args.locktype);
+    match tables.locks.report(node, &args.owner, range, mode) {
         None => Ok(Answer::Done(())),
         Some(report) => Ok(Answer::Denied(denied_by(report)?)),
     }

@@ -1,7 +1,11 @@
-ghost use Rattle.std.specs.Prelude.{◌≡◌, ◌≤◌, length};
+ghost use Rattle.std.specs.Prelude.{◌≡◌, ◌≤◌, ◌<◌, ◌-◌, ◌^◌, Some, length};
+ghost use Rattle.nfs_locks.specs.LockFound.{lock_found_seen};
 ghost use Rattle.nfs_locks.specs.Locks.{next_stateid_of};
+ghost use Rattle.nfs_locks.specs.StoredLocks.{lock_seen};
+ghost use Rattle.nfs_operations.specs.declared.locku.Locku.{Locku};
 ghost use Rattle.nfs_rules.specs.Deciding.{Rules};
-ghost use Rattle.nfs_rules.specs.operations.Locku.{own, refusal_of};
+ghost use Rattle.nfs_rules.specs.declared.passage.Passage.{Passage};
+ghost use Rattle.nfs_rules.specs.operations.Locku.{own, refusal_of, unlocking};
 ghost use Rattle.nfs_state.specs.Room.{state_of};
 ghost use Rattle.nfs_xdr.specs.OpResult.{op_result};
 
@@ -21,8 +25,8 @@ pub(super) fn rule(
     node: u32,
     args: &Locku,
 ) -> Result<Ruling, Shortage>
-    ensures { Rules (λ ruling. (passage : Passage)
-        → own journal.now (state_of tables.now) args.now node passage ruling)
+    ensures { (passage : Passage)
+        → Rules (own journal.now (state_of tables.now) args.now node passage)
         (state_of tables.now) (Op.Locku args.now) result }
 {
     match lock_verdict(tables, node, journal.epoch(), args.stateid) {
@@ -36,6 +40,9 @@ pub(super) fn rule(
 
 // Frees the bytes, unless the runs of the lock state would be too many.
 fn unlock(tables: &Tables, found: LockFound<'_>, range: Range) -> Result<Ruling, Shortage>
+    ensures { (args : Locku) → Rules (λ ruling. ruling
+        ≡ unlocking (state_of tables.now) (lock_found_seen found.entry) (Some range))
+        (state_of tables.now) (Op.Locku args) result }
 {
     let LockFound { node, state } = found;
     let change = unlock_of_bytes(range);
@@ -52,6 +59,7 @@ fn unlock(tables: &Tables, found: LockFound<'_>, range: Range) -> Result<Ruling,
     })
 }
 
+#[tactic(auto, unfolding(nfs_xdr::specs::OpResult::op_result, nfs_xdr::specs::Opnum::opnum, nfs_forms::specs::Status::status, xdr::specs::Writing::written_number, nfs_forms::specs::Answer::answer))]
 fn refused(refusal: Refusal) -> Ruling
     ensures value { result ≡ refusal_of refusal }
     ensures form { op_result.Fits result.answer }
@@ -64,7 +72,9 @@ fn refused(refusal: Refusal) -> Ruling
 }
 
 // The answer to a LOCKU that is granted: the lock state's stateid with the next seqid.
+#[tactic(auto, unfolding(nfs_xdr::specs::OpResult::op_result, nfs_xdr::specs::Opnum::opnum, nfs_forms::specs::Status::status, xdr::specs::Writing::written_number, nfs_forms::specs::Answer::answer, nfs_forms::specs::Stateid::stateid, nfs_forms::specs::ClientId::client_id))]
 fn unlocked(state: &LockState) -> OpResult
+    ensures value { result ≡ OpResult.Locku (Answer.Done (next_stateid_of (lock_seen state.now))) }
     ensures form { op_result.Fits result }
     ensures short { length (op_result.spelling result) ≤ ANSWER_LIMIT }
 {

@@ -38,7 +38,7 @@ pub(super) fn decide(
     requires owner { IsRequesterOf request.now.op (requester_seen requester) }
     ensures decides { Decides (IsSequenced journal.now (state_of tables.now)
         (requester_seen requester.entry) (own_of request.now.op journal.now (state_of tables.now))
-        request.now.filehandle request.now) (state_of tables.now) request.now.op result }
+        request.now) (state_of tables.now) request.now.op result }
     ensures error { OnErr result (IsAdmitted journal.now (state_of tables.now)
         (requester_seen requester.entry) request.now) }
 {
@@ -78,6 +78,7 @@ fn rule(
 ) -> Result<Ruling, Shortage>
     requires sequenced { IsTrue (is_sequenced op.now) }
     requires states { tables.now.numbers < 2 ^ 32 - 1 }
+    requires kept { Agrees journal.now tables.now.owners.owners }
     requires passage { IsPassageOf op.now passage (state_of tables.now) }
     ensures { Rules (own_of op.now journal.now (state_of tables.now) node passage)
         (state_of tables.now) op.now result }
