@@ -4,7 +4,7 @@ use Rattle.std.specs.Prelude.{⊤, ◌+◌, ◌≤◌, ◌==◌, ◌&&◌, not, 
 use Rattle.std.specs.List.{AllByRecursion}
 use Rattle.std.proofs.lemmas.Bool.{and_parts, and_from, cases_Bool, cond_both, eqb-true, eq-eqb, not-true, not_from_false}
 use Rattle.nfs_core.proofs.SafeFiles.{locks_at, locks_of_map, locks_set, locks_where_set, opens_of_map, opens_where_set, set_locks}
-use Rattle.nfs_core.proofs.SafeLists.{all_always, all_filter, all_map, all_push, all_set, all_weaken, found_by, found_filtered, found_holds, pairs_filter, pairs_map, pairs_push}
+use Rattle.nfs_core.proofs.SafeLists.{all_always, all_filter, all_map, all_push, all_set, all_weaken, found_by, found_filtered, found_holds, found_map, found_more, pairs_filter, pairs_map, pairs_push}
 use Rattle.nfs_core.proofs.Sound.{AreNumbered, HasOneOwner, HasSoundLocks, IsLockerKnownIn, IsUnder, confirmed_left, equal_clients, equal_lock_owners, equal_owners, is_known_in, left, name_left, same_client_self, same_lock_owner_self}
 use Rattle.nfs_core.specs.Safe.{bears}
 use Rattle.nfs_forms.specs.ClientId.{is_same_client}
@@ -22,6 +22,7 @@ use Rattle.nfs_ranges.specs.declared.piece.Piece.{Piece}
 use Rattle.nfs_share.specs.AllOpens.{opens_of, with_opens}
 use Rattle.nfs_share.specs.Opens as opens
 use Rattle.nfs_share.specs.declared.open_state.OpenState.{OpenState}
+use Rattle.nfs_share.specs.declared.share.Share.{Share}
 use Rattle.nfs_state.specs.Owners.{KnownOwner, is_confirmed, without_owner}
 
 -- the laws by which lock states that are compatible stay so
@@ -190,6 +191,21 @@ locks_reopened node change owners opens last locks keep sound = record {
       (subst (λ k. AllByRecursion (IsUnder owners (opens_of k opens)) (locks_of m locks)) same (sound.under m)));
   numbered = sound.numbered;
 }
+
+-- some opens change, and each keeps its owner and its number
+pub under_each : (owners : List KnownOwner) (test : OpenState → Bool) (change : OpenState → OpenState)
+    → ((l : ByteLocks) (o : OpenState) → bears owners l o ≡ true → bears owners l (change o) ≡ true)
+    → (l : ByteLocks) (xs : List OpenState) → IsUnder owners xs l → IsUnder owners (opens.with_each test change xs) l
+under_each owners test change keeps l xs found =
+    found_map (bears owners l) (λ o. if test o then change o else o)
+    (λ o h. cond_both (test o) (change o) o (λ x. bears owners l x ≡ true) (λ _. keeps l o h) (λ _. h)) xs found
+
+pub under_opening : (owners : List KnownOwner) (owner : OpenOwner) (share : Share) (number : ℕ) (l : ByteLocks) (xs : List OpenState)
+    → IsUnder owners xs l → IsUnder owners (opens.with_opening owner share number xs) l
+under_opening owners owner share number l xs found =
+    cond_both (is_some (opens.open_of owner xs)) (opens.with_each (opens.is_of owner) (opens.after_open share) xs) (xs ++ opens.first_open owner share number ∷ []) (λ ys. IsUnder owners ys l)
+    (λ _. under_each owners (opens.is_of owner) (opens.after_open share) (λ l o h. h) l xs found)
+    (λ _. found_more (bears owners l) xs (opens.first_open owner share number ∷ []) found)
 
 -- a higher number is the last one that was given
 pub locks_numbered : (owners : List KnownOwner) (opens : List (List OpenState)) (last higher : ℕ) (locks : List (List ByteLocks)) → last ≤ higher
