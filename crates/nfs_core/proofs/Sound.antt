@@ -174,7 +174,7 @@ keeps_tested test change keeps = record {
   confirmed = λ o is_set. cond_both (test o) (change o) o (λ k. k.confirmed ≡ true) (λ _. keeps.confirmed o is_set) (λ _. is_set);
 }
 
-pub name_mapped : (f : KnownOwner → KnownOwner) → KeepsOwner f → (owners : List KnownOwner) (name : StateOwner) → is_known_in owners name ≡ true → is_known_in (map f owners) name ≡ true
+name_mapped : (f : KnownOwner → KnownOwner) → KeepsOwner f → (owners : List KnownOwner) (name : StateOwner) → is_known_in owners name ≡ true → is_known_in (map f owners) name ≡ true
 name_mapped f keeps owners name found =
     found_map (has_name name) f (λ o has. ap (λ n. is_same_state_owner n name) (keeps.name o) ∙ has) owners found
 
@@ -182,7 +182,7 @@ confirmed_still : (f : KnownOwner → KnownOwner) → KeepsOwner f → (found : 
 confirmed_still f keeps None h = h
 confirmed_still f keeps (Some o) h = keeps.confirmed o h
 
-pub confirmed_mapped : (f : KnownOwner → KnownOwner) → KeepsOwner f → (owners : List KnownOwner) (name : StateOwner) → is_confirmed name owners ≡ true → is_confirmed name (map f owners) ≡ true
+confirmed_mapped : (f : KnownOwner → KnownOwner) → KeepsOwner f → (owners : List KnownOwner) (name : StateOwner) → is_confirmed name owners ≡ true → is_confirmed name (map f owners) ≡ true
 confirmed_mapped f keeps owners name h =
     ap confirmed_if_known (find_mapped (has_name name) f (λ o. ap (λ n. is_same_state_owner n name) (keeps.name o)) owners)
     ∙ confirmed_still f keeps (find (has_name name) owners) h
@@ -194,14 +194,14 @@ mapped_live f keeps records owners live =
 
 -- One more owner.
 
-pub name_recorded : (o : KnownOwner) (owners : List KnownOwner) (name : StateOwner) → is_known_in owners name ≡ true → is_known_in (owners ++ o ∷ []) name ≡ true
+name_recorded : (o : KnownOwner) (owners : List KnownOwner) (name : StateOwner) → is_known_in owners name ≡ true → is_known_in (owners ++ o ∷ []) name ≡ true
 name_recorded o owners name found = found_more (has_name name) owners (o ∷ []) found
 
 known_confirmed : (found : Option KnownOwner) → confirmed_if_known found ≡ true → is_some found ≡ true
 known_confirmed None h = absurd cc
 known_confirmed (Some o) h = refl
 
-pub confirmed_recorded : (o : KnownOwner) (owners : List KnownOwner) (name : StateOwner) → is_confirmed name owners ≡ true → is_confirmed name (owners ++ o ∷ []) ≡ true
+confirmed_recorded : (o : KnownOwner) (owners : List KnownOwner) (name : StateOwner) → is_confirmed name owners ≡ true → is_confirmed name (owners ++ o ∷ []) ≡ true
 confirmed_recorded o owners name h =
     ap confirmed_if_known (find_more (has_name name) owners (o ∷ []) (known_confirmed (find (has_name name) owners) h)) ∙ h
 
@@ -224,6 +224,23 @@ confirmed_left t owners name out h =
 pub dropped_live : (t : StateOwner → Bool) (records : List ClientRecord) (owners : List KnownOwner) → AreLive records owners → AreLive records (left t owners)
 dropped_live t records owners live =
     all_filter (λ o. is_live_in records o.name.client ≡ true) (λ o. is_live_in records o.name.client ≡ true) (λ o. not (t o.name)) (λ o h _. h) owners live
+
+-- All that are known or confirmed stay so.
+pub record KeepsOwners (owners new : List KnownOwner) : Type 0 where
+  pub known : (name : StateOwner) → is_known_in owners name ≡ true → is_known_in new name ≡ true
+  pub confirmed : (name : StateOwner) → is_confirmed name owners ≡ true → is_confirmed name new ≡ true
+
+pub keeps_mapped : (f : KnownOwner → KnownOwner) → KeepsOwner f → (owners : List KnownOwner) → KeepsOwners owners (map f owners)
+keeps_mapped f keeps owners = record { known = name_mapped f keeps owners; confirmed = confirmed_mapped f keeps owners }
+
+pub keeps_recorded : (o : KnownOwner) (owners : List KnownOwner) → KeepsOwners owners (owners ++ o ∷ [])
+keeps_recorded o owners = record { known = name_recorded o owners; confirmed = confirmed_recorded o owners }
+
+pub keeps_both : (owners mid new : List KnownOwner) → KeepsOwners owners mid → KeepsOwners mid new → KeepsOwners owners new
+keeps_both owners mid new first second = record {
+  known = λ name h. second.known name (first.known name h);
+  confirmed = λ name h. second.confirmed name (first.confirmed name h);
+}
 
 -- The opens, where the owners change.
 

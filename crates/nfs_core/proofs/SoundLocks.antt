@@ -5,7 +5,7 @@ use Rattle.std.specs.List.{AllByRecursion}
 use Rattle.std.proofs.lemmas.Bool.{and_parts, and_from, cases_Bool, cond_both, eqb-true, eq-eqb, not-true, not_from_false}
 use Rattle.nfs_core.proofs.SafeFiles.{locks_at, locks_of_map, locks_set, locks_where_set, opens_of_map, opens_where_set, set_locks}
 use Rattle.nfs_core.proofs.SafeLists.{all_always, all_filter, all_map, all_push, all_set, all_weaken, found_by, found_filtered, found_holds, found_map, found_more, pairs_filter, pairs_map, pairs_push}
-use Rattle.nfs_core.proofs.Sound.{AreNumbered, HasOneOwner, HasSoundLocks, IsLockerKnownIn, IsUnder, confirmed_left, equal_clients, equal_lock_owners, equal_owners, is_known_in, left, name_left, same_client_self, same_lock_owner_self}
+use Rattle.nfs_core.proofs.Sound.{AreNumbered, HasOneOwner, HasSoundLocks, KeepsOwners, IsLockerKnownIn, IsUnder, confirmed_left, equal_clients, equal_lock_owners, equal_owners, is_known_in, left, name_left, same_client_self, same_lock_owner_self}
 use Rattle.nfs_core.specs.Safe.{bears}
 use Rattle.nfs_forms.specs.ClientId.{is_same_client}
 use Rattle.nfs_forms.specs.OpenOwner.{is_same_owner}
@@ -81,18 +81,20 @@ numbered_left last test xs h = (
 )
 
 -- The owners change, and all that are known or confirmed stay so.
-pub locks_owned : (owners new : List KnownOwner) (opens : List (List OpenState)) (last : ℕ) (locks : List (List ByteLocks))
-    → ((name : StateOwner) → is_known_in owners name ≡ true → is_known_in new name ≡ true)
-    → ((name : StateOwner) → is_confirmed name owners ≡ true → is_confirmed name new ≡ true)
+
+pub under_kept : (owners new : List KnownOwner) → KeepsOwners owners new → (l : ByteLocks) (xs : List OpenState) → IsUnder owners xs l → IsUnder new xs l
+under_kept owners new keeps l xs found =
+    found_by (bears owners l) (bears new l)
+    (λ o h. bears_still owners new l o (bears_parts owners l o h) (keeps.confirmed (open_owner o.owner) (bears_parts owners l o h).confirmed)) xs found
+
+pub locks_owned : (owners new : List KnownOwner) (opens : List (List OpenState)) (last : ℕ) (locks : List (List ByteLocks)) → KeepsOwners owners new
     → HasSoundLocks owners opens last locks → HasSoundLocks new opens last locks
-locks_owned owners new opens last locks known confirmed sound = record {
+locks_owned owners new opens last locks keeps sound = record {
   known = all_weaken (AllByRecursion (IsLockerKnownIn owners)) (AllByRecursion (IsLockerKnownIn new))
-      (λ xs h. all_weaken (IsLockerKnownIn owners) (IsLockerKnownIn new) (λ l k. known (lock_owner l.owner) k) xs h) locks sound.known;
+      (λ xs h. all_weaken (IsLockerKnownIn owners) (IsLockerKnownIn new) (λ l k. keeps.known (lock_owner l.owner) k) xs h) locks sound.known;
   compatible = sound.compatible;
   under = λ node. all_weaken (IsUnder owners (opens_of node opens)) (IsUnder new (opens_of node opens))
-      (λ l h. found_by (bears owners l) (bears new l)
-      (λ o k. bears_still owners new l o (bears_parts owners l o k) (confirmed (open_owner o.owner) (bears_parts owners l o k).confirmed)) (opens_of node opens) h)
-      (locks_of node locks) (sound.under node);
+      (λ l h. under_kept owners new keeps l (opens_of node opens) h) (locks_of node locks) (sound.under node);
   numbered = sound.numbered;
 }
 

@@ -2,7 +2,6 @@
 use Rattle.std.proofs.Common.{◌≡◌, ℕ, Bool, true, false, List, refl, arith}
 use Rattle.std.specs.Prelude.{⊤, ◌+◌, ◌≤◌, ◌&&◌, find, is_some, map, not, if◌then◌else◌}
 use Rattle.std.specs.List.{AllByRecursion}
-use Rattle.std.proofs.lemmas.Bool.{cond_both}
 use Rattle.nfs_state.specs.declared.change.Change.{Change}
 use Rattle.nfs_state.specs.declared.change.Change.TheVariants as changes
 use Rattle.nfs_rules.specs.declared.decision.Decision.{Decision}
@@ -14,8 +13,8 @@ use Rattle.nfs_state.specs.Changes as state_changes
 use Rattle.nfs_state.specs.State.{State}
 use Rattle.nfs_core.specs.Step.{after}
 use Rattle.nfs_core.proofs.SafeFiles.{opens_at, set_opens}
-use Rattle.nfs_core.proofs.SafeLists.{all_filter, all_push, all_set, all_weaken, found_by, found_map, found_more}
-use Rattle.nfs_core.proofs.Sound.{HasSoundLocks, IsKnownIn, IsOnlyOf, IsSound, IsUnder, KeepsOwner, OpensStay, confirmed_mapped, confirmed_recorded, dropped_compatible, dropped_known, dropped_live, each_known, is_known_in, is_live_in, keeps_tested, left, live_confirmed, live_replaced, live_unconfirmed, mapped_live, name_left, name_mapped, name_recorded, opening_known, renamed_known, single_confirmed, single_unconfirmed}
+use Rattle.nfs_core.proofs.SafeLists.{all_filter, all_push, all_set}
+use Rattle.nfs_core.proofs.Sound.{AreLive, IsKnownIn, IsOnlyOf, IsSound, IsUnder, KeepsOwner, KeepsOwners, OpensStay, dropped_compatible, dropped_known, dropped_live, each_known, is_known_in, is_live_in, keeps_mapped, keeps_recorded, keeps_tested, live_confirmed, live_replaced, live_unconfirmed, mapped_live, name_left, opening_known, renamed_known, single_confirmed, single_unconfirmed}
 use Rattle.nfs_core.proofs.SoundLocks.{LocksStay, locks_begun, locks_changed, locks_closed, locks_numbered, locks_owned, locks_released, locks_reopened, locks_without, locks_without_client, under_each, under_opening}
 use Rattle.nfs_forms.specs.ClientId.{is_same_client}
 use Rattle.nfs_forms.specs.OpenOwner.{is_same_owner}
@@ -74,40 +73,41 @@ abbrev pub IsReady : ℕ → State → Decision → Type 0
 IsReady number old decision =
     IsOwnerReady decision.owner old × IsChangeReady decision.change (with_owner_change decision.owner number old)
 
--- an owner's kept entry, and its confirmation
-keeps_kept : (number : ℕ) → KeepsOwner (λ o. record o { kept_entry = number })
-keeps_kept number = record { name = λ o. refl; confirmed = λ o is_set. is_set }
+-- The owners change, and all that are known or confirmed stay so.
+sound_owners : (new : List KnownOwner) (old : State) → AreLive old.clients.records new → KeepsOwners old.owners new → IsSound old → IsSound (record old { owners = new })
+sound_owners new old live keeps sound = record {
+  live = live;
+  known = renamed_known old.owners new (λ o found. keeps.known (open_owner o) found) old.opens sound.known;
+  compatible = sound.compatible;
+  single = sound.single;
+  locks = locks_owned old.owners new old.opens old.last_state old.locks keeps sound.locks;
+}
 
-keeps_confirmation : KeepsOwner (λ o. record o { confirmed = true })
-keeps_confirmation = record { name = λ o. refl; confirmed = λ o is_set. refl }
+-- the change of the owner with a name, by its kept entry or its confirmation
+
+pub keeps_kept : (number : ℕ) (name : StateOwner) → KeepsOwner (λ o. if has_name name o then record o { kept_entry = number } else o)
+keeps_kept number name =
+    keeps_tested (has_name name) (λ o. record o { kept_entry = number }) (record { name = λ o. refl; confirmed = λ o is_set. is_set })
+
+pub keeps_confirmed : (name : StateOwner) → KeepsOwner (λ o. if has_name name o then record o { confirmed = true } else o)
+keeps_confirmed name =
+    keeps_tested (has_name name) (λ o. record o { confirmed = true }) (record { name = λ o. refl; confirmed = λ o is_set. refl })
+
+sound_mapped : (f : KnownOwner → KnownOwner) → KeepsOwner f → (old : State) → IsSound old → IsSound (record old { owners = map f old.owners })
+sound_mapped f keeps old sound =
+    sound_owners (map f old.owners) old (mapped_live f keeps old.clients.records old.owners sound.live) (keeps_mapped f keeps old.owners) sound
 
 -- what an entry means for an owner
 
-sound_mapped : (f : KnownOwner → KnownOwner) → KeepsOwner f → (old : State) → IsSound old → IsSound (record old { owners = map f old.owners })
-sound_mapped f keeps old sound = record {
-  live = mapped_live f keeps old.clients.records old.owners sound.live;
-  known = renamed_known old.owners (map f old.owners) (λ o found. name_mapped f keeps old.owners (open_owner o) found) old.opens sound.known;
-  compatible = sound.compatible;
-  single = sound.single;
-  locks = locks_owned old.owners (map f old.owners) old.opens old.last_state old.locks (name_mapped f keeps old.owners) (confirmed_mapped f keeps old.owners) sound.locks;
-}
-
 sound_kept : (number : ℕ) (name : StateOwner) (old : State) → IsSound old → IsSound (record old { owners = with_kept_entry number name old.owners })
 sound_kept number name old sound =
-    sound_mapped (λ o. if has_name name o then record o { kept_entry = number } else o)
-    (keeps_tested (has_name name) (λ o. record o { kept_entry = number }) (keeps_kept number)) old sound
+    sound_mapped (λ o. if has_name name o then record o { kept_entry = number } else o) (keeps_kept number name) old sound
 
 sound_recorded : (number : ℕ) (name : StateOwner) (old : State) → is_live_in old.clients.records name.client ≡ true → IsSound old → IsSound (record old { owners = with_record number name old.owners })
 sound_recorded number name old live sound =
     let new : KnownOwner = record { name = name; confirmed = false; recording_entry = number; kept_entry = number } in
-    let owners = with_record number name old.owners in
-    record {
-      live = all_push (λ o. is_live_in old.clients.records o.name.client ≡ true) old.owners new sound.live live;
-      known = renamed_known old.owners owners (λ o found. name_recorded new old.owners (open_owner o) found) old.opens sound.known;
-      compatible = sound.compatible;
-      single = sound.single;
-      locks = locks_owned old.owners owners old.opens old.last_state old.locks (name_recorded new old.owners) (confirmed_recorded new old.owners) sound.locks;
-    }
+    sound_owners (with_record number name old.owners) old
+    (all_push (λ o. is_live_in old.clients.records o.name.client ≡ true) old.owners new sound.live live) (keeps_recorded new old.owners) sound
 
 sound_dropped : OpensStay → (name : OpenOwner) (old : State) → is_confirmed (open_owner name) old.owners ≡ false → IsSound old → IsSound (state_changes.without name old)
 sound_dropped law name old unset sound =
@@ -196,7 +196,7 @@ sound_changed law lock_law (changes.Opens node owner share) old ready sound =
     }
 sound_changed law lock_law (changes.Confirms node number owner) old ready sound =
     let f : KnownOwner → KnownOwner = λ o. if has_name (open_owner owner) o then record o { confirmed = true } else o in
-    let confirmed = sound_mapped f (keeps_tested (has_name (open_owner owner)) (λ o. record o { confirmed = true }) keeps_confirmation) old sound in
+    let confirmed = sound_mapped f (keeps_confirmed (open_owner owner)) old sound in
     let owners = with_confirmation (open_owner owner) old.owners in
     record {
       live = confirmed.live;
