@@ -20,7 +20,7 @@ use Rattle.nfs_owners.specs.StateOwner.{is_same_state_owner, lock_owner, open_ow
 use Rattle.nfs_owners.specs.declared.state_owner.StateOwner.{StateOwner}
 use Rattle.nfs_ranges.specs.declared.piece.Piece.{Piece}
 use Rattle.nfs_share.specs.AllOpens.{opens_of, with_opens}
-use Rattle.nfs_share.specs.Opens as opens
+use Rattle.nfs_share.specs.Opens.{after_open, first_open, is_numbered as is_open_numbered, is_of as is_open_of, is_of_client as is_open_of_client, open_of, with_each, with_opening, without as without_opens}
 use Rattle.nfs_share.specs.declared.open_state.OpenState.{OpenState}
 use Rattle.nfs_share.specs.declared.share.Share.{Share}
 use Rattle.nfs_state.specs.Owners.{KnownOwner, is_confirmed, without_owner}
@@ -38,22 +38,22 @@ never b unset is_set = cc
 -- The parts of the test of an open under which a lock state stands.
 
 pub record Bears (owners : List KnownOwner) (l : ByteLocks) (o : OpenState) : Type 0 where
-  pub number : opens.is_numbered l.open_number o ≡ true
-  pub client : opens.is_of_client l.owner.client o ≡ true
+  pub number : is_open_numbered l.open_number o ≡ true
+  pub client : is_open_of_client l.owner.client o ≡ true
   pub confirmed : is_confirmed (open_owner o.owner) owners ≡ true
 
 pub bears_parts : (owners : List KnownOwner) (l : ByteLocks) (o : OpenState) → bears owners l o ≡ true → Bears owners l o
 bears_parts owners l o h =
-    let number = opens.is_numbered l.open_number o in
-    let client = opens.is_of_client l.owner.client o in
+    let number = is_open_numbered l.open_number o in
+    let client = is_open_of_client l.owner.client o in
     let both = and_parts (number && client) (is_confirmed (open_owner o.owner) owners) h in
     let front = and_parts number client both.0 in
     record { number = front.0; client = front.1; confirmed = both.1 }
 
 pub bears_from : (owners : List KnownOwner) (l : ByteLocks) (o : OpenState) → Bears owners l o → bears owners l o ≡ true
 bears_from owners l o h =
-    let number = opens.is_numbered l.open_number o in
-    let client = opens.is_of_client l.owner.client o in
+    let number = is_open_numbered l.open_number o in
+    let client = is_open_of_client l.owner.client o in
     and_from (number && client) (is_confirmed (open_owner o.owner) owners) (and_from number client h.number h.client) h.confirmed
 
 -- an open whose owner is confirmed still
@@ -63,12 +63,12 @@ bears_still owners new l o h confirmed = bears_from new l o (record { number = h
 -- a lock state stands under one of the opens that are left
 under_left : (owners new : List KnownOwner) (test : OpenState → Bool) (l : ByteLocks)
     → ((o : OpenState) → Bears owners l o → (test o ≡ false) × (is_confirmed (open_owner o.owner) new ≡ true))
-    → (xs : List OpenState) → IsUnder owners xs l → IsUnder new (opens.without test xs) l
+    → (xs : List OpenState) → IsUnder owners xs l → IsUnder new (without_opens test xs) l
 under_left owners new test l keep xs found =
     let all : IsUnder new xs l = found_by (bears owners l) (bears new l)
     (λ o h. bears_still owners new l o (bears_parts owners l o h) (keep o (bears_parts owners l o h)).1) xs found in
     found_by (λ o. bears owners l o) (bears new l)
-    (λ o h. bears_still owners new l o (bears_parts owners l o h) (keep o (bears_parts owners l o h)).1) (opens.without test xs)
+    (λ o h. bears_still owners new l o (bears_parts owners l o h) (keep o (bears_parts owners l o h)).1) (without_opens test xs)
     (found_filtered (λ o. ⊤) (bears owners l) (λ o. not (test o))
     (λ o _ h. not_from_false (test o) (keep o (bears_parts owners l o h)).0) xs (all_always xs) found)
 
@@ -110,10 +110,10 @@ dropped_stays name owners l unset o h = elim (cases_Bool (is_same_owner o.owner 
 
 pub locks_without : (name : OpenOwner) (owners : List KnownOwner) (opens : List (List OpenState)) (last : ℕ) (locks : List (List ByteLocks))
     → is_confirmed (open_owner name) owners ≡ false → HasSoundLocks owners opens last locks
-    → HasSoundLocks (without_owner (open_owner name) owners) (map (opens.without (λ o. is_same_owner o.owner name)) opens) last locks
+    → HasSoundLocks (without_owner (open_owner name) owners) (map (without_opens (λ o. is_same_owner o.owner name)) opens) last locks
 locks_without name owners opens last locks unset sound =
     let new = without_owner (open_owner name) owners in
-    let remove : List OpenState → List OpenState = opens.without (λ o. is_same_owner o.owner name) in
+    let remove : List OpenState → List OpenState = without_opens (λ o. is_same_owner o.owner name) in
     record {
       known = all_weaken (AllByRecursion (IsLockerKnownIn owners)) (AllByRecursion (IsLockerKnownIn new))
           (λ xs h. all_weaken (IsLockerKnownIn owners) (IsLockerKnownIn new)
@@ -130,17 +130,17 @@ locks_without name owners opens last locks unset sound =
 
 client_stays : (client : ClientId) (owners : List KnownOwner) (l : ByteLocks) → is_same_client l.owner.client client ≡ false
     → (o : OpenState) → Bears owners l o
-    → (opens.is_of_client client o ≡ false) × (is_confirmed (open_owner o.owner) (left (λ n. is_same_client n.client client) owners) ≡ true)
+    → (is_open_of_client client o ≡ false) × (is_confirmed (open_owner o.owner) (left (λ n. is_same_client n.client client) owners) ≡ true)
 client_stays client owners l other o h =
-    let out : opens.is_of_client client o ≡ false = ap (λ c. is_same_client c client) (equal_clients o.owner.client l.owner.client h.client) ∙ other in
+    let out : is_open_of_client client o ≡ false = ap (λ c. is_same_client c client) (equal_clients o.owner.client l.owner.client h.client) ∙ other in
     (out, confirmed_left (λ n. is_same_client n.client client) owners (open_owner o.owner) out h.confirmed)
 
 pub locks_without_client : LocksStay → (client : ClientId) (owners : List KnownOwner) (opens : List (List OpenState)) (last : ℕ) (locks : List (List ByteLocks))
     → HasSoundLocks owners opens last locks
-    → HasSoundLocks (left (λ n. is_same_client n.client client) owners) (map (opens.without (opens.is_of_client client)) opens) last (map (without (is_lock_of_client client)) locks)
+    → HasSoundLocks (left (λ n. is_same_client n.client client) owners) (map (without_opens (is_open_of_client client)) opens) last (map (without (is_lock_of_client client)) locks)
 locks_without_client law client owners opens last locks sound =
     let new = left (λ n. is_same_client n.client client) owners in
-    let close : List OpenState → List OpenState = opens.without (opens.is_of_client client) in
+    let close : List OpenState → List OpenState = without_opens (is_open_of_client client) in
     let free : List ByteLocks → List ByteLocks = without (is_lock_of_client client) in
     record {
       known = all_map (AllByRecursion (IsLockerKnownIn owners)) (AllByRecursion (IsLockerKnownIn new)) free
@@ -151,7 +151,7 @@ locks_without_client law client owners opens last locks sound =
           subst (λ xs. AllByRecursion (IsUnder new xs) (locks_of node (map free locks))) (sym (opens_of_map close refl node opens))
           (subst (AllByRecursion (IsUnder new (close (opens_of node opens)))) (sym (locks_of_map free refl node locks))
           (all_filter (IsUnder owners (opens_of node opens)) (IsUnder new (close (opens_of node opens))) (λ l. not (is_lock_of_client client l))
-          (λ l h out. under_left owners new (opens.is_of_client client) l
+          (λ l h out. under_left owners new (is_open_of_client client) l
           (client_stays client owners l (not-true (is_lock_of_client client l) out)) (opens_of node opens) h)
           (locks_of node locks) (sound.under node)));
       numbered = all_map (AreNumbered last) (AreNumbered last) free (λ xs h. numbered_left last (is_lock_of_client client) xs h) locks sound.numbered;
@@ -197,17 +197,17 @@ locks_reopened node change owners opens last locks keep sound = record {
 -- some opens change, and each keeps its owner and its number
 pub under_each : (owners : List KnownOwner) (test : OpenState → Bool) (change : OpenState → OpenState)
     → ((l : ByteLocks) (o : OpenState) → bears owners l o ≡ true → bears owners l (change o) ≡ true)
-    → (l : ByteLocks) (xs : List OpenState) → IsUnder owners xs l → IsUnder owners (opens.with_each test change xs) l
+    → (l : ByteLocks) (xs : List OpenState) → IsUnder owners xs l → IsUnder owners (with_each test change xs) l
 under_each owners test change keeps l xs found =
     found_map (bears owners l) (λ o. if test o then change o else o)
     (λ o h. cond_both (test o) (change o) o (λ x. bears owners l x ≡ true) (λ _. keeps l o h) (λ _. h)) xs found
 
 pub under_opening : (owners : List KnownOwner) (owner : OpenOwner) (share : Share) (number : ℕ) (l : ByteLocks) (xs : List OpenState)
-    → IsUnder owners xs l → IsUnder owners (opens.with_opening owner share number xs) l
+    → IsUnder owners xs l → IsUnder owners (with_opening owner share number xs) l
 under_opening owners owner share number l xs found =
-    cond_both (is_some (opens.open_of owner xs)) (opens.with_each (opens.is_of owner) (opens.after_open share) xs) (xs ++ opens.first_open owner share number ∷ []) (λ ys. IsUnder owners ys l)
-    (λ _. under_each owners (opens.is_of owner) (opens.after_open share) (λ l o h. h) l xs found)
-    (λ _. found_more (bears owners l) xs (opens.first_open owner share number ∷ []) found)
+    cond_both (is_some (open_of owner xs)) (with_each (is_open_of owner) (after_open share) xs) (xs ++ first_open owner share number ∷ []) (λ ys. IsUnder owners ys l)
+    (λ _. under_each owners (is_open_of owner) (after_open share) (λ l o h. h) l xs found)
+    (λ _. found_more (bears owners l) xs (first_open owner share number ∷ []) found)
 
 -- a higher number is the last one that was given
 pub locks_numbered : (owners : List KnownOwner) (opens : List (List OpenState)) (last higher : ℕ) (locks : List (List ByteLocks)) → last ≤ higher
@@ -223,15 +223,15 @@ locks_numbered owners opens last higher locks rises sound = record {
 -- An open is closed with the lock states under it.
 
 closed_stays : (number : ℕ) (owners : List KnownOwner) (l : ByteLocks) → is_under number l ≡ false
-    → (o : OpenState) → Bears owners l o → (opens.is_numbered number o ≡ false) × (is_confirmed (open_owner o.owner) owners ≡ true)
+    → (o : OpenState) → Bears owners l o → (is_open_numbered number o ≡ false) × (is_confirmed (open_owner o.owner) owners ≡ true)
 closed_stays number owners l other o h =
     (ap (λ n. n == number) (eqb-true o.number l.open_number h.number) ∙ other, h.confirmed)
 
 pub locks_closed : LocksStay → (node number : ℕ) (owners : List KnownOwner) (opens : List (List OpenState)) (last : ℕ) (locks : List (List ByteLocks))
     → HasSoundLocks owners opens last locks
-    → HasSoundLocks owners (with_opens node (opens.without (opens.is_numbered number)) opens) last (with_locks node (without (is_under number)) locks)
+    → HasSoundLocks owners (with_opens node (without_opens (is_open_numbered number)) opens) last (with_locks node (without (is_under number)) locks)
 locks_closed law node number owners opens last locks sound =
-    let close : List OpenState → List OpenState = opens.without (opens.is_numbered number) in
+    let close : List OpenState → List OpenState = without_opens (is_open_numbered number) in
     let free : List ByteLocks → List ByteLocks = without (is_under number) in
     let new = with_locks node free locks in
     record {
@@ -245,7 +245,7 @@ locks_closed law node number owners opens last locks sound =
           (λ same. subst (λ k. AllByRecursion (IsUnder owners (close (opens_of node opens))) (locks_of k new)) (sym same)
           (locks_set (AllByRecursion (IsUnder owners (close (opens_of node opens)))) tt node locks (free (locks_of node locks))
           (all_filter (IsUnder owners (opens_of node opens)) (IsUnder owners (close (opens_of node opens))) (λ l. not (is_under number l))
-          (λ l k out. under_left owners owners (opens.is_numbered number) l (closed_stays number owners l (not-true (is_under number l) out)) (opens_of node opens) k)
+          (λ l k out. under_left owners owners (is_open_numbered number) l (closed_stays number owners l (not-true (is_under number l) out)) (opens_of node opens) k)
           (locks_of node locks) (sound.under node))));
       numbered = set_locks (AreNumbered last) (tt, tt) free (λ xs h. numbered_left last (is_under number) xs h) node locks sound.numbered;
     }
