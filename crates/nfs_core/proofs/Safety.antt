@@ -13,7 +13,7 @@ use Rattle.nfs_core.specs.Step.{Follows, Step}
 use Rattle.nfs_state.specs.Entries.{with_entry}
 use Rattle.nfs_core.proofs.SafeFiles.{locks_at}
 use Rattle.nfs_core.proofs.SafeLists.{all_replicate, all_weaken, any_found, found_holds}
-use Rattle.nfs_core.proofs.Sound.{AreNumbered, HasSoundLocks, IsKnownIn, IsLockerKnownIn, IsSound, IsUnder, OpensStay, equal_names, is_known_in, is_live_in}
+use Rattle.nfs_core.proofs.Sound.{AreNumbered, HasSoundLocks, IsKnownIn, IsLockerKnownIn, IsSound, StandsUnder, OpensStay, equal_names, is_known_in, is_live_in}
 use Rattle.nfs_core.proofs.SoundLocks.{LocksStay}
 use Rattle.nfs_core.proofs.SoundRules.{ruled_ready}
 use Rattle.nfs_core.proofs.SoundSteps.{sound_after}
@@ -33,8 +33,8 @@ no_locks count opens =
     record {
       known = all_replicate (AllByRecursion (IsLockerKnownIn [])) [] tt count;
       compatible = all_replicate AllLocksAreCompatible [] (λ byte. tt) count;
-      under = λ node. locks_at (AllByRecursion (IsUnder [] (opens_of node opens))) tt node none
-          (all_replicate (AllByRecursion (IsUnder [] (opens_of node opens))) [] tt count);
+      under = λ node. locks_at (AllByRecursion (StandsUnder [] (opens_of node opens))) tt node none
+          (all_replicate (AllByRecursion (StandsUnder [] (opens_of node opens))) [] tt count);
       numbered = all_replicate (AreNumbered 0) [] (tt, tt) count;
     }
 
@@ -80,7 +80,7 @@ safe state sound = record {
   lockers_known = sound.locks.known;
   lockers_live = all_weaken (AllByRecursion (HasKnownLocker state)) (AllByRecursion (HasLiveLocker state))
       (λ locks known. all_weaken (HasKnownLocker state) (HasLiveLocker state) (λ l h. live_owner state sound (lock_owner l.owner) h) locks known) state.locks sound.locks.known;
-  locks_under_opens = λ node. all_weaken (IsUnder state.owners (opens_of node state.opens)) (StandsUnderOpen state node)
+  locks_under_opens = λ node. all_weaken (StandsUnder state.owners (opens_of node state.opens)) (StandsUnderOpen state node)
       (λ l h. any_found (bears state.owners l) (opens_of node state.opens) h) (locks_of node state.locks) (sound.locks.under node);
 }
 

@@ -131,8 +131,8 @@ abbrev pub IsLockerKnownIn : List KnownOwner → ByteLocks → Type 0
 IsLockerKnownIn owners l = is_known_in owners (lock_owner l.owner) ≡ true
 
 -- the lock state stands under one of the opens
-abbrev pub IsUnder : List KnownOwner → List OpenState → ByteLocks → Type 0
-IsUnder owners opens l = is_some (find (bears owners l) opens) ≡ true
+abbrev pub StandsUnder : List KnownOwner → List OpenState → ByteLocks → Type 0
+StandsUnder owners opens l = is_some (find (bears owners l) opens) ≡ true
 
 -- lock states with one number are of one owner
 abbrev pub HasOneOwner : ByteLocks → ByteLocks → Type 0
@@ -146,7 +146,7 @@ AreNumbered last xs = AllByRecursion (λ l. l.number ≤ last) xs × AllByRecurs
 pub record HasSoundLocks (owners : List KnownOwner) (opens : List (List OpenState)) (last : ℕ) (locks : List (List ByteLocks)) : Type 0 where
   pub known : AllByRecursion (AllByRecursion (IsLockerKnownIn owners)) locks
   pub compatible : AllByRecursion AllLocksAreCompatible locks
-  pub under : (node : ℕ) → AllByRecursion (IsUnder owners (opens_of node opens)) (locks_of node locks)
+  pub under : (node : ℕ) → AllByRecursion (StandsUnder owners (opens_of node opens)) (locks_of node locks)
   pub numbered : AllByRecursion (AreNumbered last) locks
 
 pub record IsSound (state : State) : Type 0 where

@@ -5,7 +5,7 @@ use Rattle.std.specs.List.{AllByRecursion}
 use Rattle.std.proofs.lemmas.Bool.{and_parts, and_from, cases_Bool, cond_both, eqb-true, eq-eqb, not-true, not_from_false}
 use Rattle.nfs_core.proofs.SafeFiles.{locks_at, locks_of_map, locks_set, locks_where_set, opens_of_map, opens_where_set, set_locks}
 use Rattle.nfs_core.proofs.SafeLists.{all_always, all_filter, all_map, all_push, all_set, all_weaken, found_by, found_filtered, found_holds, found_map, found_more, pairs_filter, pairs_map, pairs_push}
-use Rattle.nfs_core.proofs.Sound.{AreNumbered, HasOneOwner, HasSoundLocks, KeepsOwners, IsLockerKnownIn, IsUnder, confirmed_left, equal_clients, equal_lock_owners, equal_owners, is_known_in, left, name_left, same_client_self, same_lock_owner_self}
+use Rattle.nfs_core.proofs.Sound.{AreNumbered, HasOneOwner, HasSoundLocks, KeepsOwners, IsLockerKnownIn, StandsUnder, confirmed_left, equal_clients, equal_lock_owners, equal_owners, is_known_in, left, name_left, same_client_self, same_lock_owner_self}
 use Rattle.nfs_core.specs.Safe.{bears}
 use Rattle.nfs_forms.specs.ClientId.{is_same_client}
 use Rattle.nfs_forms.specs.OpenOwner.{is_same_owner}
@@ -63,9 +63,9 @@ bears_still owners new l o h confirmed = bears_from new l o (record { number = h
 -- a lock state stands under one of the opens that are left
 under_left : (owners new : List KnownOwner) (test : OpenState → Bool) (l : ByteLocks)
     → ((o : OpenState) → Bears owners l o → (test o ≡ false) × (is_confirmed (open_owner o.owner) new ≡ true))
-    → (xs : List OpenState) → IsUnder owners xs l → IsUnder new (without_opens test xs) l
+    → (xs : List OpenState) → StandsUnder owners xs l → StandsUnder new (without_opens test xs) l
 under_left owners new test l keep xs found =
-    let all : IsUnder new xs l = found_by (bears owners l) (bears new l)
+    let all : StandsUnder new xs l = found_by (bears owners l) (bears new l)
     (λ o h. bears_still owners new l o (bears_parts owners l o h) (keep o (bears_parts owners l o h)).1) xs found in
     found_by (λ o. bears owners l o) (bears new l)
     (λ o h. bears_still owners new l o (bears_parts owners l o h) (keep o (bears_parts owners l o h)).1) (without_opens test xs)
@@ -82,7 +82,7 @@ numbered_left last test xs h = (
 
 -- The owners change, and all that are known or confirmed stay so.
 
-pub under_kept : (owners new : List KnownOwner) → KeepsOwners owners new → (l : ByteLocks) (xs : List OpenState) → IsUnder owners xs l → IsUnder new xs l
+pub under_kept : (owners new : List KnownOwner) → KeepsOwners owners new → (l : ByteLocks) (xs : List OpenState) → StandsUnder owners xs l → StandsUnder new xs l
 under_kept owners new keeps l xs found =
     found_by (bears owners l) (bears new l)
     (λ o h. bears_still owners new l o (bears_parts owners l o h) (keeps.confirmed (open_owner o.owner) (bears_parts owners l o h).confirmed)) xs found
@@ -93,7 +93,7 @@ locks_owned owners new opens last locks keeps sound = record {
   known = all_weaken (AllByRecursion (IsLockerKnownIn owners)) (AllByRecursion (IsLockerKnownIn new))
       (λ xs h. all_weaken (IsLockerKnownIn owners) (IsLockerKnownIn new) (λ l k. keeps.known (lock_owner l.owner) k) xs h) locks sound.known;
   compatible = sound.compatible;
-  under = λ node. all_weaken (IsUnder owners (opens_of node opens)) (IsUnder new (opens_of node opens))
+  under = λ node. all_weaken (StandsUnder owners (opens_of node opens)) (StandsUnder new (opens_of node opens))
       (λ l h. under_kept owners new keeps l (opens_of node opens) h) (locks_of node locks) (sound.under node);
   numbered = sound.numbered;
 }
@@ -119,8 +119,8 @@ locks_without name owners opens last locks unset sound =
           (λ xs h. all_weaken (IsLockerKnownIn owners) (IsLockerKnownIn new)
           (λ l k. name_left (λ n. is_same_state_owner n (open_owner name)) owners (lock_owner l.owner) refl k) xs h) locks sound.known;
       compatible = sound.compatible;
-      under = λ node. subst (λ xs. AllByRecursion (IsUnder new xs) (locks_of node locks)) (sym (opens_of_map remove refl node opens))
-          (all_weaken (IsUnder owners (opens_of node opens)) (IsUnder new (remove (opens_of node opens)))
+      under = λ node. subst (λ xs. AllByRecursion (StandsUnder new xs) (locks_of node locks)) (sym (opens_of_map remove refl node opens))
+          (all_weaken (StandsUnder owners (opens_of node opens)) (StandsUnder new (remove (opens_of node opens)))
           (λ l h. under_left owners new (λ o. is_same_owner o.owner name) l (dropped_stays name owners l unset) (opens_of node opens) h)
           (locks_of node locks) (sound.under node));
       numbered = sound.numbered;
@@ -148,9 +148,9 @@ locks_without_client law client owners opens last locks sound =
           (λ l k out. name_left (λ n. is_same_client n.client client) owners (lock_owner l.owner) (not-true (is_lock_of_client client l) out) k) xs h) locks sound.known;
       compatible = all_map AllLocksAreCompatible AllLocksAreCompatible free (λ xs h. law.removal (is_lock_of_client client) xs h) locks sound.compatible;
       under = λ node.
-          subst (λ xs. AllByRecursion (IsUnder new xs) (locks_of node (map free locks))) (sym (opens_of_map close refl node opens))
-          (subst (AllByRecursion (IsUnder new (close (opens_of node opens)))) (sym (locks_of_map free refl node locks))
-          (all_filter (IsUnder owners (opens_of node opens)) (IsUnder new (close (opens_of node opens))) (λ l. not (is_lock_of_client client l))
+          subst (λ xs. AllByRecursion (StandsUnder new xs) (locks_of node (map free locks))) (sym (opens_of_map close refl node opens))
+          (subst (AllByRecursion (StandsUnder new (close (opens_of node opens)))) (sym (locks_of_map free refl node locks))
+          (all_filter (StandsUnder owners (opens_of node opens)) (StandsUnder new (close (opens_of node opens))) (λ l. not (is_lock_of_client client l))
           (λ l h out. under_left owners new (is_open_of_client client) l
           (client_stays client owners l (not-true (is_lock_of_client client l) out)) (opens_of node opens) h)
           (locks_of node locks) (sound.under node)));
@@ -171,8 +171,8 @@ locks_released law owner owners opens last locks sound =
           (λ l k out. name_left t owners (lock_owner l.owner) (not-true (is_lock_of owner l) out) k) xs h) locks sound.known;
       compatible = all_map AllLocksAreCompatible AllLocksAreCompatible free (λ xs h. law.removal (is_lock_of owner) xs h) locks sound.compatible;
       under = λ node.
-          subst (AllByRecursion (IsUnder new (opens_of node opens))) (sym (locks_of_map free refl node locks))
-          (all_filter (IsUnder owners (opens_of node opens)) (IsUnder new (opens_of node opens)) (λ l. not (is_lock_of owner l))
+          subst (AllByRecursion (StandsUnder new (opens_of node opens))) (sym (locks_of_map free refl node locks))
+          (all_filter (StandsUnder owners (opens_of node opens)) (StandsUnder new (opens_of node opens)) (λ l. not (is_lock_of owner l))
           (λ l h out. found_by (bears owners l) (bears new l)
           (λ o k. bears_still owners new l o (bears_parts owners l o k)
           (confirmed_left t owners (open_owner o.owner) refl (bears_parts owners l o k).confirmed)) (opens_of node opens) h)
@@ -182,30 +182,30 @@ locks_released law owner owners opens last locks sound =
 
 -- The opens of a node change, and each that bears a lock state does so still.
 pub locks_reopened : (node : ℕ) (change : List OpenState → List OpenState) (owners : List KnownOwner) (opens : List (List OpenState)) (last : ℕ) (locks : List (List ByteLocks))
-    → ((l : ByteLocks) (xs : List OpenState) → IsUnder owners xs l → IsUnder owners (change xs) l)
+    → ((l : ByteLocks) (xs : List OpenState) → StandsUnder owners xs l → StandsUnder owners (change xs) l)
     → HasSoundLocks owners opens last locks → HasSoundLocks owners (with_opens node change opens) last locks
 locks_reopened node change owners opens last locks keep sound = record {
   known = sound.known;
   compatible = sound.compatible;
-  under = λ m. opens_where_set (λ xs. AllByRecursion (IsUnder owners xs) (locks_of m locks)) m node opens (change (opens_of node opens)) (sound.under m)
-      (λ same. all_weaken (IsUnder owners (opens_of node opens)) (IsUnder owners (change (opens_of node opens)))
+  under = λ m. opens_where_set (λ xs. AllByRecursion (StandsUnder owners xs) (locks_of m locks)) m node opens (change (opens_of node opens)) (sound.under m)
+      (λ same. all_weaken (StandsUnder owners (opens_of node opens)) (StandsUnder owners (change (opens_of node opens)))
       (λ l h. keep l (opens_of node opens) h) (locks_of m locks)
-      (subst (λ k. AllByRecursion (IsUnder owners (opens_of k opens)) (locks_of m locks)) same (sound.under m)));
+      (subst (λ k. AllByRecursion (StandsUnder owners (opens_of k opens)) (locks_of m locks)) same (sound.under m)));
   numbered = sound.numbered;
 }
 
 -- some opens change, and each keeps its owner and its number
 pub under_each : (owners : List KnownOwner) (test : OpenState → Bool) (change : OpenState → OpenState)
     → ((l : ByteLocks) (o : OpenState) → bears owners l o ≡ true → bears owners l (change o) ≡ true)
-    → (l : ByteLocks) (xs : List OpenState) → IsUnder owners xs l → IsUnder owners (with_each test change xs) l
+    → (l : ByteLocks) (xs : List OpenState) → StandsUnder owners xs l → StandsUnder owners (with_each test change xs) l
 under_each owners test change keeps l xs found =
     found_map (bears owners l) (λ o. if test o then change o else o)
     (λ o h. cond_both (test o) (change o) o (λ x. bears owners l x ≡ true) (λ _. keeps l o h) (λ _. h)) xs found
 
 pub under_opening : (owners : List KnownOwner) (owner : OpenOwner) (share : Share) (number : ℕ) (l : ByteLocks) (xs : List OpenState)
-    → IsUnder owners xs l → IsUnder owners (with_opening owner share number xs) l
+    → StandsUnder owners xs l → StandsUnder owners (with_opening owner share number xs) l
 under_opening owners owner share number l xs found =
-    cond_both (is_some (open_of owner xs)) (with_each (is_open_of owner) (after_open share) xs) (xs ++ first_open owner share number ∷ []) (λ ys. IsUnder owners ys l)
+    cond_both (is_some (open_of owner xs)) (with_each (is_open_of owner) (after_open share) xs) (xs ++ first_open owner share number ∷ []) (λ ys. StandsUnder owners ys l)
     (λ _. under_each owners (is_open_of owner) (after_open share) (λ l o h. h) l xs found)
     (λ _. found_more (bears owners l) xs (first_open owner share number ∷ []) found)
 
@@ -238,13 +238,13 @@ locks_closed law node number owners opens last locks sound =
       known = set_locks (AllByRecursion (IsLockerKnownIn owners)) tt free
           (λ xs h. all_filter (IsLockerKnownIn owners) (IsLockerKnownIn owners) (λ l. not (is_under number l)) (λ l k _. k) xs h) node locks sound.known;
       compatible = set_locks AllLocksAreCompatible (λ byte. tt) free (law.removal (is_under number)) node locks sound.compatible;
-      under = λ m. opens_where_set (λ xs. AllByRecursion (IsUnder owners xs) (locks_of m new)) m node opens (close (opens_of node opens))
-          (locks_where_set (AllByRecursion (IsUnder owners (opens_of m opens))) m node locks (free (locks_of node locks)) (sound.under m)
-          (λ same. all_filter (IsUnder owners (opens_of m opens)) (IsUnder owners (opens_of m opens)) (λ l. not (is_under number l)) (λ l k _. k) (locks_of node locks)
-          (subst (λ k. AllByRecursion (IsUnder owners (opens_of m opens)) (locks_of k locks)) same (sound.under m))))
-          (λ same. subst (λ k. AllByRecursion (IsUnder owners (close (opens_of node opens))) (locks_of k new)) (sym same)
-          (locks_set (AllByRecursion (IsUnder owners (close (opens_of node opens)))) tt node locks (free (locks_of node locks))
-          (all_filter (IsUnder owners (opens_of node opens)) (IsUnder owners (close (opens_of node opens))) (λ l. not (is_under number l))
+      under = λ m. opens_where_set (λ xs. AllByRecursion (StandsUnder owners xs) (locks_of m new)) m node opens (close (opens_of node opens))
+          (locks_where_set (AllByRecursion (StandsUnder owners (opens_of m opens))) m node locks (free (locks_of node locks)) (sound.under m)
+          (λ same. all_filter (StandsUnder owners (opens_of m opens)) (StandsUnder owners (opens_of m opens)) (λ l. not (is_under number l)) (λ l k _. k) (locks_of node locks)
+          (subst (λ k. AllByRecursion (StandsUnder owners (opens_of m opens)) (locks_of k locks)) same (sound.under m))))
+          (λ same. subst (λ k. AllByRecursion (StandsUnder owners (close (opens_of node opens))) (locks_of k new)) (sym same)
+          (locks_set (AllByRecursion (StandsUnder owners (close (opens_of node opens)))) tt node locks (free (locks_of node locks))
+          (all_filter (StandsUnder owners (opens_of node opens)) (StandsUnder owners (close (opens_of node opens))) (λ l. not (is_under number l))
           (λ l k out. under_left owners owners (is_open_numbered number) l (closed_stays number owners l (not-true (is_under number l) out)) (opens_of node opens) k)
           (locks_of node locks) (sound.under node))));
       numbered = set_locks (AreNumbered last) (tt, tt) free (λ xs h. numbered_left last (is_under number) xs h) node locks sound.numbered;
@@ -270,7 +270,7 @@ numbered_first first last xs h =
 
 pub locks_begun : LocksStay → (node : ℕ) (first : FirstLock) (owners : List KnownOwner) (opens : List (List OpenState)) (last : ℕ) (locks : List (List ByteLocks))
     → is_known_in owners (lock_owner first.owner) ≡ true
-    → IsUnder owners (opens_of node opens) (first_state first (last + 1))
+    → StandsUnder owners (opens_of node opens) (first_state first (last + 1))
     → IsFreeFor first.owner first.change (locks_of node locks)
     → HasSoundLocks owners opens last locks → HasSoundLocks owners opens (last + 1) (with_locks node (with_first_lock first (last + 1)) locks)
 locks_begun law node first owners opens last locks known under free sound =
@@ -280,10 +280,10 @@ locks_begun law node first owners opens last locks known under free sound =
           (λ xs h. all_push (IsLockerKnownIn owners) xs new h known) node locks sound.known;
       compatible = all_set AllLocksAreCompatible locks node (with_first_lock first (last + 1) (locks_of node locks)) sound.compatible
           (law.begin first (last + 1) (locks_of node locks) (locks_at AllLocksAreCompatible (λ byte. tt) node locks sound.compatible) free);
-      under = λ m. locks_where_set (AllByRecursion (IsUnder owners (opens_of m opens))) m node locks (with_first_lock first (last + 1) (locks_of node locks)) (sound.under m)
-          (λ same. all_push (IsUnder owners (opens_of m opens)) (locks_of node locks) new
-          (subst (λ k. AllByRecursion (IsUnder owners (opens_of m opens)) (locks_of k locks)) same (sound.under m))
-          (subst (λ k. IsUnder owners (opens_of k opens) new) (sym same) under));
+      under = λ m. locks_where_set (AllByRecursion (StandsUnder owners (opens_of m opens))) m node locks (with_first_lock first (last + 1) (locks_of node locks)) (sound.under m)
+          (λ same. all_push (StandsUnder owners (opens_of m opens)) (locks_of node locks) new
+          (subst (λ k. AllByRecursion (StandsUnder owners (opens_of m opens)) (locks_of k locks)) same (sound.under m))
+          (subst (λ k. StandsUnder owners (opens_of k opens) new) (sym same) under));
       numbered = all_set (AreNumbered (last + 1)) locks node (with_first_lock first (last + 1) (locks_of node locks))
           (locks_numbered owners opens last (last + 1) locks (omega arith) sound).numbered
           (numbered_first first last (locks_of node locks) (locks_at (AreNumbered last) (tt, tt) node locks sound.numbered));
@@ -325,9 +325,9 @@ locks_changed law node number change owner owners opens last locks has free soun
       compatible = all_set AllLocksAreCompatible locks node (with_lock_change number change (locks_of node locks)) sound.compatible
           (law.change number change owner (locks_of node locks) (locks_at AllLocksAreCompatible (λ byte. tt) node locks sound.compatible)
           (of_owner number last owner (locks_of node locks) (locks_at (AreNumbered last) (tt, tt) node locks sound.numbered) has) free);
-      under = λ m. locks_where_set (AllByRecursion (IsUnder owners (opens_of m opens))) m node locks (with_lock_change number change (locks_of node locks)) (sound.under m)
-          (λ same. all_map (IsUnder owners (opens_of m opens)) (IsUnder owners (opens_of m opens)) f
-          (λ l k. changed_keeps (IsUnder owners (opens_of m opens)) number change l k k) (locks_of node locks)
-          (subst (λ k. AllByRecursion (IsUnder owners (opens_of m opens)) (locks_of k locks)) same (sound.under m)));
+      under = λ m. locks_where_set (AllByRecursion (StandsUnder owners (opens_of m opens))) m node locks (with_lock_change number change (locks_of node locks)) (sound.under m)
+          (λ same. all_map (StandsUnder owners (opens_of m opens)) (StandsUnder owners (opens_of m opens)) f
+          (λ l k. changed_keeps (StandsUnder owners (opens_of m opens)) number change l k k) (locks_of node locks)
+          (subst (λ k. AllByRecursion (StandsUnder owners (opens_of m opens)) (locks_of k locks)) same (sound.under m)));
       numbered = set_locks (AreNumbered last) (tt, tt) (with_lock_change number change) (λ xs h. numbered_changed number change last xs h) node locks sound.numbered;
     }

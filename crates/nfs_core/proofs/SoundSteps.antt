@@ -14,7 +14,7 @@ use Rattle.nfs_state.specs.State.{State}
 use Rattle.nfs_core.specs.Step.{after}
 use Rattle.nfs_core.proofs.SafeFiles.{opens_at, set_opens}
 use Rattle.nfs_core.proofs.SafeLists.{all_filter, all_push, all_set}
-use Rattle.nfs_core.proofs.Sound.{AreLive, IsKnownIn, IsOnlyOf, IsSound, IsUnder, KeepsOwner, KeepsOwners, OpensStay, dropped_compatible, dropped_known, dropped_live, each_known, is_known_in, is_live_in, keeps_mapped, keeps_recorded, keeps_tested, live_confirmed, live_replaced, live_unconfirmed, mapped_live, name_left, opening_known, renamed_known, single_confirmed, single_unconfirmed}
+use Rattle.nfs_core.proofs.Sound.{AreLive, IsKnownIn, IsOnlyOf, IsSound, StandsUnder, KeepsOwner, KeepsOwners, OpensStay, dropped_compatible, dropped_known, dropped_live, each_known, is_known_in, is_live_in, keeps_mapped, keeps_recorded, keeps_tested, live_confirmed, live_replaced, live_unconfirmed, mapped_live, name_left, opening_known, renamed_known, single_confirmed, single_unconfirmed}
 use Rattle.nfs_core.proofs.SoundLocks.{LocksStay, locks_begun, locks_changed, locks_closed, locks_numbered, locks_owned, locks_released, locks_reopened, locks_without, locks_without_client, under_each, under_opening}
 use Rattle.nfs_forms.specs.ClientId.{is_same_client}
 use Rattle.nfs_forms.specs.OpenOwner.{is_same_owner}
@@ -61,7 +61,7 @@ IsChangeReady (changes.Opens node owner share) state =
     (is_known_in state.owners (open_owner owner) ≡ true) × (is_refused owner share (opens_of node state.opens) ≡ false)
 IsChangeReady (changes.Begins node first) state =
     (is_known_in state.owners (lock_owner first.owner) ≡ true)
-    × IsUnder state.owners (opens_of node state.opens) (first_state first (state.last_state + 1))
+    × StandsUnder state.owners (opens_of node state.opens) (first_state first (state.last_state + 1))
     × IsFreeFor first.owner first.change (locks_of node state.locks)
 IsChangeReady (changes.Locks node number change) state =
     (owner : LockOwner)
