@@ -126,6 +126,17 @@ found_holds P p (x ∷ xs) found h = elim (found_cases p x xs found) [
   | inr behind ↦ found_holds P p xs behind h.1
 ]
 
+-- where an element is found, something is found by each test that it passes
+pub found_some : {X : Type 0} (p q : X → Bool) (xs : List X) (x : X) → find p xs ≡ Some x → q x ≡ true → is_some (find q xs) ≡ true
+found_some p q [] x is passes = absurd cc
+found_some p q (y ∷ xs) x is passes = elim (cases_Bool (p y)) [
+  | inl here ↦
+      let same : Some y ≡ Some x = sym (cond-true (p y) (Some y) (find p xs) here) ∙ is in
+      let equal : y ≡ x = search same in
+      found_first q y xs (ap q equal ∙ passes)
+  | inr fails ↦ found_behind q y xs (found_some p q xs x (sym (cond-false (p y) (Some y) (find p xs) fails) ∙ is) passes)
+]
+
 -- where something is found, an element passes the test
 pub any_found : {X : Type 0} (p : X → Bool) (xs : List X) → is_some (find p xs) ≡ true → list_any p xs ≡ true
 any_found p [] found = absurd cc

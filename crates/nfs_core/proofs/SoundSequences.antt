@@ -184,7 +184,7 @@ pub keeps_entry : (number : ℕ) (name : StateOwner) (owners : List KnownOwner) 
 keeps_entry number name owners =
     keeps_mapped (λ o. if has_name name o then record o { kept_entry = number } else o) (keeps_kept number name) owners
 
-keeps_record : (number : ℕ) (name : StateOwner) (owners : List KnownOwner) → KeepsOwners owners (with_record number name owners)
+pub keeps_record : (number : ℕ) (name : StateOwner) (owners : List KnownOwner) → KeepsOwners owners (with_record number name owners)
 keeps_record number name owners = keeps_recorded (record { name = name; confirmed = false; recording_entry = number; kept_entry = number }) owners
 
 continues_alone : (number : ℕ) (old : State) (name : StateOwner) → Continues number old (owner_changes.Keeps name)
