@@ -16,6 +16,7 @@ use Rattle.nfs_core.proofs.SafeLists.{all_replicate, all_weaken, any_found, foun
 use Rattle.nfs_core.proofs.Sound.{AreNumbered, HasSoundLocks, IsKnownIn, IsLockerKnownIn, IsSound, StandsUnder, OpensStay, equal_names, is_known_in, is_live_in}
 use Rattle.nfs_core.proofs.SoundLocks.{LocksStay}
 use Rattle.nfs_core.proofs.SoundRules.{ruled_ready}
+use Rattle.nfs_core.proofs.SoundSequences.{live_owner}
 use Rattle.nfs_core.proofs.SoundSteps.{sound_after}
 use Rattle.nfs_locks.specs.AllLocks.{locks_of}
 use Rattle.nfs_locks.specs.Laws.{AllLocksAreCompatible}
@@ -64,11 +65,6 @@ sound_leads law lock_law journal old new (entry ∷ entries) leads sound =
     sound_leads law lock_law (with_entry entry journal) leads.0 new entries leads.2 (sound_step law lock_law journal old entry leads.0 leads.1 sound)
 
 -- What is sound is safe.
-
-live_owner : (state : State) → IsSound state → (name : StateOwner) → is_known_in state.owners name ≡ true → is_live_in state.clients.records name.client ≡ true
-live_owner state sound name known =
-    let held = found_holds (λ (k : KnownOwner). is_live_in state.clients.records k.name.client ≡ true) (has_name name) state.owners known sound.live in
-    ap (λ n. is_live_in state.clients.records n.client) (sym (equal_names held.0.name name held.2)) ∙ held.1
 
 safe : (state : State) → IsSound state → IsSafe state
 safe state sound = record {

@@ -24,7 +24,10 @@ use Rattle.nfs_state.specs.State.{State}
 
 -- What isn't refused.
 
-pub ok_equal : {A : Type 0} (x y : A) → Ok {E = Refusal} x ≡ Ok y → x ≡ y
+abbrev pub ok : {A : Type 0} → A → Result A Refusal
+ok x = Ok x
+
+pub ok_equal : {A : Type 0} (x y : A) → ok x ≡ ok y → x ≡ y
 ok_equal x y same = search same
 
 -- where a refusal comes first, what follows
