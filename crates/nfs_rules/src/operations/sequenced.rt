@@ -17,7 +17,9 @@ use crate::newcomer::{Newcomer, newcomer_of};
 use crate::passage::Passage;
 use crate::ruling::Ruling;
 use crate::sequence::{Requester, Sequence, sequence_of};
+use nfs_locks::at_most_one_report;
 use nfs_owners::OwnerRef;
+use nfs_ranges::at_most_one_range;
 use nfs_state::{Change, Journal, OwnerChange, Request, Shortage, Tables};
 use nfs_xdr::{Op, OpResult, Refusal, Status};
 use std::alloc::{AllocError, Global};
@@ -42,6 +44,8 @@ pub(super) fn decide(
     ensures error { OnErr result (IsAdmitted journal.now (state_of tables.now)
         (requester_seen requester.entry) request.now) }
 {
+    at_most_one_range();
+    at_most_one_report();
     let Some(node) = request.filehandle else {
         return Ok(unsequenced(request.op.opnum().refusal(Refusal::NoFileHandle)));
     };

@@ -12,8 +12,8 @@ returns-in-Open c =
     let state = state_of c.args.tables.now in
     let request = c.args.request.now in
     let result = c.decide-in-Open.result in
-    let by_requester : Requester → Type 0 = λ r. Decides (IsSequenced journal state r (own_of request.op journal state) request.filehandle request) state request.op result in
-    let by_own : Op → Type 0 = λ op. Decides (IsSequenced journal state (requester_of_open state c.in-Open.args.owner) (own_of op journal state) request.filehandle request) state request.op result in
+    let by_requester : Requester → Type 0 = λ r. Decides (IsSequenced journal state r (own_of request.op journal state) request) state request.op result in
+    let by_own : Op → Type 0 = λ op. Decides (IsSequenced journal state (requester_of_open state c.in-Open.args.owner) (own_of op journal state) request) state request.op result in
     let ruled : Op → Type 0 = λ op. Decides (IsRuled op journal state request) state request.op result in
     subst ruled (sym c.in-Open.is) (subst by_own c.in-Open.is (subst by_requester c.requester_of_open-requester.ensures.requester c.decide-in-Open.ensures.decides))
 
@@ -23,6 +23,6 @@ returns-in-OpenDowngrade c =
     let state = state_of c.args.tables.now in
     let request = c.args.request.now in
     let result = c.by_stateid-in-OpenDowngrade.result in
-    let by_own : Op → Type 0 = λ op. Decides (IsSequenced journal state (requester_of_stateid journal state c.in-OpenDowngrade.args.stateid) (own_of op journal state) request.filehandle request) state request.op result in
+    let by_own : Op → Type 0 = λ op. Decides (IsSequenced journal state (requester_of_stateid journal state c.in-OpenDowngrade.args.stateid) (own_of op journal state) request) state request.op result in
     let ruled : Op → Type 0 = λ op. Decides (IsRuled op journal state request) state request.op result in
     subst ruled (sym c.in-OpenDowngrade.is) (subst by_own c.in-OpenDowngrade.is c.by_stateid-in-OpenDowngrade.ensures)
