@@ -1,5 +1,5 @@
 -- The opens and the lock states of each file, where those of one file or of all change.
-use Rattle.std.proofs.Common.{◌≡◌, ℕ, zero, suc, List, [], ◌∷◌, map, slice_set, refl, sym, ap, ◌∙◌}
+use Rattle.std.proofs.Common.{◌≡◌, ℕ, zero, suc, List, [], ◌∷◌, map, slice_set, refl, sym, ap}
 use Rattle.std.specs.List.{AllByRecursion}
 use Rattle.nfs_core.proofs.SafeLists.{all_set}
 use Rattle.nfs_locks.specs.AllLocks.{locks_of, with_locks}

@@ -1,16 +1,16 @@
 -- What LOCK and LOCKU decide is ready to keep the state sound.
 use Rattle.std.proofs.Common.{◌≡◌, ◌⊎◌, inl, inr, ℕ, Bool, true, false, Option, Some, None, List, Result, Ok, Err, refl, sym, ap, ◌∙◌, subst}
-use Rattle.std.specs.Prelude.{⊤, ◌+◌, ◌&&◌, find, not, is_some, if◌then◌else◌}
+use Rattle.std.specs.Prelude.{◌+◌, ◌&&◌, find, not, is_some, if◌then◌else◌}
 use Rattle.std.proofs.lemmas.Bool.{and_from, cases_Bool, cond-false, cond-true, eq-eqb, not-false}
 use Rattle.nfs_core.specs.Safe.{bears}
 use Rattle.nfs_core.proofs.SafeLists.{found_last, found_some}
 use Rattle.nfs_core.proofs.Sound.{IsSound, KeepsOwners, StandsUnder, equal_clients, is_known_in, keeps_both, same_client_self, same_lock_owner_self, same_name_self}
 use Rattle.nfs_core.proofs.SoundLocks.{bears_from, under_kept}
-use Rattle.nfs_core.proofs.SoundSequences.{Continues, IsOwnReady, continuing, keeps_entry, keeps_record, others_ready, some_equal}
+use Rattle.nfs_core.proofs.SoundSequences.{IsOwnReady, continuing, keeps_entry, keeps_record, others_ready, some_equal}
 use Rattle.nfs_core.proofs.SoundSteps.{IsChangeReady}
 use Rattle.nfs_core.proofs.SoundTargets.{bound, lock_found, named_lock, named_open, ok_equal, open_found, unrefused, unrefused_then}
 use Rattle.nfs_forms.specs.ClientId.{is_same_client}
-use Rattle.nfs_forms.specs.declared.answer.Answer.TheVariants.{Denied, Done}
+use Rattle.nfs_forms.specs.declared.answer.Answer.TheVariants.{Done}
 use Rattle.nfs_forms.specs.declared.client_id.ClientId.{ClientId}
 use Rattle.nfs_forms.specs.declared.lock_owner.LockOwner.{LockOwner}
 use Rattle.nfs_forms.specs.declared.locker.Locker.{Locker}
@@ -32,10 +32,9 @@ use Rattle.nfs_owners.specs.declared.state_owner.StateOwner.{StateOwner}
 use Rattle.nfs_ranges.specs.declared.piece.Piece.{Piece}
 use Rattle.nfs_ranges.specs.declared.range.Range.{Range}
 use Rattle.nfs_rules.specs.Locking.{lock_of_bytes, mode_of, unlock_of_bytes}
-use Rattle.nfs_rules.specs.Newcomers.{Newcomer, Nobody, Known, Unknown, has_turn, newcomer_by, newcomer_if, newcomer_in, newcomer_of}
-use Rattle.nfs_rules.specs.Refusing.{refused_if}
-use Rattle.nfs_rules.specs.Sequences.{Owner, Requester, counts, is_ok_status, kept_with, owner_change_of, requester_of_stateid, requester_of_target, stateid_of}
-use Rattle.nfs_rules.specs.Stateids.{AnOpen, ALock, lock_verdict, target_of, verdict}
+use Rattle.nfs_rules.specs.Newcomers.{Newcomer, Nobody, Unknown, has_turn, newcomer_by, newcomer_if, newcomer_in, newcomer_of}
+use Rattle.nfs_rules.specs.Sequences.{Owner, counts, is_ok_status, kept_with, owner_change_of, requester_of_stateid, requester_of_target, stateid_of}
+use Rattle.nfs_rules.specs.Stateids.{lock_verdict, target_of, verdict}
 use Rattle.nfs_rules.specs.declared.passage.Passage.TheVariants as passages
 use Rattle.nfs_rules.specs.declared.ruling.Ruling.{Ruling}
 use Rattle.nfs_rules.specs.operations.Lock as lock
@@ -43,9 +42,8 @@ use Rattle.nfs_rules.specs.operations.Lock.{Locking}
 use Rattle.nfs_rules.specs.operations.Locku as locku
 use Rattle.nfs_share.specs.AllOpens.{OpenAt, opens_of}
 use Rattle.nfs_share.specs.Opens.{is_stateid_of as is_stateid_of_open, open_with_number}
-use Rattle.nfs_share.specs.declared.open_state.OpenState.{OpenState}
 use Rattle.nfs_state.specs.Changes.{with_owner_change}
-use Rattle.nfs_state.specs.Owners.{KnownOwner, has_name, is_confirmed, owner_of, with_kept_entry, with_record}
+use Rattle.nfs_state.specs.Owners.{KnownOwner, has_name, owner_of, with_kept_entry, with_record}
 use Rattle.nfs_state.specs.Places.{has_owner_place, has_state_place}
 use Rattle.nfs_state.specs.State.{State, History}
 use Rattle.nfs_state.specs.declared.change.Change.TheVariants as changes

@@ -1,11 +1,11 @@
 -- What holds of the lock states stays.
-use Rattle.std.proofs.Common.{◌≡◌, inl, inr, ℕ, Bool, true, false, List, [], ◌∷◌, ◌++◌, map, filter, refl, sym, ap, ◌∙◌, subst, arith}
+use Rattle.std.proofs.Common.{◌≡◌, inl, inr, ℕ, Bool, true, false, List, [], ◌∷◌, ◌++◌, map, refl, sym, ap, ◌∙◌, subst, arith}
 use Rattle.std.specs.Prelude.{⊤, ◌+◌, ◌≤◌, ◌==◌, ◌&&◌, not, find, is_some, if◌then◌else◌}
 use Rattle.std.specs.List.{AllByRecursion}
-use Rattle.std.proofs.lemmas.Bool.{and_parts, and_from, cases_Bool, cond_both, eqb-true, eq-eqb, not-true, not_from_false}
+use Rattle.std.proofs.lemmas.Bool.{and_parts, and_from, cases_Bool, cond_both, eqb-true, not-true, not_from_false}
 use Rattle.nfs_core.proofs.SafeFiles.{locks_at, locks_of_map, locks_set, locks_where_set, opens_of_map, opens_where_set, set_locks}
 use Rattle.nfs_core.proofs.SafeLists.{all_always, all_filter, all_map, all_push, all_set, all_weaken, found_by, found_filtered, found_holds, found_map, found_more, pairs_filter, pairs_map, pairs_push}
-use Rattle.nfs_core.proofs.Sound.{AreNumbered, HasOneOwner, HasSoundLocks, KeepsOwners, IsLockerKnownIn, StandsUnder, confirmed_left, equal_clients, equal_lock_owners, equal_owners, is_known_in, left, name_left, same_client_self, same_lock_owner_self}
+use Rattle.nfs_core.proofs.Sound.{AreNumbered, HasOneOwner, HasSoundLocks, KeepsOwners, IsLockerKnownIn, StandsUnder, confirmed_left, equal_clients, equal_lock_owners, equal_owners, is_known_in, left, name_left, same_lock_owner_self}
 use Rattle.nfs_core.specs.Safe.{bears}
 use Rattle.nfs_forms.specs.ClientId.{is_same_client}
 use Rattle.nfs_forms.specs.OpenOwner.{is_same_owner}
@@ -65,9 +65,7 @@ under_left : (owners new : List KnownOwner) (test : OpenState → Bool) (l : Byt
     → ((o : OpenState) → Bears owners l o → (test o ≡ false) × (is_confirmed (open_owner o.owner) new ≡ true))
     → (xs : List OpenState) → StandsUnder owners xs l → StandsUnder new (without_opens test xs) l
 under_left owners new test l keep xs found =
-    let all : StandsUnder new xs l = found_by (bears owners l) (bears new l)
-    (λ o h. bears_still owners new l o (bears_parts owners l o h) (keep o (bears_parts owners l o h)).1) xs found in
-    found_by (λ o. bears owners l o) (bears new l)
+    found_by (bears owners l) (bears new l)
     (λ o h. bears_still owners new l o (bears_parts owners l o h) (keep o (bears_parts owners l o h)).1) (without_opens test xs)
     (found_filtered (λ o. ⊤) (bears owners l) (λ o. not (test o))
     (λ o _ h. not_from_false (test o) (keep o (bears_parts owners l o h)).0) xs (all_always xs) found)

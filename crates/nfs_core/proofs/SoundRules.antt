@@ -15,7 +15,6 @@ use Rattle.nfs_state.specs.declared.request.Request.{Request}
 use Rattle.nfs_rules.specs.declared.ruling.Ruling.{Ruling}
 use Rattle.nfs_rules.specs.operations.{IsRuled}
 use Rattle.nfs_rules.specs.Newcomers.{Newcomer, newcomer_of}
-use Rattle.nfs_rules.specs.Refusing.{◌>>=◌}
 use Rattle.nfs_rules.specs.operations.Close as close
 use Rattle.nfs_rules.specs.operations.Lock as lock
 use Rattle.nfs_rules.specs.operations.Lockt as lockt
@@ -27,7 +26,7 @@ use Rattle.nfs_rules.specs.operations.ReleaseLockowner as release
 use Rattle.nfs_rules.specs.operations.Setclientid as setclientid
 use Rattle.nfs_rules.specs.operations.SetclientidConfirm as confirm
 use Rattle.nfs_state.specs.Owners.{KnownOwner, has_name, is_confirmed, without_owner}
-use Rattle.nfs_rules.specs.Sequences.{Owner, Refused, Requester, before_own, counts, decision_of, is_ok_status, is_open, owner_change_of, requester_of_open, requester_of_stateid, stateid_of}
+use Rattle.nfs_rules.specs.Sequences.{Owner, Refused, before_own, decision_of, is_ok_status, is_open, owner_change_of, requester_of_open, requester_of_stateid, stateid_of}
 use Rattle.nfs_state.specs.Changes.{with_owner_change}
 use Rattle.nfs_rules.specs.Stateids.{verdict}
 use Rattle.nfs_state.specs.State.{State, History, record_has_state}

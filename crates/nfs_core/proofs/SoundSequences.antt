@@ -1,5 +1,5 @@
 -- What a sequenced operation decides is ready to keep the state sound, if what its own rule gives is.
-use Rattle.std.proofs.Common.{◌≡◌, ◌⊎◌, inl, inr, ℕ, Bool, true, false, Option, Some, None, List, Result, Ok, Err, refl, sym, ap, ◌∙◌, subst}
+use Rattle.std.proofs.Common.{◌≡◌, inl, inr, ℕ, Bool, true, false, Option, Some, None, List, refl, sym, ap, ◌∙◌, subst}
 use Rattle.std.specs.Prelude.{⊤, ◌&&◌, not, is_some, option_map, if◌then◌else◌}
 use Rattle.std.proofs.lemmas.Bool.{and_parts, cases_Bool, cond-false, cond-true, cond_both, not-true}
 use Rattle.nfs_core.proofs.SafeLists.{found_holds}
@@ -10,7 +10,6 @@ use Rattle.nfs_forms.specs.declared.client_id.ClientId.{ClientId}
 use Rattle.nfs_forms.specs.declared.locker.Locker.{Locker}
 use Rattle.nfs_forms.specs.declared.locker.Locker.TheVariants as lockers
 use Rattle.nfs_forms.specs.declared.locker.NewLocker.{NewLocker}
-use Rattle.nfs_forms.specs.declared.lock_owner.LockOwner.{LockOwner}
 use Rattle.nfs_forms.specs.declared.status.Refusal.TheVariants as refusals
 use Rattle.nfs_forms.specs.declared.status.Status.{Status}
 use Rattle.nfs_owners.specs.StateOwner.{lock_owner}

@@ -1,8 +1,8 @@
 -- The open and the lock state that a stateid names.
 use Rattle.std.proofs.Common.{◌≡◌, inl, inr, ℕ, Bool, true, false, Option, Some, None, List, Result, Ok, Err, refl, sym, ap, ◌∙◌, subst}
-use Rattle.std.specs.Prelude.{◌^◌, ◌-◌, ◌==◌, ◌||◌, nat_lt, not, is_some, option_map, position, if◌then◌else◌}
+use Rattle.std.specs.Prelude.{◌==◌, ◌||◌, nat_lt, not, is_some, position, if◌then◌else◌}
 use Rattle.std.specs.List.{list_any}
-use Rattle.std.proofs.lemmas.Bool.{cases_Bool, cond-false, cond-true, eqb-true, not-false}
+use Rattle.std.proofs.lemmas.Bool.{cases_Bool, cond-false, cond-true, not-false}
 use Rattle.nfs_core.proofs.SoundSequences.{some_equal}
 use Rattle.nfs_forms.specs.declared.stateid.Stateid.{Stateid}
 use Rattle.nfs_forms.specs.declared.status.Refusal.{Refusal}
