@@ -1,27 +1,15 @@
 -- A report among more lock states, and that there is one report.
-<<<<<<< HEAD
 use Rattle.std.proofs.Common.{inl, inr, ◌≡◌, ℕ, zero, suc, ◌+◌, ◌<◌, ◌≤◌, ◌==◌, nat_lt, Bool, true, false, ◌&&◌, ◌||◌, not, cond, List, [], ◌∷◌, ◌++◌, length, Some, None, Option, refl, sym, ◌∙◌, ap, arith}
-=======
-use Rattle.std.proofs.Common.{inl, inr, ◌≡◌, ℕ, ◌+◌, ◌≤◌, ◌==◌, nat_lt, true, false, ◌&&◌, List, [], ◌∷◌, ◌++◌, length, Some, None, Option, refl, sym, ◌∙◌, ap, arith}
->>>>>>> locks
 use Rattle.std.specs.Cmp.{IsTotalOrder, nat_cmp_total, on_total, then_total, upto}
-use Rattle.std.specs.Cmp.Lexicographic.{nat_list_cmp_total}
+use Rattle.std.specs.Cmp.Lexicographic.{nat_list_cmp_total, slice_cmp}
 use Rattle.std.specs.List.{AllByRecursion}
 use Rattle.std.specs.declared.cmp.Ordering.{Ordering}
 use Rattle.std.specs.declared.cmp.Ordering.TheVariants.{Less, Equal, Greater}
-<<<<<<< HEAD
 use Rattle.std.specs.Ordering.{is_gt, is_lt, nat_cmp, ordering_reverse, ordering_then}
 use Rattle.std.proofs.lemmas.Bool.{and_parts, and_right, cases_Bool, cond_both, eqb-false, eqb-true, false≢true, false_from_ne_true, ltb-false, ltb-true, or_cases, or_parts}
 use Rattle.nfs_forms.specs.declared.lock_owner.LockOwner.{LockOwner}
 use Rattle.nfs_locks.specs.Locks.{ByteLocks, is_lock_of}
 use Rattle.nfs_locks.specs.Report.{IsClear, IsMeeting, IsNotAfter, IsReportAt, Report, owner_order, refuses, refuses_for}
-=======
-use Rattle.std.specs.Ordering.{is_gt, is_lt, ordering_reverse}
-use Rattle.std.proofs.lemmas.Bool.{and_parts, cases_Bool, cond_both, eqb-false, eqb-true, false≢true, ltb-false, ltb-true, or_cases, or_parts}
-use Rattle.nfs_forms.specs.declared.lock_owner.LockOwner.{LockOwner}
-use Rattle.nfs_locks.specs.Locks.{ByteLocks}
-use Rattle.nfs_locks.specs.Report.{IsClear, IsMeeting, IsNotAfter, IsReportAt, Report, owner_order, refuses}
->>>>>>> locks
 use Rattle.nfs_locks.specs.ReportSeen.{comes_before, first_of}
 use Rattle.nfs_locks.proofs.Compatible.{equal_owners}
 use Rattle.nfs_locks.proofs.Elements.{all_push, all_weaken, find_before, find_behind}
