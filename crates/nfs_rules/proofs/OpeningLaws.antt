@@ -13,6 +13,7 @@ use Rattle.nfs_rules.specs.Refusing.{◌>>=◌}
 use Rattle.nfs_rules.specs.operations.Open.{answer_of, file_at, found_by, has_open_place, has_owner_place, name_of, opening, refusal_of_target, ruling_of, share_asked, stateid_after, unless_delegated, unless_denied}
 use Rattle.nfs_rules.specs.operations.OpenGrant.{granted, granted_stateid}
 use Rattle.nfs_state.specs.Entries.{resource}
+use Rattle.nfs_state.specs.Places as places
 use Rattle.nfs_state.specs.declared.tables.Tables.{Tables}
 use Rattle.nfs_state.specs.Owners.{owner_of, without_owner}
 use Rattle.nfs_rules.specs.Deciding.{IsPassage}
@@ -202,7 +203,7 @@ ruled_by passage state owner o = by (has_owner_place passage state && has_open_p
     by false = refl
 
 -- Whether there is a place for the owner: how many other owners there are matters only to one that starts anew.
-known_seen : (name : StateOwner) (owners : List Owner) → is_some (owner_of name (map known_owner owners)) ≡ stored.is_known name owners
+pub known_seen : (name : StateOwner) (owners : List Owner) → is_some (owner_of name (map known_owner owners)) ≡ stored.is_known name owners
 known_seen name [] = refl
 known_seen name (o ∷ owners) = by (known_seen name owners) (stored.has_name name o) refl
   where
@@ -236,3 +237,8 @@ owner_place passages.Begins owner tables place unknown is left =
 owner_place passages.Restarts owner tables place known is left =
     let has : place ≡ true = is ∙ known_place _ _ (sym (known_seen (open_owner owner) tables.owners.owners) ∙ known) in
     has ∙ sym (lt-ltb _ _ (omega (arith, left has, others_seen (open_owner owner) tables.owners.owners)))
+
+-- Whether there is a place for an owner, by what is stored.
+pub place_seen : (name : StateOwner) (tables : Tables) → places.has_owner_place name (state_of tables) ≡ has_place name tables.owners.owners
+place_seen name tables =
+    λ i. known_seen name tables.owners.owners i || nat_lt (length-map tables.owners.owners known_owner i) OWNER_LIMIT

@@ -1,5 +1,5 @@
 -- The answers of the rules that go by a stateid can be sent.
-use Rattle.std.proofs.Common.{◌≡◌, ◌≢◌, ℕ, ◌^◌, ◌<◌, Bool, true, false, Option, Some, None, Result, Ok, Err, sym, subst, arith}
+use Rattle.std.proofs.Common.{◌≡◌, ◌≢◌, ℕ, ◌^◌, ◌<◌, Bool, true, false, Option, Some, None, Result, Ok, Err, length, ◌≤◌, sym, subst, arith}
 use Rattle.std.specs.Prelude.{⊤, not, nat_lt, ◌==◌, ◌||◌, is_some, if◌then◌else◌}
 use Rattle.nfs_state.specs.Owners.{is_confirmed}
 use Rattle.nfs_owners.specs.Registry.{record_of, was_given}
@@ -11,6 +11,8 @@ use Rattle.nfs_rules.specs.Stateids.{Target, Refused, ALock, AnOpen, NoState, by
 use Rattle.nfs_rules.specs.operations.Lock.{introduced, locking_of}
 use Rattle.nfs_rules.specs.operations.Lockt.{file_asked, place_of}
 use Rattle.nfs_forms.specs.ClientId.{is_same_client}
+use Rattle.nfs_forms.specs.LockDenied.{lock_denied}
+use Rattle.nfs_forms.specs.declared.lock_denied.LockDenied.{LockDenied}
 use Rattle.nfs_forms.specs.declared.locker.Locker.{Locker}
 use Rattle.nfs_forms.specs.declared.locker.Locker.TheVariants as lockers
 use Rattle.nfs_forms.specs.declared.locker.NewLocker.{NewLocker}
@@ -37,7 +39,7 @@ use Rattle.nfs_xdr.specs.OpResult.{op_result}
 use Rattle.xdr.specs.Writing.{written_number}
 
 -- no refusal of the target is NFS4ERR_RESOURCE
-abbrev IsOtherTarget : Target → Type 0
+abbrev pub IsOtherTarget : Target → Type 0
 IsOtherTarget (Refused refusal) = refusal ≢ refusals.Resource
 IsOtherTarget target = ⊤
 
@@ -46,19 +48,19 @@ abbrev IsOther : {A : Type 0} → Result A Refusal → Type 0
 IsOther (Err refusal) = refusal ≢ refusals.Resource
 IsOther (Ok at) = ⊤
 
-target_in_other : (open : Option OpenAt) (lock : Option LockAt) → IsOtherTarget (target_in open lock)
+target_in_other : (found : Option OpenAt) (lock : Option LockAt) → IsOtherTarget (target_in found lock)
 target_in_other (Some at) lock = tt
 target_in_other None (Some at) = tt
 target_in_other None None = tt
 
-target_by : (special stale unknown expired : Bool) (open : Option OpenAt) (lock : Option LockAt) → IsOtherTarget (if special then Refused refusals.BadStateId else if stale then Refused refusals.StaleStateId else if unknown then Refused refusals.BadStateId else if expired then Refused refusals.Expired else target_in open lock)
-target_by true stale unknown expired open lock = λ e. cc
-target_by false true unknown expired open lock = λ e. cc
-target_by false false true expired open lock = λ e. cc
-target_by false false false true open lock = λ e. cc
-target_by false false false false open lock = target_in_other open lock
+target_by : (special stale unknown expired : Bool) (found : Option OpenAt) (lock : Option LockAt) → IsOtherTarget (if special then Refused refusals.BadStateId else if stale then Refused refusals.StaleStateId else if unknown then Refused refusals.BadStateId else if expired then Refused refusals.Expired else target_in found lock)
+target_by true stale unknown expired found lock = λ e. cc
+target_by false true unknown expired found lock = λ e. cc
+target_by false false true expired found lock = λ e. cc
+target_by false false false true found lock = λ e. cc
+target_by false false false false found lock = target_in_other found lock
 
-target_other : (epoch : ℕ) (state : State) (id : Stateid) → IsOtherTarget (target_of epoch state id)
+pub target_other : (epoch : ℕ) (state : State) (id : Stateid) → IsOtherTarget (target_of epoch state id)
 target_other epoch state id =
     target_by (is_special id) (not (id.client.epoch == epoch)) (not (was_given id.client.number state.clients)) (not (is_some (record_of id.client state.clients))) (named_in id state.opens) (lock_named_in id state.locks)
 
@@ -190,4 +192,12 @@ test_refused args refusal other = record {
   not_resource = λ same. other (search same);
   form = (omega arith, (refusal_fits refusal, tt));
   short = omega arith;
+}
+
+pub denied_sendable : (args : Lock) (denied : LockDenied) → lock_denied.Fits denied → length (lock_denied.spelling denied) ≤ 1056 → IsSendable (ops.Lock args) (results.Lock (answers.Denied denied))
+unfolding op_result opnum answer status written_number
+denied_sendable args denied fits short = record {
+  not_resource = λ same. absurd cc;
+  form = (omega arith, fits);
+  short = omega (arith, short);
 }

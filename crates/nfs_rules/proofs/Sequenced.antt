@@ -13,7 +13,9 @@ use Rattle.nfs_locks.specs.Locks.{lock_of}
 use Rattle.nfs_locks.specs.Report.{Report}
 use Rattle.nfs_operations.specs.declared.lock.Lock.{Lock}
 use Rattle.nfs_ranges.specs.declared.range.Range.{Range}
-use Rattle.nfs_rules.specs.Locking.{mode_of}
+use Rattle.nfs_forms.specs.declared.answer.Answer.TheVariants.{Denied}
+use Rattle.nfs_rules.specs.Locking.{can_be_written, denied_by, mode_of}
+use Rattle.nfs_xdr.specs.declared.op_result.OpResult.TheVariants as results
 use Rattle.nfs_rules.specs.Newcomers.{Newcomer, Nobody, Known, Unknown, has_turn, is_next, newcomer_by, newcomer_if, newcomer_in, newcomer_of}
 use Rattle.nfs_rules.specs.Refusing.{◌>>=◌, refused_if}
 use Rattle.nfs_rules.specs.Stateids.{verdict}
@@ -49,6 +51,7 @@ use Rattle.nfs_forms.specs.declared.open_owner.OpenOwner.{OpenOwner}
 use Rattle.nfs_owners.specs.StateOwner.{as_open_owner, lock_owner, open_owner}
 use Rattle.nfs_owners.specs.declared.state_owner.StateOwner.{StateOwner}
 use Rattle.nfs_forms.specs.declared.status.Refusal.{Refusal}
+use Rattle.nfs_forms.specs.declared.status.Status.{Status}
 use Rattle.nfs_forms.specs.declared.status.Refusal.TheVariants as refusals
 use Rattle.nfs_owners.specs.declared.kept.Kept.{Kept}
 use Rattle.nfs_owners.specs.declared.kept.Verdict.TheVariants as verdicts
@@ -190,30 +193,22 @@ newcomer_unknown journal state client (ops.Lock args) l is = by args.locker refl
 newcomer_unknown journal state client op l is = absurd cc
 
 -- A LOCK that is granted to a new lock owner has a place for it.
+next_ok : {A B : Type 0} (r : Result A Refusal) (next : A → Result B Refusal) (b : B) → (r >>= next) ≡ Ok b → (a : A) × (next a ≡ Ok b)
+next_ok (Err refusal) next b is = absurd cc
+next_ok (Ok a) next b is = (a, is)
+
+let_in : {A : Type 0} (test : Bool) (refusal : Refusal) (a b : A) → refused_if test refusal a ≡ Ok b → a ≡ b
+let_in true refusal a b is = absurd cc
+let_in false refusal a b is = search is
+
 introduced_is : (journal : History) (state : State) (args : Lock) (locker : NewLocker) (at : OpenAt) (locking : Locking) → introduced journal state args locker at ≡ Ok locking
     → (locking.owner ≡ locker.lock_owner) × (locking.state ≡ None)
 introduced_is journal state args locker at locking is =
-    by args.reclaim (not (is_same_client locker.lock_owner.client at.state.owner.client))
-    (is_some (lock_of locker.lock_owner (locks_of at.node state.locks))) (not (has_turn journal state locker)) is
-  where
-    made : Locking
-    made = record {
-      node = at.node;
-      owner = locker.lock_owner;
-      mode = mode_of args.locktype;
-      open_number = at.state.number;
-      state = None;
-    }
-    by : (reclaim other held turn : Bool)
-        → (refused_if reclaim refusals.NoGrace at >>= λ at. refused_if other refusals.Inval at >>= λ at. refused_if held refusals.BadSeqId at >>= λ at. refused_if turn refusals.BadSeqId made) ≡ Ok locking
-        → (locking.owner ≡ locker.lock_owner) × (locking.state ≡ None)
-    by true other held turn same = absurd cc
-    by false true held turn same = absurd cc
-    by false false true turn same = absurd cc
-    by false false false true same = absurd cc
-    by false false false false same =
-        let equal : made ≡ locking = search same in
-        (ap (λ (l : Locking). l.owner) (sym equal), ap (λ (l : Locking). l.state) (sym equal))
+    let first = next_ok (refused_if args.reclaim refusals.NoGrace at) _ locking is in
+    let second = next_ok (refused_if (not (is_same_client locker.lock_owner.client first.0.state.owner.client)) refusals.Inval first.0) _ locking first.1 in
+    let third = next_ok (refused_if (is_some (lock_of locker.lock_owner (locks_of second.0.node state.locks))) refusals.BadSeqId second.0) _ locking second.1 in
+    let equal = let_in (not (has_turn journal state locker)) refusals.BadSeqId _ locking third.1 in
+    (ap (λ (l : Locking). l.owner) (sym equal), ap (λ (l : Locking). l.state) (sym equal))
 
 verdict_then : (journal : History) (state : State) (args : Lock) (locker : NewLocker) (found : Result OpenAt Refusal) (locking : Locking)
     → (found >>= λ at. introduced journal state args locker at) ≡ Ok locking → (locking.owner ≡ locker.lock_owner) × (locking.state ≡ None)
@@ -230,13 +225,18 @@ begins_place : (place more : Bool) (r : Option Ruling) (ruling : Ruling) → Som
 begins_place true more r ruling same = refl
 begins_place false more r ruling same = absurd cc
 
+denied_not_ok : (b : Bool) (answer : OpResult) (ruling : Ruling) → is_ok_status (status_of answer) ≡ false → Some ruling ≡ (if b then Some (record { answer = answer; change = changes.Nothing }) else None)
+    → is_ok_status (status_of ruling.answer) ≡ true → ⊥
+denied_not_ok true answer ruling not_ok same ok = let never : false ≡ true = sym not_ok ∙ sym (ap is_done same) ∙ ok in cc
+denied_not_ok false answer ruling not_ok same ok = cc
+
 allowed_place : (allowed : Bool) (state : State) (locking : Locking) (range : Range) (ruling : Ruling) → locking.state ≡ None → IsAllowed allowed state locking range (Some ruling)
     → is_ok_status (status_of ruling.answer) ≡ true → has_owner_place (lock_owner locking.owner) state ≡ true
 allowed_place false state locking range ruling new is ok = let never : false ≡ true = sym (ap is_done is) ∙ ok in absurd cc
 allowed_place true state locking range ruling new is ok = by is.0 is.2
   where
     by : (report : Option Report) → Some ruling ≡ unless_denied state locking range report → has_owner_place (lock_owner locking.owner) state ≡ true
-    by (Some report) same = let never : false ≡ true = sym (ap is_done same) ∙ ok in absurd cc
+    by (Some report) same = absurd (denied_not_ok (can_be_written report) (results.Lock (Denied (denied_by report))) ruling refl same ok)
     by None same =
         begins_place (has_owner_place (lock_owner locking.owner) state) (has_state_place state) _ ruling
         (same ∙ ap (granted state locking range) new)
@@ -435,3 +435,9 @@ answered_has_room own journal state requester request None node has replay none 
 answered_has_room own journal state requester request (Some at) node has replay none =
     let Q : Sequence → Type 0 = λ s. IsSequence journal state requester request s in
     no_decision none.0 at (λ client. newcomer_of journal state client request.op) own (λ passage name is. replay_stays journal state requester request replay passage name (subst Q is none.1)) none.2
+
+-- what one relation of an own rule says, another one says too
+pub rules_onto : (P Q : Option Ruling → Type 0) (state : State) (op : Op) (result : Result Ruling Shortage) → ((r : Option Ruling) → P r → Q r) → (Q None → P None) → Rules P state op result → Rules Q state op result
+rules_onto P Q state op (Ok ruling) onto back h = (onto (Some ruling) h.0, h.1, h.2)
+rules_onto P Q state op (Err Limit) onto back h = onto None h
+rules_onto P Q state op (Err Memory) onto back h = λ q. h (back q)

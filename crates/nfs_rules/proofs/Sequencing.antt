@@ -10,6 +10,9 @@ use Rattle.nfs_state.specs.Owners.{KnownOwner, confirmed_if_known, has_name, is_
 use Rattle.nfs_rules.specs.declared.passage.Passage.TheVariants as passages
 use Rattle.nfs_state.specs.declared.request.Request.{Request}
 use Rattle.nfs_state.specs.Room.{is_known}
+use Rattle.nfs_forms.specs.declared.locker.NewLocker.{NewLocker}
+use Rattle.nfs_owners.specs.Kept.{precedes}
+use Rattle.nfs_rules.specs.Newcomers.{Nobody, Known, Unknown, is_next, newcomer_if}
 use Rattle.nfs_rules.specs.Sequences.{IsOfKnown, IsOfOwner, IsOfUnknown, IsRestart, Sequence, Answered, GoesOn, by_verdict, has_closed, is_open, owner_or_bad, refusal_to}
 use Rattle.nfs_state.specs.State.{State, History}
 use Rattle.nfs_state.specs.Stored.{known_owner}
@@ -137,3 +140,16 @@ pub passage_unknown : (state : State) (name : StateOwner) (stored : List Owner) 
 passage_unknown state name stored request s are none is =
     subst (HasPassage state) (sym is) (begin_passage (is_open request.op) state name request.op
     (ap is_some (ap (owner_of name) are ∙ owner_known name stored ∙ ap (option_map known_owner) none)))
+
+-- The newcomer of a LOCK, by what is stored of the lock owner.
+pub newcomer_none : (journal : History) (locker : NewLocker) (name : StateOwner) (stored : List Owner) → owners.owner_of name stored ≡ None
+    → Unknown locker.lock_owner ≡ newcomer_if journal locker (owner_of name (map known_owner stored))
+newcomer_none journal locker name stored none =
+    ap (newcomer_if journal locker) (sym (owner_known name stored ∙ ap (option_map known_owner) none))
+
+pub newcomer_found : (journal : History) (locker : NewLocker) (name : StateOwner) (stored : List Owner) (o : Owner) (b : Bool) → Agrees journal stored → owners.owner_of name stored ≡ Some o
+    → b ≡ precedes o.kept locker.lock_seqid → (if b then Known locker.lock_owner else Nobody) ≡ newcomer_if journal locker (owner_of name (map known_owner stored))
+newcomer_found journal locker name stored o b agrees found is =
+    ap (λ b. if b then Known locker.lock_owner else Nobody)
+    (is ∙ sym (ap (is_next locker.lock_seqid) (kept_found journal name stored o agrees found).entry))
+    ∙ ap (newcomer_if journal locker) (sym (owner_known name stored ∙ ap (option_map known_owner) found))

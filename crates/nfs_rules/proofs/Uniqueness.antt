@@ -173,23 +173,17 @@ pub unlocks_once : LockLaws → (journal : History) (state : State) (args : Lock
 unlocks_once laws journal state args node passage r u a b =
     unlocking_once laws state args (lock_verdict node journal.epoch state args.stateid) r u a b
 
-tested_once : LockLaws → (state : State) (args : Lockt) (node : ℕ) (range : Option Range) (d e : Decision) → lockt.IsOfRange state args node range d → lockt.IsOfRange state args node range e → d ≡ e
+pub tested_once : LockLaws → (state : State) (args : Lockt) (node : ℕ) (range : Option Range) (d e : Option Decision) → lockt.IsOfRange state args node range d → lockt.IsOfRange state args node range e → d ≡ e
 tested_once laws state args node None d e a b = a ∙ sym b
 tested_once laws state args node (Some range) d e a b =
     let same = laws.one_report (locks_of node state.locks) args.owner range (mode_of args.locktype) a.0 b.0 a.1 b.1 in
-    a.2 ∙ ap (λ report. lockt.only (answer_of report)) same ∙ sym b.2
+    a.2 ∙ ap (λ report. option_map lockt.only (answer_of report)) same ∙ sym b.2
 
-asked_once : LockLaws → (state : State) (args : Lockt) (found : Result ℕ Refusal) (d e : Decision) → IsTest state args found d → IsTest state args found e → d ≡ e
+pub asked_once : LockLaws → (state : State) (args : Lockt) (found : Result ℕ Refusal) (d e : Option Decision) → IsTest state args found d → IsTest state args found e → d ≡ e
 asked_once laws state args (Err refusal) d e a b = a ∙ sym b
 asked_once laws state args (Ok node) d e a b =
     let same = laws.one_range args.offset args.length a.0 b.0 a.1 b.1 in
     tested_once laws state args node b.0 d e (subst (λ range. lockt.IsOfRange state args node range d) same a.2) b.2
-
-tests_once : LockLaws → (journal : History) (state : State) (filehandle : Option ℕ) (args : Lockt) (d e : Option Decision) → lockt.IsRuled journal state filehandle args d → lockt.IsRuled journal state filehandle args e → d ≡ e
-tests_once laws journal state filehandle args None e a b = absurd a
-tests_once laws journal state filehandle args (Some d) None a b = absurd b
-tests_once laws journal state filehandle args (Some d) (Some e) a b =
-    ap Some (asked_once laws state args (file_asked journal state filehandle args) d e a b)
 
 pub ruled_once : LockLaws → (op : Op) (journal : History) (state : State) (request : Request) (d e : Option Decision) → IsRuled op journal state request d → IsRuled op journal state request e → d ≡ e
 ruled_once laws (ops.Open args) journal state request d e a b =
@@ -204,5 +198,6 @@ ruled_once laws (ops.Lock args) journal state request d e a b =
     sequenced_once journal state (requester_of_stateid journal state (stateid_of args.locker)) (lock.own journal state args) (locks_once laws journal state args) request.filehandle request d e a b
 ruled_once laws (ops.Locku args) journal state request d e a b =
     sequenced_once journal state (requester_of_stateid journal state args.stateid) (locku.own journal state args) (unlocks_once laws journal state args) request.filehandle request d e a b
-ruled_once laws (ops.Lockt args) journal state request d e a b = tests_once laws journal state request.filehandle args d e a b
+ruled_once laws (ops.Lockt args) journal state request d e a b =
+    asked_once laws state args (file_asked journal state request.filehandle args) d e a b
 ruled_once laws op journal state request d e a b = a ∙ sym b

@@ -1,4 +1,4 @@
-ghost use Rattle.std.specs.Prelude.{◌≡◌, ◌≤◌, ◌<◌, ◌-◌, ◌^◌, length, true};
+ghost use Rattle.std.specs.Prelude.{◌≡◌, ◌≤◌, ◌<◌, ◌-◌, ◌^◌, ◌&&◌, length, true};
 ghost use Rattle.std.specs.Option.{option_copied};
 ghost use Rattle.nfs_locks.specs.LockFound.{lock_found_seen};
 ghost use Rattle.nfs_locks.specs.StoredLocks.{lock_seen};
@@ -7,7 +7,9 @@ ghost use Rattle.nfs_rules.specs.Deciding.{Rules};
 ghost use Rattle.nfs_rules.specs.Finding.{locking_or_refusal_seen, locking_seen};
 ghost use Rattle.nfs_rules.specs.declared.passage.Passage.{Passage};
 ghost use Rattle.nfs_rules.specs.operations.Lock.{IsAllowed, addition, allows, beginning, first_stateid, granted, introduced, locking_found, locking_of, own, refusal_of};
+ghost use Rattle.nfs_owners.specs.StateOwner.{lock_owner};
 ghost use Rattle.nfs_share.specs.OpenFound.{open_seen};
+ghost use Rattle.nfs_state.specs.Places.{has_owner_place, has_state_place};
 ghost use Rattle.nfs_state.specs.Kept.{Agrees};
 ghost use Rattle.nfs_state.specs.Room.{state_of};
 ghost use Rattle.nfs_state.specs.State.{History};
@@ -19,10 +21,10 @@ use crate::newcomer::has_turn;
 use crate::ruling::Ruling;
 use crate::stateids::{lock_verdict, verdict};
 use nfs_forms::{LockOwner, Locker, NewLocker, Stateid};
-use nfs_locks::{FirstLock, LockFound, LockState};
+use nfs_locks::{FirstLock, LockFound, LockState, at_most_one_report};
 use nfs_operations::lock::Lock;
 use nfs_owners::OwnerRef;
-use nfs_ranges::{Mode, Range, range_of};
+use nfs_ranges::{Mode, Range, at_most_one_range, range_of};
 use nfs_share::{OpenFound, OpenState};
 use nfs_state::{ANSWER_LIMIT, Change, Journal, Shortage, Tables};
 use nfs_xdr::{Answer, Op, OpResult, Refusal};
@@ -51,6 +53,7 @@ pub(super) fn rule(
         → Rules (own journal.now (state_of tables.now) args.now node passage)
         (state_of tables.now) (Op.Lock args.now) result }
 {
+    at_most_one_range();
     let locking = match locking_of(tables, journal, node, args) {
         Err(refusal) => return Ok(refused(refusal)),
         Ok(locking) => locking,
@@ -159,6 +162,7 @@ fn lock(tables: &Tables, locking: Locking<'_>, range: Range) -> Result<Ruling, S
         → Rules (IsAllowed true (state_of tables.now) (locking_seen locking.entry) range)
         (state_of tables.now) (Op.Lock args) result }
 {
+    at_most_one_report();
     let Locking {
         node,
         owner,
@@ -166,10 +170,13 @@ fn lock(tables: &Tables, locking: Locking<'_>, range: Range) -> Result<Ruling, S
         ..
     } = locking;
     match tables.locks.report(node, owner, range, mode) {
-        Some(report) => Ok(Ruling {
-            answer: OpResult::Lock(Answer::Denied(denied_by(report)?)),
-            change: Change::Nothing,
-        }),
+        Some(report) => match denied_by(report) {
+            Ok(denied) => Ok(Ruling {
+                answer: OpResult::Lock(Answer::Denied(denied)),
+                change: Change::Nothing,
+            }),
+            Err(shortage) => Err(shortage),
+        },
         None => grant(tables, locking, range),
     }
 }
@@ -194,21 +201,29 @@ fn begin(tables: &Tables, locking: Locking<'_>, range: Range) -> Result<Ruling, 
         ≡ beginning (state_of tables.now) (locking_seen locking.entry) range)
         (state_of tables.now) (Op.Lock args) result }
 {
-    let owner = locking.owner;
-    if !tables.owners.has_place(OwnerRef::of_lock(owner)) || !tables.has_state_place() {
+    if !has_places(tables, locking.owner) {
         return Err(Shortage::Limit);
     }
+    let first = FirstLock {
+        owner: locking.owner.clone()?,
+        open_number: locking.open_number,
+        change: lock_of_bytes(locking.mode, range),
+    };
     Ok(Ruling {
-        answer: locked(first_stateid(tables, owner)),
+        answer: locked(first_stateid(tables, locking.owner)),
         change: Change::Begins {
             node: locking.node,
-            first: FirstLock {
-                owner: owner.clone()?,
-                open_number: locking.open_number,
-                change: lock_of_bytes(locking.mode, range),
-            },
+            first,
         },
     })
+}
+
+// Whether there are a place for the owner and one for a lock state.
+fn has_places(tables: &Tables, owner: &LockOwner) -> bool
+    ensures { result ≡ (has_owner_place (lock_owner owner.now) (state_of tables.now)
+        && has_state_place (state_of tables.now)) }
+{
+    tables.owners.has_place(OwnerRef::of_lock(owner)) && tables.has_state_place()
 }
 
 // The lock state gains the bytes.

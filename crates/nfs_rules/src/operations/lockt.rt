@@ -1,18 +1,17 @@
-ghost use Rattle.std.specs.Prelude.{◌≡◌, ◌≤◌, ◌-◌, IfOk, Ok, length};
+ghost use Rattle.std.specs.Prelude.{◌≡◌, ◌≤◌, IfOk, IsErrOf, Ok, Some, None, length};
 ghost use Rattle.nfs_operations.specs.Lockt as lockt;
 ghost use Rattle.nfs_rules.specs.Deciding.{Decides};
 ghost use Rattle.nfs_rules.specs.operations.Lockt.{IsRuled, IsTest, file_asked, only};
 ghost use Rattle.nfs_state.specs.Room.{state_of};
-ghost use Rattle.nfs_state.specs.declared.entry.TheConstants.{ANSWER_LIMIT};
 
 use crate::decision::Decision;
 use crate::locking::{denied_by, mode_of};
 use nfs_forms::LockDenied;
+use nfs_locks::at_most_one_report;
 use nfs_operations::lockt::Lockt;
-use nfs_ranges::range_of;
+use nfs_ranges::{at_most_one_range, range_of};
 use nfs_state::{Change, Journal, OwnerChange, Request, Shortage, Tables};
 use nfs_xdr::{Answer, Op, OpResult, Refusal};
-use std::alloc::AllocError;
 
 /// Decides a LOCKT: its answer, and that it changes nothing.
 #[tactic(auto, unfolding(nfs_xdr::specs::OpResult::op_result, nfs_xdr::specs::Opnum::opnum, nfs_forms::specs::Status::status, xdr::specs::Writing::written_number, nfs_forms::specs::Answer::answer))]
@@ -57,11 +56,19 @@ fn file_asked(
 }
 
 // Whether a LOCK of the node's file would be refused, and for which lock.
-fn test(tables: &Tables, node: u32, args: &Lockt) -> Result<Answer<(), LockDenied>, AllocError>
-    ensures answer { IfOk result (λ a. IsTest (state_of tables.now) args.now (Ok node) (only a)) }
+#[tactic(auto, unfolding(nfs_forms::specs::Answer::answer, nfs_forms::specs::Status::status, xdr::specs::Writing::written_number))]
+fn test(tables: &Tables, node: u32, args: &Lockt) -> Result<Answer<(), LockDenied>, Shortage>
+    ensures answer { IfOk result (λ a.
+        IsTest (state_of tables.now) args.now (Ok node) (Some (only a))) }
     ensures form { IfOk result (λ a. lockt.result.Fits a) }
-    ensures short { IfOk result (λ a. length (lockt.result.spelling a) ≤ ANSWER_LIMIT - 4) }
+    ensures short { IfOk result (λ a. length (lockt.result.spelling a) ≤ 1060) }
+    ensures limit { IsErrOf result Shortage.Limit
+        → IsTest (state_of tables.now) args.now (Ok node) None }
+    ensures memory { IsErrOf result Shortage.Memory
+        → IsTest (state_of tables.now) args.now (Ok node) None → ⊥ }
 {
+    at_most_one_range();
+    at_most_one_report();
     let Some(range) = range_of(args.offset, args.length) else {
         return Ok(Answer::Refused(Refusal::Inval));
     };

@@ -14,7 +14,7 @@ use crate::ruling::Ruling;
 use crate::stateids::lock_verdict;
 use nfs_locks::{LockFound, LockState};
 use nfs_operations::locku::Locku;
-use nfs_ranges::{Range, range_of};
+use nfs_ranges::{Range, at_most_one_range, range_of};
 use nfs_state::{ANSWER_LIMIT, Change, Journal, Shortage, Tables};
 use nfs_xdr::{Answer, Op, OpResult, Refusal};
 
@@ -29,6 +29,7 @@ pub(super) fn rule(
         → Rules (own journal.now (state_of tables.now) args.now node passage)
         (state_of tables.now) (Op.Locku args.now) result }
 {
+    at_most_one_range();
     match lock_verdict(tables, node, journal.epoch(), args.stateid) {
         Err(refusal) => Ok(refused(refusal)),
         Ok(found) => match range_of(args.offset, args.length) {
