@@ -10,7 +10,7 @@ use Rattle.nfs_core.proofs.SoundSequences.{IsOwnReady, continuing, keeps_entry, 
 use Rattle.nfs_core.proofs.SoundSteps.{IsChangeReady}
 use Rattle.nfs_core.proofs.SoundTargets.{bound, lock_found, named_lock, named_open, ok_equal, open_found, unrefused, unrefused_then}
 use Rattle.nfs_forms.specs.ClientId.{is_same_client}
-use Rattle.nfs_forms.specs.declared.answer.Answer.TheVariants.{Done}
+use Rattle.nfs_forms.specs.declared.answer.Answer.TheVariants.{Denied, Done}
 use Rattle.nfs_forms.specs.declared.client_id.ClientId.{ClientId}
 use Rattle.nfs_forms.specs.declared.lock_owner.LockOwner.{LockOwner}
 use Rattle.nfs_forms.specs.declared.locker.Locker.{Locker}
@@ -31,7 +31,7 @@ use Rattle.nfs_owners.specs.StateOwner.{lock_owner, open_owner}
 use Rattle.nfs_owners.specs.declared.state_owner.StateOwner.{StateOwner}
 use Rattle.nfs_ranges.specs.declared.piece.Piece.{Piece}
 use Rattle.nfs_ranges.specs.declared.range.Range.{Range}
-use Rattle.nfs_rules.specs.Locking.{lock_of_bytes, mode_of, unlock_of_bytes}
+use Rattle.nfs_rules.specs.Locking.{can_be_written, denied_by, lock_of_bytes, mode_of, unlock_of_bytes}
 use Rattle.nfs_rules.specs.Newcomers.{Newcomer, Nobody, Unknown, has_turn, newcomer_by, newcomer_if, newcomer_in, newcomer_of}
 use Rattle.nfs_rules.specs.Sequences.{Owner, counts, is_ok_status, kept_with, owner_change_of, requester_of_stateid, requester_of_target, stateid_of}
 use Rattle.nfs_rules.specs.Stateids.{lock_verdict, target_of, verdict}
@@ -238,8 +238,11 @@ denied_ready : (number : ℕ) (state : State) (name : StateOwner) (newcomer : Ne
     → IsChangeReady ruling.change (seen number state name newcomer ruling)
 denied_ready number state name newcomer l range None ruling founded free is =
     granted_ready number state name newcomer l range l.state ruling founded free is
-denied_ready number state name newcomer l range (Some report) ruling founded met is =
-    nothing_ready ruling _ (seen number state name newcomer ruling) is refl
+denied_ready number state name newcomer l range (Some report) ruling founded met is = by (can_be_written report) is
+  where
+    by : (b : Bool) → Some ruling ≡ (if b then Some (record { answer = results.Lock (Denied (denied_by report)); change = changes.Nothing }) else None) → IsChangeReady ruling.change (seen number state name newcomer ruling)
+    by true same = nothing_ready ruling _ (seen number state name newcomer ruling) same refl
+    by false same = absurd cc
 
 allowed_ready : (number : ℕ) (state : State) (name : StateOwner) (newcomer : Newcomer) (l : Locking) (range : Range) (may : Bool) (ruling : Ruling)
     → IsFounded state newcomer l l.state → lock.IsAllowed may state l range (Some ruling) → IsChangeReady ruling.change (seen number state name newcomer ruling)

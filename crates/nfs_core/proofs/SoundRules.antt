@@ -37,7 +37,9 @@ use Rattle.nfs_core.proofs.SoundSequences.{IsFit, IsOwnReady, as_decided, contin
 use Rattle.nfs_core.proofs.SoundSteps.{IsChangeReady, IsClientReady, IsOwnerReady, IsReady}
 use Rattle.nfs_core.proofs.SoundTargets.{bound, ok_equal, unrefused}
 use Rattle.nfs_forms.specs.ClientId.{is_same_client}
+use Rattle.nfs_forms.specs.declared.answer.Answer.{Answer}
 use Rattle.nfs_forms.specs.declared.answer.Answer.TheVariants.{Done}
+use Rattle.nfs_forms.specs.declared.lock_denied.LockDenied.{LockDenied}
 use Rattle.nfs_xdr.specs.declared.op_result.OpResult.TheVariants as results
 use Rattle.nfs_forms.specs.Principal.{is_same_principal}
 use Rattle.nfs_forms.specs.declared.open_owner.OpenOwner.{OpenOwner}
@@ -261,12 +263,16 @@ open_ready number journal state op args sound node passage name ruling of fit h 
 
 -- LOCKT and RELEASE_LOCKOWNER
 
-tests_ready : (number : ℕ) (state : State) (args : Lockt) (node : ℕ) (range : Option Range) (d : Decision) → lockt.IsOfRange state args node range d → IsReady number state d
-tests_ready number state args node None d is = subst (IsReady number state) (sym is) (tt, tt)
-tests_ready number state args node (Some range) d is = subst (IsReady number state) (sym is.2) (tt, tt)
+reports_ready : (number : ℕ) (state : State) (answer : Option (Answer (Unit {0}) LockDenied (Unit {0}))) (d : Decision) → Some d ≡ option_map lockt.only answer → IsReady number state d
+reports_ready number state None d is = absurd cc
+reports_ready number state (Some answer) d is = as_decided number state d (lockt.only answer) is (tt, tt)
 
-test_ready : (number : ℕ) (state : State) (args : Lockt) (result : Result ℕ Refusal) (d : Decision) → lockt.IsTest state args result d → IsReady number state d
-test_ready number state args (Err refusal) d is = subst (IsReady number state) (sym is) (tt, tt)
+tests_ready : (number : ℕ) (state : State) (args : Lockt) (node : ℕ) (range : Option Range) (d : Decision) → lockt.IsOfRange state args node range (Some d) → IsReady number state d
+tests_ready number state args node None d is = as_decided number state d _ is (tt, tt)
+tests_ready number state args node (Some range) d is = reports_ready number state (lockt.answer_of is.0) d is.2
+
+test_ready : (number : ℕ) (state : State) (args : Lockt) (result : Result ℕ Refusal) (d : Decision) → lockt.IsTest state args result (Some d) → IsReady number state d
+test_ready number state args (Err refusal) d is = as_decided number state d _ is (tt, tt)
 test_ready number state args (Ok node) d is = tests_ready number state args node is.0 d is.2
 
 release_ready : (number : ℕ) (state : State) (args : ReleaseLockowner) → IsReady number state (release.decision_of state args)
