@@ -198,6 +198,6 @@ pub denied_sendable : (args : Lock) (denied : LockDenied) → lock_denied.Fits d
 unfolding op_result opnum answer status written_number
 denied_sendable args denied fits short = record {
   not_resource = λ same. absurd cc;
-  form = (omega arith, fits);
+  form = (omega arith, (omega arith, fits));
   short = omega (arith, short);
 }

@@ -1,8 +1,8 @@
 -- What is decided for a sequenced operation, from whether it is answered without its own rule, and from that rule.
 use Rattle.std.proofs.Common.{inl, inr, ◌≡◌, ◌≢◌, ℕ, ◌<◌, ◌≤◌, Bool, true, false, nat_lt, Option, Some, None, Result, Ok, Err, length, refl, sym, ap, ◌∙◌, subst, arith}
 use Rattle.std.specs.Result.{IsErr, IsErrAnd}
-use Rattle.std.specs.Prelude.{⊤, ◌⊎◌, IsTrue, IsFalse, is_some, not, ◌&&◌, ◌||◌, if◌then◌else◌}
-use Rattle.std.proofs.lemmas.Bool.{and_parts, ltb-true}
+use Rattle.std.specs.Prelude.{⊤, ◌⊎◌, List, IsTrue, IsFalse, is_some, not, ◌&&◌, ◌||◌, if◌then◌else◌}
+use Rattle.std.proofs.lemmas.Bool.{and_parts, cond-false, cond-true, ltb-true}
 use Rattle.nfs_forms.specs.ClientId.{is_same_client}
 use Rattle.nfs_forms.specs.declared.lock_owner.LockOwner.{LockOwner}
 use Rattle.nfs_forms.specs.declared.locker.Locker.{Locker}
@@ -10,9 +10,11 @@ use Rattle.nfs_forms.specs.declared.locker.Locker.TheVariants as lockers
 use Rattle.nfs_forms.specs.declared.locker.NewLocker.{NewLocker}
 use Rattle.nfs_locks.specs.AllLocks.{locks_of}
 use Rattle.nfs_locks.specs.Locks.{lock_of}
-use Rattle.nfs_locks.specs.Report.{Report}
+use Rattle.nfs_locks.specs.Report.{IsReport, Report}
 use Rattle.nfs_operations.specs.declared.lock.Lock.{Lock}
+use Rattle.nfs_ranges.specs.declared.mode.Mode.{Mode}
 use Rattle.nfs_ranges.specs.declared.range.Range.{Range}
+use Rattle.nfs_locks.specs.Locks.{ByteLocks}
 use Rattle.nfs_forms.specs.declared.answer.Answer.TheVariants.{Denied}
 use Rattle.nfs_rules.specs.Locking.{can_be_written, denied_by, mode_of}
 use Rattle.nfs_xdr.specs.declared.op_result.OpResult.TheVariants as results
@@ -441,3 +443,23 @@ pub rules_onto : (P Q : Option Ruling → Type 0) (state : State) (op : Op) (res
 rules_onto P Q state op (Ok ruling) onto back h = (onto (Some ruling) h.0, h.1, h.2)
 rules_onto P Q state op (Err Limit) onto back h = onto None h
 rules_onto P Q state op (Err Memory) onto back h = λ q. h (back q)
+
+-- the rule of an operation that is known to be this one
+pub rules_of : (op op' : Op) (journal : History) (state : State) (node : ℕ) (passage : Passage) (result : Result Ruling Shortage) → op ≡ op' → Rules (own_of op' journal state node passage) state op' result → Rules (own_of op journal state node passage) state op result
+rules_of op op' journal state node passage result same rules =
+    let P : Op → Type 0 = λ o. Rules (own_of o journal state node passage) state o result in
+    subst P (sym same) rules
+
+-- A LOCK that meets another owner's lock, where the report of it isn't made.
+pub not_reported : ((locks : List ByteLocks) (owner : LockOwner) (range : Range) (mode : Mode) (a b : Option Report) → IsReport locks owner range mode a → IsReport locks owner range mode b → a ≡ b) → (state : State) (locking : Locking) (range : Range) (report : Report) (op : Op) (shortage : Shortage)
+    → IsReport (locks_of locking.node state.locks) locking.owner range locking.mode (Some report)
+    → (shortage ≡ Limit → can_be_written report ≡ false) → (shortage ≡ Memory → can_be_written report ≡ true)
+    → Rules (IsAllowed true state locking range) state op (Err shortage)
+not_reported one_report state locking range report op Limit met limit memory =
+    (Some report, met, sym (cond-false (can_be_written report) (Some (record { answer = results.Lock (Denied (denied_by report)); change = changes.Nothing })) None (limit refl)))
+not_reported one_report state locking range report op Memory met limit memory = λ none.
+    let denied : Ruling = record { answer = results.Lock (Denied (denied_by report)); change = changes.Nothing } in
+    let one = one_report (locks_of locking.node state.locks) locking.owner range locking.mode none.0 (Some report) none.1 met in
+    let given : None ≡ Some denied =
+    none.2 ∙ ap (unless_denied state locking range) one ∙ cond-true (can_be_written report) (Some denied) None (memory refl) in
+    cc

@@ -54,4 +54,4 @@ returns-in_ok-decision_of-in-GoesOn-clause-decides c =
     let state = state_of c.args.tables.now in
     let found = c.in_ok-answer in
     goes_on journal state (requester_seen c.args.requester) request request.filehandle c.in-Some.node (sequence_seen found.field-0) c.in-GoesOn.passage (owner_seen c.in-GoesOn.name) c.in_ok-ruling-in-GoesOn.ruling c.in_ok-decision_of-in-GoesOn.field-0 c.in-Some.is c.requires.owner (ap sequence_seen c.in-GoesOn.is) found.ensures.sequence found.ensures.passage c.in_ok-ruling-in-GoesOn.ensures
-    (c.in_ok-decision_of-in-GoesOn.ensures ∙ ap (λ n. decision_of c.in-GoesOn.passage (owner_seen c.in-GoesOn.name) n c.in_ok-ruling-in-GoesOn.ruling) (c.newcomer_of-in-GoesOn.ensures journal c.requires.kept))
+    (c.in_ok-decision_of-in-GoesOn.ensures ∙ ap (λ n. decision_of c.in-GoesOn.passage (owner_seen c.in-GoesOn.name) n c.in_ok-ruling-in-GoesOn.ruling) (c.newcomer_of-newcomer.ensures journal c.requires.kept))
