@@ -176,7 +176,8 @@ kept_with name (Unknown newcomer) status =
 abbrev pub owner_change_of : Passage → StateOwner → Newcomer → Status → OwnerChange
 owner_change_of passages.Continues name newcomer status =
     if counts status then kept_with name newcomer status else Nothing
-owner_change_of passages.Begins name newcomer status = if is_ok_status status then Records (as_open_owner name) else Nothing
+owner_change_of passages.Begins name newcomer status =
+    if is_ok_status status then Records (as_open_owner name) else Nothing
 owner_change_of passages.Restarts name newcomer status =
     if is_ok_status status then Restarts (as_open_owner name) else Drops (as_open_owner name)
 

@@ -57,7 +57,8 @@ pub fn copy_of_answer(answer: &OpResult) -> Result<OpResult, AllocError>
     answer.clone()
 }
 
-/// The sequence id in the operation's arguments, in a LOCK that of the owner which its stateid names; 0 if there is none.
+/// The sequence id in the operation's arguments, in a LOCK that of the owner which its stateid names; 0 if there is
+/// none.
 pub fn seqid_of(op: &Op) -> u32
     ensures { result ≡ seqid_of op.now }
 {
