@@ -68,8 +68,8 @@ same_kind kinds.Lock kinds.Lock same = refl
 
 kind_of_name : (name : StateOwner) (o : Owner) → has_name name o ≡ true → o.name.kind ≡ name.kind
 kind_of_name name o has =
-    let rest = is_same_client o.name.client name.client && bytes_eq o.name.name name.name in
-    same_kind o.name.kind name.kind (and_parts (is_same_kind o.name.kind name.kind) rest has).0
+    let beside_name = and_parts (is_same_kind o.name.kind name.kind && is_same_client o.name.client name.client) (bytes_eq o.name.name name.name) has in
+    same_kind o.name.kind name.kind (and_parts (is_same_kind o.name.kind name.kind) (is_same_client o.name.client name.client) beside_name.0).0
 
 kept_by : (journal : History) (name : StateOwner) (number : ℕ) (kept : OwnerKind → Kept) (o : Owner) → IsEntryOf journal number kept → o.name.kind ≡ name.kind → IsKeptIn journal (record o { number = number; kept = kept name.kind })
 kept_by journal name number kept o is kind = record {

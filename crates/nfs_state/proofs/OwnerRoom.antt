@@ -1,6 +1,10 @@
 -- What an entry means for an owner: its room among the stored owners, and the limits of the change after it.
-use Rattle.std.proofs.Common.{◌≡◌, ℕ, suc, true, List, [], ◌∷◌, length, map, refl, sym, ap, ◌∙◌, subst, arith}
-use Rattle.std.specs.Prelude.{IsFalse, is_some}
+use Rattle.std.proofs.Common.{◌≡◌, ◌<◌, ℕ, suc, true, false, List, [], ◌∷◌, length, map, refl, sym, ap, ◌∙◌, subst, arith}
+use Rattle.std.specs.Prelude.{◌||◌, IsFalse, is_some, nat_lt, if◌then◌else◌}
+use Rattle.std.proofs.lemmas.Bool.{cond-true}
+use Rattle.std.proofs.lemmas.List.{length-map}
+use Rattle.nfs_owners.specs.StateOwner.{is_same_state_owner}
+use Rattle.nfs_owners.specs.declared.owner.TheConstants.{OWNER_LIMIT}
 use Rattle.nfs_state.specs.declared.change.Change.{Change}
 use Rattle.nfs_state.specs.declared.change.Change.TheVariants as changes
 use Rattle.nfs_state.specs.declared.owner_change.OwnerChange.{OwnerChange}
@@ -19,8 +23,8 @@ use Rattle.nfs_owners.specs.declared.state_owner.StateOwner.{StateOwner}
 use Rattle.nfs_owners.specs.ClientRoom.{HasNumbersFor}
 use Rattle.nfs_owners.specs.declared.kept.Kept.{Kept}
 use Rattle.nfs_owners.specs.declared.owner.Owner.{Owner}
-use Rattle.nfs_owners.specs.Owner.{is_known}
-use Rattle.nfs_owners.specs.Owners.{has_place}
+use Rattle.nfs_owners.specs.Owner.{has_name, is_known}
+use Rattle.nfs_owners.specs.Owners.{RoomyOwners, has_place, with_change, with_kept}
 
 -- the state knows the owners that are stored
 known_alike : (name : StateOwner) (owners : List Owner) → is_some (known.owner_of name (map known_owner owners)) ≡ is_known name owners
@@ -83,3 +87,22 @@ same_locks owner number old = refl
 pub limits_after : (change : Change) (owner : OwnerChange) (number : ℕ) (old : State) → IsWithinLimits change old → IsWithinLimits change (with_owner_change owner number old)
 limits_after change owner number old has =
     limits_alike change old (with_owner_change owner number old) (same_clients owner number old) (same_last_state owner number old) (same_locks owner number old) has
+
+-- an owner that keeps a request, which is known before it, leaves who is known and how many they are
+known_after_change : (change : Owner → Owner) → ((o : Owner) → (change o).name ≡ o.name) → (name other : StateOwner) (owners : List Owner) → is_known other (with_change change name owners) ≡ is_known other owners
+known_after_change change same name other [] = refl
+known_after_change change same name other (o ∷ owners) =
+    let rest = known_after_change change same name other owners in
+    elim (has_name name o) as (λ b. (has_name other (if b then change o else o) || is_known other (with_change change name owners)) ≡ (has_name other o || is_known other owners)) [
+      | true ↦ λ i. is_same_state_owner (same o i) other || rest i
+      | false ↦ λ i. has_name other o || rest i
+    ]
+
+pub can_keep_beside : (name other : StateOwner) (number : ℕ) (kept : Kept) (old new : RoomyOwners) → new.owners ≡ with_kept name number kept old.owners
+    → (is_known name old.owners ≡ true → new.room ≡ old.room) → is_known name old.owners ≡ true → CanKeep other old → CanKeep other new
+can_keep_beside name other number kept old new is room known can =
+    let change : Owner → Owner = λ o. record o { number = number; kept = kept } in
+    let changed : new.owners ≡ with_change change name old.owners = is ∙ cond-true (is_known name old.owners) _ _ known in
+    let same : is_known other new.owners ≡ is_known other old.owners = ap (is_known other) changed ∙ known_after_change change (λ o. refl) name other old.owners in
+    let many : length new.owners ≡ length old.owners = ap length changed ∙ length-map old.owners (λ o. if has_name name o then change o else o) in
+    ((λ i. same i || nat_lt (many i) OWNER_LIMIT) ∙ can.0, λ unknown. omega (arith, room known, can.1 (sym same ∙ unknown)))

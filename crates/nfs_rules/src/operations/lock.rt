@@ -113,12 +113,13 @@ fn introduce<'a>(
     if tables.locks.lock_of(found.node, owner).is_some() || !has_turn(tables, locker) {
         return Err(Refusal::BadSeqId);
     }
+    let state = None;
     Ok(Locking {
         node: found.node,
         owner,
         mode: mode_of(args.locktype),
         open_number: found.state.number,
-        state: None,
+        state,
     })
 }
 
@@ -130,12 +131,13 @@ fn locking_found<'a>(args: &Lock, found: LockFound<'a>) -> Result<Locking<'a>, R
     if args.reclaim {
         return Err(Refusal::NoGrace);
     }
+    let state = Some(found.state);
     Ok(Locking {
         node: found.node,
         owner: &found.state.owner,
         mode: mode_of(args.locktype),
         open_number: found.state.open_number,
-        state: Some(found.state),
+        state,
     })
 }
 
