@@ -32,6 +32,10 @@ pub all_replicate : {X : Type 0} (P : X → Type 0) (x : X) → P x → (n : ℕ
 all_replicate P x h zero = tt
 all_replicate P x h (suc n) = (h, all_replicate P x h n)
 
+pub map_replicate : {X Y : Type 0} (f : X → Y) (x : X) (n : ℕ) → map f (replicate n x) ≡ replicate n (f x)
+map_replicate f x zero = refl
+map_replicate f x (suc n) = ap (λ xs. f x ∷ xs) (map_replicate f x n)
+
 pub all_set : {X : Type 0} (P : X → Type 0) (xs : List X) (n : ℕ) (x : X) → AllByRecursion P xs → P x → AllByRecursion P (slice_set xs n x)
 all_set P [] n x h new = tt
 all_set P (y ∷ xs) zero x h new = (new, h.1)

@@ -217,7 +217,7 @@ continuing number old name newcomer status =
 -- Operations other than OPEN: their requests continue.
 pub others_ready : (number : ℕ) (journal : History) (state : State) (requester : Requester) (op : Op) (own : Own) → IsSound state → is_open op ≡ false
     → ((node : ℕ) (name : StateOwner) (ruling : Ruling) → requester ≡ Owner name → is_known_in state.owners name ≡ true → own node passages.Continues (Some ruling)
-        → IsChangeReady ruling.change (with_owner_change (owner_change_of passages.Continues name (newcomer_of journal state name.client op) (status_of ruling.answer)) number state))
+    → IsChangeReady ruling.change (with_owner_change (owner_change_of passages.Continues name (newcomer_of journal state name.client op) (status_of ruling.answer)) number state))
     → IsOwnReady number journal state requester op own
 others_ready number journal state requester op own sound other ready node passages.Continues owner ruling of fit h =
     (continues_ready journal state op owner (status_of ruling.answer) sound fit, ready node owner ruling of fit h)

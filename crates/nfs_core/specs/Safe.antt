@@ -1,4 +1,4 @@
--- What holds of the state at all times (RFC 7530, sections 9.1, 9.3 and 9.9).
+-- What holds of the state at all times (RFC 7530, sections 9.1, 9.9 and 16.10).
 use Rattle.std.specs.Prelude.{ℕ, ◌&&◌, Bool, IsTrue, List, is_some}
 use Rattle.std.specs.List.{AllByRecursion, list_any}
 use Rattle.nfs_locks.specs.AllLocks.{locks_of}
