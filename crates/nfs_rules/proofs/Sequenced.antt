@@ -1,6 +1,7 @@
 -- What is decided for a sequenced operation, from whether it is answered without its own rule, and from that rule.
 use Rattle.std.proofs.Common.{inl, inr, ◌≡◌, ◌≢◌, ℕ, ◌<◌, ◌≤◌, Bool, true, false, nat_lt, Option, Some, None, Result, Ok, Err, length, refl, sym, ap, ◌∙◌, subst, arith}
-use Rattle.std.specs.Result.{IsErr, IsErrAnd}
+use Rattle.std.specs.Result.{IsErr, IsErrAnd, IsErrOf}
+use Rattle.nfs_forms.specs.declared.lock_denied.LockDenied.{LockDenied}
 use Rattle.std.specs.Prelude.{⊤, ◌⊎◌, List, IsTrue, IsFalse, is_some, not, ◌&&◌, ◌||◌, if◌then◌else◌}
 use Rattle.std.proofs.lemmas.Bool.{and_parts, cond-false, cond-true, ltb-true}
 use Rattle.nfs_forms.specs.ClientId.{is_same_client}
@@ -453,7 +454,7 @@ rules_of op op' journal state node passage result same rules =
 -- A LOCK that meets another owner's lock, where the report of it isn't made.
 pub not_reported : ((locks : List ByteLocks) (owner : LockOwner) (range : Range) (mode : Mode) (a b : Option Report) → IsReport locks owner range mode a → IsReport locks owner range mode b → a ≡ b) → (state : State) (locking : Locking) (range : Range) (report : Report) (op : Op) (shortage : Shortage)
     → IsReport (locks_of locking.node state.locks) locking.owner range locking.mode (Some report)
-    → (shortage ≡ Limit → can_be_written report ≡ false) → (shortage ≡ Memory → can_be_written report ≡ true)
+    → (IsErrOf {T = LockDenied} (Err shortage) Limit → can_be_written report ≡ false) → (IsErrOf {T = LockDenied} (Err shortage) Memory → can_be_written report ≡ true)
     → Rules (IsAllowed true state locking range) state op (Err shortage)
 not_reported one_report state locking range report op Limit met limit memory =
     (Some report, met, sym (cond-false (can_be_written report) (Some (record { answer = results.Lock (Denied (denied_by report)); change = changes.Nothing })) None (limit refl)))
