@@ -4,7 +4,7 @@
 
 ghost use Rattle.std.specs.Prelude.{◌≡◌, ◌<◌, IfOk, IsTrue, OnOk};
 ghost use Rattle.nfs_owners.specs.Owners.{has_place};
-ghost use Rattle.nfs_owners.specs.StateOwner.{lock_owner, open_owner, owner_seen};
+ghost use Rattle.nfs_owners.specs.StateOwner.{owner_seen};
 
 use nfs_owners::{
     Kept, KeptRequest, OwnerKind, OwnerRef, OwnerStanding, Owners, OwnersError, StateOwner,
@@ -68,34 +68,32 @@ fn make_room(owners: &mut Owners, owner: OwnerRef<'_>) -> Result<(), OwnersError
     }
 }
 
-/// The answer that is kept for an open owner.
-fn opened() -> OpResult {
-    Opnum::Open.refusal(Refusal::NoEnt)
+/// The answer that is kept for an owner of this kind.
+fn answer_to(kind: OwnerKind) -> OpResult {
+    match kind {
+        OwnerKind::Open => Opnum::Open.refusal(Refusal::NoEnt),
+        OwnerKind::Lock => Opnum::Lock.refusal(Refusal::OpenMode),
+    }
 }
 
-/// The answer that is kept for a lock owner.
-fn locked() -> OpResult {
-    Opnum::Lock.refusal(Refusal::OpenMode)
-}
-
-/// Keeps SAVEFH of node 3 with this sequence id, and this answer, for the owner.
-fn keep(
-    owners: &mut Owners,
-    owner: OwnerRef<'_>,
-    seqid: u32,
-    answer: OpResult,
-) -> Result<(), Fail> {
-    make_room(owners, owner)?;
+/// SAVEFH of node 3 with this sequence id, as it is kept for an owner of this kind.
+fn kept(kind: OwnerKind, seqid: u32) -> Kept {
     let request = KeptRequest {
         op: Op::Savefh,
         filehandle: Some(3),
     };
-    let kept = Kept {
+    Kept {
         seqid,
         request,
-        answer,
-    };
-    owners.keep(copy_of(owner)?, seqid, kept);
+        answer: answer_to(kind),
+    }
+}
+
+/// Keeps SAVEFH of node 3 with this sequence id for the owner.
+fn keep(owners: &mut Owners, owner: OwnerRef<'_>, seqid: u32) -> Result<(), Fail> {
+    let name = copy_of(owner)?;
+    make_room(owners, owner)?;
+    owners.keep(name, 5, kept(owner.kind, seqid));
     Ok(())
 }
 
@@ -103,18 +101,19 @@ fn keep(
 fn three_owners(alloc: Global) -> Result<Owners, Fail> {
     let mut owners = Owners::new(alloc);
     let opener = opener(alloc, 1)?;
+    keep(&mut owners, OwnerRef::of_open(&opener), 9)?;
     let locker = locker(alloc, 1)?;
+    keep(&mut owners, OwnerRef::of_lock(&locker), 4)?;
     let other = self::locker(alloc, 2)?;
-    keep(&mut owners, OwnerRef::of_open(&opener), 9, opened())?;
-    keep(&mut owners, OwnerRef::of_lock(&locker), 4, locked())?;
-    keep(&mut owners, OwnerRef::of_lock(&other), 4, locked())?;
+    keep(&mut owners, OwnerRef::of_lock(&other), 4)?;
     Ok(owners)
 }
 
-/// Whether SAVEFH of node 3 with this sequence id gets this answer again.
-fn is_replayed(owners: &Owners, owner: OwnerRef<'_>, seqid: u32, answer: &OpResult) -> bool {
+/// Whether SAVEFH of node 3 with this sequence id gets the answer that was kept for an owner of its kind.
+fn is_replayed(owners: &Owners, owner: OwnerRef<'_>, seqid: u32) -> bool {
+    let answer = answer_to(owner.kind);
     let verdict = owners.judge(owner, seqid, &Op::Savefh, Some(3));
-    matches!(verdict, Some(Verdict::Replay(kept)) if *kept == *answer)
+    matches!(verdict, Some(Verdict::Replay(kept)) if *kept == answer)
 }
 
 /// Whether this sequence id is the owner's next.
@@ -123,13 +122,23 @@ fn is_new(owners: &Owners, owner: OwnerRef<'_>, seqid: u32) -> bool {
     matches!(verdict, Some(Verdict::New))
 }
 
+/// Whether the owner's last sequence id is this one.
+fn is_last(owners: &Owners, owner: OwnerRef<'_>, seqid: u32) -> bool {
+    is_replayed(owners, owner, seqid) && is_new(owners, owner, seqid.wrapping_add(1))
+}
+
+/// Whether this sequence id is neither the owner's last nor its next.
+fn is_bad(owners: &Owners, owner: OwnerRef<'_>, seqid: u32) -> bool {
+    let verdict = owners.judge(owner, seqid, &Op::Savefh, Some(3));
+    matches!(verdict, Some(Verdict::Bad))
+}
+
 #[test]
 fn one_name_is_an_owner_of_each_kind(rt: HostRuntime) -> Result<(), Fail> {
     let opener = opener(rt.alloc(), 1)?;
     let locker = locker(rt.alloc(), 1)?;
     let opens = OwnerRef::of_open(&opener);
     let locks = OwnerRef::of_lock(&locker);
-    assert!(rt; opens.kind == OwnerKind::Open && locks.kind == OwnerKind::Lock);
     let copy = copy_of(locks)?;
     assert!(rt; locks.is(&copy) && !opens.is(&copy) && copy.kind == OwnerKind::Lock);
     let open_copy = match opens.to_open_owner() {
@@ -151,34 +160,44 @@ fn each_kind_has_its_own_sequence_ids(rt: HostRuntime) -> Result<(), Fail> {
     let locker = locker(rt.alloc(), 1)?;
     let opens = OwnerRef::of_open(&opener);
     let locks = OwnerRef::of_lock(&locker);
-    assert!(rt; is_replayed(&owners, opens, 9, &opened()) && is_new(&owners, opens, 10));
-    assert!(rt; is_replayed(&owners, locks, 4, &locked()) && is_new(&owners, locks, 5));
-    assert!(rt; !is_replayed(&owners, opens, 4, &locked()) && !is_new(&owners, opens, 5));
-    assert!(rt; !is_replayed(&owners, locks, 9, &opened()) && !is_new(&owners, locks, 10));
-    keep(&mut owners, locks, 5, locked())?;
-    assert!(rt; is_replayed(&owners, locks, 5, &locked()) && is_new(&owners, locks, 6));
-    assert!(rt; is_replayed(&owners, opens, 9, &opened()) && is_new(&owners, opens, 10));
-    owners.confirm(opens);
-    assert!(rt; owners.known(opens) == OwnerStanding::Confirmed);
-    assert!(rt; owners.known(locks) == OwnerStanding::Unconfirmed);
+    assert!(rt; is_last(&owners, opens, 9) && is_last(&owners, locks, 4));
+    assert!(rt; is_bad(&owners, opens, 4) && is_bad(&owners, locks, 9));
+    keep(&mut owners, locks, 5)?;
+    assert!(rt; is_last(&owners, opens, 9) && is_last(&owners, locks, 5));
+    Ok(())
+}
+
+#[test]
+fn one_kind_is_confirmed_and_the_other_stays(rt: HostRuntime) -> Result<(), Fail> {
+    let mut owners = three_owners(rt.alloc())?;
+    let opener = opener(rt.alloc(), 1)?;
+    owners.confirm(OwnerRef::of_open(&opener));
+    assert!(rt; owners.known(OwnerRef::of_open(&opener)) == OwnerStanding::Confirmed);
+    let locker = locker(rt.alloc(), 1)?;
+    assert!(rt; owners.known(OwnerRef::of_lock(&locker)) == OwnerStanding::Unconfirmed);
     other_owners_stay();
     Ok(())
 }
 
 #[test]
-fn one_kind_goes_and_the_other_stays(rt: HostRuntime) -> Result<(), Fail> {
+fn an_open_owner_goes_and_the_lock_owner_stays(rt: HostRuntime) -> Result<(), Fail> {
+    let mut owners = three_owners(rt.alloc())?;
     let opener = opener(rt.alloc(), 1)?;
+    owners.remove(OwnerRef::of_open(&opener));
+    assert!(rt; owners.known(OwnerRef::of_open(&opener)) == OwnerStanding::Unknown);
     let locker = locker(rt.alloc(), 1)?;
-    let opens = OwnerRef::of_open(&opener);
-    let locks = OwnerRef::of_lock(&locker);
+    assert!(rt; is_last(&owners, OwnerRef::of_lock(&locker), 4));
+    Ok(())
+}
+
+#[test]
+fn a_lock_owner_goes_and_the_open_owner_stays(rt: HostRuntime) -> Result<(), Fail> {
     let mut owners = three_owners(rt.alloc())?;
-    owners.remove(opens);
-    assert!(rt; owners.known(opens) == OwnerStanding::Unknown);
-    assert!(rt; is_replayed(&owners, locks, 4, &locked()));
-    let mut owners = three_owners(rt.alloc())?;
-    owners.remove(locks);
-    assert!(rt; owners.known(locks) == OwnerStanding::Unknown);
-    assert!(rt; is_replayed(&owners, opens, 9, &opened()));
+    let locker = locker(rt.alloc(), 1)?;
+    owners.remove(OwnerRef::of_lock(&locker));
+    assert!(rt; owners.known(OwnerRef::of_lock(&locker)) == OwnerStanding::Unknown);
+    let opener = opener(rt.alloc(), 1)?;
+    assert!(rt; is_last(&owners, OwnerRef::of_open(&opener), 9));
     Ok(())
 }
 
@@ -191,7 +210,7 @@ fn both_kinds_go_with_their_client(rt: HostRuntime) -> Result<(), Fail> {
     let locker = locker(rt.alloc(), 1)?;
     assert!(rt; owners.known(OwnerRef::of_lock(&locker)) == OwnerStanding::Unknown);
     let other = self::locker(rt.alloc(), 2)?;
-    assert!(rt; is_replayed(&owners, OwnerRef::of_lock(&other), 4, &locked()));
+    assert!(rt; is_last(&owners, OwnerRef::of_lock(&other), 4));
     client_takes_its_owners();
     Ok(())
 }
