@@ -1,42 +1,41 @@
 //! What lock states there are after locks, unlocks and removals, and what each holds.
 
 use crate::steps::{
-    CLIENT, FILE, OPEN, OTHER_CLIENT, OTHER_FILE, begin, change, found, hold, locked, locker,
-    no_locks, run_of, span, unlocked,
+    CLIENT, FILE, OPEN, OTHER_CLIENT, OTHER_FILE, begin, change, found, hold, locker, no_locks,
+    read, run_of, unlock, write,
 };
-use nfs_locks::{FirstLock, LockState, Locks};
-use nfs_ranges::{Mode, Ranges};
+use nfs_forms::LockOwner;
+use nfs_locks::{LockState, Locks};
+use nfs_ranges::Ranges;
 use std::alloc::{AllocError, Global};
 use std::test::Fail;
 
-/// A lock of the owner `a` of client 1 to write bytes 0 to 99, by lock state 7.
+/// The owner `a` of client 1.
+fn owner_a(alloc: Global) -> Result<LockOwner, AllocError> {
+    locker(alloc, CLIENT, b"a")
+}
+
+/// The lock of this owner to write bytes 0 to 99, by lock state 7.
 fn one_lock(alloc: Global) -> Result<Locks, AllocError> {
     let mut locks = no_locks(alloc)?;
-    let owner = locker(alloc, CLIENT, b"a")?;
-    hold(
-        alloc,
-        &mut locks,
-        owner,
-        7,
-        locked(span(0, 99), Mode::Write),
-    )?;
+    hold(alloc, &mut locks, &owner_a(alloc)?, 7, write(0, 99))?;
     Ok(locks)
 }
 
 #[test]
 fn a_first_lock_begins_a_lock_state(rt: HostRuntime) -> Result<(), Fail> {
     let locks = one_lock(rt.alloc())?;
-    let owner = locker(rt.alloc(), CLIENT, b"a")?;
+    let a = owner_a(rt.alloc())?;
     assert!(rt; found(&locks, CLIENT, 7) == Some((FILE, 1)));
     assert!(rt; found(&locks, OTHER_CLIENT, 7).is_none() && found(&locks, CLIENT, 8).is_none());
-    assert!(rt; run_of(&locks, &owner, 7) == Some((span(0, 99), Mode::Write)));
+    assert!(rt; run_of(&locks, &a, 7) == Some(write(0, 99)));
     assert!(rt;
         locks
-            .lock_of(FILE, &owner)
+            .lock_of(FILE, &a)
             .is_some_and(|l| l.open_number == OPEN && l.number == 7)
     );
-    assert!(rt; locks.lock_of(OTHER_FILE, &owner).is_none());
-    assert!(rt; locks.holds(&owner) && locks.has_client(CLIENT) && !locks.has_client(OTHER_CLIENT));
+    assert!(rt; locks.lock_of(OTHER_FILE, &a).is_none());
+    assert!(rt; locks.holds(&a) && locks.has_client(CLIENT) && !locks.has_client(OTHER_CLIENT));
     assert_eq!(rt; locks.places_left(3), 2);
     Ok(())
 }
@@ -44,9 +43,8 @@ fn a_first_lock_begins_a_lock_state(rt: HostRuntime) -> Result<(), Fail> {
 #[test]
 fn a_second_lock_joins_the_first(rt: HostRuntime) -> Result<(), Fail> {
     let mut locks = one_lock(rt.alloc())?;
-    let owner = locker(rt.alloc(), CLIENT, b"a")?;
-    assert!(rt; change(&mut locks, 7, locked(span(100, 119), Mode::Write))?);
-    assert!(rt; run_of(&locks, &owner, 7) == Some((span(0, 119), Mode::Write)));
+    assert!(rt; change(&mut locks, 7, write(100, 119))?);
+    assert!(rt; run_of(&locks, &owner_a(rt.alloc())?, 7) == Some(write(0, 119)));
     assert!(rt; found(&locks, CLIENT, 7) == Some((FILE, 2)));
     Ok(())
 }
@@ -54,23 +52,27 @@ fn a_second_lock_joins_the_first(rt: HostRuntime) -> Result<(), Fail> {
 #[test]
 fn a_change_in_the_middle_leaves_both_sides(rt: HostRuntime) -> Result<(), Fail> {
     let mut locks = one_lock(rt.alloc())?;
-    let owner = locker(rt.alloc(), CLIENT, b"a")?;
-    assert!(rt; change(&mut locks, 7, locked(span(40, 59), Mode::Read))?);
-    assert!(rt; run_of(&locks, &owner, 39) == Some((span(0, 39), Mode::Write)));
-    assert!(rt; run_of(&locks, &owner, 40) == Some((span(40, 59), Mode::Read)));
-    assert!(rt; run_of(&locks, &owner, 60) == Some((span(60, 99), Mode::Write)));
-    assert!(rt; change(&mut locks, 7, unlocked(span(45, 54)))?);
-    assert!(rt; run_of(&locks, &owner, 40) == Some((span(40, 44), Mode::Read)));
-    assert!(rt; run_of(&locks, &owner, 50).is_none());
+    let a = owner_a(rt.alloc())?;
+    change(&mut locks, 7, read(40, 59))?;
+    change(&mut locks, 7, unlock(45, 54))?;
+    let table = [
+        (39, Some(write(0, 39))),
+        (40, Some(read(40, 44))),
+        (50, None),
+        (59, Some(read(55, 59))),
+        (60, Some(write(60, 99))),
+    ];
+    for (byte, run) in &table {
+        assert!(rt; run_of(&locks, &a, *byte) == *run, "byte {byte}");
+    }
     Ok(())
 }
 
 #[test]
 fn an_unlock_of_all_bytes_leaves_the_lock_state(rt: HostRuntime) -> Result<(), Fail> {
     let mut locks = one_lock(rt.alloc())?;
-    let owner = locker(rt.alloc(), CLIENT, b"a")?;
-    assert!(rt; change(&mut locks, 7, unlocked(span(0, 99)))?);
-    assert!(rt; !locks.holds(&owner) && locks.has_client(CLIENT));
+    assert!(rt; change(&mut locks, 7, unlock(0, 99))?);
+    assert!(rt; !locks.holds(&owner_a(rt.alloc())?) && locks.has_client(CLIENT));
     assert!(rt; found(&locks, CLIENT, 7) == Some((FILE, 2)));
     Ok(())
 }
@@ -80,24 +82,29 @@ fn an_unlock_of_all_bytes_leaves_the_lock_state(rt: HostRuntime) -> Result<(), F
 fn four_locks(alloc: Global) -> Result<Locks, AllocError> {
     let mut locks = no_locks(alloc)?;
     let table = [
-        (FILE, CLIENT, b"a", 5, 7),
-        (OTHER_FILE, CLIENT, b"a", 6, 8),
-        (FILE, CLIENT, b"b", 6, 9),
-        (FILE, OTHER_CLIENT, b"a", 4, 10),
+        (FILE, CLIENT, "a", 5, 7),
+        (OTHER_FILE, CLIENT, "a", 6, 8),
+        (FILE, CLIENT, "b", 6, 9),
+        (FILE, OTHER_CLIENT, "a", 4, 10),
     ];
     for (node, client, name, open_number, number) in &table {
-        let first = FirstLock {
-            owner: locker(alloc, *client, *name)?,
-            open_number: *open_number,
-            change: locked(span(3, 3), Mode::Read),
-        };
-        begin(alloc, &mut locks, *node, first, *number)?;
+        let owner = locker(alloc, *client, name.as_bytes())?;
+        begin(
+            alloc,
+            &mut locks,
+            *node,
+            &owner,
+            *open_number,
+            *number,
+            read(3, 3),
+        )?;
     }
     Ok(locks)
 }
 
-/// Whether of the four lock states these are there.
-fn are_left(locks: &Locks, seven: bool, eight: bool, nine: bool, ten: bool) -> bool {
+/// Whether of the four lock states, 7 to 10, these are there.
+fn are_left(locks: &Locks, want: [bool; 4]) -> bool {
+    let [seven, eight, nine, ten] = want;
     found(locks, CLIENT, 7).is_some() == seven
         && found(locks, CLIENT, 8).is_some() == eight
         && found(locks, CLIENT, 9).is_some() == nine
@@ -107,19 +114,19 @@ fn are_left(locks: &Locks, seven: bool, eight: bool, nine: bool, ten: bool) -> b
 #[test]
 fn a_close_takes_the_locks_of_its_file_and_open(rt: HostRuntime) -> Result<(), Fail> {
     let mut locks = four_locks(rt.alloc())?;
-    assert!(rt; are_left(&locks, true, true, true, true));
+    assert!(rt; are_left(&locks, [true, true, true, true]));
     locks.close(FILE, 6);
-    assert!(rt; are_left(&locks, true, true, false, true));
+    assert!(rt; are_left(&locks, [true, true, false, true]));
     locks.close(FILE, 5);
-    assert!(rt; are_left(&locks, false, true, false, true));
+    assert!(rt; are_left(&locks, [false, true, false, true]));
     Ok(())
 }
 
 #[test]
 fn an_owner_leaves_with_its_locks_of_all_files(rt: HostRuntime) -> Result<(), Fail> {
     let mut locks = four_locks(rt.alloc())?;
-    locks.remove_owner(&locker(rt.alloc(), CLIENT, b"a")?);
-    assert!(rt; are_left(&locks, false, false, true, true));
+    locks.remove_owner(&owner_a(rt.alloc())?);
+    assert!(rt; are_left(&locks, [false, false, true, true]));
     Ok(())
 }
 
@@ -128,7 +135,7 @@ fn a_client_leaves_with_the_locks_of_its_owners(rt: HostRuntime) -> Result<(), F
     let mut locks = four_locks(rt.alloc())?;
     assert_eq!(rt; locks.places_left(5), 1);
     locks.remove_client(CLIENT);
-    assert!(rt; are_left(&locks, false, false, false, true));
+    assert!(rt; are_left(&locks, [false, false, false, true]));
     assert_eq!(rt; locks.places_left(5), 4);
     Ok(())
 }
@@ -136,7 +143,7 @@ fn a_client_leaves_with_the_locks_of_its_owners(rt: HostRuntime) -> Result<(), F
 #[test]
 fn seqid_one_follows_the_last(rt: HostRuntime) -> Result<(), Fail> {
     let state = LockState {
-        owner: locker(rt.alloc(), CLIENT, b"a")?,
+        owner: owner_a(rt.alloc())?,
         open_number: OPEN,
         number: 7,
         seqid: u32::MAX,

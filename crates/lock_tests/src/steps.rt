@@ -1,6 +1,6 @@
-//! What the tests do to the lock states of three files. Whatever is refused for want of memory is asked for once more, and
-//! a refusal must have left the lock states as they were. So each test passes with ample memory, and where any one growth
-//! is refused.
+//! What the tests do to the lock states of three files. Whatever is refused for want of memory is asked for once more,
+//! and a refusal must have left the lock states as they were. So each test passes with ample memory, and where any one
+//! growth is refused.
 
 ghost use Rattle.std.specs.Prelude.{◌≤◌, OnOk};
 ghost use Rattle.nfs_locks.specs.AllLocks.{HasLockRoomAt, HasRoomFor};
@@ -29,21 +29,34 @@ pub(crate) const OTHER_FILE: u32 = 2;
 /// The number of the open that most locks come under.
 pub(crate) const OPEN: u32 = 5;
 
-pub(crate) fn span(first: u64, last: u64) -> Range
+/// A lock of these bytes to read them.
+pub(crate) fn read(first: u64, last: u64) -> Piece
     requires { first ≤ last }
 {
-    Range { first, last }
-}
-
-pub(crate) fn locked(range: Range, mode: Mode) -> Piece {
     Piece {
-        range,
-        mode: Some(mode),
+        range: Range { first, last },
+        mode: Some(Mode::Read),
     }
 }
 
-pub(crate) fn unlocked(range: Range) -> Piece {
-    Piece { range, mode: None }
+/// A lock of these bytes to write them.
+pub(crate) fn write(first: u64, last: u64) -> Piece
+    requires { first ≤ last }
+{
+    Piece {
+        range: Range { first, last },
+        mode: Some(Mode::Write),
+    }
+}
+
+/// An unlock of these bytes.
+pub(crate) fn unlock(first: u64, last: u64) -> Piece
+    requires { first ≤ last }
+{
+    Piece {
+        range: Range { first, last },
+        mode: None,
+    }
 }
 
 /// The client's lock owner with this name.
@@ -88,33 +101,35 @@ fn make_room_for_change(locks: &mut Locks, number: u32) -> Result<(), AllocError
     }
 }
 
-/// The owner's first lock of the node's file, which makes its lock state with this number.
+/// The owner's first lock of the node's file, which makes the lock state with this number under that open.
 pub(crate) fn begin(
     alloc: Global,
     locks: &mut Locks,
     node: u32,
-    first: FirstLock,
+    owner: &LockOwner,
+    open_number: u32,
     number: u32,
+    change: Piece,
 ) -> Result<(), AllocError> {
+    let first = FirstLock {
+        owner: locker(alloc, owner.client, owner.name.as_slice())?,
+        open_number,
+        change,
+    };
     make_room(alloc, locks, node)?;
     locks.begin(node, first, number);
     Ok(())
 }
 
-/// The same, of `FILE` and under `OPEN`.
+/// The owner's first lock of `FILE`, under `OPEN`, which makes the lock state with this number.
 pub(crate) fn hold(
     alloc: Global,
     locks: &mut Locks,
-    owner: LockOwner,
+    owner: &LockOwner,
     number: u32,
     change: Piece,
 ) -> Result<(), AllocError> {
-    let first = FirstLock {
-        owner,
-        open_number: OPEN,
-        change,
-    };
-    begin(alloc, locks, FILE, first, number)
+    begin(alloc, locks, FILE, owner, OPEN, number, change)
 }
 
 /// Makes the change of the lock state of `FILE` with this number, if it doesn't make too many runs of bytes, and tells
@@ -140,6 +155,10 @@ pub(crate) fn found(locks: &Locks, client: ClientId, number: u32) -> Option<(u32
 }
 
 /// The run of bytes of `FILE` that the owner holds round this one.
-pub(crate) fn run_of(locks: &Locks, owner: &LockOwner, byte: u64) -> Option<(Range, Mode)> {
-    locks.lock_of(FILE, owner)?.ranges.run_at(byte)
+pub(crate) fn run_of(locks: &Locks, owner: &LockOwner, byte: u64) -> Option<Piece> {
+    let (range, mode) = locks.lock_of(FILE, owner)?.ranges.run_at(byte)?;
+    Some(Piece {
+        range,
+        mode: Some(mode),
+    })
 }
