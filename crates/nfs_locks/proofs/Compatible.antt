@@ -1,5 +1,5 @@
 -- Lock states that are compatible stay so.
-use Rattle.std.proofs.Common.{inl, inr, ◌≡◌, ℕ, ◌⊎◌, ◌==◌, nat_le, Bool, true, false, ◌&&◌, ◌||◌, not, cond, List, [], ◌∷◌, ◌++◌, map, Some, None, Option, refl, sym, ◌∙◌, ap}
+use Rattle.std.proofs.Common.{inl, inr, ◌≡◌, ℕ, ◌⊎◌, ◌==◌, nat_le, Bool, true, false, ◌&&◌, not, cond, List, [], Some, None, Option, refl, sym, ◌∙◌, ap}
 use Rattle.std.specs.List.{AllByRecursion}
 use Rattle.std.specs.Str.{bytes_eq}
 use Rattle.std.proofs.lemmas.Bool.{and_from, and_parts, cases_Bool, cond_both, eq-eqb, eqb-true, leb-true, or_cases, or_left, or_right}
@@ -75,12 +75,12 @@ free_at owner None range locks byte free = all_always (IsClearOf owner None rang
 free_at owner (Some mode) range locks byte free =
     all_weaken (λ l. (byte : ℕ) → IsIn range byte → refuses owner mode byte l ≡ false) (IsClearOf owner (Some mode) range byte)
     (λ l none inside.
-        let ends = and_parts (nat_le range.first byte) (nat_le byte range.last) inside in
-        let no = none byte (leb-true range.first byte ends.0, leb-true byte range.last ends.1) in
-        elim (cases_Bool (is_lock_of owner l)) [
-          | inl same ↦ inl same
-          | inr other ↦ inr (ap not (sym (ap (λ own. not own && conflicts mode (l.modes byte)) other) ∙ no))
-        ])
+    let ends = and_parts (nat_le range.first byte) (nat_le byte range.last) inside in
+    let no = none byte (leb-true range.first byte ends.0, leb-true byte range.last ends.1) in
+    elim (cases_Bool (is_lock_of owner l)) [
+      | inl same ↦ inl same
+      | inr other ↦ inr (ap not (sym (ap (λ own. not own && conflicts mode (l.modes byte)) other) ∙ no))
+    ])
     locks free
 
 -- a lock state with the modes of a change, beside another one

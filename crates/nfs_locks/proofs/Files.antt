@@ -1,13 +1,13 @@
 -- The lock states of one node, in the list of all files.
 use Rattle.std.proofs.Common.{◌≡◌, ℕ, zero, suc, ◌+◌, ◌-◌, ◌<◌, ◌≤◌, Bool, List, [], ◌∷◌, ◌++◌, drop, length, get_or, map, set, take, slice_index_or, slice_set, Some, None, refl, sym, ap, ◌∙◌, subst, arith}
-use Rattle.std.specs.Prelude.{IfSome, ◌||◌, option_map, position, slice_get}
-use Rattle.std.specs.List.{AllByRecursion, list_any}
+use Rattle.std.specs.Prelude.{IfSome, ◌||◌, position, slice_get}
+use Rattle.std.specs.List.{list_any}
 use Rattle.std.proofs.lemmas.List.{append-nil, drop_all, get_or-map, length-map, map-set, take_all}
 use Rattle.std.proofs.lemmas.List.Edits.{map_over_more}
 use Rattle.nfs_forms.specs.declared.stateid.Stateid.{Stateid}
-use Rattle.nfs_locks.specs.AllLocks.{HasLockRoom, HasLockRoomAt, HasRangeRoom, HasRoomFor, at_node, lock_count, lock_named_in, locks_in, locks_of, named_at, stored_in, with_locks}
+use Rattle.nfs_locks.specs.AllLocks.{at_node, lock_count, lock_named_in, locks_in, locks_of, named_at, stored_in, with_locks}
 use Rattle.nfs_locks.specs.Locks.{ByteLocks, is_stateid_of, lock_named_by}
-use Rattle.nfs_locks.specs.StoredLocks.{StoredLock, StoredLocks, byte_locks, lock_seen, locks_seen, stored_lock, stored_locks}
+use Rattle.nfs_locks.specs.StoredLocks.{StoredLocks, byte_locks, lock_seen, locks_seen, stored_lock, stored_locks}
 use Rattle.nfs_locks.specs.declared.lock_state.LockState.{LockState}
 use Rattle.nfs_locks.proofs.Elements.{any_seen}
 

@@ -1,11 +1,11 @@
 -- A report among more lock states, and that there is one report.
-use Rattle.std.proofs.Common.{inl, inr, ◌≡◌, ℕ, zero, suc, ◌+◌, ◌<◌, ◌≤◌, ◌==◌, nat_lt, Bool, true, false, ◌&&◌, ◌||◌, not, cond, List, [], ◌∷◌, ◌++◌, length, Some, None, Option, refl, sym, ◌∙◌, ap, arith}
+use Rattle.std.proofs.Common.{inl, inr, ◌≡◌, ℕ, ◌+◌, ◌≤◌, ◌==◌, nat_lt, true, false, ◌&&◌, List, [], ◌∷◌, ◌++◌, Some, None, Option, refl, sym, ◌∙◌, ap, arith}
 use Rattle.std.specs.Cmp.{IsTotalOrder, nat_cmp_total, on_total, then_total, upto}
-use Rattle.std.specs.Cmp.Lexicographic.{nat_list_cmp_total, slice_cmp}
+use Rattle.std.specs.Cmp.Lexicographic.{nat_list_cmp_total}
 use Rattle.std.specs.List.{AllByRecursion}
 use Rattle.std.specs.declared.cmp.Ordering.{Ordering}
 use Rattle.std.specs.declared.cmp.Ordering.TheVariants.{Less, Equal, Greater}
-use Rattle.std.specs.Ordering.{is_gt, is_lt, nat_cmp, ordering_reverse, ordering_then}
+use Rattle.std.specs.Ordering.{is_gt, is_lt, ordering_reverse}
 use Rattle.std.proofs.lemmas.Bool.{and_parts, and_right, cases_Bool, cond_both, eqb-false, eqb-true, false≢true, false_from_ne_true, ltb-false, ltb-true, or_cases, or_parts}
 use Rattle.nfs_forms.specs.declared.lock_owner.LockOwner.{LockOwner}
 use Rattle.nfs_locks.specs.Locks.{ByteLocks, is_lock_of}
@@ -78,10 +78,10 @@ module _ (owner : LockOwner) (range : Range) (mode : Mode) where
   refuses_for_other first second byte l less after =
       false_from_ne_true (refuses_for first owner mode byte l)
       (λ both.
-          let parts = and_parts (is_lock_of first l) (refuses owner mode byte l) both in
-          let not_gt : is_gt (owner_order second first) ≡ false =
-          ap (λ o. is_gt (owner_order second o)) (sym (equal_owners l.owner first parts.0)) ∙ after parts.1 in
-          false≢true (sym not_gt ∙ ap is_gt (owners_total.antisymm second first) ∙ gt_reverse (owner_order first second) ∙ less))
+      let parts = and_parts (is_lock_of first l) (refuses owner mode byte l) both in
+      let not_gt : is_gt (owner_order second first) ≡ false =
+      ap (λ o. is_gt (owner_order second o)) (sym (equal_owners l.owner first parts.0)) ∙ after parts.1 in
+      false≢true (sym not_gt ∙ ap is_gt (owners_total.antisymm second first) ∙ gt_reverse (owner_order first second) ∙ less))
 
   -- the meeting with one more lock state comes before
   last_wins : (locks : List ByteLocks) (x : ByteLocks) (a b : ℕ × Report)

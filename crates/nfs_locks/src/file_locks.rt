@@ -101,7 +101,9 @@ impl FileLocks {
         ensures { result ≡ list_any
             (λ l. is_numbered number (lock_seen l) && would_be_full change (lock_seen l)) self.now.states }
     {
-        self.states.iter().any(|state| state.is_full_for(number, change))
+        self.states
+            .iter()
+            .any(|state| state.is_full_for(number, change))
     }
 
     /// The lock that is in the way of the owner's lock of the range in this mode, if there is one.
@@ -161,8 +163,7 @@ impl FileLocks {
         ensures { locks_seen self.new.states
             ≡ without (is_under open_number) (locks_seen self.old.states) }
     {
-        self.states
-            .retain(|state| state.open_number != open_number);
+        self.states.retain(|state| state.open_number != open_number);
     }
 
     /// Removes the lock state of this owner.

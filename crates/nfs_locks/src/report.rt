@@ -96,6 +96,5 @@ fn first_of<'a>(a: Option<Meeting<'a>>, b: Option<Meeting<'a>>) -> Option<Meetin
 fn comes_before(a: Meeting<'_>, b: Meeting<'_>) -> bool
     ensures { result ≡ comes_before (meeting_seen a.entry) (meeting_seen b.entry) }
 {
-    a.byte < b.byte
-        || (a.byte == b.byte && owner_order(a.report.owner, b.report.owner).is_lt())
+    a.byte < b.byte || (a.byte == b.byte && owner_order(a.report.owner, b.report.owner).is_lt())
 }

@@ -23,7 +23,7 @@ abbrev pub OthersStay : Type 0
 OthersStay =
     (name other : StateOwner) (owners : List Owner) → IsFalse (is_same_state_owner name other)
     → ((number : ℕ) (kept : Kept)
-        → owner_of other (with_kept name number kept owners) ≡ owner_of other owners)
+    → owner_of other (with_kept name number kept owners) ≡ owner_of other owners)
     × (owner_of other (with_confirmed name owners) ≡ owner_of other owners)
     × (owner_of other (without_owner name owners) ≡ owner_of other owners)
 

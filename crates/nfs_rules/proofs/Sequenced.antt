@@ -17,7 +17,7 @@ use Rattle.nfs_ranges.specs.declared.mode.Mode.{Mode}
 use Rattle.nfs_ranges.specs.declared.range.Range.{Range}
 use Rattle.nfs_locks.specs.Locks.{ByteLocks}
 use Rattle.nfs_forms.specs.declared.answer.Answer.TheVariants.{Denied}
-use Rattle.nfs_rules.specs.Locking.{can_be_written, denied_by, mode_of}
+use Rattle.nfs_rules.specs.Locking.{can_be_written, denied_by}
 use Rattle.nfs_xdr.specs.declared.op_result.OpResult.TheVariants as results
 use Rattle.nfs_rules.specs.Newcomers.{Newcomer, Nobody, Known, Unknown, has_turn, is_next, newcomer_by, newcomer_if, newcomer_in, newcomer_of}
 use Rattle.nfs_rules.specs.Refusing.{◌>>=◌, refused_if}

@@ -79,9 +79,11 @@ kept_by journal name number kept o is kind = record {
 
 Agrees-change : (journal : History) (name : StateOwner) (number : ℕ) (kept : OwnerKind → Kept) (owners : List Owner) → IsEntryOf journal number kept → Agrees journal owners → Agrees journal (map (λ o. if has_name name o then record o { number = number; kept = kept name.kind } else o) owners)
 Agrees-change journal name number kept [] is agrees = agrees
-Agrees-change journal name number kept (o ∷ owners) is agrees =
-    (cond_both (has_name name o) (record o { number = number; kept = kept name.kind }) o (IsKeptIn journal)
-    (λ has. kept_by journal name number kept o is (kind_of_name name o has)) (λ _. agrees.0), Agrees-change journal name number kept owners is agrees.1)
+Agrees-change journal name number kept (o ∷ owners) is agrees = (
+  cond_both (has_name name o) (record o { number = number; kept = kept name.kind }) o (IsKeptIn journal)
+      (λ has. kept_by journal name number kept o is (kind_of_name name o has)) (λ _. agrees.0),
+  Agrees-change journal name number kept owners is agrees.1,
+)
 
 Agrees-kept : (journal : History) (name : StateOwner) (number : ℕ) (kept : OwnerKind → Kept) (owners : List Owner) → IsEntryOf journal number kept → Agrees journal owners → Agrees journal (with_kept name number (kept name.kind) owners)
 Agrees-kept journal name number kept owners is agrees = by (is_known name owners)

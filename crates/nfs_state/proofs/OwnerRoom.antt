@@ -1,6 +1,6 @@
 -- What an entry means for an owner: its room among the stored owners, and the limits of the change after it.
 use Rattle.std.proofs.Common.{◌≡◌, ◌<◌, ℕ, suc, true, false, List, [], ◌∷◌, length, map, refl, sym, ap, ◌∙◌, subst, arith}
-use Rattle.std.specs.Prelude.{◌||◌, IsFalse, is_some, nat_lt, if◌then◌else◌}
+use Rattle.std.specs.Prelude.{◌||◌, is_some, nat_lt, if◌then◌else◌}
 use Rattle.std.proofs.lemmas.Bool.{cond-true}
 use Rattle.std.proofs.lemmas.List.{length-map}
 use Rattle.nfs_owners.specs.StateOwner.{is_same_state_owner}

@@ -11,7 +11,7 @@ use Rattle.nfs_state.specs.declared.owner_update.Keeping.{Keeping}
 use Rattle.nfs_state.specs.Owners as known
 use Rattle.nfs_state.specs.Owners.{KnownOwner}
 use Rattle.nfs_state.specs.Room.{HasOwnerPlace}
-use Rattle.nfs_state.specs.Changes.{with_owner_change, without, changed, left_by, without_client}
+use Rattle.nfs_state.specs.Changes.{with_owner_change, without, changed, left_by}
 use Rattle.nfs_state.specs.State.{History, State}
 use Rattle.nfs_state.specs.declared.change.Change.{Change}
 use Rattle.nfs_state.specs.declared.change.Change.TheVariants as own_changes

@@ -22,7 +22,8 @@ use Rattle.nfs_state.specs.declared.change.Change.TheVariants as changes
 use Rattle.nfs_state.specs.declared.owner_change.OwnerChange.{OwnerChange}
 use Rattle.nfs_state.specs.declared.owner_change.OwnerChange.TheVariants.{Nothing, Keeps, KeepsBoth, Introduces, Records, Restarts, Drops}
 
--- the state without an open owner and its opens
+-- The state without an open owner and its opens. It is for owners that aren't confirmed: under their opens there are no
+-- lock states.
 abbrev pub without : OpenOwner → State → State
 without name old = record old {
   owners = without_owner (open_owner name) old.owners;
@@ -78,6 +79,7 @@ changed (changes.Confirms node number owner) old = record old {
 changed (changes.Downgrades node number share) old = record old {
   opens = with_opens node (with_each (is_numbered number) (after_downgrade share)) old.opens;
 }
+-- all lock states under an open are of the open's file
 changed (changes.Closes node number) old = record old {
   opens = with_opens node (opens.without (is_numbered number)) old.opens;
   locks = with_locks node (locks.without (locks.is_under number)) old.locks;

@@ -92,8 +92,8 @@ HasOwnerPlace (owner_changes.Records name) state = IsNewcomer (open_owner name) 
 HasOwnerPlace (owner_changes.Restarts name) state = IsTrue (is_known (open_owner name) state)
 HasOwnerPlace (owner_changes.Drops name) state = ⊤
 
--- The change passes no limit: the next client number, confirm value and state number that it uses exist, and the runs of
--- a lock state aren't too many after it.
+-- The next client number, confirm value and state number that the change uses exist, and the runs of a lock state
+-- aren't too many after it. (How many states there may be is judged by the rules.)
 abbrev pub IsWithinLimits : Change → State → Type 0
 IsWithinLimits (changes.Clients change) state = HasNumbersFor change state.clients
 IsWithinLimits (changes.Opens node owner share) state = state.last_state < 2 ^ 32 - 1

@@ -69,7 +69,11 @@ fn another_client_has_another_owner_of_the_name(rt: HostRuntime) -> Result<(), F
     let name = owner_at(rt.alloc(), 2)?;
     let mut owners = with_owner(rt.alloc(), 9)?;
     assert!(rt; owners.known(name.as_ref()) == OwnerStanding::Unknown);
-    assert!(rt; owners.judge(name.as_ref(), 9, &Op::Savefh, Some(3)).is_none());
+    assert!(rt;
+        owners
+            .judge(name.as_ref(), 9, &Op::Savefh, Some(3))
+            .is_none()
+    );
     owners.reserve(name.as_ref())?;
     owners.keep(name, 6, kept(1));
     owners.remove_client(ClientId {

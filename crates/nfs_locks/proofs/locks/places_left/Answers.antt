@@ -1,4 +1,4 @@
-use Rattle.std.proofs.Common.{◌∙◌, ◌-◌, arith}
+use Rattle.std.proofs.Common.{◌-◌, arith}
 use Rattle.nfs_locks.specs.AllLocks.{lock_count}
 use Rattle.nfs_locks.proofs.Files.{all_counted, place_taken, seen_in}
 use Rattle.nfs_locks.proofs.locks.places_left.Goals as goal

@@ -19,8 +19,7 @@ returns c =
     let byte = c.in_ok-byte.byte in
     let passes : refuses_for l.owner c.args.owner.now c.args.mode byte l ≡ true =
     and_from (is_lock_of l.owner l) (refuses c.args.owner.now c.args.mode byte l) (same_self l.owner) (refuses_as byte ∙ c.in_ok-byte.ensures.1) in
-    let found = cond-true (refuses_for l.owner c.args.owner.now c.args.mode byte l) (Some l) None passes in
-    (
+    let found = cond-true (refuses_for l.owner c.args.owner.now c.args.mode byte l) (Some l) None passes in (
       c.in_ok-byte.ensures.0,
       ((λ byte from below. refuses_as byte ∙ c.in_ok-byte.ensures.2 byte from below), tt),
       ((λ refused. ap is_gt (tied_itself owners_total l.owner)), tt),

@@ -1,7 +1,6 @@
-use Rattle.std.proofs.Common.{◌≡◌, ◌∙◌, Bool, Some, None, ap, sym}
+use Rattle.std.proofs.Common.{◌∙◌, Bool, ap, sym}
 use Rattle.std.specs.Option.{option_copied}
 use Rattle.std.specs.Prelude.{if◌then◌else◌}
-use Rattle.nfs_owners.specs.Kept.{precedes}
 use Rattle.nfs_owners.specs.Owner.{owner_of}
 use Rattle.nfs_owners.specs.StateOwner.{lock_owner}
 use Rattle.nfs_rules.specs.Newcomers.{Nobody, Known}

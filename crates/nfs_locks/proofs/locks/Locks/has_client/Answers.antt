@@ -1,4 +1,4 @@
-use Rattle.std.proofs.Common.{◌∙◌, Bool, ◌&&◌, List, ap}
+use Rattle.std.proofs.Common.{◌∙◌, Bool, List, ap}
 use Rattle.std.specs.List.{list_any}
 use Rattle.nfs_locks.specs.AllLocks.{locks_in}
 use Rattle.nfs_locks.specs.Locks.{ByteLocks, is_lock_of_client}

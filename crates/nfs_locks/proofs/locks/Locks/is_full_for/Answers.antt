@@ -1,4 +1,4 @@
-use Rattle.std.proofs.Common.{◌≡◌, ◌∙◌, Bool, ◌&&◌, List, ap, arith, sym}
+use Rattle.std.proofs.Common.{◌∙◌, Bool, ◌&&◌, List, ap, sym}
 use Rattle.std.specs.List.{list_any}
 use Rattle.std.proofs.lemmas.Bool.{ltb-false, ltb-true}
 use Rattle.nfs_locks.specs.AllLocks.{is_full_for, locks_in, locks_of}

@@ -1,4 +1,4 @@
-use Rattle.std.proofs.Common.{◌∙◌, List, ap, find, option_map, sym}
+use Rattle.std.proofs.Common.{◌∙◌, List, ap, option_map, sym}
 use Rattle.std.proofs.lemmas.Bool.{ltb-true}
 use Rattle.nfs_locks.specs.AllLocks.{locks_in, locks_of}
 use Rattle.nfs_locks.specs.Locks.{is_lock_of, lock_of}

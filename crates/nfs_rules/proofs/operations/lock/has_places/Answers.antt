@@ -1,9 +1,9 @@
-use Rattle.std.proofs.Common.{◌≡◌, ◌∙◌, ◌&&◌, Bool, ap, sym}
+use Rattle.std.proofs.Common.{◌∙◌, ◌&&◌, Bool, ap, sym}
 use Rattle.nfs_owners.specs.Owners.{has_place}
 use Rattle.nfs_owners.specs.StateOwner.{lock_owner}
 use Rattle.nfs_rules.proofs.OpeningLaws.{place_seen}
 use Rattle.nfs_rules.proofs.operations.lock.has_places.Goals as goal
-use Rattle.nfs_state.specs.Places.{has_owner_place, has_state_place}
+use Rattle.nfs_state.specs.Places.{has_state_place}
 use Rattle.nfs_state.specs.Room.{state_of}
 
 pub returns-then-has_place : goal.returns-then-has_place

@@ -1,11 +1,10 @@
-use Rattle.std.proofs.Common.{◌≡◌, ◌∙◌, Option, Some, None, ap, sym, true}
+use Rattle.std.proofs.Common.{◌≡◌, ◌∙◌, Some, None, ap, sym, true}
 use Rattle.std.proofs.lemmas.Bool.{cond-true}
 use Rattle.nfs_forms.specs.declared.answer.Answer.TheVariants.{Denied}
 use Rattle.nfs_locks.specs.AllLocks.{locks_of}
 use Rattle.nfs_locks.specs.ReportSeen.{report_seen}
 use Rattle.nfs_rules.specs.Finding.{locking_seen}
 use Rattle.nfs_rules.specs.Locking.{can_be_written}
-use Rattle.nfs_rules.specs.declared.ruling.Ruling.{Ruling}
 use Rattle.nfs_rules.specs.operations.Lock.{IsAllowed, granted, unless_denied}
 use Rattle.nfs_rules.proofs.Sendable.{denied_sendable}
 use Rattle.nfs_rules.proofs.Sequenced.{not_reported, rules_onto}

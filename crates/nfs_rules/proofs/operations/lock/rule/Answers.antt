@@ -1,4 +1,4 @@
-use Rattle.std.proofs.Common.{◌≡◌, ◌∙◌, Bool, Option, Ok, Some, None, ap, refl, subst, sym, true}
+use Rattle.std.proofs.Common.{◌≡◌, ◌∙◌, Bool, Option, Some, None, ap, refl, subst, sym, true}
 use Rattle.std.specs.Prelude.{Result}
 use Rattle.nfs_forms.specs.declared.status.Refusal.{Refusal}
 use Rattle.nfs_ranges.specs.declared.range.Range.{Range}
@@ -43,6 +43,6 @@ returns c = λ passage.
     rules_onto (IsAllowed true state l range) (λ r. IsLock state args found r) state (ops.Lock args) c.lock.result
     (λ r h. subst (Q r) c.in-Ok.ensures (Some range, c.in-Some.ensures, subst (A r) (sym may) h))
     (λ none.
-        let here = subst (Q None) (sym c.in-Ok.ensures) none in
-        subst (A None) may (subst R (c.at_most_one_range.ensures args.offset args.length here.0 (Some range) here.1 c.in-Some.ensures) here.2))
+    let here = subst (Q None) (sym c.in-Ok.ensures) none in
+    subst (A None) may (subst R (c.at_most_one_range.ensures args.offset args.length here.0 (Some range) here.1 c.in-Some.ensures) here.2))
     (c.lock.ensures args)

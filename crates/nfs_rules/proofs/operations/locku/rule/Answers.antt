@@ -39,6 +39,6 @@ returns-in-Some c = λ passage.
     rules_onto P Q state (ops.Locku args) c.unlock.result
     (λ r same. subst (λ v. IsUnlock state args v r) is (Some c.in-Some.range, c.in-Some.ensures, same))
     (λ none.
-        let here = subst (λ v. IsUnlock state args v None) (sym is) none in
-        here.2 ∙ ap (unlocking state at) (c.at_most_one_range.ensures args.offset args.length here.0 (Some c.in-Some.range) here.1 c.in-Some.ensures))
+    let here = subst (λ v. IsUnlock state args v None) (sym is) none in
+    here.2 ∙ ap (unlocking state at) (c.at_most_one_range.ensures args.offset args.length here.0 (Some c.in-Some.range) here.1 c.in-Some.ensures))
     (c.unlock.ensures args)

@@ -1,4 +1,4 @@
-use Rattle.std.proofs.Common.{◌≡◌, ◌∙◌, ap, sym, subst}
+use Rattle.std.proofs.Common.{◌∙◌, ap, sym, subst}
 use Rattle.std.specs.Prelude.{not}
 use Rattle.nfs_owners.specs.Owner.{has_name}
 use Rattle.nfs_owners.specs.Owners.{with_confirmed, without_owner}
