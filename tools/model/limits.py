@@ -1,10 +1,12 @@
 #!/usr/bin/env python3
 """limits.py PROGRAM: a built nfs4state at its limits of 16,384 owners and of 65,536 opens, each met and passed by one.
 
-What is wanted is told beside each call, since the model would take minutes for so many."""
+What is wanted is written beside each call, since the model would take minutes for so many. lock_limits.py does the same
+with lock owners and lock states."""
 import subprocess
 import sys
 import tempfile
+import time
 
 sys.dont_write_bytecode = True
 
@@ -117,22 +119,27 @@ def reply(xid, pairs):
     return wire.record(wire.accepted(xid, wire.SUCCESS, head + b"".join(wanted for _, wanted in pairs)))
 
 
-def main(program):
-    failed = 0
+def compare(program, name, steps):
+    """Whether the program answers these steps as wanted, and in how many seconds."""
+    found = list(enumerate(compounds(steps), 1))
+    sent, wanted = (b"".join(one(*pair) for pair in found) for one in (call, reply))
     with tempfile.NamedTemporaryFile("w", suffix=".toml") as tree:
         tree.write(TREE)
         tree.flush()
-        for name, steps in (("owners", owners_at_their_limit()), ("opens", opens_at_their_limit())):
-            found = list(enumerate(compounds(steps), 1))
-            sent, wanted = (b"".join(one(*pair) for pair in found) for one in (call, reply))
-            words = [program, "once", "--tree", tree.name]
-            ran = subprocess.run(words, input=sent, stdout=subprocess.PIPE, check=False)
-            if ran.stdout != wanted:
-                failed = 1
-                same = next((at for at, (a, b) in enumerate(zip(ran.stdout, wanted)) if a != b), len(ran.stdout))
-                print(f"limits: {name}: other bytes from {same} on: {ran.stdout[same - 40:same + 40].hex()}")
-            print(f"limits: {name}: {len(found)} calls")
-    return failed
+        begun = time.monotonic()
+        ran = subprocess.run([program, "once", "--tree", tree.name], input=sent, stdout=subprocess.PIPE, check=False)
+        seconds = time.monotonic() - begun
+    if ran.stdout != wanted:
+        same = next((at for at, (a, b) in enumerate(zip(ran.stdout, wanted)) if a != b), len(ran.stdout))
+        print(f"limits: {name}: other bytes from {same} on: {ran.stdout[same - 40:same + 40].hex()}")
+    print(f"limits: {name}: {len(found)} calls in {seconds:.1f} seconds")
+    return ran.stdout == wanted, seconds
+
+
+def main(program):
+    sides = (("owners", owners_at_their_limit()), ("opens", opens_at_their_limit()))
+    agree = [compare(program, name, steps)[0] for name, steps in sides]
+    return 0 if all(agree) else 1
 
 
 if __name__ == "__main__":

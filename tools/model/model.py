@@ -4,15 +4,16 @@
 memory was refused: these are answered RESOURCE and change nothing. `Server.follows` judges a reply of a server that may
 have been refused memory. Sections are those of RFC 7530.
 
-There are no leases, byte-range locks and delegations yet.
+There are no leases and delegations yet, and no READ and WRITE.
 """
 import copy
 from dataclasses import dataclass, field
 
 import wire
+from ranges import READ_MODE, RUNS_LIMIT, Ranges, WRITE_MODE, denial, length_of, range_of
 from tree import Tree
 from wire import (Callback, CLAIM_DELEGATE_CUR, CLAIM_DELEGATE_PREV, CLAIM_PREVIOUS, CompoundCall, EXCLUSIVE4, GUARDED4,
-                  OPEN4_CREATE, OpenOwner, Opnum, Stateid, Status, u32, u64)
+                  LockOwner, NewLocker, OPEN4_CREATE, OpenOwner, Opnum, READ_LT, READW_LT, Stateid, Status, u32, u64)
 
 OPERATIONS_LIMIT = 64
 ANSWER_ROOM = 2048
@@ -24,7 +25,7 @@ OWNERS_LIMIT = 16384
 STATES_LIMIT = 65536
 JOURNAL_LIMIT = 1000000
 
-READ, BOTH = 1, 3
+READ, WRITE, BOTH = 1, 2, 3
 CONFIRM, LOCKTYPE_POSIX = 2, 4
 HANDLE_HEAD = b"nfh1"
 LAST = 2**32 - 1
@@ -35,12 +36,11 @@ NOT_COUNTED = {Status.STALE_CLIENTID, Status.STALE_STATEID, Status.BAD_STATEID, 
 
 # The operations that ask the state, and so make an entry of the journal.
 STATEFUL = {Opnum.GETATTR, Opnum.SETCLIENTID, Opnum.SETCLIENTID_CONFIRM, Opnum.OPEN, Opnum.OPEN_CONFIRM,
-            Opnum.OPEN_DOWNGRADE, Opnum.CLOSE}
-SEQUENCED = {Opnum.OPEN, Opnum.OPEN_CONFIRM, Opnum.OPEN_DOWNGRADE, Opnum.CLOSE}
+            Opnum.OPEN_DOWNGRADE, Opnum.CLOSE, Opnum.LOCK, Opnum.LOCKT, Opnum.LOCKU, Opnum.RELEASE_LOCKOWNER}
+SEQUENCED = {Opnum.OPEN, Opnum.OPEN_CONFIRM, Opnum.OPEN_DOWNGRADE, Opnum.CLOSE, Opnum.LOCK, Opnum.LOCKU}
 
 # Operations of NFSv4.0 that get a rule later: rows that use them are not for this model yet.
-TO_COME = {8: "DELEGRETURN", 12: "LOCK", 13: "LOCKT", 14: "LOCKU", 25: "READ", 30: "RENEW", 38: "WRITE",
-           39: "RELEASE_LOCKOWNER"}
+TO_COME = {8: "DELEGRETURN", 25: "READ", 30: "RENEW", 38: "WRITE"}
 
 
 class Refusal(Exception):
@@ -88,8 +88,8 @@ class Kept:
 
 @dataclass
 class Owner:
-    """An open owner that is known (sections 9.1.5 and 9.1.11)."""
-    name: OpenOwner
+    """An open owner or a lock owner that is known (section 9.1.5); only an open owner is confirmed (section 9.1.11)."""
+    name: OpenOwner | LockOwner
     kept: Kept
     is_confirmed: bool = False
 
@@ -105,6 +105,20 @@ class OpenState:
 
     def share(self):
         return union(self.pairs)
+
+
+@dataclass
+class LockState:
+    """What a lock owner has locked of a file, by an open of its client (section 9.1.4.1)."""
+    owner: LockOwner
+    open: OpenState
+    number: int
+    ranges: Ranges = field(default_factory=Ranges)
+    seqid: int = 0
+
+    @property
+    def file(self):
+        return self.open.file
 
 
 def union(pairs):
@@ -153,14 +167,16 @@ class Filehandles:
 
 @dataclass
 class Server:
-    """The files, and all that is kept of clients, owners and opens."""
+    """The files, and all that is kept of clients, owners, opens and locks."""
     tree: Tree = field(default_factory=Tree)
     lease: int = 90
     epoch: int = 1
     journal_limit: int = JOURNAL_LIMIT
     records: list = field(default_factory=list)
-    owners: dict = field(default_factory=dict)
+    open_owners: dict = field(default_factory=dict)
+    lock_owners: dict = field(default_factory=dict)
     opens: list = field(default_factory=list)
+    lock_states: list = field(default_factory=list)
     entries: int = 0
     last_client: int = 0
     last_state: int = 0
@@ -246,7 +262,7 @@ class Server:
     # Operations on the tree alone.
 
     def on_tree(self, opnum, arguments, handles):
-        return getattr(self, opnum.name.lower())(arguments, handles)
+        return self.rule_of(opnum)(arguments, handles)
 
     def putrootfh(self, _arguments, handles):
         """Section 16.22."""
@@ -314,14 +330,17 @@ class Server:
             return Result(Status.RESOURCE)
         if opnum in SEQUENCED:
             result = self.sequenced(Request(opnum, arguments, filehandle))
-        elif opnum == Opnum.GETATTR:
-            result = answer(lambda: self.getattr(arguments, filehandle))
-        elif opnum == Opnum.SETCLIENTID:
-            result = answer(lambda: self.setclientid(arguments, principal))
+        elif opnum in (Opnum.GETATTR, Opnum.LOCKT):
+            result = answer(lambda: self.rule_of(opnum)(arguments, filehandle))
+        elif opnum == Opnum.RELEASE_LOCKOWNER:
+            result = answer(lambda: self.release_lockowner(arguments))
         else:
-            result = answer(lambda: self.setclientid_confirm(arguments, principal))
+            result = answer(lambda: self.rule_of(opnum)(arguments, principal))
         self.entries += result.status != Status.RESOURCE
         return result
+
+    def rule_of(self, opnum):
+        return getattr(self, opnum.name.lower())
 
     def getattr(self, arguments, filehandle):
         """Section 16.7."""
@@ -399,10 +418,12 @@ class Server:
         record.is_confirmed = True
 
     def remove_client(self, number):
-        """The client's records, owners and opens are gone (section 9.1.2)."""
+        """The client's records, owners, opens and lock states are gone (section 9.1.2)."""
         self.records = [it for it in self.records if it.number != number]
-        self.owners = {name: owner for name, owner in self.owners.items() if name.client != number}
+        self.open_owners = {name: owner for name, owner in self.open_owners.items() if name.client != number}
+        self.lock_owners = {name: owner for name, owner in self.lock_owners.items() if name.client != number}
         self.opens = [it for it in self.opens if it.owner.client != number]
+        self.lock_states = [it for it in self.lock_states if it.owner.client != number]
 
     def expect_client(self, epoch, number):
         if epoch != self.epoch or not self.is_live(number):
@@ -411,7 +432,8 @@ class Server:
     # Stateids (section 9.1.4).
 
     def looked_up(self, stateid):
-        """The open that the stateid's `other` names, or None where its client has no such state (section 9.1.4.4)."""
+        """The open or lock state that the stateid's `other` names, or None where its client has no such state (section
+        9.1.4.4)."""
         if is_special(stateid):
             raise Refusal(Status.BAD_STATEID)
         if stateid.epoch != self.epoch:
@@ -420,19 +442,28 @@ class Server:
             raise Refusal(Status.BAD_STATEID)
         if not self.is_live(stateid.client):
             raise Refusal(Status.EXPIRED)
-        return next((it for it in self.opens if (it.owner.client, it.number) == (stateid.client, stateid.number)), None)
+        states = self.opens + self.lock_states
+        return next((it for it in states if (it.owner.client, it.number) == (stateid.client, stateid.number)), None)
+
+    def state_of(self, kind, stateid, file):
+        """The state of this kind that the stateid names on the file, but for its seqid."""
+        found = self.looked_up(stateid)
+        if not isinstance(found, kind) or found.file != file:
+            raise Refusal(Status.BAD_STATEID)
+        return found
 
     def open_of(self, stateid, file, of_unconfirmed=False):
         """The open that the stateid names on the file, by all its parts."""
-        found = self.looked_up(stateid)
-        if found is None or found.file != file:
+        found = self.state_of(OpenState, stateid, file)
+        if not of_unconfirmed and not self.open_owners[found.owner].is_confirmed:
             raise Refusal(Status.BAD_STATEID)
-        if not of_unconfirmed and not self.owners[found.owner].is_confirmed:
-            raise Refusal(Status.BAD_STATEID)
-        if stateid.seqid < found.seqid:
-            raise Refusal(Status.OLD_STATEID)
-        if stateid.seqid > found.seqid:
-            raise Refusal(Status.BAD_STATEID)
+        expect_seqid(stateid, found)
+        return found
+
+    def lock_state_of(self, stateid, file):
+        """The lock state that the stateid names on the file, by all its parts."""
+        found = self.state_of(LockState, stateid, file)
+        expect_seqid(stateid, found)
         return found
 
     def delegation_of(self, stateid):
@@ -441,7 +472,7 @@ class Server:
         raise Refusal(Status.BAD_STATEID)
 
     def answer_stateid(self, found):
-        """The stateid of an open after an operation on it: its seqid is one more."""
+        """The stateid of a state after an operation on it: its seqid is one more."""
         found.seqid = next_seqid(found.seqid)
         return self.spelled(found)
 
@@ -458,50 +489,73 @@ class Server:
             owner = self.owner_of(request)
         except Refusal as refusal:
             return Result(refusal.status)
+        seqid = sequence_id_of(request)
         begins = request.opnum == Opnum.OPEN and (owner is None or not owner.is_confirmed)
         if owner is not None:
-            replayed = replay(owner.kept, request)
+            replayed = replay(owner.kept, seqid, request)
             if replayed is not None:
                 return replayed
-            if not begins and request.arguments.seqid != next_sequence_id(owner.kept.seqid):
+            if not begins and seqid != next_sequence_id(owner.kept.seqid):
                 return Result(Status.BAD_SEQID)
         if begins:
             return self.begin_owner(request, owner)
+        lock_owner = self.next_lock_owner(request)
         result = answer(lambda: self.effect_of(request))
         if result.status not in NOT_COUNTED:
-            owner.kept = Kept(request.arguments.seqid, request, result)
+            owner.kept = Kept(seqid, request, result)
+            if lock_owner is not None or is_first_lock(request) and result.status == Status.OK:
+                self.keep_for_lock_owner(request, result)
         return result
 
     def begin_owner(self, request, owner):
         """Answers an OPEN whose owner isn't known or confirmed yet, and so begins with it (section 9.1.11)."""
-        before = dict(self.owners), list(self.opens)
+        before = dict(self.open_owners), list(self.opens)
         if owner is not None:
-            del self.owners[owner.name]
+            del self.open_owners[owner.name]
             self.opens = [it for it in self.opens if it.owner != owner.name]
         result = answer(lambda: self.effect_of(request))
         if result.status == Status.OK:
             name = request.arguments.owner
-            self.owners[name] = Owner(name, Kept(request.arguments.seqid, request, result))
+            self.open_owners[name] = Owner(name, Kept(request.arguments.seqid, request, result))
         elif result.status == Status.RESOURCE:
-            self.owners, self.opens = before
+            self.open_owners, self.opens = before
         return result
 
     def owner_of(self, request):
         """The owner of a sequenced operation, or None for one that is unknown."""
-        arguments = request.arguments
         if request.opnum == Opnum.OPEN:
-            self.expect_client(arguments.owner.epoch, arguments.owner.client)
-            return self.owners.get(arguments.owner)
-        found = self.looked_up(arguments.stateid)
-        if found is not None:
-            return self.owners[found.owner]
-        for owner in self.owners.values():
-            if closed_by(owner.kept, arguments.stateid):
+            name = request.arguments.owner
+            self.expect_client(name.epoch, name.client)
+            return self.open_owners.get(name)
+        stateid = stateid_of(request)
+        found = self.looked_up(stateid)
+        if isinstance(found, OpenState):
+            return self.open_owners[found.owner]
+        if isinstance(found, LockState):
+            return self.lock_owners[found.owner]
+        for owner in self.open_owners.values():
+            if closed_by(owner.kept, stateid):
                 return owner
         raise Refusal(Status.BAD_STATEID)
 
+    def next_lock_owner(self, request):
+        """The lock owner for which a LOCK that names a new one counts whatever its answer is, if any: it is known, of
+        the client that the open's stateid has, and lock_seqid is its next sequence id."""
+        if not is_first_lock(request):
+            return None
+        locker = request.arguments.locker
+        known = self.lock_owners.get(locker.owner)
+        if known is None or locker.owner[:2] != locker.open_stateid[1:3]:
+            return None
+        return known if locker.lock_seqid == next_sequence_id(known.kept.seqid) else None
+
+    def keep_for_lock_owner(self, request, result):
+        """Keeps for the lock owner what a LOCK that names a new one was answered: by then it may be known."""
+        locker = request.arguments.locker
+        self.lock_owners[locker.owner] = Owner(locker.owner, Kept(locker.lock_seqid, request, result))
+
     def effect_of(self, request):
-        return getattr(self, request.opnum.name.lower())(request.arguments, request.filehandle)
+        return self.rule_of(request.opnum)(request.arguments, request.filehandle)
 
     # Opens (section 9.9 to 9.11).
 
@@ -518,7 +572,7 @@ class Server:
             self.delegation_of(arguments.claim.delegation)
         if any(it.file == file and it.owner != owner and conflict(it.share(), share) for it in self.opens):
             raise Refusal(Status.SHARE_DENIED)
-        is_confirmed = owner in self.owners
+        is_confirmed = owner in self.open_owners
         found = self.join(owner, file, share)
         flags = LOCKTYPE_POSIX if is_confirmed else CONFIRM | LOCKTYPE_POSIX
         change, attributes, delegation = u32(1) + u64(0) + u64(0), wire.bitmap([]), u32(0)
@@ -542,16 +596,23 @@ class Server:
                 found.pairs.append(share)
             found.seqid = next_seqid(found.seqid)
             return found
-        if len(self.opens) == STATES_LIMIT or (owner not in self.owners and len(self.owners) == OWNERS_LIMIT):
+        number = self.new_state(is_new_owner=owner not in self.open_owners)
+        self.opens.append(OpenState(owner, file, number, [share]))
+        return self.opens[-1]
+
+    def new_state(self, is_new_owner):
+        """The number of a new state, where the limits have a place for it and for its owner."""
+        if len(self.opens) + len(self.lock_states) >= STATES_LIMIT:
+            raise Refusal(Status.RESOURCE)
+        if is_new_owner and len(self.open_owners) + len(self.lock_owners) >= OWNERS_LIMIT:
             raise Refusal(Status.RESOURCE)
         self.last_state += 1
-        self.opens.append(OpenState(owner, file, self.last_state, [share]))
-        return self.opens[-1]
+        return self.last_state
 
     def open_confirm(self, arguments, file):
         """Section 16.18."""
         found = self.open_of(arguments.stateid, file, of_unconfirmed=True)
-        owner = self.owners[found.owner]
+        owner = self.open_owners[found.owner]
         if owner.is_confirmed:
             raise Refusal(Status.BAD_STATEID)
         owner.is_confirmed = True
@@ -571,7 +632,79 @@ class Server:
         """Section 16.2."""
         found = self.open_of(arguments.stateid, file)
         self.opens = [it for it in self.opens if it is not found]
+        self.lock_states = [it for it in self.lock_states if it.open is not found]
         return self.answer_stateid(found)
+
+    # Byte-range locks (sections 9.1 to 9.3).
+
+    def lock(self, arguments, file):
+        """Section 16.10."""
+        locker = arguments.locker
+        if isinstance(locker, NewLocker):
+            found, opened, owner = None, self.open_of(locker.open_stateid, file), locker.owner
+        else:
+            found = self.lock_state_of(locker.lock_stateid, file)
+            opened, owner = found.open, found.owner
+        if arguments.reclaim:
+            raise Refusal(Status.NO_GRACE)
+        if found is None:
+            self.expect_new_locker(locker, file)
+        asked, mode = expect_range(arguments), mode_of(arguments.locktype)
+        if opened.share()[0] & (READ if mode == READ_MODE else WRITE) == 0:
+            raise Refusal(Status.OPENMODE)
+        self.expect_no_conflict(file, owner, asked, mode)
+        ranges = expect_runs((found.ranges if found else Ranges()).changed(*asked, mode))
+        if found is None:
+            found = LockState(owner, opened, self.new_state(is_new_owner=owner not in self.lock_owners))
+            self.lock_states.append(found)
+        found.ranges = ranges
+        return self.answer_stateid(found)
+
+    def expect_new_locker(self, locker, file):
+        """The lock owner may begin to lock the file: it is the open's client's, has no lock state there, and where it
+        is known its sequence id is the next."""
+        if locker.owner[:2] != locker.open_stateid[1:3]:
+            raise Refusal(Status.INVAL)
+        if any((it.owner, it.file) == (locker.owner, file) for it in self.lock_states):
+            raise Refusal(Status.BAD_SEQID)
+        known = self.lock_owners.get(locker.owner)
+        if known is not None and locker.lock_seqid != next_sequence_id(known.kept.seqid):
+            raise Refusal(Status.BAD_SEQID)
+
+    def lockt(self, arguments, file):
+        """Section 16.11."""
+        expect_filehandle(file)
+        self.expect_client(arguments.owner.epoch, arguments.owner.client)
+        if not self.tree.is_file(file):
+            raise Refusal(Status.ISDIR)
+        asked = expect_range(arguments)
+        self.expect_no_conflict(file, arguments.owner, asked, mode_of(arguments.locktype))
+        return b""
+
+    def expect_no_conflict(self, file, owner, asked, mode):
+        """No other lock owner holds a byte of the range in a way that forbids this lock (section 9.2)."""
+        others = [(it.owner, it.ranges) for it in self.lock_states if it.file == file and it.owner != owner]
+        found = denial(others, *asked, mode)
+        if found is not None:
+            first, last, held = found.run
+            spelled = u64(first) + u64(length_of(first, last)) + u32(held, found.owner.epoch, found.owner.client)
+            raise Refusal(Status.DENIED, spelled + wire.opaque(found.owner.name))
+
+    def locku(self, arguments, file):
+        """Section 16.12."""
+        found = self.lock_state_of(arguments.stateid, file)
+        found.ranges = expect_runs(found.ranges.changed(*expect_range(arguments), None))
+        return self.answer_stateid(found)
+
+    def release_lockowner(self, arguments):
+        """Section 16.37."""
+        owner = arguments.owner
+        self.expect_client(owner.epoch, owner.client)
+        if any(it.owner == owner and not it.ranges.is_empty() for it in self.lock_states):
+            raise Refusal(Status.LOCKS_HELD)
+        self.lock_states = [it for it in self.lock_states if it.owner != owner]
+        self.lock_owners.pop(owner, None)
+        return b""
 
 
 def answer(rule):
@@ -582,10 +715,30 @@ def answer(rule):
         return Result(refusal.status, refusal.rest)
 
 
-def replay(kept, request):
+def is_first_lock(request):
+    """A LOCK that names an owner which is to have its first lock state on the file."""
+    return request.opnum == Opnum.LOCK and isinstance(request.arguments.locker, NewLocker)
+
+
+def stateid_of(request):
+    """The stateid that names the owner of a sequenced operation other than OPEN."""
+    if request.opnum != Opnum.LOCK:
+        return request.arguments.stateid
+    locker = request.arguments.locker
+    return locker.open_stateid if is_first_lock(request) else locker.lock_stateid
+
+
+def sequence_id_of(request):
+    """The sequence id of the owner that the operation is judged by."""
+    if request.opnum != Opnum.LOCK:
+        return request.arguments.seqid
+    locker = request.arguments.locker
+    return locker.open_seqid if is_first_lock(request) else locker.lock_seqid
+
+
+def replay(kept, seqid, request):
     """The kept answer to a retransmission of the kept request, or None (section 9.1.8)."""
-    is_same = (kept.seqid, kept.request) == (request.arguments.seqid, request)
-    return kept.answer if is_same else None
+    return kept.answer if (kept.seqid, kept.request) == (seqid, request) else None
 
 
 def closed_by(kept, stateid):
@@ -598,6 +751,33 @@ def closed_by(kept, stateid):
 def expect_filehandle(filehandle):
     if filehandle is None:
         raise Refusal(Status.NOFILEHANDLE)
+
+
+def expect_seqid(stateid, found):
+    """The stateid's seqid is that of the state (section 9.1.4.2)."""
+    if stateid.seqid < found.seqid:
+        raise Refusal(Status.OLD_STATEID)
+    if stateid.seqid > found.seqid:
+        raise Refusal(Status.BAD_STATEID)
+
+
+def expect_range(arguments):
+    """The first and the last byte of the range that is named."""
+    found = range_of(arguments.offset, arguments.length)
+    if found is None:
+        raise Refusal(Status.INVAL)
+    return found
+
+
+def expect_runs(ranges):
+    if ranges.runs() > RUNS_LIMIT:
+        raise Refusal(Status.RESOURCE)
+    return ranges
+
+
+def mode_of(locktype):
+    """A lock that the client would wait for is as one that it wouldn't (section 9.6): no waiter is kept."""
+    return READ_MODE if locktype in (READ_LT, READW_LT) else WRITE_MODE
 
 
 def expect_share(share):

@@ -23,6 +23,7 @@ class Status(IntEnum):
     NAMETOOLONG = 63
     BADHANDLE = 10001
     NOTSUPP = 10004
+    DENIED = 10010
     EXPIRED = 10011
     SHARE_DENIED = 10015
     CLID_INUSE = 10017
@@ -37,6 +38,8 @@ class Status(IntEnum):
     RESTOREFH = 10030
     NO_GRACE = 10033
     BADXDR = 10036
+    LOCKS_HELD = 10037
+    OPENMODE = 10038
     OP_ILLEGAL = 10044
 
 
@@ -46,6 +49,9 @@ class Opnum(IntEnum):
     CLOSE = 4
     GETATTR = 9
     GETFH = 10
+    LOCK = 12
+    LOCKT = 13
+    LOCKU = 14
     LOOKUP = 15
     OPEN = 18
     OPEN_CONFIRM = 20
@@ -57,6 +63,7 @@ class Opnum(IntEnum):
     SETATTR = 34
     SETCLIENTID = 35
     SETCLIENTID_CONFIRM = 36
+    RELEASE_LOCKOWNER = 39
     ILLEGAL = 10044
 
 
@@ -92,10 +99,10 @@ class Reader:
         self.fixed(-length % 4)
         return value
 
-    def one_of(self, count):
-        """A number below the count: a bool, or an enumeration that begins at 0."""
+    def one_of(self, count, first=0):
+        """One of so many numbers from the first on: a bool, or an enumeration."""
         number = self.u32()
-        if number >= count:
+        if not first <= number < first + count:
             raise Unreadable
         return number
 
@@ -128,14 +135,19 @@ def bitmap(words):
 
 # A stateid by the parts that this server gives its 12 bytes of `other`.
 Stateid = namedtuple("Stateid", "seqid epoch client number")
-# An open owner: a clientid by its two halves, and the owner's bytes.
+# An open owner and a lock owner: a clientid by its two halves, and the owner's bytes.
 OpenOwner = namedtuple("OpenOwner", "epoch client name")
+LockOwner = namedtuple("LockOwner", "epoch client name")
+# Who locks: an owner that has no lock state on the file yet, by an open; or one that has, by its lock state.
+NewLocker = namedtuple("NewLocker", "open_seqid open_stateid lock_seqid owner")
+KnownLocker = namedtuple("KnownLocker", "lock_stateid lock_seqid")
 Callback = namedtuple("Callback", "program netid address ident")
 # How an OPEN creates: its opentype, and with OPEN4_CREATE the createmode and the attributes or the verifier.
 Openhow = namedtuple("Openhow", "create mode value")
 # Which file an OPEN names: the claim, the name, and the delegation's type or stateid, each where the claim has it.
 Claim = namedtuple("Claim", "kind name delegation")
 
+READ_LT, WRITE_LT, READW_LT, WRITEW_LT = 1, 2, 3, 4
 OPEN4_NOCREATE, OPEN4_CREATE = 0, 1
 UNCHECKED4, GUARDED4, EXCLUSIVE4 = 0, 1, 2
 CLAIM_NULL, CLAIM_PREVIOUS, CLAIM_DELEGATE_CUR, CLAIM_DELEGATE_PREV = 0, 1, 2, 3
@@ -147,6 +159,20 @@ def read_stateid(reader):
 
 def read_open_owner(reader):
     return OpenOwner(reader.u32(), reader.u32(), reader.opaque(OWNER_LIMIT))
+
+
+def read_lock_owner(reader):
+    return LockOwner(reader.u32(), reader.u32(), reader.opaque(OWNER_LIMIT))
+
+
+def read_lock_type(reader):
+    return reader.one_of(4, first=READ_LT)
+
+
+def read_locker(reader):
+    if reader.one_of(2):
+        return NewLocker(reader.u32(), read_stateid(reader), reader.u32(), read_lock_owner(reader))
+    return KnownLocker(read_stateid(reader), reader.u32())
 
 
 def read_openhow(reader):
@@ -172,12 +198,16 @@ Access = namedtuple("Access", "access")
 Close = namedtuple("Close", "seqid stateid")
 Getattr = namedtuple("Getattr", "mask")
 Getfh = namedtuple("Getfh", "")
+Lock = namedtuple("Lock", "locktype reclaim offset length locker")
+Lockt = namedtuple("Lockt", "locktype offset length owner")
+Locku = namedtuple("Locku", "locktype seqid stateid offset length")
 Lookup = namedtuple("Lookup", "name")
 Open = namedtuple("Open", "seqid access deny owner how claim")
 OpenConfirm = namedtuple("OpenConfirm", "stateid seqid")
 OpenDowngrade = namedtuple("OpenDowngrade", "stateid seqid access deny")
 Putfh = namedtuple("Putfh", "filehandle")
 Putrootfh = namedtuple("Putrootfh", "")
+ReleaseLockowner = namedtuple("ReleaseLockowner", "owner")
 Restorefh = namedtuple("Restorefh", "")
 Savefh = namedtuple("Savefh", "")
 Setclientid = namedtuple("Setclientid", "verifier id callback")
@@ -199,6 +229,9 @@ ARGUMENTS = {
     Opnum.CLOSE: lambda r: Close(r.u32(), read_stateid(r)),
     Opnum.GETATTR: lambda r: Getattr(r.bitmap()),
     Opnum.GETFH: lambda r: Getfh(),
+    Opnum.LOCK: lambda r: Lock(read_lock_type(r), r.one_of(2), r.u64(), r.u64(), read_locker(r)),
+    Opnum.LOCKT: lambda r: Lockt(read_lock_type(r), r.u64(), r.u64(), read_lock_owner(r)),
+    Opnum.LOCKU: lambda r: Locku(read_lock_type(r), r.u32(), read_stateid(r), r.u64(), r.u64()),
     Opnum.LOOKUP: lambda r: Lookup(r.opaque()),
     Opnum.OPEN: read_open,
     Opnum.OPEN_CONFIRM: lambda r: OpenConfirm(read_stateid(r), r.u32()),
@@ -209,6 +242,7 @@ ARGUMENTS = {
     Opnum.SAVEFH: lambda r: Savefh(),
     Opnum.SETCLIENTID: read_setclientid,
     Opnum.SETCLIENTID_CONFIRM: lambda r: SetclientidConfirm(r.u32(), r.u32(), r.u64()),
+    Opnum.RELEASE_LOCKOWNER: lambda r: ReleaseLockowner(read_lock_owner(r)),
 }
 
 

@@ -3,4 +3,8 @@
 #![tactic(auto)]
 
 #[cfg(test)]
+mod encoding;
+#[cfg(test)]
+mod locks;
+#[cfg(test)]
 mod opens;

@@ -1,48 +1,17 @@
 //! The arguments and results of OPEN and of the operations on opens, with their bytes worked out by hand.
 
-use nfs_forms::operations::close::Close;
-use nfs_forms::operations::open::{Open, OpenOk};
-use nfs_forms::operations::open_confirm::OpenConfirm;
-use nfs_forms::operations::open_downgrade::OpenDowngrade;
+use crate::encoding::{CLIENT, STATEID, is_encoded_as, is_unreadable};
 use nfs_forms::{
-    Bitmap, ChangeInfo, Claim, ClientId, CreateHow, DelegationType, Fattr, OpenDelegation, OpenHow,
-    OpenOwner, Stateid, Verifier,
+    Bitmap, ChangeInfo, Claim, CreateHow, DelegationType, Fattr, OpenDelegation, OpenHow,
+    OpenOwner, Verifier,
 };
+use nfs_operations::close::Close;
+use nfs_operations::open::{Open, OpenOk};
+use nfs_operations::open_confirm::OpenConfirm;
+use nfs_operations::open_downgrade::OpenDowngrade;
 use std::alloc::Global;
-use std::cmp::PartialEq;
 use std::test::Fail;
-use test_words::bytes_of;
-use xdr::{Bytes, Opaque, Wire, WireError};
-
-const CLIENT: ClientId = ClientId {
-    epoch: 1,
-    number: 2,
-};
-
-const STATEID: Stateid = Stateid {
-    seqid: 5,
-    client: CLIENT,
-    number: 7,
-};
-
-/// Whether the value is encoded as these words, and they are read as the value.
-fn is_encoded_as<T: Wire + PartialEq>(
-    alloc: Global,
-    value: &T,
-    words: &[u32],
-) -> Result<bool, Fail> {
-    let bytes = bytes_of(alloc, words)?;
-    let mut written = Vec::new(alloc);
-    value.write(&mut written)?;
-    let (again, rest) = T::read(alloc, bytes.as_slice())?;
-    Ok(written.as_slice() == bytes.as_slice() && again == *value && rest.is_empty())
-}
-
-/// Whether these words can't be read, because they aren't such a value.
-fn is_unreadable<T: Wire>(alloc: Global, words: &[u32]) -> Result<bool, Fail> {
-    let bytes = bytes_of(alloc, words)?;
-    Ok(matches!(T::read(alloc, bytes.as_slice()), Err(WireError::Short)))
-}
+use xdr::{Bytes, Opaque};
 
 fn name_of(alloc: Global, name: &[u8]) -> Result<Bytes, Fail> {
     Ok(Bytes::copy_of(alloc, name)?)

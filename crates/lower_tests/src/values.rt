@@ -1,6 +1,6 @@
 //! Values written and read again, with the bytes between them worked out by hand.
 
-use nfs_xdr::operations::setclientid_confirm::SetclientidConfirm;
+use nfs_operations::setclientid_confirm::SetclientidConfirm;
 use nfs_xdr::{Address, Answer, ArgOp, ClientId, Op, OpResult, Refusal, Unsupported, read_op};
 use std::alloc::Global;
 use std::test::Fail;

@@ -1,5 +1,5 @@
 -- Lawful journals: those whose entries the rules allow.
-use Rattle.std.proofs.Common.{◌≡◌, Bool, true, false, ℕ, ◌≤◌, ◌⊎◌, inl, inr, Option, Some, None, List, [], ◌∷◌, ◌++◌, length, refl, sym, ap, ◌+◌, subst, append_assoc, append-nil, arith}
+use Rattle.std.proofs.Common.{◌≡◌, Bool, true, false, ℕ, ◌≤◌, ◌⊎◌, inl, inr, Option, Some, None, List, [], ◌∷◌, ◌++◌, length, map, refl, sym, ap, ◌∙◌, ◌+◌, subst, append_assoc, append-nil, arith}
 use Rattle.nfs_state.specs.declared.entry.Call.{Call}
 use Rattle.nfs_state.specs.declared.entry.TheConstants.{JOURNAL_LIMIT}
 use Rattle.std.specs.Prelude.{is_some, IsErrOf, Result, Ok, Err}
@@ -11,7 +11,12 @@ use Rattle.nfs_state.specs.declared.owner_change.OwnerChange.{OwnerChange}
 use Rattle.nfs_state.specs.declared.owner_change.OwnerChange.TheVariants.{Nothing}
 use Rattle.nfs_state.specs.Changes.{with_owner_change, changed, last_state_after}
 use Rattle.nfs_owners.specs.Registry.{Registry}
-use Rattle.nfs_state.specs.Stored.{Stored, meaning}
+use Rattle.nfs_state.specs.Stored.{Stored, empty_store, meaning}
+use Rattle.nfs_core.proofs.SafeLists.{map_replicate}
+use Rattle.nfs_locks.specs.Locks.{ByteLocks}
+use Rattle.nfs_locks.specs.StoredLocks.{byte_locks}
+use Rattle.nfs_tree.specs.Tree.{node_count}
+use Rattle.nfs_tree.specs.declared.node.Node.{Node}
 use Rattle.nfs_xdr.specs.declared.op.Op.{Op}
 use Rattle.nfs_xdr.specs.declared.op_result.OpResult.{OpResult}
 use Rattle.nfs_state.specs.declared.change.Change.{Change}
@@ -43,6 +48,18 @@ Leads-append journal old mid new (first ∷ entries) entry leads step =
 pub Lawful-step : (journal : History) (old new : State) (entry : Entry) → Lawful journal old → Step journal old entry new → Lawful (with_entry entry journal) new
 Lawful-step journal old new entry lawful step =
     Leads-append (record journal { entries = [] }) (empty_server journal.nodes) old new journal.entries entry lawful step
+
+-- What is stored before any client has come means an empty server.
+empty_meaning : (nodes : List Node) → meaning (empty_store nodes) ≡ empty_server nodes
+empty_meaning nodes =
+    let server = empty_server nodes in
+    ap (λ (locks : List (List ByteLocks)). record server { locks = locks }) (map_replicate (map byte_locks) [] (node_count nodes))
+
+-- a journal without entries is lawful
+pub Lawful-new : (journal : History) (stored : Stored) → journal.entries ≡ [] → stored ≡ empty_store journal.nodes → Lawful journal (meaning stored)
+Lawful-new journal stored none same =
+    subst (λ entries. Leads (record journal { entries = [] }) (empty_server journal.nodes) entries (meaning stored)) (sym none)
+    (ap meaning same ∙ empty_meaning journal.nodes)
 
 -- a rule that gives a decision doesn't also give none
 pub decides_something : AtMostOneDecision → (journal : History) (old : State) (request : Request) (decision : Decision) → IsRuled request.op journal old request (Some decision) → IsRuled request.op journal old request None → ⊥

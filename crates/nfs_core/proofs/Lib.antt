@@ -1,6 +1,11 @@
 pub mod Journals
+pub mod SafeFiles
 pub mod SafeLists
 pub mod Safety
 pub mod Sound
+pub mod SoundLocking
+pub mod SoundLocks
 pub mod SoundRules
+pub mod SoundSequences
 pub mod SoundSteps
+pub mod SoundTargets

@@ -1,21 +1,32 @@
--- What holds of the state after each entry of a lawful journal, and that it stays.
-use Rattle.std.proofs.Common.{◌≡◌, inl, inr, ℕ, zero, suc, Bool, true, false, cond, List, [], ◌∷◌, ◌++◌, map, filter, refl, sym, ap, ◌∙◌, subst}
-use Rattle.std.specs.Prelude.{⊤, ◌==◌, ◌&&◌, not, find, is_some, IsFalse}
+-- What holds of the state after each entry of a lawful journal, and that it stays: of owners, opens and clients.
+use Rattle.std.proofs.Common.{◌≡◌, inl, inr, ℕ, Bool, true, false, cond, Option, Some, None, List, [], ◌∷◌, ◌++◌, map, filter, refl, sym, ap, ◌∙◌, subst}
+use Rattle.std.specs.Prelude.{⊤, ◌≤◌, ◌==◌, ◌&&◌, not, find, is_some, option_map, IsFalse}
 use Rattle.std.specs.List.{AllByRecursion}
 use Rattle.std.specs.Str.{bytes_eq}
 use Rattle.std.proofs.lemmas.Bool.{and_parts, and_from, cond_both, cases_Bool, eqb-true, eq-eqb, not-true, not_from_false}
 use Rattle.std.proofs.lemmas.Slice.Eq.{bytes_eq-Decides}
-use Rattle.nfs_state.specs.Owners.{KnownOwner, has_name}
+use Rattle.nfs_state.specs.Owners.{KnownOwner, confirmed_if_known, has_name, is_confirmed}
 use Rattle.nfs_state.specs.State.{State}
-use Rattle.nfs_core.proofs.SafeLists.{all_always, all_filter, all_map, all_push, all_set, all_weaken, found_filtered, found_kept, found_map, found_more}
+use Rattle.nfs_core.specs.Safe.{bears}
+use Rattle.nfs_core.proofs.SafeLists.{all_always, all_filter, all_map, all_push, all_weaken, find_filtered, find_mapped, find_more, found_filtered, found_kept, found_map, found_more}
 use Rattle.nfs_forms.specs.ClientId.{is_same_client}
+use Rattle.nfs_forms.specs.LockOwner.{is_same_lock_owner}
 use Rattle.nfs_forms.specs.OpenOwner.{is_same_owner}
 use Rattle.nfs_forms.specs.declared.client_id.ClientId.{ClientId}
+use Rattle.nfs_forms.specs.declared.lock_owner.LockOwner.{LockOwner}
 use Rattle.nfs_forms.specs.declared.open_owner.OpenOwner.{OpenOwner}
+use Rattle.nfs_locks.specs.AllLocks.{locks_of}
+use Rattle.nfs_locks.specs.Laws.{AllLocksAreCompatible}
+use Rattle.nfs_locks.specs.Locks.{ByteLocks, is_lock_of}
+use Rattle.nfs_locks.specs.Locks as locks
 use Rattle.nfs_owners.specs.ClientChange.{with_confirmed, with_unconfirmed}
 use Rattle.nfs_owners.specs.Registry.{is_of, is_unconfirmed_of}
+use Rattle.nfs_owners.specs.StateOwner.{is_same_kind, is_same_state_owner, lock_owner, open_owner}
 use Rattle.nfs_owners.specs.declared.client_record.ClientRecord.{ClientRecord}
-use Rattle.nfs_share.specs.AllOpens.{opens_of, with_opens}
+use Rattle.nfs_owners.specs.declared.state_owner.OwnerKind.{OwnerKind}
+use Rattle.nfs_owners.specs.declared.state_owner.OwnerKind.TheVariants as kinds
+use Rattle.nfs_owners.specs.declared.state_owner.StateOwner.{StateOwner}
+use Rattle.nfs_share.specs.AllOpens.{opens_of}
 use Rattle.nfs_share.specs.Laws.{AllAreCompatible}
 use Rattle.nfs_share.specs.Opens.{after_downgrade, after_open, first_open, is_of as is_open_of, is_refused, open_of, with_each, with_next_seqid, with_opening, without}
 use Rattle.nfs_share.specs.declared.open_state.OpenState.{OpenState}
@@ -50,6 +61,42 @@ same_client_self a = and_from (a.epoch == a.epoch) (a.number == a.number) (eq-eq
 pub same_owner_self : (a : OpenOwner) → is_same_owner a a ≡ true
 same_owner_self a = and_from (is_same_client a.client a.client) (bytes_eq a.name a.name) (same_client_self a.client) ((bytes_eq-Decides a.name a.name).1 refl)
 
+pub equal_lock_owners : (a b : LockOwner) → is_same_lock_owner a b ≡ true → a ≡ b
+equal_lock_owners a b same =
+    let both = and_parts (is_same_client a.client b.client) (bytes_eq a.name b.name) same in
+    let client = equal_clients a.client b.client both.0 in
+    let name = (bytes_eq-Decides a.name b.name).0 both.1 in
+    λ i. record { client = client i; name = name i }
+
+pub same_lock_owner_self : (a : LockOwner) → is_same_lock_owner a a ≡ true
+same_lock_owner_self a = and_from (is_same_client a.client a.client) (bytes_eq a.name a.name) (same_client_self a.client) ((bytes_eq-Decides a.name a.name).1 refl)
+
+equal_kinds : (a b : OwnerKind) → is_same_kind a b ≡ true → a ≡ b
+equal_kinds kinds.Open kinds.Open same = refl
+equal_kinds kinds.Open kinds.Lock same = absurd cc
+equal_kinds kinds.Lock kinds.Open same = absurd cc
+equal_kinds kinds.Lock kinds.Lock same = refl
+
+same_kind_self : (a : OwnerKind) → is_same_kind a a ≡ true
+same_kind_self kinds.Open = refl
+same_kind_self kinds.Lock = refl
+
+-- the same of owners of both kinds
+pub equal_names : (a b : StateOwner) → is_same_state_owner a b ≡ true → a ≡ b
+equal_names a b same =
+    let both = and_parts (is_same_kind a.kind b.kind && is_same_client a.client b.client) (bytes_eq a.name b.name) same in
+    let front = and_parts (is_same_kind a.kind b.kind) (is_same_client a.client b.client) both.0 in
+    let kind = equal_kinds a.kind b.kind front.0 in
+    let client = equal_clients a.client b.client front.1 in
+    let name = (bytes_eq-Decides a.name b.name).0 both.1 in
+    λ i. record { kind = kind i; client = client i; name = name i }
+
+pub same_name_self : (a : StateOwner) → is_same_state_owner a a ≡ true
+same_name_self a =
+    and_from (is_same_kind a.kind a.kind && is_same_client a.client a.client) (bytes_eq a.name a.name)
+    (and_from (is_same_kind a.kind a.kind) (is_same_client a.client a.client) (same_kind_self a.kind) (same_client_self a.client))
+    ((bytes_eq-Decides a.name a.name).1 refl)
+
 -- the client has a confirmed record
 abbrev pub is_live_in : List ClientRecord → ClientId → Bool
 is_live_in records client = is_some (find (λ r. r.confirmed && is_same_client r.client client) records)
@@ -58,8 +105,12 @@ is_live_in records client = is_some (find (λ r. r.confirmed && is_same_client r
 abbrev pub AreLive : List ClientRecord → List KnownOwner → Type 0
 AreLive records owners = AllByRecursion (λ o. is_live_in records o.name.client ≡ true) owners
 
+-- the owner is known
+abbrev pub is_known_in : List KnownOwner → StateOwner → Bool
+is_known_in owners name = is_some (find (has_name name) owners)
+
 abbrev pub IsKnownIn : List KnownOwner → OpenState → Type 0
-IsKnownIn owners o = is_some (find (has_name o.owner) owners) ≡ true
+IsKnownIn owners o = is_known_in owners (open_owner o.owner) ≡ true
 
 -- each open's owner is known
 abbrev pub AreKnown : List KnownOwner → List (List OpenState) → Type 0
@@ -76,65 +127,140 @@ HasSameClient r s = r.confirmed ≡ true → s.confirmed ≡ true → is_of r.id
 abbrev pub AreSingle : List ClientRecord → Type 0
 AreSingle records = AllByRecursion (λ r. AllByRecursion (HasSameClient r) records) records
 
+abbrev pub IsLockerKnownIn : List KnownOwner → ByteLocks → Type 0
+IsLockerKnownIn owners l = is_known_in owners (lock_owner l.owner) ≡ true
+
+-- the lock state stands under one of the opens
+abbrev pub StandsUnder : List KnownOwner → List OpenState → ByteLocks → Type 0
+StandsUnder owners opens l = is_some (find (bears owners l) opens) ≡ true
+
+-- lock states with one number are of one owner
+abbrev pub HasOneOwner : ByteLocks → ByteLocks → Type 0
+HasOneOwner a b = locks.is_numbered a.number b ≡ true → is_lock_of a.owner b ≡ true
+
+-- No number is above the last one that was given, and those with one number are of one owner.
+abbrev pub AreNumbered : ℕ → List ByteLocks → Type 0
+AreNumbered last xs = AllByRecursion (λ l. l.number ≤ last) xs × AllByRecursion (λ a. AllByRecursion (HasOneOwner a) xs) xs
+
+-- what holds of the lock states
+pub record HasSoundLocks (owners : List KnownOwner) (opens : List (List OpenState)) (last : ℕ) (locks : List (List ByteLocks)) : Type 0 where
+  pub known : AllByRecursion (AllByRecursion (IsLockerKnownIn owners)) locks
+  pub compatible : AllByRecursion AllLocksAreCompatible locks
+  pub under : (node : ℕ) → AllByRecursion (StandsUnder owners (opens_of node opens)) (locks_of node locks)
+  pub numbered : AllByRecursion (AreNumbered last) locks
+
 pub record IsSound (state : State) : Type 0 where
   pub live : AreLive state.clients.records state.owners
   pub known : AreKnown state.owners state.opens
   pub compatible : AreCompatible state.opens
   pub single : AreSingle state.clients.records
+  pub locks : HasSoundLocks state.owners state.opens state.last_state state.locks
 
 -- Owners that change, none of them its name.
 
-pub mapped_known : (f : KnownOwner → KnownOwner) → ((o : KnownOwner) → (f o).name ≡ o.name) → (owners : List KnownOwner) (opens : List (List OpenState)) → AreKnown owners opens → AreKnown (map f owners) opens
-mapped_known f same owners opens known =
-    all_weaken (AllByRecursion (IsKnownIn owners)) (AllByRecursion (IsKnownIn (map f owners)))
-    (λ xs h. all_weaken (IsKnownIn owners) (IsKnownIn (map f owners))
-    (λ o found. found_map (has_name o.owner) f (λ k has. ap (λ n. is_same_owner n o.owner) (same k) ∙ has) owners found) xs h) opens known
-
-pub mapped_live : (f : KnownOwner → KnownOwner) → ((o : KnownOwner) → (f o).name ≡ o.name) → (records : List ClientRecord) (owners : List KnownOwner) → AreLive records owners → AreLive records (map f owners)
-mapped_live f same records owners live =
-    all_map (λ o. is_live_in records o.name.client ≡ true) (λ o. is_live_in records o.name.client ≡ true) f
-    (λ o h. ap (λ n. is_live_in records n.client) (same o) ∙ h) owners live
+-- The change keeps the owner's name, and doesn't make it unconfirmed.
+pub record KeepsOwner (f : KnownOwner → KnownOwner) : Type 0 where
+  pub name : (o : KnownOwner) → (f o).name ≡ o.name
+  pub confirmed : (o : KnownOwner) → o.confirmed ≡ true → (f o).confirmed ≡ true
 
 pub name_kept : (change : KnownOwner → KnownOwner) → ((o : KnownOwner) → (change o).name ≡ o.name) → (b : Bool) (o : KnownOwner) → (cond b (change o) o).name ≡ o.name
 name_kept change keeps true o = keeps o
 name_kept change keeps false o = refl
 
+-- a change of the owners that pass a test
+pub keeps_tested : (test : KnownOwner → Bool) (change : KnownOwner → KnownOwner) → KeepsOwner change → KeepsOwner (λ o. cond (test o) (change o) o)
+keeps_tested test change keeps = record {
+  name = λ o. name_kept change keeps.name (test o) o;
+  confirmed = λ o is_set. cond_both (test o) (change o) o (λ k. k.confirmed ≡ true) (λ _. keeps.confirmed o is_set) (λ _. is_set);
+}
+
+name_mapped : (f : KnownOwner → KnownOwner) → KeepsOwner f → (owners : List KnownOwner) (name : StateOwner) → is_known_in owners name ≡ true → is_known_in (map f owners) name ≡ true
+name_mapped f keeps owners name found =
+    found_map (has_name name) f (λ o has. ap (λ n. is_same_state_owner n name) (keeps.name o) ∙ has) owners found
+
+confirmed_still : (f : KnownOwner → KnownOwner) → KeepsOwner f → (found : Option KnownOwner) → confirmed_if_known found ≡ true → confirmed_if_known (option_map f found) ≡ true
+confirmed_still f keeps None h = h
+confirmed_still f keeps (Some o) h = keeps.confirmed o h
+
+confirmed_mapped : (f : KnownOwner → KnownOwner) → KeepsOwner f → (owners : List KnownOwner) (name : StateOwner) → is_confirmed name owners ≡ true → is_confirmed name (map f owners) ≡ true
+confirmed_mapped f keeps owners name h =
+    ap confirmed_if_known (find_mapped (has_name name) f (λ o. ap (λ n. is_same_state_owner n name) (keeps.name o)) owners)
+    ∙ confirmed_still f keeps (find (has_name name) owners) h
+
+pub mapped_live : (f : KnownOwner → KnownOwner) → KeepsOwner f → (records : List ClientRecord) (owners : List KnownOwner) → AreLive records owners → AreLive records (map f owners)
+mapped_live f keeps records owners live =
+    all_map (λ o. is_live_in records o.name.client ≡ true) (λ o. is_live_in records o.name.client ≡ true) f
+    (λ o h. ap (λ n. is_live_in records n.client) (keeps.name o) ∙ h) owners live
+
 -- One more owner.
 
-pub recorded_known : (o : KnownOwner) (owners : List KnownOwner) (opens : List (List OpenState)) → AreKnown owners opens → AreKnown (owners ++ o ∷ []) opens
-recorded_known new owners opens known =
-    all_weaken (AllByRecursion (IsKnownIn owners)) (AllByRecursion (IsKnownIn (owners ++ new ∷ [])))
-    (λ xs h. all_weaken (IsKnownIn owners) (IsKnownIn (owners ++ new ∷ []))
-    (λ o found. found_more (has_name o.owner) owners (new ∷ []) found) xs h) opens known
+name_recorded : (o : KnownOwner) (owners : List KnownOwner) (name : StateOwner) → is_known_in owners name ≡ true → is_known_in (owners ++ o ∷ []) name ≡ true
+name_recorded o owners name found = found_more (has_name name) owners (o ∷ []) found
 
--- Owners that are dropped with their opens, by a test of their names.
+known_confirmed : (found : Option KnownOwner) → confirmed_if_known found ≡ true → is_some found ≡ true
+known_confirmed None h = absurd cc
+known_confirmed (Some o) h = refl
 
-pub dropped_known : (t : OpenOwner → Bool) (owners : List KnownOwner) (opens : List (List OpenState)) → AreKnown owners opens → AreKnown (filter (λ o. not (t o.name)) owners) (map (without (λ o. t o.owner)) opens)
-dropped_known t owners opens known =
-    let left = filter (λ (o : KnownOwner). not (t o.name)) owners in
-    all_map (AllByRecursion (IsKnownIn owners)) (AllByRecursion (IsKnownIn left)) (without (λ o. t o.owner))
-    (λ xs h. all_filter (IsKnownIn owners) (IsKnownIn left) (λ o. not (t o.owner))
-    (λ o found stays. found_filtered (λ k. ⊤) (has_name o.owner) (λ k. not (t k.name))
-    (λ k _ has. ap (λ n. not (t n)) (equal_owners k.name o.owner has) ∙ stays) owners (all_always owners) found) xs h) opens known
+confirmed_recorded : (o : KnownOwner) (owners : List KnownOwner) (name : StateOwner) → is_confirmed name owners ≡ true → is_confirmed name (owners ++ o ∷ []) ≡ true
+confirmed_recorded o owners name h =
+    ap confirmed_if_known (find_more (has_name name) owners (o ∷ []) (known_confirmed (find (has_name name) owners) h)) ∙ h
 
-pub dropped_live : (t : OpenOwner → Bool) (records : List ClientRecord) (owners : List KnownOwner) → AreLive records owners → AreLive records (filter (λ o. not (t o.name)) owners)
+-- Owners that are dropped by a test of their names.
+
+abbrev pub left : (StateOwner → Bool) → List KnownOwner → List KnownOwner
+left t owners = filter (λ o. not (t o.name)) owners
+
+stays : (t : StateOwner → Bool) (name : StateOwner) → t name ≡ false → (o : KnownOwner) → has_name name o ≡ true → not (t o.name) ≡ true
+stays t name out o has = not_from_false (t o.name) (ap t (equal_names o.name name has) ∙ out)
+
+pub name_left : (t : StateOwner → Bool) (owners : List KnownOwner) (name : StateOwner) → t name ≡ false → is_known_in owners name ≡ true → is_known_in (left t owners) name ≡ true
+name_left t owners name out found =
+    found_filtered (λ o. ⊤) (has_name name) (λ o. not (t o.name)) (λ o _ has. stays t name out o has) owners (all_always owners) found
+
+pub confirmed_left : (t : StateOwner → Bool) (owners : List KnownOwner) (name : StateOwner) → t name ≡ false → is_confirmed name owners ≡ true → is_confirmed name (left t owners) ≡ true
+confirmed_left t owners name out h =
+    ap confirmed_if_known (find_filtered (has_name name) (λ o. not (t o.name)) (stays t name out) owners) ∙ h
+
+pub dropped_live : (t : StateOwner → Bool) (records : List ClientRecord) (owners : List KnownOwner) → AreLive records owners → AreLive records (left t owners)
 dropped_live t records owners live =
     all_filter (λ o. is_live_in records o.name.client ≡ true) (λ o. is_live_in records o.name.client ≡ true) (λ o. not (t o.name)) (λ o h _. h) owners live
 
-pub dropped_compatible : OpensStay → (t : OpenOwner → Bool) (opens : List (List OpenState)) → AreCompatible opens → AreCompatible (map (without (λ o. t o.owner)) opens)
+-- All that are known or confirmed stay so.
+pub record KeepsOwners (owners new : List KnownOwner) : Type 0 where
+  pub known : (name : StateOwner) → is_known_in owners name ≡ true → is_known_in new name ≡ true
+  pub confirmed : (name : StateOwner) → is_confirmed name owners ≡ true → is_confirmed name new ≡ true
+
+pub keeps_mapped : (f : KnownOwner → KnownOwner) → KeepsOwner f → (owners : List KnownOwner) → KeepsOwners owners (map f owners)
+keeps_mapped f keeps owners = record { known = name_mapped f keeps owners; confirmed = confirmed_mapped f keeps owners }
+
+pub keeps_recorded : (o : KnownOwner) (owners : List KnownOwner) → KeepsOwners owners (owners ++ o ∷ [])
+keeps_recorded o owners = record { known = name_recorded o owners; confirmed = confirmed_recorded o owners }
+
+pub keeps_both : (owners mid new : List KnownOwner) → KeepsOwners owners mid → KeepsOwners mid new → KeepsOwners owners new
+keeps_both owners mid new first second = record {
+  known = λ name h. second.known name (first.known name h);
+  confirmed = λ name h. second.confirmed name (first.confirmed name h);
+}
+
+-- The opens, where the owners change.
+
+pub renamed_known : (owners new : List KnownOwner) → ((o : OpenOwner) → is_known_in owners (open_owner o) ≡ true → is_known_in new (open_owner o) ≡ true) → (opens : List (List OpenState)) → AreKnown owners opens → AreKnown new opens
+renamed_known owners new keeps opens known =
+    all_weaken (AllByRecursion (IsKnownIn owners)) (AllByRecursion (IsKnownIn new))
+    (λ xs h. all_weaken (IsKnownIn owners) (IsKnownIn new) (λ o found. keeps o.owner found) xs h) opens known
+
+-- owners that are dropped with their opens
+pub dropped_known : (t : StateOwner → Bool) (owners : List KnownOwner) (opens : List (List OpenState)) → AreKnown owners opens → AreKnown (left t owners) (map (without (λ o. t (open_owner o.owner))) opens)
+dropped_known t owners opens known =
+    all_map (AllByRecursion (IsKnownIn owners)) (AllByRecursion (IsKnownIn (left t owners))) (without (λ o. t (open_owner o.owner)))
+    (λ xs h. all_filter (IsKnownIn owners) (IsKnownIn (left t owners)) (λ o. not (t (open_owner o.owner)))
+    (λ o found out. name_left t owners (open_owner o.owner) (not-true (t (open_owner o.owner)) out) found) xs h) opens known
+
+pub dropped_compatible : OpensStay → (t : OpenState → Bool) (opens : List (List OpenState)) → AreCompatible opens → AreCompatible (map (without t) opens)
 dropped_compatible law t opens compatible =
-    all_map AllAreCompatible AllAreCompatible (without (λ o. t o.owner)) (λ xs h. law.removal (λ o. t o.owner) xs h) opens compatible
+    all_map AllAreCompatible AllAreCompatible (without t) (λ xs h. law.removal t xs h) opens compatible
 
 -- The opens of one node.
-
-pub at_node : (P : List OpenState → Type 0) → P [] → (node : ℕ) (opens : List (List OpenState)) → AllByRecursion P opens → P (opens_of node opens)
-at_node P none node [] h = none
-at_node P none zero (xs ∷ opens) h = h.0
-at_node P none (suc node) (xs ∷ opens) h = at_node P none node opens h.1
-
-pub set_node : (P : List OpenState → Type 0) → P [] → (change : List OpenState → List OpenState) → ((xs : List OpenState) → P xs → P (change xs)) → (node : ℕ) (opens : List (List OpenState)) → AllByRecursion P opens → AllByRecursion P (with_opens node change opens)
-set_node P none change step node opens h =
-    all_set P opens node (change (opens_of node opens)) h (step (opens_of node opens) (at_node P none node opens h))
 
 owner_kept : (change : OpenState → OpenState) → ((o : OpenState) → (change o).owner ≡ o.owner) → (b : Bool) (o : OpenState) → (cond b (change o) o).owner ≡ o.owner
 owner_kept change keeps true o = keeps o
@@ -144,10 +270,10 @@ owner_kept change keeps false o = refl
 pub each_known : (owners : List KnownOwner) (test : OpenState → Bool) (change : OpenState → OpenState) → ((o : OpenState) → (change o).owner ≡ o.owner) → (xs : List OpenState) → AllByRecursion (IsKnownIn owners) xs → AllByRecursion (IsKnownIn owners) (with_each test change xs)
 each_known owners test change keeps xs h =
     all_map (IsKnownIn owners) (IsKnownIn owners) (λ o. cond (test o) (change o) o)
-    (λ o found. subst (λ n. is_some (find (has_name n) owners) ≡ true) (sym (owner_kept change keeps (test o) o)) found) xs h
+    (λ o found. subst (λ n. is_known_in owners (open_owner n) ≡ true) (sym (owner_kept change keeps (test o) o)) found) xs h
 
 -- an OPEN of an owner that is known
-pub opening_known : (owners : List KnownOwner) (owner : OpenOwner) (share : Share) (number : ℕ) → is_some (find (has_name owner) owners) ≡ true → (xs : List OpenState) → AllByRecursion (IsKnownIn owners) xs → AllByRecursion (IsKnownIn owners) (with_opening owner share number xs)
+pub opening_known : (owners : List KnownOwner) (owner : OpenOwner) (share : Share) (number : ℕ) → is_known_in owners (open_owner owner) ≡ true → (xs : List OpenState) → AllByRecursion (IsKnownIn owners) xs → AllByRecursion (IsKnownIn owners) (with_opening owner share number xs)
 opening_known owners owner share number known xs h =
     cond_both (is_some (open_of owner xs)) (with_each (is_open_of owner) (after_open share) xs) (xs ++ first_open owner share number ∷ []) (AllByRecursion (IsKnownIn owners))
     (λ _. each_known owners (is_open_of owner) (after_open share) (λ o. refl) xs h)

@@ -1,33 +1,45 @@
 -- An entry's changes keep the state sound, given what its rule makes sure of.
-use Rattle.std.proofs.Common.{◌≡◌, ℕ, true, false, refl}
-use Rattle.std.specs.Prelude.{⊤, ◌+◌, find, is_some, not, if◌then◌else◌}
+use Rattle.std.proofs.Common.{◌≡◌, ℕ, Bool, true, false, List, refl, arith}
+use Rattle.std.specs.Prelude.{⊤, ◌+◌, ◌≤◌, ◌&&◌, find, is_some, map, not, if◌then◌else◌}
 use Rattle.std.specs.List.{AllByRecursion}
 use Rattle.nfs_state.specs.declared.change.Change.{Change}
 use Rattle.nfs_state.specs.declared.change.Change.TheVariants as changes
 use Rattle.nfs_rules.specs.declared.decision.Decision.{Decision}
 use Rattle.nfs_state.specs.declared.owner_change.OwnerChange.{OwnerChange}
 use Rattle.nfs_state.specs.declared.owner_change.OwnerChange.TheVariants as owner_changes
-use Rattle.nfs_state.specs.Owners.{has_name, with_confirmation, with_record}
-use Rattle.nfs_state.specs.Changes.{with_owner_change, changed}
+use Rattle.nfs_state.specs.Owners.{KnownOwner, has_name, is_confirmed, with_confirmation, with_kept_entry, with_record, without_owner}
+use Rattle.nfs_state.specs.Changes.{last_state_after, with_owner_change, changed}
 use Rattle.nfs_state.specs.Changes as state_changes
 use Rattle.nfs_state.specs.State.{State}
 use Rattle.nfs_core.specs.Step.{after}
+use Rattle.nfs_core.proofs.SafeFiles.{opens_at, set_opens}
 use Rattle.nfs_core.proofs.SafeLists.{all_filter, all_push, all_set}
-use Rattle.nfs_core.proofs.Sound.{IsKnownIn, IsOnlyOf, IsSound, OpensStay, at_node, dropped_compatible, dropped_known, dropped_live, each_known, is_live_in, live_confirmed, live_replaced, live_unconfirmed, mapped_known, mapped_live, name_kept, opening_known, recorded_known, set_node, single_confirmed, single_unconfirmed}
+use Rattle.nfs_core.proofs.Sound.{AreLive, IsKnownIn, IsOnlyOf, IsSound, StandsUnder, KeepsOwner, KeepsOwners, OpensStay, dropped_compatible, dropped_known, dropped_live, each_known, is_known_in, is_live_in, keeps_mapped, keeps_recorded, keeps_tested, live_confirmed, live_replaced, live_unconfirmed, mapped_live, name_left, opening_known, renamed_known, single_confirmed, single_unconfirmed}
+use Rattle.nfs_core.proofs.SoundLocks.{LocksStay, locks_begun, locks_changed, locks_closed, locks_numbered, locks_owned, locks_released, locks_reopened, locks_without, locks_without_client, under_each, under_opening}
 use Rattle.nfs_forms.specs.ClientId.{is_same_client}
 use Rattle.nfs_forms.specs.OpenOwner.{is_same_owner}
+use Rattle.nfs_forms.specs.declared.lock_owner.LockOwner.{LockOwner}
 use Rattle.nfs_forms.specs.declared.open_owner.OpenOwner.{OpenOwner}
+use Rattle.nfs_locks.specs.AllLocks.{locks_of}
+use Rattle.nfs_locks.specs.Laws.{IsFreeFor}
+use Rattle.nfs_locks.specs.Locks.{first_state, is_lock_of}
+use Rattle.nfs_locks.specs.Locks as locks
 use Rattle.nfs_owners.specs.Registry.{Registry}
+use Rattle.nfs_owners.specs.StateOwner.{is_same_state_owner, lock_owner, open_owner}
 use Rattle.nfs_owners.specs.declared.clients.client_change.ClientChange.{ClientChange}
 use Rattle.nfs_owners.specs.declared.clients.client_change.ClientChange.TheVariants as client_changes
+use Rattle.nfs_owners.specs.declared.state_owner.StateOwner.{StateOwner}
 use Rattle.nfs_share.specs.AllOpens.{opens_of}
 use Rattle.nfs_share.specs.Laws.{AllAreCompatible}
-use Rattle.nfs_share.specs.Opens.{after_downgrade, is_numbered, is_refused, with_each, with_next_seqid, with_opening, without}
+use Rattle.nfs_share.specs.Opens.{after_downgrade, is_numbered, is_refused, open_of, with_each, with_next_seqid, with_opening, without}
 
--- the client of an owner that becomes known is live
+-- The client of an owner that becomes known is live, and an owner that is dropped isn't confirmed.
 abbrev pub IsOwnerReady : OwnerChange → State → Type 0
+IsOwnerReady (owner_changes.Introduces name newcomer) state = is_live_in state.clients.records newcomer.client ≡ true
 IsOwnerReady (owner_changes.Records name) state = is_live_in state.clients.records name.client ≡ true
-IsOwnerReady (owner_changes.Restarts name) state = is_live_in state.clients.records name.client ≡ true
+IsOwnerReady (owner_changes.Restarts name) state =
+    (is_live_in state.clients.records name.client ≡ true) × (is_confirmed (open_owner name) state.owners ≡ false)
+IsOwnerReady (owner_changes.Drops name) state = is_confirmed (open_owner name) state.owners ≡ false
 IsOwnerReady change state = ⊤
 
 -- A record is confirmed in place of those of its own client, or of those of the client that it replaces.
@@ -40,121 +52,203 @@ IsClientReady (client_changes.Confirms r) registry =
 IsClientReady (client_changes.Replaces r client) registry =
     AllByRecursion (IsOnlyOf client r.id) registry.records
 
--- the owner of an open is known, and its OPEN isn't refused
+-- The owner of an open is known, and its OPEN isn't refused. The owner of a lock state that begins is known, an open of
+-- the node is there for it, and the bytes are free for it; those of another change are free for the owner of a lock state
+-- with the number.
 abbrev pub IsChangeReady : Change → State → Type 0
 IsChangeReady (changes.Clients change) state = IsClientReady change state.clients
 IsChangeReady (changes.Opens node owner share) state =
-    (is_some (find (has_name owner) state.owners) ≡ true) × (is_refused owner share (opens_of node state.opens) ≡ false)
+    (is_known_in state.owners (open_owner owner) ≡ true) × (is_refused owner share (opens_of node state.opens) ≡ false)
+IsChangeReady (changes.Begins node first) state =
+    (is_known_in state.owners (lock_owner first.owner) ≡ true)
+    × StandsUnder state.owners (opens_of node state.opens) (first_state first (state.last_state + 1))
+    × IsFreeFor first.owner first.change (locks_of node state.locks)
+IsChangeReady (changes.Locks node number change) state =
+    (owner : LockOwner)
+    × (is_some (find (λ l. locks.is_numbered number l && is_lock_of owner l) (locks_of node state.locks)) ≡ true)
+    × IsFreeFor owner change (locks_of node state.locks)
 IsChangeReady change state = ⊤
 
 abbrev pub IsReady : ℕ → State → Decision → Type 0
 IsReady number old decision =
     IsOwnerReady decision.owner old × IsChangeReady decision.change (with_owner_change decision.owner number old)
 
-sound_dropped : OpensStay → (name : OpenOwner) (old : State) → IsSound old → IsSound (state_changes.without name old)
-sound_dropped law name old sound = record {
-  live = dropped_live (λ n. is_same_owner n name) old.clients.records old.owners sound.live;
-  known = dropped_known (λ n. is_same_owner n name) old.owners old.opens sound.known;
-  compatible = dropped_compatible law (λ n. is_same_owner n name) old.opens sound.compatible;
-  single = sound.single;
-}
-
-sound_recorded : (number : ℕ) (name : OpenOwner) (old : State) → is_live_in old.clients.records name.client ≡ true → IsSound old → IsSound (record old { owners = with_record number name old.owners })
-sound_recorded number name old live sound = record {
-  live = all_push (λ o. is_live_in old.clients.records o.name.client ≡ true) old.owners (record { name = name; confirmed = false; recording_entry = number; kept_entry = number }) sound.live live;
-  known = recorded_known (record { name = name; confirmed = false; recording_entry = number; kept_entry = number }) old.owners old.opens sound.known;
+-- The owners change, and all that are known or confirmed stay so.
+sound_owners : (new : List KnownOwner) (old : State) → AreLive old.clients.records new → KeepsOwners old.owners new → IsSound old → IsSound (record old { owners = new })
+sound_owners new old live keeps sound = record {
+  live = live;
+  known = renamed_known old.owners new (λ o found. keeps.known (open_owner o) found) old.opens sound.known;
   compatible = sound.compatible;
   single = sound.single;
+  locks = locks_owned old.owners new old.opens old.last_state old.locks keeps sound.locks;
 }
+
+-- the change of the owner with a name, by its kept entry or its confirmation
+
+pub keeps_kept : (number : ℕ) (name : StateOwner) → KeepsOwner (λ o. if has_name name o then record o { kept_entry = number } else o)
+keeps_kept number name =
+    keeps_tested (has_name name) (λ o. record o { kept_entry = number }) (record { name = λ o. refl; confirmed = λ o is_set. is_set })
+
+pub keeps_confirmed : (name : StateOwner) → KeepsOwner (λ o. if has_name name o then record o { confirmed = true } else o)
+keeps_confirmed name =
+    keeps_tested (has_name name) (λ o. record o { confirmed = true }) (record { name = λ o. refl; confirmed = λ o is_set. refl })
+
+sound_mapped : (f : KnownOwner → KnownOwner) → KeepsOwner f → (old : State) → IsSound old → IsSound (record old { owners = map f old.owners })
+sound_mapped f keeps old sound =
+    sound_owners (map f old.owners) old (mapped_live f keeps old.clients.records old.owners sound.live) (keeps_mapped f keeps old.owners) sound
+
+-- what an entry means for an owner
+
+sound_kept : (number : ℕ) (name : StateOwner) (old : State) → IsSound old → IsSound (record old { owners = with_kept_entry number name old.owners })
+sound_kept number name old sound =
+    sound_mapped (λ o. if has_name name o then record o { kept_entry = number } else o) (keeps_kept number name) old sound
+
+sound_recorded : (number : ℕ) (name : StateOwner) (old : State) → is_live_in old.clients.records name.client ≡ true → IsSound old → IsSound (record old { owners = with_record number name old.owners })
+sound_recorded number name old live sound =
+    let new : KnownOwner = record { name = name; confirmed = false; recording_entry = number; kept_entry = number } in
+    sound_owners (with_record number name old.owners) old
+    (all_push (λ o. is_live_in old.clients.records o.name.client ≡ true) old.owners new sound.live live) (keeps_recorded new old.owners) sound
+
+sound_dropped : OpensStay → (name : OpenOwner) (old : State) → is_confirmed (open_owner name) old.owners ≡ false → IsSound old → IsSound (state_changes.without name old)
+sound_dropped law name old unset sound =
+    let t : StateOwner → Bool = λ n. is_same_state_owner n (open_owner name) in
+    record {
+      live = dropped_live t old.clients.records old.owners sound.live;
+      known = dropped_known t old.owners old.opens sound.known;
+      compatible = dropped_compatible law (λ o. is_same_owner o.owner name) old.opens sound.compatible;
+      single = sound.single;
+      locks = locks_without name old.owners old.opens old.last_state old.locks unset sound.locks;
+    }
 
 -- what an entry means for an owner keeps the state sound
 sound_owner : OpensStay → (change : OwnerChange) (number : ℕ) (old : State) → IsOwnerReady change old → IsSound old → IsSound (with_owner_change change number old)
 sound_owner law owner_changes.Nothing number old ready sound = sound
-sound_owner law (owner_changes.Keeps name) number old ready sound = record {
-  live = mapped_live (λ o. if has_name name o then record o { kept_entry = number } else o)
-      (λ o. name_kept (λ k. record k { kept_entry = number }) (λ k. refl) (has_name name o) o) old.clients.records old.owners sound.live;
-  known = mapped_known (λ o. if has_name name o then record o { kept_entry = number } else o)
-      (λ o. name_kept (λ k. record k { kept_entry = number }) (λ k. refl) (has_name name o) o) old.owners old.opens sound.known;
-  compatible = sound.compatible;
-  single = sound.single;
-}
-sound_owner law (owner_changes.Records name) number old ready sound = sound_recorded number name old ready sound
+sound_owner law (owner_changes.Keeps name) number old ready sound = sound_kept number name old sound
+sound_owner law (owner_changes.KeepsBoth name newcomer) number old ready sound =
+    sound_kept number newcomer (record old { owners = with_kept_entry number name old.owners }) (sound_kept number name old sound)
+sound_owner law (owner_changes.Introduces name newcomer) number old ready sound =
+    sound_recorded number newcomer (record old { owners = with_kept_entry number name old.owners }) ready (sound_kept number name old sound)
+sound_owner law (owner_changes.Records name) number old ready sound = sound_recorded number (open_owner name) old ready sound
 sound_owner law (owner_changes.Restarts name) number old ready sound =
-    sound_recorded number name (state_changes.without name old) ready (sound_dropped law name old sound)
-sound_owner law (owner_changes.Drops name) number old ready sound = sound_dropped law name old sound
+    sound_recorded number (open_owner name) (state_changes.without name old) ready.0 (sound_dropped law name old ready.1 sound)
+sound_owner law (owner_changes.Drops name) number old ready sound = sound_dropped law name old ready sound
 
--- a change of the clients' records keeps the state sound
-sound_clients : OpensStay → (change : ClientChange) (old : State) → IsClientReady change old.clients → IsSound old → IsSound (changed (changes.Clients change) old)
-sound_clients law client_changes.Nothing old ready sound = record {
+-- A change of the clients' records keeps the state sound.
+
+sound_clients : OpensStay → LocksStay → (change : ClientChange) (old : State) → IsClientReady change old.clients → IsSound old → IsSound (changed (changes.Clients change) old)
+sound_clients law lock_law client_changes.Nothing old ready sound = record {
   live = sound.live;
   known = sound.known;
   compatible = sound.compatible;
   single = sound.single;
+  locks = sound.locks;
 }
-sound_clients law (client_changes.Arrives r) old ready sound = record {
+sound_clients law lock_law (client_changes.Arrives r) old ready sound = record {
   live = live_unconfirmed r old.clients.records old.owners sound.live;
   known = sound.known;
   compatible = sound.compatible;
   single = single_unconfirmed r ready old.clients.records sound.single;
+  locks = sound.locks;
 }
-sound_clients law (client_changes.Updates r) old ready sound = record {
+sound_clients law lock_law (client_changes.Updates r) old ready sound = record {
   live = live_unconfirmed r old.clients.records old.owners sound.live;
   known = sound.known;
   compatible = sound.compatible;
   single = single_unconfirmed r ready old.clients.records sound.single;
+  locks = sound.locks;
 }
-sound_clients law (client_changes.Confirms r) old ready sound = record {
+sound_clients law lock_law (client_changes.Confirms r) old ready sound = record {
   live = live_confirmed r old.clients.records old.owners ready.0 ready.1 sound.live;
   known = sound.known;
   compatible = sound.compatible;
   single = single_confirmed r old.clients.records sound.single;
+  locks = sound.locks;
 }
-sound_clients law (client_changes.Replaces r client) old ready sound = record {
+sound_clients law lock_law (client_changes.Replaces r client) old ready sound = record {
   live = live_replaced r client old.clients.records old.owners ready sound.live;
   known = dropped_known (λ n. is_same_client n.client client) old.owners old.opens sound.known;
-  compatible = dropped_compatible law (λ n. is_same_client n.client client) old.opens sound.compatible;
+  compatible = dropped_compatible law (λ o. is_same_client o.owner.client client) old.opens sound.compatible;
   single = single_confirmed r old.clients.records sound.single;
+  locks = locks_without_client lock_law client old.owners old.opens old.last_state old.locks sound.locks;
 }
 
--- an operation's own change keeps the state sound
-sound_changed : OpensStay → (change : Change) (old : State) → IsChangeReady change old → IsSound old → IsSound (changed change old)
-sound_changed law changes.Nothing old ready sound = sound
-sound_changed law (changes.Clients change) old ready sound = sound_clients law change old ready sound
-sound_changed law (changes.Opens node owner share) old ready sound = record {
+-- An operation's own change keeps the state sound.
+
+rises : (has_open : Bool) (last : ℕ) → last ≤ last_state_after has_open last
+rises true last = omega arith
+rises false last = omega arith
+
+sound_changed : OpensStay → LocksStay → (change : Change) (old : State) → IsChangeReady change old → IsSound old → IsSound (changed change old)
+sound_changed law lock_law changes.Nothing old ready sound = sound
+sound_changed law lock_law (changes.Clients change) old ready sound = sound_clients law lock_law change old ready sound
+sound_changed law lock_law (changes.Opens node owner share) old ready sound =
+    let here = opens_of node old.opens in
+    let change = with_opening owner share (old.last_state + 1) in
+    let last = last_state_after (is_some (open_of owner here)) old.last_state in
+    record {
+      live = sound.live;
+      known = set_opens (AllByRecursion (IsKnownIn old.owners)) tt change (opening_known old.owners owner share (old.last_state + 1) ready.0) node old.opens sound.known;
+      compatible = all_set AllAreCompatible old.opens node (change here) sound.compatible
+          (law.try_open owner share (old.last_state + 1) here (opens_at AllAreCompatible tt node old.opens sound.compatible) ready.1);
+      single = sound.single;
+      locks = locks_reopened node change old.owners old.opens last old.locks (under_opening old.owners owner share (old.last_state + 1))
+          (locks_numbered old.owners old.opens old.last_state last old.locks (rises (is_some (open_of owner here)) old.last_state) sound.locks);
+    }
+sound_changed law lock_law (changes.Confirms node number owner) old ready sound =
+    let f : KnownOwner → KnownOwner = λ o. if has_name (open_owner owner) o then record o { confirmed = true } else o in
+    let confirmed = sound_mapped f (keeps_confirmed (open_owner owner)) old sound in
+    let owners = with_confirmation (open_owner owner) old.owners in
+    record {
+      live = confirmed.live;
+      known = set_opens (AllByRecursion (IsKnownIn owners)) tt (with_each (is_numbered number) with_next_seqid)
+          (each_known owners (is_numbered number) with_next_seqid (λ o. refl)) node old.opens confirmed.known;
+      compatible = set_opens AllAreCompatible tt (with_each (is_numbered number) with_next_seqid) (law.advance (is_numbered number)) node old.opens sound.compatible;
+      single = sound.single;
+      locks = locks_reopened node (with_each (is_numbered number) with_next_seqid) owners old.opens old.last_state old.locks
+          (under_each owners (is_numbered number) with_next_seqid (λ l o h. h)) confirmed.locks;
+    }
+sound_changed law lock_law (changes.Downgrades node number share) old ready sound = record {
   live = sound.live;
-  known = set_node (AllByRecursion (IsKnownIn old.owners)) tt (with_opening owner share (old.last_state + 1))
-      (opening_known old.owners owner share (old.last_state + 1) ready.0) node old.opens sound.known;
-  compatible = all_set AllAreCompatible old.opens node (with_opening owner share (old.last_state + 1) (opens_of node old.opens)) sound.compatible
-      (law.try_open owner share (old.last_state + 1) (opens_of node old.opens) (at_node AllAreCompatible tt node old.opens sound.compatible) ready.1);
-  single = sound.single;
-}
-sound_changed law (changes.Confirms node number owner) old ready sound = record {
-  live = mapped_live (λ o. if has_name owner o then record o { confirmed = true } else o)
-      (λ o. name_kept (λ k. record k { confirmed = true }) (λ k. refl) (has_name owner o) o) old.clients.records old.owners sound.live;
-  known = set_node (AllByRecursion (IsKnownIn (with_confirmation owner old.owners))) tt (with_each (is_numbered number) with_next_seqid)
-      (each_known (with_confirmation owner old.owners) (is_numbered number) with_next_seqid (λ o. refl)) node old.opens
-      (mapped_known (λ o. if has_name owner o then record o { confirmed = true } else o)
-      (λ o. name_kept (λ k. record k { confirmed = true }) (λ k. refl) (has_name owner o) o) old.owners old.opens sound.known);
-  compatible = set_node AllAreCompatible tt (with_each (is_numbered number) with_next_seqid) (law.advance (is_numbered number)) node old.opens sound.compatible;
-  single = sound.single;
-}
-sound_changed law (changes.Downgrades node number share) old ready sound = record {
-  live = sound.live;
-  known = set_node (AllByRecursion (IsKnownIn old.owners)) tt (with_each (is_numbered number) (after_downgrade share))
+  known = set_opens (AllByRecursion (IsKnownIn old.owners)) tt (with_each (is_numbered number) (after_downgrade share))
       (each_known old.owners (is_numbered number) (after_downgrade share) (λ o. refl)) node old.opens sound.known;
-  compatible = set_node AllAreCompatible tt (with_each (is_numbered number) (after_downgrade share)) (law.downgrade (is_numbered number) share) node old.opens sound.compatible;
+  compatible = set_opens AllAreCompatible tt (with_each (is_numbered number) (after_downgrade share)) (law.downgrade (is_numbered number) share) node old.opens sound.compatible;
   single = sound.single;
+  locks = locks_reopened node (with_each (is_numbered number) (after_downgrade share)) old.owners old.opens old.last_state old.locks
+      (under_each old.owners (is_numbered number) (after_downgrade share) (λ l o h. h)) sound.locks;
 }
-sound_changed law (changes.Closes node number) old ready sound = record {
+sound_changed law lock_law (changes.Closes node number) old ready sound = record {
   live = sound.live;
-  known = set_node (AllByRecursion (IsKnownIn old.owners)) tt (without (is_numbered number))
+  known = set_opens (AllByRecursion (IsKnownIn old.owners)) tt (without (is_numbered number))
       (λ xs h. all_filter (IsKnownIn old.owners) (IsKnownIn old.owners) (λ o. not (is_numbered number o)) (λ o known _. known) xs h) node old.opens sound.known;
-  compatible = set_node AllAreCompatible tt (without (is_numbered number)) (law.removal (is_numbered number)) node old.opens sound.compatible;
+  compatible = set_opens AllAreCompatible tt (without (is_numbered number)) (law.removal (is_numbered number)) node old.opens sound.compatible;
   single = sound.single;
+  locks = locks_closed lock_law node number old.owners old.opens old.last_state old.locks sound.locks;
+}
+sound_changed law lock_law (changes.Begins node first) old ready sound = record {
+  live = sound.live;
+  known = sound.known;
+  compatible = sound.compatible;
+  single = sound.single;
+  locks = locks_begun lock_law node first old.owners old.opens old.last_state old.locks ready.0 ready.1 ready.2 sound.locks;
+}
+sound_changed law lock_law (changes.Locks node number change) old ready sound = record {
+  live = sound.live;
+  known = sound.known;
+  compatible = sound.compatible;
+  single = sound.single;
+  locks = locks_changed lock_law node number change ready.0 old.owners old.opens old.last_state old.locks ready.1 ready.2 sound.locks;
+}
+sound_changed law lock_law (changes.Releases owner) old ready sound = record {
+  live = dropped_live (λ n. is_same_state_owner n (lock_owner owner)) old.clients.records old.owners sound.live;
+  known = renamed_known old.owners (without_owner (lock_owner owner) old.owners)
+      (λ o found. name_left (λ n. is_same_state_owner n (lock_owner owner)) old.owners (open_owner o) refl found) old.opens sound.known;
+  compatible = sound.compatible;
+  single = sound.single;
+  locks = locks_released lock_law owner old.owners old.opens old.last_state old.locks sound.locks;
 }
 
 -- an entry keeps the state sound
-pub sound_after : OpensStay → (number : ℕ) (decision : Decision) (old : State) → IsReady number old decision → IsSound old → IsSound (after number decision old)
-sound_after law number decision old ready sound =
-    sound_changed law decision.change (with_owner_change decision.owner number old) ready.1
+pub sound_after : OpensStay → LocksStay → (number : ℕ) (decision : Decision) (old : State) → IsReady number old decision → IsSound old → IsSound (after number decision old)
+sound_after law lock_law number decision old ready sound =
+    sound_changed law lock_law decision.change (with_owner_change decision.owner number old) ready.1
     (sound_owner law decision.owner number old ready.0 sound)

@@ -1,15 +1,21 @@
--- What holds of the state at all times (RFC 7530, sections 9.1 and 9.9).
-use Rattle.std.specs.Prelude.{IsTrue, is_some}
-use Rattle.std.specs.List.{AllByRecursion}
-use Rattle.nfs_state.specs.Owners.{owner_of}
+-- What holds of the state at all times (RFC 7530, sections 9.1, 9.9 and 16.10).
+use Rattle.std.specs.Prelude.{ℕ, ◌&&◌, Bool, IsTrue, List, is_some}
+use Rattle.std.specs.List.{AllByRecursion, list_any}
+use Rattle.nfs_locks.specs.AllLocks.{locks_of}
+use Rattle.nfs_locks.specs.Laws.{AllLocksAreCompatible}
+use Rattle.nfs_locks.specs.Locks.{ByteLocks}
+use Rattle.nfs_state.specs.Owners.{KnownOwner, is_confirmed, owner_of}
 use Rattle.nfs_state.specs.State.{State}
 use Rattle.nfs_owners.specs.Registry.{record_of}
+use Rattle.nfs_owners.specs.StateOwner.{lock_owner, open_owner}
+use Rattle.nfs_share.specs.AllOpens.{opens_of}
 use Rattle.nfs_share.specs.Laws.{AllAreCompatible}
+use Rattle.nfs_share.specs.Opens.{is_numbered, is_of_client}
 use Rattle.nfs_share.specs.declared.open_state.OpenState.{OpenState}
 
 -- the open's owner is known
 abbrev pub HasKnownOwner : State → OpenState → Type 0
-HasKnownOwner state o = IsTrue (is_some (owner_of o.owner state.owners))
+HasKnownOwner state o = IsTrue (is_some (owner_of (open_owner o.owner) state.owners))
 
 -- the client of the open's owner has a confirmed record
 abbrev pub HasLiveClient : State → OpenState → Type 0
@@ -19,8 +25,41 @@ HasLiveClient state o = IsTrue (is_some (record_of o.owner.client state.clients)
 abbrev pub EachOpen : (OpenState → Type 0) → State → Type 0
 EachOpen P state = AllByRecursion (AllByRecursion P) state.opens
 
+-- the lock state's owner is known
+abbrev pub HasKnownLocker : State → ByteLocks → Type 0
+HasKnownLocker state l = IsTrue (is_some (owner_of (lock_owner l.owner) state.owners))
+
+-- the client of the lock state's owner has a confirmed record
+abbrev pub HasLiveLocker : State → ByteLocks → Type 0
+HasLiveLocker state l = IsTrue (is_some (record_of l.owner.client state.clients))
+
+-- each lock state of each node
+abbrev pub EachLock : (ByteLocks → Type 0) → State → Type 0
+EachLock P state = AllByRecursion (AllByRecursion P) state.locks
+
+-- The lock state stands under the open: it names the open's number, and a confirmed owner of the same client has the
+-- open (section 9.1.11).
+abbrev pub bears : List KnownOwner → ByteLocks → OpenState → Bool
+bears owners l o =
+    is_numbered l.open_number o
+    && is_of_client l.owner.client o
+    && is_confirmed (open_owner o.owner) owners
+
+-- the lock state of this node stands under an open of the node
+abbrev pub StandsUnderOpen : State → ℕ → ByteLocks → Type 0
+StandsUnderOpen state node l = IsTrue (list_any (bears state.owners l) (opens_of node state.opens))
+
+-- each lock state of each node, with the node's number
+abbrev pub EachLockAt : (ℕ → ByteLocks → Type 0) → State → Type 0
+EachLockAt P state = (node : ℕ) → AllByRecursion (P node) (locks_of node state.locks)
+
 pub record IsSafe (state : State) : Type 0 where
   -- of each two opens of a node by different owners, neither may do what the other denies
   pub compatible : AllByRecursion AllAreCompatible state.opens
   pub known : EachOpen (HasKnownOwner state) state
   pub live : EachOpen (HasLiveClient state) state
+  -- no byte of a node is held by two lock owners, unless both hold it for reading
+  pub locks_compatible : AllByRecursion AllLocksAreCompatible state.locks
+  pub lockers_known : EachLock (HasKnownLocker state) state
+  pub lockers_live : EachLock (HasLiveLocker state) state
+  pub locks_under_opens : EachLockAt (StandsUnderOpen state) state

@@ -148,7 +148,14 @@ fn enter(
     let decision = decide(alloc, tables, journal, &request)?;
     let answer = copy_of_answer(&decision.answer)?;
     let call = Call { request, answer };
-    let number = take_in(tables, journal, call, decision.change, decision.owner)?;
+    let number = take_in(
+        alloc,
+        tables,
+        journal,
+        call,
+        decision.change,
+        decision.owner,
+    )?;
     Ok((decision.answer, number))
 }
 

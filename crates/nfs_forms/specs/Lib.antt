@@ -2,6 +2,10 @@ pub mod Principal
 pub mod ClientId
 pub mod Stateid
 pub mod OpenOwner
+pub mod LockOwner
+pub mod LockType
+pub mod LockDenied
+pub mod Locker
 pub mod Verifier
 pub mod Callback
 pub mod Bitmap
@@ -15,4 +19,3 @@ pub mod Claim
 pub mod FileHandle
 pub mod Status
 pub mod Answer
-pub mod operations

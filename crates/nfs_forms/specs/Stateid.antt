@@ -1,5 +1,6 @@
 -- stateid4 (RFC 7530, section 9.1.4). This server writes into the 12 bytes of `other` the clientid and the state's
 -- number.
+use Rattle.std.specs.Prelude.{ℕ, ◌+◌, ◌-◌, ◌^◌, ◌==◌, if◌then◌else◌}
 use Rattle.std.proofs.Common.{refl}
 use Rattle.nfs_forms.specs.ClientId.{client_id}
 use Rattle.nfs_forms.specs.declared.stateid.Stateid.{Stateid}
@@ -9,3 +10,11 @@ use Rattle.xdr.specs.Form.{Form, ◌and◌, of, u32}
 unfoldable pub stateid : Form Stateid
 stateid = of (λ p. record { seqid = p.0; client = p.1.0; number = p.1.1 }) (λ s. (s.seqid, (s.client, s.number)))
     (λ p. refl) (λ s. refl) (u32 and client_id and u32)
+
+-- the seqid that comes after this one at the state's next change: after 2^32 - 1 comes 1 (section 9.1.4)
+abbrev pub next_seqid : ℕ → ℕ
+next_seqid seqid = if seqid == 2 ^ 32 - 1 then 1 else seqid + 1
+
+-- the stateid after the state's next change
+abbrev pub next_stateid : Stateid → Stateid
+next_stateid s = record s { seqid = next_seqid s.seqid }

@@ -1,5 +1,4 @@
-//! The types of NFSv4.0, and the arguments and results of its operations, as values and as bytes (RFC 7530, section 16;
-//! RFC 7531).
+//! The types of NFSv4.0, as values and as bytes (RFC 7530, section 16; RFC 7531).
 #![tactic(auto)]
 
 mod answer;
@@ -13,10 +12,13 @@ mod delegation_type;
 mod fattr;
 mod file_handle;
 mod limits;
+mod lock_denied;
+mod lock_owner;
+mod lock_type;
+mod locker;
 mod open_delegation;
 mod open_how;
 mod open_owner;
-pub mod operations;
 mod principal;
 mod stateid;
 mod status;
@@ -33,6 +35,10 @@ pub use delegation_type::DelegationType;
 pub use fattr::Fattr;
 pub use file_handle::{FILE_HANDLE_LIMIT, FileHandle};
 pub use limits::limits_of_forms;
+pub use lock_denied::LockDenied;
+pub use lock_owner::LockOwner;
+pub use lock_type::LockType;
+pub use locker::{KnownLocker, Locker, NewLocker};
 pub use open_delegation::OpenDelegation;
 pub use open_how::OpenHow;
 pub use open_owner::{OWNER_NAME_LIMIT, OpenOwner};

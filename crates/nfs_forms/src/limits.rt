@@ -2,9 +2,8 @@ ghost use Rattle.std.specs.Prelude.{◌≡◌};
 
 use crate::file_handle::FILE_HANDLE_LIMIT;
 use crate::open_owner::OWNER_NAME_LIMIT;
-use crate::operations::setclientid::ID_LIMIT;
 
-/// The limits in the forms: those of filehandles, ids and owners' names (NFS4_FHSIZE, NFS4_OPAQUE_LIMIT; RFC 7531).
+/// The limits in the forms: those of filehandles and of owners' names (NFS4_FHSIZE, NFS4_OPAQUE_LIMIT; RFC 7531).
 pub fn limits_of_forms()
-    ensures { (FILE_HANDLE_LIMIT ≡ 128) × (ID_LIMIT ≡ 1024) × (OWNER_NAME_LIMIT ≡ 1024) }
+    ensures { (FILE_HANDLE_LIMIT ≡ 128) × (OWNER_NAME_LIMIT ≡ 1024) }
 {}

@@ -1,3 +1,4 @@
+ghost use Rattle.std.specs.Prelude.{◌≡◌};
 ghost use Rattle.nfs_forms.specs.Stateid as forms;
 ghost use Rattle.xdr.specs.Reading.{Answers};
 
@@ -15,6 +16,20 @@ pub struct Stateid {
     pub client: ClientId,
     /// The state's number in the server's run, from 1.
     pub number: u32,
+}
+
+impl Stateid {
+    /// The stateid after the state's next change.
+    pub fn next(self) -> Stateid
+        ensures { result ≡ forms.next_stateid self }
+    {
+        let seqid = if self.seqid == u32::MAX {
+            1
+        } else {
+            self.seqid + 1
+        };
+        Stateid { seqid, ..self }
+    }
 }
 
 impl Wire for Stateid {

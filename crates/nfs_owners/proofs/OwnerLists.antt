@@ -2,7 +2,6 @@
 use Rattle.std.proofs.Common.{◌≡◌, ℕ, ◌<◌, Bool, true, false, Some, None, List, [], ◌∷◌, ◌++◌, length, slice_index_or, slice_set, refl, sym, ap, ◌∙◌, arith}
 use Rattle.std.specs.Prelude.{◌&&◌, ◌||◌, nat_lt, not, filter, if◌then◌else◌}
 use Rattle.std.specs.List.{position, position_or_len}
-use Rattle.std.specs.Str.{bytes_eq}
 use Rattle.std.proofs.lemmas.Bool.{eqb-true, ltb-true}
 use Rattle.std.proofs.lemmas.List.{length-append, length-map}
 use Rattle.std.proofs.lemmas.List.Filters.{length-filter_both}
@@ -12,25 +11,43 @@ use Rattle.nfs_owners.specs.declared.kept.Kept.{Kept}
 use Rattle.nfs_owners.specs.declared.owner.Owner.{Owner}
 use Rattle.nfs_owners.specs.declared.owner.TheConstants.{OWNER_LIMIT}
 use Rattle.nfs_owners.specs.Owner.{has_name, is_known, new_owner}
-use Rattle.nfs_forms.specs.ClientId.{is_same_client}
 use Rattle.nfs_owners.specs.Owners.{AreApart, AreOwners, has_place, with_change, with_kept, without_owner}
-use Rattle.nfs_forms.specs.declared.open_owner.OpenOwner.{OpenOwner}
+use Rattle.nfs_owners.specs.StateOwner.{is_same_kind, is_same_state_owner}
+use Rattle.nfs_owners.specs.declared.state_owner.OwnerKind.{OwnerKind}
+use Rattle.nfs_owners.specs.declared.state_owner.OwnerKind.TheVariants as kinds
+use Rattle.nfs_owners.specs.declared.state_owner.StateOwner.{StateOwner}
 
 both : (a b : Bool) → a && b ≡ true → (a ≡ true) × (b ≡ true)
 both true b h = (refl, h)
 both false b h = cc
 
+kind_exact : (a b : OwnerKind) → is_same_kind a b ≡ true → a ≡ b
+kind_exact kinds.Open kinds.Open same = refl
+kind_exact kinds.Open kinds.Lock same = cc
+kind_exact kinds.Lock kinds.Open same = cc
+kind_exact kinds.Lock kinds.Lock same = refl
+
+kind_swap : (a b : OwnerKind) → is_same_kind a b ≡ is_same_kind b a
+kind_swap kinds.Open kinds.Open = refl
+kind_swap kinds.Open kinds.Lock = refl
+kind_swap kinds.Lock kinds.Open = refl
+kind_swap kinds.Lock kinds.Lock = refl
+
+kind_same : (a : OwnerKind) → is_same_kind a a ≡ true
+kind_same kinds.Open = refl
+kind_same kinds.Lock = refl
+
 -- the test of a name decides whether the names are equal
-name_exact : (name : OpenOwner) (o : Owner) → has_name name o ≡ true → o.name ≡ name
-name_exact name o same = grind (arith, bytes_eq-Decides o.name.name name.name, same, eqb-true, both)
+pub name_exact : (name : StateOwner) (o : Owner) → has_name name o ≡ true → o.name ≡ name
+name_exact name o same = grind (arith, kind_exact o.name.kind name.kind, bytes_eq-Decides o.name.name name.name, same, eqb-true, both)
 
 name_swap : (a b : Owner) → has_name a.name b ≡ has_name b.name a
-name_swap a b = grind (arith, bytes_eq-Decides a.name.name b.name.name, bytes_eq-Decides b.name.name a.name.name)
+name_swap a b = grind (arith, kind_swap a.name.kind b.name.kind, bytes_eq-Decides a.name.name b.name.name, bytes_eq-Decides b.name.name a.name.name)
 
 name_same : (o : Owner) → has_name o.name o ≡ true
-name_same o = grind (arith, bytes_eq-Decides o.name.name o.name.name)
+name_same o = grind (arith, kind_same o.name.kind, bytes_eq-Decides o.name.name o.name.name)
 
-known_filter : (p : Owner → Bool) (name : OpenOwner) (owners : List Owner) → is_known name owners ≡ false → is_known name (filter p owners) ≡ false
+known_filter : (p : Owner → Bool) (name : StateOwner) (owners : List Owner) → is_known name owners ≡ false → is_known name (filter p owners) ≡ false
 known_filter p name [] none = refl
 known_filter p name (o ∷ owners) none = grind (arith, known_filter p name owners)
 
@@ -50,28 +67,28 @@ name_kept : (change : Owner → Owner) → ((o : Owner) → (change o).name ≡ 
 name_kept change keeps true o = keeps o
 name_kept change keeps false o = refl
 
-has_kept : (change : Owner → Owner) → ((o : Owner) → (change o).name ≡ o.name) → (b : Bool) (other : OpenOwner) (o : Owner) → has_name other (if b then change o else o) ≡ has_name other o
-has_kept change keeps b other o = ap (λ (n : OpenOwner). is_same_client n.client other.client && bytes_eq n.name other.name) (name_kept change keeps b o)
+has_kept : (change : Owner → Owner) → ((o : Owner) → (change o).name ≡ o.name) → (b : Bool) (other : StateOwner) (o : Owner) → has_name other (if b then change o else o) ≡ has_name other o
+has_kept change keeps b other o = ap (λ (n : StateOwner). is_same_state_owner n other) (name_kept change keeps b o)
 
-known_change : (change : Owner → Owner) → ((o : Owner) → (change o).name ≡ o.name) → (name other : OpenOwner) (owners : List Owner) → is_known other (with_change change name owners) ≡ is_known other owners
+known_change : (change : Owner → Owner) → ((o : Owner) → (change o).name ≡ o.name) → (name other : StateOwner) (owners : List Owner) → is_known other (with_change change name owners) ≡ is_known other owners
 known_change change keeps name other [] = refl
 known_change change keeps name other (o ∷ owners) = grind (arith, known_change change keeps name other owners, has_kept change keeps (has_name name o) other o)
 
-apart_change : (change : Owner → Owner) → ((o : Owner) → (change o).name ≡ o.name) → (name : OpenOwner) (owners : List Owner) → AreApart owners → AreApart (with_change change name owners)
+apart_change : (change : Owner → Owner) → ((o : Owner) → (change o).name ≡ o.name) → (name : StateOwner) (owners : List Owner) → AreApart owners → AreApart (with_change change name owners)
 apart_change change keeps name [] apart = apart
 apart_change change keeps name (o ∷ owners) apart =
     (ap (λ n. is_known n (with_change change name owners)) (name_kept change keeps (has_name name o) o) ∙ known_change change keeps name o.name owners ∙ apart.0, apart_change change keeps name owners apart.1)
 
-pub unknown_change : (change : Owner → Owner) (name : OpenOwner) (owners : List Owner) → is_known name owners ≡ false → with_change change name owners ≡ owners
+pub unknown_change : (change : Owner → Owner) (name : StateOwner) (owners : List Owner) → is_known name owners ≡ false → with_change change name owners ≡ owners
 unknown_change change name [] unknown = refl
 unknown_change change name (o ∷ owners) unknown = grind (arith, unknown_change change name owners)
 
 -- what is known of a name is known of its owner's name
-known_other : (name : OpenOwner) (o : Owner) (owners : List Owner) → has_name name o ≡ true → is_known name owners ≡ is_known o.name owners
+known_other : (name : StateOwner) (o : Owner) (owners : List Owner) → has_name name o ≡ true → is_known name owners ≡ is_known o.name owners
 known_other name o owners same = ap (λ n. is_known n owners) (sym (name_exact name o same))
 
 -- the owner at the place of a name is the one that a change of that name changes
-pub change_at : (change : Owner → Owner) (name : OpenOwner) (owners : List Owner) (o : Owner) → AreApart owners → position_or_len (has_name name) owners < length owners → o ≡ slice_index_or owners (position_or_len (has_name name) owners) o → slice_set owners (position_or_len (has_name name) owners) (change o) ≡ with_change change name owners
+pub change_at : (change : Owner → Owner) (name : StateOwner) (owners : List Owner) (o : Owner) → AreApart owners → position_or_len (has_name name) owners < length owners → o ≡ slice_index_or owners (position_or_len (has_name name) owners) o → slice_set owners (position_or_len (has_name name) owners) (change o) ≡ with_change change name owners
 change_at change name [] o apart below at = refl
 change_at change name (first ∷ owners) o apart below at = by (λ below at. change_at change name owners o apart.1 below at) (has_name name first) refl
   where
@@ -80,35 +97,35 @@ change_at change name (first ∷ owners) o apart below at = by (λ below at. cha
     by rest false other = grind (arith, other, at, below, rest)
 
 -- the owner at the place that is found for a name is the one that a change of that name changes
-pub change_found : (change : Owner → Owner) (name : OpenOwner) (owners : List Owner) (place : ℕ) (o : Owner) → AreApart owners → position (has_name name) owners ≡ Some place → o ≡ slice_index_or owners place o → slice_set owners place (change o) ≡ with_change change name owners
+pub change_found : (change : Owner → Owner) (name : StateOwner) (owners : List Owner) (place : ℕ) (o : Owner) → AreApart owners → position (has_name name) owners ≡ Some place → o ≡ slice_index_or owners place o → slice_set owners place (change o) ≡ with_change change name owners
 change_found change name owners place o apart found at = by (nat_lt (position_or_len (has_name name) owners) (length owners)) refl
   where
     by : (b : Bool) → nat_lt (position_or_len (has_name name) owners) (length owners) ≡ b → slice_set owners place (change o) ≡ with_change change name owners
     by true below = grind (arith, found, at, below, change_at change name owners o apart)
     by false below = grind (arith, found, below)
 
-pub owners_change : (change : Owner → Owner) → ((o : Owner) → (change o).name ≡ o.name) → (name : OpenOwner) (owners : List Owner) → AreOwners owners → AreOwners (with_change change name owners)
+pub owners_change : (change : Owner → Owner) → ((o : Owner) → (change o).name ≡ o.name) → (name : StateOwner) (owners : List Owner) → AreOwners owners → AreOwners (with_change change name owners)
 owners_change change keeps name owners are = (omega (arith, length-map {B = Owner} owners (λ o. if has_name name o then change o else o), are.0), apart_change change keeps name owners are.1)
 
 pub owners_push : (owners : List Owner) (o : Owner) → AreOwners owners → is_known o.name owners ≡ false → length owners < OWNER_LIMIT → AreOwners (owners ++ o ∷ [])
 owners_push owners o are new below = (omega (arith, length-append owners (o ∷ []), below), apart_push owners o are.1 new)
 
-pub no_place : (name : OpenOwner) (owners : List Owner) → position (has_name name) owners ≡ None → is_known name owners ≡ false
+pub no_place : (name : StateOwner) (owners : List Owner) → position (has_name name) owners ≡ None → is_known name owners ≡ false
 no_place name [] none = refl
 no_place name (o ∷ owners) none = grind (arith, none, no_place name owners)
 
-pub known_place : (name : OpenOwner) (owners : List Owner) (place : ℕ) → position (has_name name) owners ≡ Some place → is_known name owners ≡ true
+pub known_place : (name : StateOwner) (owners : List Owner) (place : ℕ) → position (has_name name) owners ≡ Some place → is_known name owners ≡ true
 known_place name [] place found = cc
 known_place name (o ∷ owners) place found = grind (arith, found, known_place name owners (position_or_len (has_name name) owners))
 
 -- the owners after a request was kept
-pub kept_found : (name : OpenOwner) (number : ℕ) (kept : Kept) (owners : List Owner) (place : ℕ) (o : Owner) → AreApart owners → position (has_name name) owners ≡ Some place → o ≡ slice_index_or owners place o → slice_set owners place (record o { number = number; kept = kept }) ≡ with_kept name number kept owners
+pub kept_found : (name : StateOwner) (number : ℕ) (kept : Kept) (owners : List Owner) (place : ℕ) (o : Owner) → AreApart owners → position (has_name name) owners ≡ Some place → o ≡ slice_index_or owners place o → slice_set owners place (record o { number = number; kept = kept }) ≡ with_kept name number kept owners
 kept_found name number kept owners place o apart found at = rw (known_place name owners place found) (change_found (λ p. record p { number = number; kept = kept }) name owners place o apart found at)
 
-pub kept_new : (name : OpenOwner) (number : ℕ) (kept : Kept) (owners : List Owner) → position (has_name name) owners ≡ None → owners ++ new_owner name number kept ∷ [] ≡ with_kept name number kept owners
+pub kept_new : (name : StateOwner) (number : ℕ) (kept : Kept) (owners : List Owner) → position (has_name name) owners ≡ None → owners ++ new_owner name number kept ∷ [] ≡ with_kept name number kept owners
 kept_new name number kept owners none = rw (no_place name owners none) refl
 
-pub owners_kept : (name : OpenOwner) (number : ℕ) (kept : Kept) (owners : List Owner) → AreOwners owners → has_place name owners ≡ true → AreOwners (with_kept name number kept owners)
+pub owners_kept : (name : StateOwner) (number : ℕ) (kept : Kept) (owners : List Owner) → AreOwners owners → has_place name owners ≡ true → AreOwners (with_kept name number kept owners)
 owners_kept name number kept owners are place = by (is_known name owners) refl
   where
     by : (b : Bool) → is_known name owners ≡ b → AreOwners (with_kept name number kept owners)
@@ -120,16 +137,16 @@ not_not true = refl
 not_not false = refl
 
 -- where an owner was known, one place more is left without it
-fewer_known : (name : OpenOwner) (owners : List Owner) → is_known name owners ≡ true → length (without_owner name owners) < length owners
+fewer_known : (name : StateOwner) (owners : List Owner) → is_known name owners ≡ true → length (without_owner name owners) < length owners
 fewer_known name [] known = cc
 fewer_known name (o ∷ owners) known = grind (arith, known, fewer_known name owners, length-filter_both (λ o. not (has_name name o)) (has_name name) (λ x. not_not (has_name name x)) owners)
 
-same_unknown : (name : OpenOwner) (owners : List Owner) → is_known name owners ≡ false → without_owner name owners ≡ owners
+same_unknown : (name : StateOwner) (owners : List Owner) → is_known name owners ≡ false → without_owner name owners ≡ owners
 same_unknown name [] unknown = refl
 same_unknown name (o ∷ owners) unknown = grind (arith, unknown, same_unknown name owners)
 
 -- whoever has a place has one without another owner
-pub place_without : (name other : OpenOwner) (owners : List Owner) → AreOwners owners → has_place other owners ≡ true → has_place other (without_owner name owners) ≡ true
+pub place_without : (name other : StateOwner) (owners : List Owner) → AreOwners owners → has_place other owners ≡ true → has_place other (without_owner name owners) ≡ true
 place_without name other owners are place = by (is_known name owners) refl
   where
     by : (b : Bool) → is_known name owners ≡ b → has_place other (without_owner name owners) ≡ true
@@ -137,7 +154,7 @@ place_without name other owners are place = by (is_known name owners) refl
     by false unknown = rw (same_unknown name owners unknown) place
 
 -- without the owner with a name nobody has the name
-none_left : (name : OpenOwner) (owners : List Owner) → is_known name (without_owner name owners) ≡ false
+none_left : (name : StateOwner) (owners : List Owner) → is_known name (without_owner name owners) ≡ false
 none_left name [] = refl
 none_left name (o ∷ owners) = by (none_left name owners) (has_name name o) refl
   where
@@ -146,7 +163,7 @@ none_left name (o ∷ owners) = by (none_left name owners) (has_name name o) ref
     by rest false other = grind (arith, other, rest)
 
 -- where an owner has a place, there are fewer others than the limit
-pub few_others : (name : OpenOwner) (owners : List Owner) → AreOwners owners → has_place name owners ≡ true → length (without_owner name owners) < OWNER_LIMIT
+pub few_others : (name : StateOwner) (owners : List Owner) → AreOwners owners → has_place name owners ≡ true → length (without_owner name owners) < OWNER_LIMIT
 few_others name owners are place = by (is_known name (without_owner name owners)) (none_left name owners) (place_without name name owners are place)
   where
     by : (b : Bool) → b ≡ false → b || nat_lt (length (without_owner name owners)) OWNER_LIMIT ≡ true → length (without_owner name owners) < OWNER_LIMIT

@@ -7,7 +7,7 @@ use Rattle.nfs_owners.specs.declared.clients.client_change.ClientChange.TheVaria
 use Rattle.nfs_forms.specs.ClientId.{is_same_client}
 use Rattle.nfs_owners.specs.Registry.{Registry, confirmed_named_by, confirmed_of, unconfirmed_named_by}
 use Rattle.nfs_forms.specs.declared.answer.Answer.TheVariants.{Done, ClidInUse, Refused}
-use Rattle.nfs_forms.specs.declared.operations.setclientid_confirm.SetclientidConfirm.{SetclientidConfirm}
+use Rattle.nfs_operations.specs.declared.setclientid_confirm.SetclientidConfirm.{SetclientidConfirm}
 use Rattle.nfs_forms.specs.declared.principal.Principal.{Principal}
 use Rattle.nfs_forms.specs.declared.status.Refusal.TheVariants.{StaleClientId}
 use Rattle.nfs_forms.specs.Answer.{PlainAnswer}

@@ -20,6 +20,10 @@ request_of op filehandle = record { op = op; filehandle = filehandle }
 abbrev pub next_seqid : ℕ → ℕ
 next_seqid seqid = if seqid == 2 ^ 32 - 1 then 0 else seqid + 1
 
+-- the sequence id is the next one after that of the kept request
+abbrev pub precedes : Kept → ℕ → Bool
+precedes kept seqid = seqid == next_seqid kept.seqid
+
 -- The request is the kept one again: with its sequence id, operation, arguments and current filehandle.
 abbrev pub IsAgain : Kept → ℕ → KeptRequest → Type 0
 IsAgain kept seqid request = (seqid ≡ kept.seqid) × (request ≡ kept.request)

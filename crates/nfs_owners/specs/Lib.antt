@@ -5,6 +5,8 @@ pub mod Registration
 pub mod Confirmation
 pub mod ClientRoom
 pub mod Kept
+pub mod StateOwner
 pub mod Owner
 pub mod Owners
+pub mod OwnerLaws
 pub mod Numbers

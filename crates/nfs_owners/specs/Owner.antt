@@ -6,24 +6,24 @@ use Rattle.nfs_owners.specs.declared.owner.Owner.{Owner}
 use Rattle.nfs_owners.specs.declared.owner.OwnerStanding.{OwnerStanding}
 use Rattle.nfs_owners.specs.declared.owner.OwnerStanding.TheVariants.{Unknown, Unconfirmed, Confirmed}
 use Rattle.nfs_forms.specs.ClientId.{is_same_client}
-use Rattle.nfs_forms.specs.OpenOwner.{is_same_owner}
+use Rattle.nfs_owners.specs.StateOwner.{is_same_state_owner}
 use Rattle.nfs_forms.specs.declared.client_id.ClientId.{ClientId}
-use Rattle.nfs_forms.specs.declared.open_owner.OpenOwner.{OpenOwner}
+use Rattle.nfs_owners.specs.declared.state_owner.StateOwner.{StateOwner}
 
 -- the owner is one of this client's
 abbrev pub has_client : ClientId → Owner → Bool
 has_client client o = is_same_client o.name.client client
 
 -- the owner has this name at this client
-abbrev pub has_name : OpenOwner → Owner → Bool
-has_name name o = is_same_owner o.name name
+abbrev pub has_name : StateOwner → Owner → Bool
+has_name name o = is_same_state_owner o.name name
 
 -- the owner with this name, if it is known
-abbrev pub owner_of : OpenOwner → List Owner → Option Owner
+abbrev pub owner_of : StateOwner → List Owner → Option Owner
 owner_of name owners = find (has_name name) owners
 
 -- an owner with this name is known
-abbrev pub is_known : OpenOwner → List Owner → Bool
+abbrev pub is_known : StateOwner → List Owner → Bool
 is_known name owners = list_any (has_name name) owners
 
 -- what is known of an owner, given the one with its name
@@ -32,7 +32,7 @@ standing_of None = Unknown
 standing_of (Some o) = if o.confirmed then Confirmed else Unconfirmed
 
 -- an owner that is recorded by its first request, in the journal's entry of this number
-abbrev pub new_owner : OpenOwner → ℕ → Kept → Owner
+abbrev pub new_owner : StateOwner → ℕ → Kept → Owner
 new_owner name number kept = record {
   name = name;
   confirmed = false;

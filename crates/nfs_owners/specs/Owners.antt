@@ -8,7 +8,7 @@ use Rattle.nfs_owners.specs.declared.owner.TheConstants.{OWNER_LIMIT}
 use Rattle.nfs_owners.specs.Kept.{IsVerdict}
 use Rattle.nfs_owners.specs.Owner.{has_client, has_name, is_known, new_owner}
 use Rattle.nfs_forms.specs.declared.client_id.ClientId.{ClientId}
-use Rattle.nfs_forms.specs.declared.open_owner.OpenOwner.{OpenOwner}
+use Rattle.nfs_owners.specs.declared.state_owner.StateOwner.{StateOwner}
 
 -- The owners in the order in which they were recorded, and how many more of them fit without taking memory.
 pub record RoomyOwners : Type 0 where
@@ -25,7 +25,7 @@ abbrev pub AreOwners : List Owner → Type 0
 AreOwners owners = (length owners ≤ OWNER_LIMIT) × AreApart owners
 
 -- the owner is known, or may be recorded without passing the limit
-abbrev pub has_place : OpenOwner → List Owner → Bool
+abbrev pub has_place : StateOwner → List Owner → Bool
 has_place name owners = is_known name owners || nat_lt (length owners) OWNER_LIMIT
 
 -- The verdict on a request of an owner; there is none on that of an unknown owner.
@@ -35,23 +35,23 @@ IsJudged (Some o) seqid request None = ⊥
 IsJudged (Some o) seqid request (Some verdict) = IsVerdict o.kept seqid request verdict
 
 -- the owner with this name is changed, and the others stay
-abbrev pub with_change : (Owner → Owner) → OpenOwner → List Owner → List Owner
+abbrev pub with_change : (Owner → Owner) → StateOwner → List Owner → List Owner
 with_change change name owners = map (λ o. if has_name name o then change o else o) owners
 
 -- The owner's kept request is now this one, in the journal's entry of this number. An owner that was unknown is
 -- recorded by it.
-abbrev pub with_kept : OpenOwner → ℕ → Kept → List Owner → List Owner
+abbrev pub with_kept : StateOwner → ℕ → Kept → List Owner → List Owner
 with_kept name number kept owners =
     if is_known name owners
     then with_change (λ o. record o { number = number; kept = kept }) name owners
     else owners ++ new_owner name number kept ∷ []
 
 -- the owner is confirmed
-abbrev pub with_confirmed : OpenOwner → List Owner → List Owner
+abbrev pub with_confirmed : StateOwner → List Owner → List Owner
 with_confirmed name owners = with_change (λ o. record o { confirmed = true }) name owners
 
 -- the owner is no longer known
-abbrev pub without_owner : OpenOwner → List Owner → List Owner
+abbrev pub without_owner : StateOwner → List Owner → List Owner
 without_owner name owners = filter (λ o. not (has_name name o)) owners
 
 -- no owner of the client is known any longer

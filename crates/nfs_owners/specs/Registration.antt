@@ -12,8 +12,8 @@ use Rattle.nfs_forms.specs.declared.callback.Address.{Address}
 use Rattle.nfs_forms.specs.declared.answer.Answer.{Answer}
 use Rattle.nfs_forms.specs.declared.answer.Answer.TheVariants.{Done, ClidInUse}
 use Rattle.nfs_forms.specs.declared.client_id.ClientId.{ClientId}
-use Rattle.nfs_forms.specs.declared.operations.setclientid.Setclientid.{Setclientid}
-use Rattle.nfs_forms.specs.declared.operations.setclientid_confirm.SetclientidConfirm.{SetclientidConfirm}
+use Rattle.nfs_operations.specs.declared.setclientid.Setclientid.{Setclientid}
+use Rattle.nfs_operations.specs.declared.setclientid_confirm.SetclientidConfirm.{SetclientidConfirm}
 use Rattle.nfs_forms.specs.declared.principal.Principal.{Principal}
 use Rattle.nfs_forms.specs.Principal.{is_same_principal}
 

@@ -1,6 +1,6 @@
 use crate::ClientCallback;
-use nfs_xdr::operations::setclientid::ID_LIMIT;
-use nfs_xdr::operations::setclientid_confirm::SetclientidConfirm;
+use nfs_operations::setclientid::ID_LIMIT;
+use nfs_operations::setclientid_confirm::SetclientidConfirm;
 use nfs_xdr::{ClientId, Principal, Verifier};
 use xdr::Opaque;
 

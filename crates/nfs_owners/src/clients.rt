@@ -8,8 +8,8 @@ mod registration;
 
 use crate::ClientRecord;
 pub use client_change::ClientChange;
+use nfs_operations::setclientid_confirm::SetclientidConfirm;
 use nfs_xdr::ClientId;
-use nfs_xdr::operations::setclientid_confirm::SetclientidConfirm;
 use std::alloc::{AllocError, Global};
 use std::marker::Model;
 

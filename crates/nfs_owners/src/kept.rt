@@ -1,5 +1,5 @@
 ghost use Rattle.std.specs.Prelude.{◌≡◌, ◌≢◌, MatchBool};
-ghost use Rattle.nfs_owners.specs.Kept.{IsVerdict, closes, is_close, next_seqid, request_of};
+ghost use Rattle.nfs_owners.specs.Kept.{IsVerdict, closes, is_close, next_seqid, precedes, request_of};
 
 use nfs_xdr::{Answer, ClientId, Op, OpResult};
 
@@ -36,13 +36,20 @@ impl Kept {
     pub fn judge(&self, seqid: u32, op: &Op, filehandle: Option<u32>) -> Verdict<'_>
         ensures { IsVerdict self.now seqid (request_of op.now filehandle) result }
     {
-        if seqid == next_seqid(self.seqid) {
+        if self.precedes(seqid) {
             Verdict::New
         } else if seqid == self.seqid && self.request.is(op, filehandle) {
             Verdict::Replay(&self.answer)
         } else {
             Verdict::Bad
         }
+    }
+
+    /// Whether this sequence id is the next one.
+    pub fn precedes(&self, seqid: u32) -> bool
+        ensures { result ≡ precedes self.now seqid }
+    {
+        seqid == next_seqid(self.seqid)
     }
 
     /// Whether this is a CLOSE of the client's state with this number that was answered NFS4_OK.

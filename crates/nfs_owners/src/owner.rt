@@ -1,14 +1,15 @@
 ghost use Rattle.std.specs.Prelude.{◌≡◌};
 ghost use Rattle.nfs_owners.specs.Owner.{has_client, has_name, new_owner};
+ghost use Rattle.nfs_owners.specs.StateOwner.{owner_seen};
 
-use crate::Kept;
-use nfs_xdr::{ClientId, OpenOwner};
+use crate::{Kept, OwnerRef, StateOwner};
+use nfs_xdr::ClientId;
 
 /// An owner that the server knows (RFC 7530, section 9.1.5), and its kept request, the last one that counted.
 #[derive(Debug, Drop)]
 pub struct Owner {
-    pub name: OpenOwner,
-    /// Whether an OPEN_CONFIRM has confirmed the owner.
+    pub name: StateOwner,
+    /// Whether an OPEN_CONFIRM has confirmed the owner, which is an open owner then.
     pub confirmed: bool,
     /// The number of the journal's entry that recorded the owner.
     pub recorded: u32,
@@ -33,7 +34,7 @@ pub const OWNER_LIMIT: usize = 16_384;
 
 impl Owner {
     /// An owner that is recorded by its first request, in the journal's entry of this number.
-    pub fn new(name: OpenOwner, number: u32, kept: Kept) -> Owner
+    pub fn new(name: StateOwner, number: u32, kept: Kept) -> Owner
         ensures { result ≡ new_owner name number kept }
     {
         Owner {
@@ -46,10 +47,10 @@ impl Owner {
     }
 
     /// Whether the owner has this name at this client.
-    pub fn has_name(&self, name: &OpenOwner) -> bool
-        ensures { result ≡ has_name name.now self.now }
+    pub fn has_name(&self, name: OwnerRef<'_>) -> bool
+        ensures { result ≡ has_name (owner_seen name.entry) self.now }
     {
-        self.has_client(name.client) && self.name.name.as_slice() == name.name.as_slice()
+        name.is(&self.name)
     }
 
     /// Whether the owner is one of this client's.

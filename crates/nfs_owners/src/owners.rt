@@ -2,12 +2,13 @@ ghost use Rattle.std.specs.Prelude.{◌≡◌, ◌<◌, ◌≤◌, ◌+◌, ◌�
 ghost use Rattle.std.specs.List.{position};
 ghost use Rattle.std.specs.Option.{option_copied};
 ghost use Rattle.nfs_owners.specs.Kept.{closes, request_of};
-ghost use Rattle.nfs_forms.specs.declared.open_owner.OpenOwner.{OpenOwner};
+ghost use Rattle.nfs_owners.specs.StateOwner.{owner_seen};
+ghost use Rattle.nfs_owners.specs.declared.state_owner.StateOwner.{StateOwner};
 ghost use Rattle.nfs_owners.specs.Owner.{has_name, is_known, owner_of, standing_of};
 ghost use Rattle.nfs_owners.specs.Owners.{IsJudged, has_place, with_confirmed, with_kept, without_owner, without_owners_of};
 
-use crate::{Kept, OWNER_LIMIT, Owner, OwnerStanding, OwnersError, Verdict};
-use nfs_xdr::{ClientId, Op, OpenOwner};
+use crate::{Kept, OWNER_LIMIT, Owner, OwnerRef, OwnerStanding, OwnersError, StateOwner, Verdict};
+use nfs_xdr::{ClientId, Op};
 use std::alloc::Global;
 use std::marker::Model;
 
@@ -44,15 +45,15 @@ impl Owners {
     }
 
     /// The owner with this name, if it is known.
-    pub fn find(&self, name: &OpenOwner) -> Option<&Owner>
-        ensures { option_copied result ≡ owner_of name.now self.now.owners }
+    pub fn find(&self, name: OwnerRef<'_>) -> Option<&Owner>
+        ensures { option_copied result ≡ owner_of (owner_seen name.entry) self.now.owners }
     {
         self.owners.iter().find(|o| o.has_name(name))
     }
 
     /// What is known of the owner with this name.
-    pub fn known(&self, name: &OpenOwner) -> OwnerStanding
-        ensures { result ≡ standing_of (owner_of name.now self.now.owners) }
+    pub fn known(&self, name: OwnerRef<'_>) -> OwnerStanding
+        ensures { result ≡ standing_of (owner_of (owner_seen name.entry) self.now.owners) }
     {
         match self.find(name) {
             None => OwnerStanding::Unknown,
@@ -71,12 +72,12 @@ impl Owners {
     /// The verdict on a request of the owner with this name, or `None` if the owner is unknown.
     pub fn judge(
         &self,
-        name: &OpenOwner,
+        name: OwnerRef<'_>,
         seqid: u32,
         op: &Op,
         filehandle: Option<u32>,
     ) -> Option<Verdict<'_>>
-        ensures { IsJudged (owner_of name.now self.now.owners) seqid
+        ensures { IsJudged (owner_of (owner_seen name.entry) self.now.owners) seqid
             (request_of op.now filehandle) result }
     {
         let owner = self.find(name)?;
@@ -84,35 +85,38 @@ impl Owners {
     }
 
     /// Whether the owner is known, or can be recorded without exceeding the limit.
-    pub fn has_place(&self, name: &OpenOwner) -> bool
-        ensures place { result ≡ has_place name.now self.now.owners }
-        ensures left { IsTrue result → length (without_owner name.now self.now.owners) < OWNER_LIMIT }
+    pub fn has_place(&self, name: OwnerRef<'_>) -> bool
+        ensures place { result ≡ has_place (owner_seen name.entry) self.now.owners }
+        ensures left { IsTrue result
+            → length (without_owner (owner_seen name.entry) self.now.owners) < OWNER_LIMIT }
     {
         self.is_known(name) || self.owners.len() < OWNER_LIMIT
     }
 
     // Whether the owner with this name is known.
-    fn is_known(&self, name: &OpenOwner) -> bool
-        ensures { result ≡ is_known name.now self.now.owners }
+    fn is_known(&self, name: OwnerRef<'_>) -> bool
+        ensures { result ≡ is_known (owner_seen name.entry) self.now.owners }
     {
         self.owners.iter().any(|o| o.has_name(name))
     }
 
     // Where the owner with this name is in the list, if it is known.
-    fn place_of(&self, name: &OpenOwner) -> Option<usize>
-        ensures { result ≡ position (has_name name.now) self.now.owners }
+    fn place_of(&self, name: OwnerRef<'_>) -> Option<usize>
+        ensures { result ≡ position (has_name (owner_seen name.entry)) self.now.owners }
     {
         self.owners.iter().position(|o| o.has_name(name))
     }
 
     /// Makes room for one more owner, also where the owner is known. Full if it has no place.
-    pub fn reserve(&mut self, name: &OpenOwner) -> Result<(), OwnersError>
+    pub fn reserve(&mut self, name: OwnerRef<'_>) -> Result<(), OwnersError>
         ensures same { self.new.owners ≡ self.old.owners }
         ensures room { OnOk result (0 < self.new.room) }
         ensures grows { self.old.room ≤ self.new.room }
-        ensures ready { 0 < self.old.room → IsTrue (has_place name.now self.old.owners) → IsOk result }
-        ensures place { OnOk result (IsTrue (has_place name.now self.new.owners)) }
-        ensures full { IsErrOf result OwnersError.Full ↔ has_place name.now self.old.owners ≡ false }
+        ensures ready { 0 < self.old.room
+            → IsTrue (has_place (owner_seen name.entry) self.old.owners) → IsOk result }
+        ensures place { OnOk result (IsTrue (has_place (owner_seen name.entry) self.new.owners)) }
+        ensures full { IsErrOf result OwnersError.Full
+            ↔ has_place (owner_seen name.entry) self.old.owners ≡ false }
     {
         if !self.has_place(name) {
             return Err(OwnersError::Full);
@@ -122,22 +126,22 @@ impl Owners {
 
     /// Makes this the kept request of the owner with this name, in the journal's entry `number`; an unknown owner is
     /// recorded by it. It takes no memory.
-    pub fn keep(&mut self, name: OpenOwner, number: u32, kept: Kept)
+    pub fn keep(&mut self, name: StateOwner, number: u32, kept: Kept)
         requires place { IsTrue (has_place name self.old.owners) }
         requires room { IsFalse (is_known name self.old.owners) → 0 < self.old.room }
         ensures owners { self.new.owners ≡ with_kept name number kept self.old.owners }
         ensures room { self.old.room ≤ self.new.room + 1 }
         ensures known { IsTrue (is_known name self.old.owners) → self.new.room ≡ self.old.room }
     {
-        match self.place_of(&name) {
+        match self.place_of(name.as_ref()) {
             Some(place) => self.owners[place].keep(number, kept),
             None => self.owners.push_reserved(Owner::new(name, number, kept)),
         }
     }
 
     /// Confirms the owner with this name.
-    pub fn confirm(&mut self, name: &OpenOwner)
-        ensures owners { self.new.owners ≡ with_confirmed name.now self.old.owners }
+    pub fn confirm(&mut self, name: OwnerRef<'_>)
+        ensures owners { self.new.owners ≡ with_confirmed (owner_seen name.entry) self.old.owners }
         ensures room { self.new.room ≡ self.old.room }
     {
         if let Some(place) = self.place_of(name) {
@@ -146,10 +150,10 @@ impl Owners {
     }
 
     /// Forgets the owner with this name.
-    pub fn remove(&mut self, name: &OpenOwner)
-        ensures owners { self.new.owners ≡ without_owner name.now self.old.owners }
+    pub fn remove(&mut self, name: OwnerRef<'_>)
+        ensures owners { self.new.owners ≡ without_owner (owner_seen name.entry) self.old.owners }
         ensures room { self.old.room ≤ self.new.room }
-        ensures places { (other : OpenOwner)
+        ensures places { (other : StateOwner)
             → IsTrue (has_place other self.old.owners) → IsTrue (has_place other self.new.owners) }
     {
         self.owners.retain(|o| !o.has_name(name));

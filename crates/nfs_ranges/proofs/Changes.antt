@@ -1,5 +1,5 @@
 -- How a change of a range's mode changes the number of runs.
-use Rattle.std.proofs.Common.{◌≡◌, ℕ, suc, ◌+◌, ◌-◌, ◌^◌, ◌<◌, ◌≤◌, Bool, true, false, ◌&&◌, ◌||◌, not, ◌==◌, is_some, nat_le, if◌then◌else◌, Option, inl, inr, refl, sym, ◌∙◌, ap, subst, add-one, arith}
+use Rattle.std.proofs.Common.{◌≡◌, ℕ, suc, ◌+◌, ◌-◌, ◌^◌, ◌<◌, ◌≤◌, Bool, true, false, ◌&&◌, ◌||◌, not, ◌==◌, is_some, nat_le, if◌then◌else◌, Option, None, inl, inr, refl, sym, ◌∙◌, ap, subst, add-one, arith}
 use Rattle.std.proofs.Math.Bool.{and-false}
 use Rattle.std.proofs.lemmas.Bool.{cases_lt, le-leb, lt-leb}
 use Rattle.nfs_ranges.specs.Bytes.{has}
@@ -8,7 +8,7 @@ use Rattle.nfs_ranges.specs.Questions.{AreAs}
 use Rattle.nfs_ranges.specs.Runs.{BeginIn, begins, count_below, reach, runs}
 use Rattle.nfs_ranges.specs.declared.mode.Mode.{Mode}
 use Rattle.nfs_ranges.specs.declared.range.Range.{Range}
-use Rattle.nfs_ranges.proofs.Counting.{count_agree, count_agree_from, count_mono, count_next, count_stretch_to}
+use Rattle.nfs_ranges.proofs.Counting.{count_agree, count_agree_from, count_mono, count_next, count_one, count_stretch_to, free_starts_none, no_start}
 
 -- which bytes a range has
 pub has_in : (range : Range) (byte : ℕ) → range.first ≤ byte → byte ≤ range.last → has range byte ≡ true
@@ -105,3 +105,22 @@ runs_changed range mode modes gone come ordered bounded old new =
     (λ b more less. starts_behind range mode modes b (omega (arith, more, less))) in
     let most = count_mono (begins modes) (reach range) (2 ^ 64) (omega arith) in
     (omega (arith, old, most), omega (arith, old, new, below, above, most))
+
+-- After a change where no byte was held there is one run at most: it begins where the change does.
+pub one_run_at_most : (range : Range) (mode : Option Mode) (modes : ℕ → Option Mode) → ((byte : ℕ) → modes byte ≡ None)
+    → runs (with_mode range mode modes) ≤ 1
+one_run_at_most range mode modes free =
+    let after : ℕ → Option Mode = with_mode range mode modes in
+    count_one (begins after) range.first (2 ^ 64)
+    (λ byte below. free_starts_none after byte
+    (stays range mode modes byte (hasnt_before range byte below) ∙ free byte))
+    (λ byte above. elim (cases_lt range.last byte) [
+      | inl behind ↦
+          free_starts_none after byte
+          (stays range mode modes byte (hasnt_behind range byte behind) ∙ free byte)
+      | inr inside ↦
+          let alike = change_is_stretch range mode modes range.ordered in
+          no_start after byte (omega (arith, above))
+          (alike (byte - 1) (omega (arith, above)) (omega (arith, inside))
+          ∙ sym (alike byte (omega (arith, above)) inside))
+    ])

@@ -1,7 +1,7 @@
 -- How many numbers below one pass a test, and how many runs begin in a stretch of one mode.
-use Rattle.std.proofs.Common.{◌≡◌, ℕ, zero, suc, ◌+◌, ◌-◌, ◌^◌, ◌<◌, ◌≤◌, ◌↔◌, Bool, true, false, ◌&&◌, ◌||◌, not, ◌==◌, is_some, IsTrue, if◌then◌else◌, Option, Some, None, refl, sym, ◌∙◌, ap, subst, arith}
+use Rattle.std.proofs.Common.{◌≡◌, ℕ, zero, suc, ◌+◌, ◌-◌, ◌^◌, ◌<◌, ◌≤◌, ◌↔◌, Bool, true, false, ◌&&◌, ◌||◌, not, ◌==◌, is_some, IsTrue, if◌then◌else◌, Option, Some, None, inl, inr, refl, sym, ◌∙◌, ap, subst, arith}
 use Rattle.std.proofs.Math.Bool.{and-false}
-use Rattle.std.proofs.lemmas.Bool.{eq-eqb, eqb-true, ne_eqb}
+use Rattle.std.proofs.lemmas.Bool.{cases_lt, eq-eqb, eqb-true, ne_eqb}
 use Rattle.nfs_ranges.specs.Modes.{is_same}
 use Rattle.nfs_ranges.specs.Questions.{AreAs}
 use Rattle.nfs_ranges.specs.Runs.{BeginIn, begins, count_below, runs}
@@ -22,6 +22,31 @@ count_none test = refl
 pub not_counted : (t : Bool) (n k : ℕ) → t ≡ false → k ≡ (if t then 1 else 0) + n → k ≡ n
 not_counted true n k fails is = absurd cc
 not_counted false n k fails is = omega (arith, is)
+
+-- where none passes, none is counted
+pub count_zero : (test : ℕ → Bool) (n : ℕ) → ((b : ℕ) → b < n → test b ≡ false) → count_below test n ≡ 0
+count_zero test zero fails = count_none test
+count_zero test (suc n) fails =
+    not_counted (test n) (count_below test n) (count_below test (suc n)) (fails n (omega arith)) (count_next test n)
+    ∙ count_zero test n (λ b below. fails b (omega (arith, below)))
+
+-- where only one number passes, one is counted at most
+one_more : (t : Bool) (n k : ℕ) → n ≡ 0 → k ≡ (if t then 1 else 0) + n → k ≤ 1
+one_more true n k none is = omega (arith, none, is)
+one_more false n k none is = omega (arith, none, is)
+
+pub count_one : (test : ℕ → Bool) (only n : ℕ) → ((b : ℕ) → b < only → test b ≡ false)
+    → ((b : ℕ) → only < b → test b ≡ false) → count_below test n ≤ 1
+count_one test only zero below above = omega (arith, count_none test)
+count_one test only (suc n) below above =
+    elim (cases_lt only n) [
+      | inl less ↦
+          let same = not_counted (test n) (count_below test n) (count_below test (suc n)) (above n less) (count_next test n) in
+          omega (arith, same, count_one test only n below above)
+      | inr most ↦
+          one_more (test n) (count_below test n) (count_below test (suc n))
+          (count_zero test n (λ b less. below b (omega (arith, less, most)))) (count_next test n)
+    ]
 
 -- below more numbers there are no fewer
 count_up : (test : ℕ → Bool) (n more m : ℕ) → m ≡ more + n → count_below test n ≤ count_below test m
@@ -141,13 +166,11 @@ none_held modes n none (suc b) below =
     (no_start_below modes n (suc b) none below)
 
 -- where no byte is held, no run begins
+pub free_starts_none : (modes : ℕ → Option Mode) (byte : ℕ) → modes byte ≡ None → begins modes byte ≡ false
+free_starts_none modes byte free = ap (λ m. is_some m && (byte == 0 || not (is_same m (modes (byte - 1))))) free
+
 pub no_runs : (modes : ℕ → Option Mode) (n : ℕ) → ((b : ℕ) → b < n → modes b ≡ None) → count_below (begins modes) n ≡ 0
-no_runs modes zero free = count_none (begins modes)
-no_runs modes (suc n) free =
-    not_counted (begins modes n) (count_below (begins modes) n) (count_below (begins modes) (suc n))
-    (ap (λ m. is_some m && (n == 0 || not (is_same m (modes (n - 1))))) (free n (omega arith)))
-    (count_next (begins modes) n)
-    ∙ no_runs modes n (λ b below. free b (omega (arith, below)))
+no_runs modes n free = count_zero (begins modes) n (λ b below. free_starts_none modes b (free b below))
 
 -- there is no run exactly where no byte is held
 pub no_runs_free : (modes : ℕ → Option Mode) (count : ℕ) → count ≡ runs modes

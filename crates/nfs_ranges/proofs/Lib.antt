@@ -1,3 +1,4 @@
 pub mod Pieces
 pub mod Counting
 pub mod Changes
+pub mod Unique

@@ -3,6 +3,7 @@
 
 mod bytes;
 mod counts;
+mod laws;
 mod limits;
 mod mode;
 mod piece;
@@ -13,6 +14,9 @@ mod stretches;
 mod walks;
 
 pub use bytes::range_of;
+pub use laws::{
+    at_most_one_first_conflict, at_most_one_range, at_most_one_run, first_change_has_place,
+};
 pub use limits::{RUN_LIMIT, limit_of_runs};
 pub use mode::Mode;
 pub use piece::Piece;

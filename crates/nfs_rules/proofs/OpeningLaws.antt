@@ -8,14 +8,19 @@ use Rattle.nfs_rules.specs.declared.passage.Passage.TheVariants as passages
 use Rattle.nfs_state.specs.declared.change.Change.TheVariants.{Opens}
 use Rattle.nfs_rules.specs.declared.opening.Opening.{Opening}
 use Rattle.nfs_rules.specs.declared.ruling.Ruling.{Ruling}
-use Rattle.nfs_rules.specs.operations.Open.{◌>>=◌, answer_of, file_at, found_by, has_open_place, has_owner_place, name_of, opening, refusal_of_target, ruling_of, share_asked, stateid_after, unless_delegated, unless_denied}
+use Rattle.nfs_locks.specs.AllLocks.{LockAt, lock_named_in}
+use Rattle.nfs_rules.specs.Refusing.{◌>>=◌}
+use Rattle.nfs_rules.specs.operations.Open.{answer_of, file_at, found_by, has_open_place, has_owner_place, name_of, opening, refusal_of_target, ruling_of, share_asked, stateid_after, unless_delegated, unless_denied}
 use Rattle.nfs_rules.specs.operations.OpenGrant.{granted, granted_stateid}
 use Rattle.nfs_state.specs.Entries.{resource}
+use Rattle.nfs_state.specs.Places as places
 use Rattle.nfs_state.specs.declared.tables.Tables.{Tables}
 use Rattle.nfs_state.specs.Owners.{owner_of, without_owner}
 use Rattle.nfs_rules.specs.Deciding.{IsPassage}
 use Rattle.nfs_state.specs.Room.{state_of}
 use Rattle.nfs_state.specs.Stored.{known_owner}
+use Rattle.nfs_owners.specs.StateOwner.{open_owner}
+use Rattle.nfs_owners.specs.declared.state_owner.StateOwner.{StateOwner}
 use Rattle.nfs_owners.specs.declared.owner.Owner.{Owner}
 use Rattle.nfs_owners.specs.declared.owner.TheConstants.{OWNER_LIMIT}
 use Rattle.nfs_owners.specs.Owner as stored
@@ -39,7 +44,7 @@ use Rattle.nfs_forms.specs.declared.answer.Answer.TheVariants.{Done, Refused}
 use Rattle.nfs_forms.specs.declared.open_how.OpenHow.{OpenHow}
 use Rattle.nfs_forms.specs.declared.open_how.OpenHow.TheVariants as hows
 use Rattle.nfs_forms.specs.declared.open_owner.OpenOwner.{OpenOwner}
-use Rattle.nfs_forms.specs.declared.operations.«open».Open.{Open}
+use Rattle.nfs_operations.specs.declared.«open».Open.{Open}
 use Rattle.nfs_forms.specs.declared.stateid.Stateid.{Stateid}
 use Rattle.nfs_forms.specs.declared.status.Refusal.{Refusal}
 use Rattle.nfs_forms.specs.declared.status.Refusal.TheVariants as refusals
@@ -67,14 +72,15 @@ none_without owner (o ∷ opens) = by (none_without owner opens) (is_of owner o)
     by rest true is = grind (arith, is, rest)
     by rest false is = grind (arith, is, rest)
 
--- no open that a stateid names is a delegation
-refused_in : (found : Option OpenAt) → refusal_of_target (target_in found) ≡ refusals.BadStateId
-refused_in None = refl
-refused_in (Some at) = refl
+-- no open and no lock state that a stateid names is a delegation
+refused_in : (found : Option OpenAt) (lock : Option LockAt) → refusal_of_target (target_in found lock) ≡ refusals.BadStateId
+refused_in None None = refl
+refused_in None (Some at) = refl
+refused_in (Some at) lock = refl
 
 refusal_same : (epoch : ℕ) (state : State) (name : OpenOwner) (id : Stateid) → refusal_of_target (target_of epoch (changes.without name state) id) ≡ refusal_of_target (target_of epoch state id)
 refusal_same epoch state name id =
-    grind (arith, refused_in (named_in id (changes.without name state).opens), refused_in (named_in id state.opens))
+    grind (arith, refused_in (named_in id (changes.without name state).opens) (lock_named_in id state.locks), refused_in (named_in id state.opens) (lock_named_in id state.locks))
 
 delegated_same : (journal : History) (state : State) (name : OpenOwner) (claim : Claim) (node : ℕ) → unless_delegated journal (changes.without name state) claim node ≡ unless_delegated journal state claim node
 delegated_same journal state name (claims.DelegateCur id file) node = ap Err (refusal_same journal.epoch state name id)
@@ -153,17 +159,18 @@ file_never true b node is = absurd cc
 file_never false true node is = absurd cc
 file_never false false node is = absurd cc
 
-target_never : (a b c d : Bool) (found : Option OpenAt) → refusal_of_target (if a then stateids.Refused refusals.BadStateId else if b then stateids.Refused refusals.StaleStateId else if c then stateids.Refused refusals.BadStateId else if d then stateids.Refused refusals.Expired else target_in found) ≡ refusals.Resource → ⊥
-target_never true b c d found is = absurd cc
-target_never false true c d found is = absurd cc
-target_never false false true d found is = absurd cc
-target_never false false false true found is = absurd cc
-target_never false false false false None is = absurd cc
-target_never false false false false (Some at) is = absurd cc
+target_never : (a b c d : Bool) (found : Option OpenAt) (lock : Option LockAt) → refusal_of_target (if a then stateids.Refused refusals.BadStateId else if b then stateids.Refused refusals.StaleStateId else if c then stateids.Refused refusals.BadStateId else if d then stateids.Refused refusals.Expired else target_in found lock) ≡ refusals.Resource → ⊥
+target_never true b c d found lock is = absurd cc
+target_never false true c d found lock is = absurd cc
+target_never false false true d found lock is = absurd cc
+target_never false false false true found lock is = absurd cc
+target_never false false false false None None is = absurd cc
+target_never false false false false None (Some at) is = absurd cc
+target_never false false false false (Some at) lock is = absurd cc
 
 delegated_never : (journal : History) (state : State) (claim : Claim) (node : ℕ) → unless_delegated journal state claim node ≡ Err refusals.Resource → ⊥
 delegated_never journal state (claims.DelegateCur id name) node is =
-    target_never (is_special id) (not (id.client.epoch == journal.epoch)) (not (was_given id.client.number state.clients)) (not (is_some (record_of id.client state.clients))) (named_in id state.opens) (err_is _ refusals.Resource is)
+    target_never (is_special id) (not (id.client.epoch == journal.epoch)) (not (was_given id.client.number state.clients)) (not (is_some (record_of id.client state.clients))) (named_in id state.opens) (lock_named_in id state.locks) (err_is _ refusals.Resource is)
 delegated_never journal state claim node is = absurd cc
 
 denied_never : (b : Bool) (opened : Opening) → (if b then Err refusals.ShareDenied else Ok opened) ≡ Err refusals.Resource → ⊥
@@ -196,7 +203,7 @@ ruled_by passage state owner o = by (has_owner_place passage state && has_open_p
     by false = refl
 
 -- Whether there is a place for the owner: how many other owners there are matters only to one that starts anew.
-known_seen : (name : OpenOwner) (owners : List Owner) → is_some (owner_of name (map known_owner owners)) ≡ stored.is_known name owners
+pub known_seen : (name : StateOwner) (owners : List Owner) → is_some (owner_of name (map known_owner owners)) ≡ stored.is_known name owners
 known_seen name [] = refl
 known_seen name (o ∷ owners) = by (known_seen name owners) (stored.has_name name o) refl
   where
@@ -204,7 +211,7 @@ known_seen name (o ∷ owners) = by (known_seen name owners) (stored.has_name na
     by rest true is = grind (arith, is)
     by rest false is = grind (arith, is, rest)
 
-others_seen : (name : OpenOwner) (owners : List Owner) → length (without_owner name (map known_owner owners)) ≡ length (stored_owners.without_owner name owners)
+others_seen : (name : StateOwner) (owners : List Owner) → length (without_owner name (map known_owner owners)) ≡ length (stored_owners.without_owner name owners)
 others_seen name [] = refl
 others_seen name (o ∷ owners) = by (others_seen name owners) (stored.has_name name o) refl
   where
@@ -220,13 +227,18 @@ new_place : (known below : Bool) → known ≡ false → known || below ≡ belo
 new_place true below is = absurd cc
 new_place false below is = refl
 
-pub owner_place : (passage : Passage) (name : OpenOwner) (tables : Tables) (place : Bool) → IsPassage passage name (state_of tables)
-    → place ≡ has_place name tables.owners.owners → (IsTrue place → length (stored_owners.without_owner name tables.owners.owners) < OWNER_LIMIT)
-    → place ≡ has_owner_place passage (before_own passage name (state_of tables))
-owner_place passages.Continues name tables place known is left = is ∙ known_place _ _ (sym (known_seen name tables.owners.owners) ∙ known)
-owner_place passages.Begins name tables place unknown is left =
-    is ∙ new_place _ _ (sym (known_seen name tables.owners.owners) ∙ unknown)
+pub owner_place : (passage : Passage) (owner : OpenOwner) (tables : Tables) (place : Bool) → IsPassage passage (open_owner owner) (state_of tables)
+    → place ≡ has_place (open_owner owner) tables.owners.owners → (IsTrue place → length (stored_owners.without_owner (open_owner owner) tables.owners.owners) < OWNER_LIMIT)
+    → place ≡ has_owner_place passage (before_own passage owner (state_of tables))
+owner_place passages.Continues owner tables place known is left = is ∙ known_place _ _ (sym (known_seen (open_owner owner) tables.owners.owners) ∙ known)
+owner_place passages.Begins owner tables place unknown is left =
+    is ∙ new_place _ _ (sym (known_seen (open_owner owner) tables.owners.owners) ∙ unknown)
     ∙ ap (λ n. nat_lt n OWNER_LIMIT) (sym (length-map tables.owners.owners known_owner))
-owner_place passages.Restarts name tables place known is left =
-    let has : place ≡ true = is ∙ known_place _ _ (sym (known_seen name tables.owners.owners) ∙ known) in
-    has ∙ sym (lt-ltb _ _ (omega (arith, left has, others_seen name tables.owners.owners)))
+owner_place passages.Restarts owner tables place known is left =
+    let has : place ≡ true = is ∙ known_place _ _ (sym (known_seen (open_owner owner) tables.owners.owners) ∙ known) in
+    has ∙ sym (lt-ltb _ _ (omega (arith, left has, others_seen (open_owner owner) tables.owners.owners)))
+
+-- Whether there is a place for an owner, by what is stored.
+pub place_seen : (name : StateOwner) (tables : Tables) → places.has_owner_place name (state_of tables) ≡ has_place name tables.owners.owners
+place_seen name tables =
+    λ i. known_seen name tables.owners.owners i || nat_lt (length-map tables.owners.owners known_owner i) OWNER_LIMIT

@@ -1,17 +1,32 @@
 -- The answers of the rules that go by a stateid can be sent.
-use Rattle.std.proofs.Common.{◌≡◌, ◌≢◌, ℕ, ◌^◌, ◌<◌, Bool, true, false, Option, Some, None, Result, Ok, Err, sym, subst, arith}
+use Rattle.std.proofs.Common.{◌≡◌, ◌≢◌, ℕ, ◌^◌, ◌<◌, Bool, true, false, Option, Some, None, Result, Ok, Err, length, ◌≤◌, sym, subst, arith}
 use Rattle.std.specs.Prelude.{⊤, not, nat_lt, ◌==◌, ◌||◌, is_some, if◌then◌else◌}
 use Rattle.nfs_state.specs.Owners.{is_confirmed}
 use Rattle.nfs_owners.specs.Registry.{record_of, was_given}
 use Rattle.nfs_state.specs.Entries.{IsSendable}
 use Rattle.nfs_rules.specs.declared.demand.Demand.{Demand}
-use Rattle.nfs_state.specs.State.{State}
-use Rattle.nfs_rules.specs.Stateids.{Target, Refused, AnOpen, NoOpen, by_seqid, is_special, open_at, target_in, target_of, verdict}
+use Rattle.nfs_state.specs.State.{State, History}
+use Rattle.nfs_rules.specs.Refusing.{◌>>=◌, refused_if}
+use Rattle.nfs_rules.specs.Stateids.{Target, Refused, ALock, AnOpen, NoState, by_seqid, is_special, lock_at, lock_verdict, open_at, target_in, target_of, verdict}
+use Rattle.nfs_rules.specs.operations.Lock.{introduced, locking_of}
+use Rattle.nfs_rules.specs.operations.Lockt.{file_asked, place_of}
+use Rattle.nfs_forms.specs.ClientId.{is_same_client}
+use Rattle.nfs_forms.specs.LockDenied.{lock_denied}
+use Rattle.nfs_forms.specs.declared.lock_denied.LockDenied.{LockDenied}
+use Rattle.nfs_forms.specs.declared.locker.Locker.{Locker}
+use Rattle.nfs_forms.specs.declared.locker.Locker.TheVariants as lockers
+use Rattle.nfs_forms.specs.declared.locker.NewLocker.{NewLocker}
+use Rattle.nfs_locks.specs.AllLocks.{LockAt, lock_named_in, locks_of}
+use Rattle.nfs_locks.specs.Locks.{lock_of}
+use Rattle.nfs_operations.specs.declared.lock.Lock.{Lock}
+use Rattle.nfs_operations.specs.declared.lockt.Lockt.{Lockt}
+use Rattle.nfs_operations.specs.declared.locku.Locku.{Locku}
+use Rattle.nfs_owners.specs.StateOwner.{open_owner}
 use Rattle.nfs_share.specs.AllOpens.{OpenAt, named_in}
 use Rattle.nfs_forms.specs.declared.answer.Answer.TheVariants as answers
-use Rattle.nfs_forms.specs.declared.operations.close.Close.{Close}
-use Rattle.nfs_forms.specs.declared.operations.open_confirm.OpenConfirm.{OpenConfirm}
-use Rattle.nfs_forms.specs.declared.operations.open_downgrade.OpenDowngrade.{OpenDowngrade}
+use Rattle.nfs_operations.specs.declared.close.Close.{Close}
+use Rattle.nfs_operations.specs.declared.open_confirm.OpenConfirm.{OpenConfirm}
+use Rattle.nfs_operations.specs.declared.open_downgrade.OpenDowngrade.{OpenDowngrade}
 use Rattle.nfs_forms.specs.declared.stateid.Stateid.{Stateid}
 use Rattle.nfs_forms.specs.declared.status.Refusal.{Refusal}
 use Rattle.nfs_forms.specs.declared.status.Refusal.TheVariants as refusals
@@ -24,50 +39,108 @@ use Rattle.nfs_xdr.specs.OpResult.{op_result}
 use Rattle.xdr.specs.Writing.{written_number}
 
 -- no refusal of the target is NFS4ERR_RESOURCE
-abbrev IsOtherTarget : Target → Type 0
+abbrev pub IsOtherTarget : Target → Type 0
 IsOtherTarget (Refused refusal) = refusal ≢ refusals.Resource
 IsOtherTarget target = ⊤
 
 -- no refusal of the verdict is NFS4ERR_RESOURCE
-abbrev IsOther : Result OpenAt Refusal → Type 0
+abbrev IsOther : {A : Type 0} → Result A Refusal → Type 0
 IsOther (Err refusal) = refusal ≢ refusals.Resource
 IsOther (Ok at) = ⊤
 
-target_in_other : (found : Option OpenAt) → IsOtherTarget (target_in found)
-target_in_other None = tt
-target_in_other (Some at) = tt
+target_in_other : (found : Option OpenAt) (lock : Option LockAt) → IsOtherTarget (target_in found lock)
+target_in_other (Some at) lock = tt
+target_in_other None (Some at) = tt
+target_in_other None None = tt
 
-target_by : (special stale unknown expired : Bool) (found : Option OpenAt) → IsOtherTarget (if special then Refused refusals.BadStateId else if stale then Refused refusals.StaleStateId else if unknown then Refused refusals.BadStateId else if expired then Refused refusals.Expired else target_in found)
-target_by true stale unknown expired found = λ e. cc
-target_by false true unknown expired found = λ e. cc
-target_by false false true expired found = λ e. cc
-target_by false false false true found = λ e. cc
-target_by false false false false found = target_in_other found
+target_by : (special stale unknown expired : Bool) (found : Option OpenAt) (lock : Option LockAt) → IsOtherTarget (if special then Refused refusals.BadStateId else if stale then Refused refusals.StaleStateId else if unknown then Refused refusals.BadStateId else if expired then Refused refusals.Expired else target_in found lock)
+target_by true stale unknown expired found lock = λ e. cc
+target_by false true unknown expired found lock = λ e. cc
+target_by false false true expired found lock = λ e. cc
+target_by false false false true found lock = λ e. cc
+target_by false false false false found lock = target_in_other found lock
 
-target_other : (epoch : ℕ) (state : State) (id : Stateid) → IsOtherTarget (target_of epoch state id)
+pub target_other : (epoch : ℕ) (state : State) (id : Stateid) → IsOtherTarget (target_of epoch state id)
 target_other epoch state id =
-    target_by (is_special id) (not (id.client.epoch == epoch)) (not (was_given id.client.number state.clients)) (not (is_some (record_of id.client state.clients))) (named_in id state.opens)
+    target_by (is_special id) (not (id.client.epoch == epoch)) (not (was_given id.client.number state.clients)) (not (is_some (record_of id.client state.clients))) (named_in id state.opens) (lock_named_in id state.locks)
 
-seqid_by : (old early : Bool) (at : OpenAt) → IsOther (if old then Err refusals.OldStateId else if early then Err refusals.BadStateId else Ok at)
+seqid_by : {A : Type 0} (old early : Bool) (at : A) → IsOther (if old then Err refusals.OldStateId else if early then Err refusals.BadStateId else Ok at)
 seqid_by true early at = λ e. cc
 seqid_by false true at = λ e. cc
 seqid_by false false at = tt
 
-open_by : (elsewhere unconfirmed : Bool) (found : Result OpenAt Refusal) → IsOther found → IsOther (if elsewhere then Err refusals.BadStateId else if unconfirmed then Err refusals.BadStateId else found)
-open_by true unconfirmed found other = λ e. cc
-open_by false true found other = λ e. cc
-open_by false false found other = other
+place_by : {A : Type 0} (elsewhere : Bool) (found : Result A Refusal) → IsOther found → IsOther (if elsewhere then Err refusals.BadStateId else found)
+place_by true found other = λ e. cc
+place_by false found other = other
 
 open_at_other : (demand : Demand) (state : State) (id : Stateid) (target : Target) → IsOtherTarget target → IsOther (open_at demand state id target)
 open_at_other demand state id (Refused refusal) other = other
-open_at_other demand state id NoOpen other = λ e. cc
+open_at_other demand state id NoState other = λ e. cc
+open_at_other demand state id (ALock at) other = λ e. cc
 open_at_other demand state id (AnOpen at) other =
-    open_by (not (at.node == demand.node)) (not (demand.also_unconfirmed || is_confirmed at.state.owner state.owners)) (by_seqid id at) (seqid_by (nat_lt id.seqid at.state.seqid) (nat_lt at.state.seqid id.seqid) at)
+    place_by (not (at.node == demand.node)) _
+    (place_by (not (demand.also_unconfirmed || is_confirmed (open_owner at.state.owner) state.owners)) (by_seqid id.seqid at.state.seqid at) (seqid_by (nat_lt id.seqid at.state.seqid) (nat_lt at.state.seqid id.seqid) at))
+
+lock_at_other : (node : ℕ) (id : Stateid) (target : Target) → IsOtherTarget target → IsOther (lock_at node id target)
+lock_at_other node id (Refused refusal) other = other
+lock_at_other node id NoState other = λ e. cc
+lock_at_other node id (AnOpen at) other = λ e. cc
+lock_at_other node id (ALock at) other =
+    place_by (not (at.node == node)) (by_seqid id.seqid at.state.seqid at) (seqid_by (nat_lt id.seqid at.state.seqid) (nat_lt at.state.seqid id.seqid) at)
 
 -- the verdict on a stateid is never NFS4ERR_RESOURCE
 pub verdict_other : (demand : Demand) (epoch : ℕ) (state : State) (id : Stateid) (refusal : Refusal) → Err refusal ≡ verdict demand epoch state id → refusal ≢ refusals.Resource
 verdict_other demand epoch state id refusal same =
     subst IsOther (sym same) (open_at_other demand state id (target_of epoch state id) (target_other epoch state id))
+
+pub lock_verdict_other : (node epoch : ℕ) (state : State) (id : Stateid) (refusal : Refusal) → Err refusal ≡ lock_verdict node epoch state id → refusal ≢ refusals.Resource
+lock_verdict_other node epoch state id refusal same =
+    subst IsOther (sym same) (lock_at_other node id (target_of epoch state id) (target_other epoch state id))
+
+-- nor is a refusal of the lock that a LOCK asks for
+refused_if_other : {A : Type 0} (test : Bool) (refusal : Refusal) (a : A) → refusal ≢ refusals.Resource → IsOther (refused_if test refusal a)
+refused_if_other true refusal a other = other
+refused_if_other false refusal a other = tt
+
+then_other : {A B : Type 0} (r : Result A Refusal) (next : A → Result B Refusal) → IsOther r → ((a : A) → IsOther (next a)) → IsOther (r >>= next)
+then_other (Err refusal) next other others = other
+then_other (Ok a) next other others = others a
+
+introduced_other : (journal : History) (state : State) (args : Lock) (locker : NewLocker) (at : OpenAt) → IsOther (introduced journal state args locker at)
+introduced_other journal state args locker at =
+    then_other (refused_if args.reclaim refusals.NoGrace at) _ (refused_if_other args.reclaim refusals.NoGrace at (λ e. cc)) λ at.
+    then_other (refused_if (not (is_same_client locker.lock_owner.client at.state.owner.client)) refusals.Inval at) _
+    (refused_if_other _ refusals.Inval at (λ e. cc)) λ at.
+    then_other (refused_if (is_some (lock_of locker.lock_owner (locks_of at.node state.locks))) refusals.BadSeqId at) _
+    (refused_if_other _ refusals.BadSeqId at (λ e. cc)) λ at.
+    refused_if_other _ refusals.BadSeqId _ (λ e. cc)
+
+locking_other : (journal : History) (state : State) (node : ℕ) (args : Lock) (locker : Locker) → IsOther (locking_of journal state node args locker)
+locking_other journal state node args (lockers.New locker) =
+    let demand : Demand = record { node = node; also_unconfirmed = false } in
+    then_other (verdict demand journal.epoch state locker.open_stateid) _
+    (open_at_other demand state locker.open_stateid (target_of journal.epoch state locker.open_stateid) (target_other journal.epoch state locker.open_stateid))
+    (introduced_other journal state args locker)
+locking_other journal state node args (lockers.Known locker) =
+    then_other (lock_verdict node journal.epoch state locker.lock_stateid) _
+    (lock_at_other node locker.lock_stateid (target_of journal.epoch state locker.lock_stateid) (target_other journal.epoch state locker.lock_stateid))
+    (λ at. refused_if_other args.reclaim refusals.NoGrace _ (λ e. cc))
+
+pub locking_refusal : (journal : History) (state : State) (node : ℕ) (args : Lock) (refusal : Refusal) → Err refusal ≡ locking_of journal state node args args.locker → refusal ≢ refusals.Resource
+locking_refusal journal state node args refusal same = subst IsOther (sym same) (locking_other journal state node args args.locker)
+
+-- nor is a refusal of the file that a LOCKT asks about
+file_place_other : (filehandle : Option ℕ) → IsOther (place_of filehandle)
+file_place_other None = λ e. cc
+file_place_other (Some node) = tt
+
+pub asked_refusal : (journal : History) (state : State) (filehandle : Option ℕ) (args : Lockt) (refusal : Refusal) → Err refusal ≡ file_asked journal state filehandle args → refusal ≢ refusals.Resource
+asked_refusal journal state filehandle args refusal same =
+    subst IsOther (sym same)
+    (then_other (place_of filehandle) _ (file_place_other filehandle) λ node.
+    then_other (refused_if (not (is_some (record_of args.owner.client state.clients))) refusals.StaleClientId node) _
+    (refused_if_other _ refusals.StaleClientId node (λ e. cc)) λ node.
+    refused_if_other _ refusals.IsDir node (λ e. cc))
 
 refusal_fits : (refusal : Refusal) → number_of_refusal refusal < 2 ^ 32
 refusal_fits refusals.NoEnt = omega arith
@@ -95,4 +168,36 @@ downgrade_refused args refusal other = record {
   not_resource = λ same. other (search same);
   form = (omega arith, (refusal_fits refusal, tt));
   short = omega arith;
+}
+
+pub lock_refused : (args : Lock) (refusal : Refusal) → refusal ≢ refusals.Resource → IsSendable (ops.Lock args) (results.Lock (answers.Refused refusal))
+unfolding op_result opnum answer status written_number
+lock_refused args refusal other = record {
+  not_resource = λ same. other (search same);
+  form = (omega arith, (refusal_fits refusal, tt));
+  short = omega arith;
+}
+
+pub unlock_refused : (args : Locku) (refusal : Refusal) → refusal ≢ refusals.Resource → IsSendable (ops.Locku args) (results.Locku (answers.Refused refusal))
+unfolding op_result opnum answer status written_number
+unlock_refused args refusal other = record {
+  not_resource = λ same. other (search same);
+  form = (omega arith, (refusal_fits refusal, tt));
+  short = omega arith;
+}
+
+pub test_refused : (args : Lockt) (refusal : Refusal) → refusal ≢ refusals.Resource → IsSendable (ops.Lockt args) (results.Lockt (answers.Refused refusal))
+unfolding op_result opnum answer status written_number
+test_refused args refusal other = record {
+  not_resource = λ same. other (search same);
+  form = (omega arith, (refusal_fits refusal, tt));
+  short = omega arith;
+}
+
+pub denied_sendable : (args : Lock) (denied : LockDenied) → lock_denied.Fits denied → length (lock_denied.spelling denied) ≤ 1056 → IsSendable (ops.Lock args) (results.Lock (answers.Denied denied))
+unfolding op_result opnum answer status written_number
+denied_sendable args denied fits short = record {
+  not_resource = λ same. absurd cc;
+  form = (omega arith, (omega arith, fits));
+  short = omega (arith, short);
 }

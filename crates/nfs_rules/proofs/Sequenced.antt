@@ -1,30 +1,60 @@
 -- What is decided for a sequenced operation, from whether it is answered without its own rule, and from that rule.
-use Rattle.std.proofs.Common.{◌≡◌, ◌≢◌, ℕ, ◌<◌, ◌≤◌, Bool, true, false, nat_lt, Option, Some, None, Result, Ok, Err, length, refl, sym, ap, ◌∙◌, subst, arith}
-use Rattle.std.specs.Result.{IsErr, IsErrAnd}
-use Rattle.std.specs.Prelude.{IsTrue, IsFalse, not, ◌&&◌, if◌then◌else◌}
+use Rattle.std.proofs.Common.{inl, inr, ◌≡◌, ◌≢◌, ℕ, ◌<◌, ◌≤◌, Bool, true, false, nat_lt, Option, Some, None, Result, Ok, Err, length, refl, sym, ap, ◌∙◌, subst, arith}
+use Rattle.std.specs.Result.{IsErr, IsErrAnd, IsErrOf}
+use Rattle.nfs_forms.specs.declared.lock_denied.LockDenied.{LockDenied}
+use Rattle.std.specs.Prelude.{⊤, ◌⊎◌, List, IsTrue, IsFalse, is_some, not, ◌&&◌, ◌||◌, if◌then◌else◌}
+use Rattle.std.proofs.lemmas.Bool.{and_parts, cond-false, cond-true, ltb-true}
+use Rattle.nfs_forms.specs.ClientId.{is_same_client}
+use Rattle.nfs_forms.specs.declared.lock_owner.LockOwner.{LockOwner}
+use Rattle.nfs_forms.specs.declared.locker.Locker.{Locker}
+use Rattle.nfs_forms.specs.declared.locker.Locker.TheVariants as lockers
+use Rattle.nfs_forms.specs.declared.locker.NewLocker.{NewLocker}
+use Rattle.nfs_locks.specs.AllLocks.{locks_of}
+use Rattle.nfs_locks.specs.Locks.{lock_of}
+use Rattle.nfs_locks.specs.Report.{IsReport, Report}
+use Rattle.nfs_operations.specs.declared.lock.Lock.{Lock}
+use Rattle.nfs_ranges.specs.declared.mode.Mode.{Mode}
+use Rattle.nfs_ranges.specs.declared.range.Range.{Range}
+use Rattle.nfs_locks.specs.Locks.{ByteLocks}
+use Rattle.nfs_forms.specs.declared.answer.Answer.TheVariants.{Denied}
+use Rattle.nfs_rules.specs.Locking.{can_be_written, denied_by}
+use Rattle.nfs_xdr.specs.declared.op_result.OpResult.TheVariants as results
+use Rattle.nfs_rules.specs.Newcomers.{Newcomer, Nobody, Known, Unknown, has_turn, is_next, newcomer_by, newcomer_if, newcomer_in, newcomer_of}
+use Rattle.nfs_rules.specs.Refusing.{◌>>=◌, refused_if}
+use Rattle.nfs_rules.specs.Stateids.{verdict}
+use Rattle.nfs_rules.specs.operations.Lock as lock
+use Rattle.nfs_rules.specs.operations.Lock.{IsAllowed, IsLock, Locking, allows, granted, introduced, locking_of, unless_denied}
+use Rattle.nfs_share.specs.AllOpens.{OpenAt, opens_of}
+use Rattle.nfs_share.specs.Opens.{open_with_number}
+use Rattle.nfs_state.specs.Places.{has_owner_place, has_state_place}
+use Rattle.nfs_state.specs.declared.owner_change.OwnerChange.{OwnerChange}
 use Rattle.nfs_owners.specs.Kept.{IsAgain, request_of}
-use Rattle.nfs_rules.proofs.Uniqueness.{Once, downgrades_once, next_differs, some_once, sequenced_once}
+use Rattle.nfs_rules.proofs.Uniqueness.{IsSequencedUnder, LockLaws, Once, downgrades_once, locks_once, next_differs, some_once, sequenced_once, unlocks_once}
 use Rattle.nfs_state.specs.declared.change.Change.TheVariants as changes
 use Rattle.nfs_rules.specs.declared.decision.Decision.{Decision}
 use Rattle.nfs_rules.specs.declared.opening.Opening.{Opening}
-use Rattle.nfs_state.specs.declared.owner_change.OwnerChange.TheVariants.{Nothing, Keeps, Records, Restarts, Drops}
+use Rattle.nfs_state.specs.declared.owner_change.OwnerChange.TheVariants.{Nothing, Keeps, Introduces, Records, Restarts, Drops}
 use Rattle.nfs_rules.specs.declared.passage.Passage.{Passage}
 use Rattle.nfs_rules.specs.declared.passage.Passage.TheVariants as passages
 use Rattle.nfs_state.specs.declared.request.Request.{Request}
 use Rattle.nfs_rules.specs.declared.ruling.Ruling.{Ruling}
 use Rattle.nfs_state.specs.declared.shortage.Shortage.{Shortage}
 use Rattle.nfs_state.specs.declared.shortage.Shortage.TheVariants.{Limit, Memory}
-use Rattle.nfs_rules.specs.Deciding.{Decides, HasPassage, IsReplay, IsReplayOf, IsSendableSequence, Rules, IsPassage}
+use Rattle.nfs_rules.specs.Deciding.{Decides, HasPassage, IsReplay, IsRequesterOf, IsReplayOf, IsSendableSequence, Rules, IsPassage}
 use Rattle.nfs_state.specs.Entries.{IsSendable, resource}
 use Rattle.nfs_rules.specs.operations.{own_of}
 use Rattle.nfs_rules.specs.operations.Open.{has_open_place, opening, ruling_of}
 use Rattle.nfs_state.specs.Owners.{KnownOwner, owner_of}
-use Rattle.nfs_state.specs.Room.{HasOwnerPlace, is_known}
-use Rattle.nfs_rules.specs.Sequences.{Answered, GoesOn, IsDecided, IsJudged, IsOfKnown, IsOfOwner, IsSequence, IsSequenced, Own, Owner, Refused, Requester, Sequence, counts, decision_of, is_ok_status, is_open, owner_change_of}
+use Rattle.nfs_state.specs.Room.{HasOwnerPlace, IsNewcomer, is_known}
+use Rattle.nfs_rules.specs.Sequences.{Answered, GoesOn, IsDecided, IsJudged, IsOfKnown, IsOfOwner, IsSequence, Own, Owner, Refused, Requester, Sequence, counts, decision_of, is_ok_status, is_open, kept_with, owner_change_of}
 use Rattle.nfs_state.specs.Kept.{kept_for, seqid_of}
 use Rattle.nfs_state.specs.State.{State, History}
+use Rattle.nfs_forms.specs.declared.client_id.ClientId.{ClientId}
 use Rattle.nfs_forms.specs.declared.open_owner.OpenOwner.{OpenOwner}
+use Rattle.nfs_owners.specs.StateOwner.{as_open_owner, lock_owner, open_owner}
+use Rattle.nfs_owners.specs.declared.state_owner.StateOwner.{StateOwner}
 use Rattle.nfs_forms.specs.declared.status.Refusal.{Refusal}
+use Rattle.nfs_forms.specs.declared.status.Status.{Status}
 use Rattle.nfs_forms.specs.declared.status.Refusal.TheVariants as refusals
 use Rattle.nfs_owners.specs.declared.kept.Kept.{Kept}
 use Rattle.nfs_owners.specs.declared.kept.Verdict.TheVariants as verdicts
@@ -46,10 +76,10 @@ no_handle_other (ops.Access v) = λ same. cc
 no_handle_other op = λ same. cc
 
 -- without a current filehandle the operation is refused
-pub without_filehandle : (own : Own) (journal : History) (state : State) (requester : Requester) (request : Request) (filehandle : Option ℕ) (answer : OpResult) (decision : Decision) → ((node : ℕ) → filehandle ≡ Some node → ⊥) → answer ≡ refusal_of (opnum_of request.op) refusals.NoFileHandle → op_result.Fits answer → length (op_result.spelling answer) ≤ 12 → decision ≡ record { answer = answer; change = changes.Nothing; owner = Nothing } → Decides (IsSequenced journal state requester own filehandle request) state request.op (Ok decision)
+pub without_filehandle : (own : Own) (journal : History) (state : State) (requester : Requester) (request : Request) (filehandle : Option ℕ) (answer : OpResult) (decision : Decision) → ((node : ℕ) → filehandle ≡ Some node → ⊥) → answer ≡ refusal_of (opnum_of request.op) refusals.NoFileHandle → op_result.Fits answer → length (op_result.spelling answer) ≤ 12 → decision ≡ record { answer = answer; change = changes.Nothing; owner = Nothing } → Decides (IsSequencedUnder journal state requester own filehandle request) state request.op (Ok decision)
 without_filehandle own journal state requester request (Some node) answer decision none is fits short made = absurd (none node refl)
 without_filehandle own journal state requester request None answer decision none is fits short made =
-    let P : Decision → Type 0 = λ d. Decides (IsSequenced journal state requester own None request) state request.op (Ok d) in
+    let P : Decision → Type 0 = λ d. Decides (IsSequencedUnder journal state requester own None request) state request.op (Ok d) in
     let with_answer : OpResult → Option Decision = λ a. Some (record { answer = a; change = changes.Nothing; owner = Nothing }) in
     let sendable : IsSendable request.op answer = record {
       not_resource = λ same. no_handle_other request.op (sym is ∙ same);
@@ -59,34 +89,34 @@ without_filehandle own journal state requester request None answer decision none
     subst P (sym made) (ap with_answer is, sendable, tt, tt)
 
 -- a request that is answered without the operation's own rule
-pub answered : (own : Own) (journal : History) (state : State) (requester : Requester) (request : Request) (filehandle : Option ℕ) (node : ℕ) (sequence : Sequence) (answer : OpResult) (decision : Decision) → filehandle ≡ Some node → sequence ≡ Answered answer → IsSequence journal state requester request sequence → IsSendableSequence request.op sequence → decision ≡ record { answer = answer; change = changes.Nothing; owner = Nothing } → Decides (IsSequenced journal state requester own filehandle request) state request.op (Ok decision)
+pub answered : (own : Own) (journal : History) (state : State) (requester : Requester) (request : Request) (filehandle : Option ℕ) (node : ℕ) (sequence : Sequence) (answer : OpResult) (decision : Decision) → filehandle ≡ Some node → sequence ≡ Answered answer → IsSequence journal state requester request sequence → IsSendableSequence request.op sequence → decision ≡ record { answer = answer; change = changes.Nothing; owner = Nothing } → Decides (IsSequencedUnder journal state requester own filehandle request) state request.op (Ok decision)
 answered own journal state requester request None node sequence answer decision has is sequenced sendable made = absurd cc
 answered own journal state requester request (Some at) node sequence answer decision has is sequenced sendable made =
-    let P : Decision → Type 0 = λ d. Decides (IsSequenced journal state requester own (Some at) request) state request.op (Ok d) in
+    let P : Decision → Type 0 = λ d. Decides (IsSequencedUnder journal state requester own (Some at) request) state request.op (Ok d) in
     let Q : Sequence → Type 0 = λ s. IsSequence journal state requester request s in
     let S : Sequence → Type 0 = λ s. IsSendableSequence request.op s in
     subst P (sym made) ((Answered answer, subst Q is sequenced, refl), subst S is sendable, tt, tt)
 
-judged_goes_on : (kept : Kept) (name owner : OpenOwner) (request : Request) → IsJudged kept name request (GoesOn passages.Begins owner) → ⊥
+judged_goes_on : (kept : Kept) (name owner : StateOwner) (request : Request) → IsJudged kept name request (GoesOn passages.Begins owner) → ⊥
 judged_goes_on kept name owner request (verdicts.New, is, same) = absurd cc
 judged_goes_on kept name owner request (verdicts.Replay answer, is, same) = absurd cc
 judged_goes_on kept name owner request (verdicts.Bad, is, same) = absurd cc
 
-known_goes_on : (is_restart : Bool) (kept : Kept) (name owner : OpenOwner) (request : Request) → IsOfKnown is_restart kept name request (GoesOn passages.Begins owner) → ⊥
+known_goes_on : (is_restart : Bool) (kept : Kept) (name owner : StateOwner) (request : Request) → IsOfKnown is_restart kept name request (GoesOn passages.Begins owner) → ⊥
 known_goes_on true kept name owner request is = absurd cc
 known_goes_on false kept name owner request is = judged_goes_on kept name owner request is
 
-begins_by : (b : Bool) (name owner : OpenOwner) (answer : OpResult) → GoesOn passages.Begins owner ≡ (if b then GoesOn passages.Begins name else Answered answer) → b ≡ true
+begins_by : (b : Bool) (name owner : StateOwner) (answer : OpResult) → GoesOn passages.Begins owner ≡ (if b then GoesOn passages.Begins name else Answered answer) → b ≡ true
 begins_by true name owner answer same = refl
 begins_by false name owner answer same = absurd cc
 
-owner_begins : (journal : History) (found : Option KnownOwner) (name owner : OpenOwner) (request : Request) → IsOfOwner journal found name request (GoesOn passages.Begins owner) → is_open request.op ≡ true
+owner_begins : (journal : History) (found : Option KnownOwner) (name owner : StateOwner) (request : Request) → IsOfOwner journal found name request (GoesOn passages.Begins owner) → is_open request.op ≡ true
 owner_begins journal None name owner request is = begins_by (is_open request.op) name owner _ is
 owner_begins journal (Some o) name owner request is =
     absurd (known_goes_on (is_open request.op && not o.confirmed) is.0 name owner request is.2)
 
 -- only an OPEN comes from an owner that isn't known
-begins_open : (journal : History) (state : State) (requester : Requester) (request : Request) (owner : OpenOwner) → IsSequence journal state requester request (GoesOn passages.Begins owner) → is_open request.op ≡ true
+begins_open : (journal : History) (state : State) (requester : Requester) (request : Request) (owner : StateOwner) → IsSequence journal state requester request (GoesOn passages.Begins owner) → is_open request.op ≡ true
 begins_open journal state (Refused refusal) request owner is = absurd cc
 begins_open journal state (Owner name) request owner is = owner_begins journal (owner_of name state.owners) name owner request is
 
@@ -110,33 +140,236 @@ place_of (ops.Open args) journal state node ruling is own ok = ruling_place stat
 place_of (ops.Access v) journal state node ruling is own ok = absurd cc
 place_of op journal state node ruling is own ok = absurd cc
 
-keeps_place : (b : Bool) (name : OpenOwner) (state : State) → IsTrue (is_known name state) → HasOwnerPlace (if b then Keeps name else Nothing) state
-keeps_place true name state known = known
-keeps_place false name state known = tt
+-- What a LOCK introduces, by what is known of the lock owner.
+if_known : (journal : History) (locker : NewLocker) (found : Option KnownOwner) (l : LockOwner) → newcomer_if journal locker found ≡ Known l
+    → (l ≡ locker.lock_owner) × (is_some found ≡ true)
+if_known journal locker None l is = absurd cc
+if_known journal locker (Some o) l is =
+    elim (is_next locker.lock_seqid (kept_for journal o)) as (λ b. (if b then Known locker.lock_owner else Nobody) ≡ Known l → (l ≡ locker.lock_owner) × (true ≡ true)) [
+      | true ↦ λ same. (search same, refl)
+      | false ↦ λ same. absurd cc
+    ] is
 
-records_place : (b : Bool) (name : OpenOwner) (state : State) → IsFalse (is_known name state) → (b ≡ true → length state.owners < OWNER_LIMIT) → HasOwnerPlace (if b then Records name else Nothing) state
-records_place true name state unknown place = (unknown, place refl)
-records_place false name state unknown place = tt
+if_unknown : (journal : History) (locker : NewLocker) (found : Option KnownOwner) (l : LockOwner) → newcomer_if journal locker found ≡ Unknown l
+    → (l ≡ locker.lock_owner) × (is_some found ≡ false)
+if_unknown journal locker None l is = (search is, refl)
+if_unknown journal locker (Some o) l is =
+    elim (is_next locker.lock_seqid (kept_for journal o)) as (λ b. (if b then Known locker.lock_owner else Nobody) ≡ Unknown l → (l ≡ locker.lock_owner) × (true ≡ false)) [
+      | true ↦ λ same. absurd cc
+      | false ↦ λ same. absurd cc
+    ] is
 
-restarts_place : (b : Bool) (name : OpenOwner) (state : State) → IsTrue (is_known name state) → HasOwnerPlace (if b then Restarts name else Drops name) state
-restarts_place true name state known = known
-restarts_place false name state known = tt
+of_client : (same : Bool) (found newcomer : Newcomer) → (if same then found else Nobody) ≡ newcomer → (newcomer ≡ Nobody → ⊥) → found ≡ newcomer
+of_client true found newcomer is somebody = is
+of_client false found newcomer is somebody = absurd (somebody (sym is))
 
-owner_place : (journal : History) (state : State) (requester : Requester) (request : Request) (node : ℕ) (passage : Passage) (name : OpenOwner) (ruling : Ruling) → IsSequence journal state requester request (GoesOn passage name) → IsPassage passage name state → own_of request.op journal state node passage (Some ruling) → HasOwnerPlace (owner_change_of passage name (status_of ruling.answer)) state
-owner_place journal state requester request node passages.Continues name ruling sequenced known own =
-    keeps_place (counts (status_of ruling.answer)) name state known
-owner_place journal state requester request node passages.Begins name ruling sequenced unknown own =
-    records_place (is_ok_status (status_of ruling.answer)) name state unknown
+known_somebody : (l : LockOwner) → Known l ≡ Nobody → ⊥
+known_somebody l same = cc
+
+unknown_somebody : (l : LockOwner) → Unknown l ≡ Nobody → ⊥
+unknown_somebody l same = cc
+
+-- a newcomer that is known is so in the state
+newcomer_known : (journal : History) (state : State) (client : ClientId) (op : Op) (l : LockOwner) → newcomer_of journal state client op ≡ Known l → IsTrue (is_known (lock_owner l) state)
+newcomer_known journal state client (ops.Lock args) l is = by args.locker is
+  where
+    by : (locker : Locker) → newcomer_in journal state client locker ≡ Known l → IsTrue (is_known (lock_owner l) state)
+    by (lockers.Known locker) is = absurd cc
+    by (lockers.New locker) is =
+        let found = of_client (is_same_client locker.lock_owner.client client) (newcomer_by journal state locker) (Known l) is (known_somebody l) in
+        let both = if_known journal locker (owner_of (lock_owner locker.lock_owner) state.owners) l found in
+        ap (λ o. is_known (lock_owner o) state) both.0 ∙ both.1
+newcomer_known journal state client op l is = absurd cc
+
+-- one that isn't known comes with a LOCK, as its new lock owner
+newcomer_unknown : (journal : History) (state : State) (client : ClientId) (op : Op) (l : LockOwner) → newcomer_of journal state client op ≡ Unknown l
+    → (args : Lock) × (locker : NewLocker) × (op ≡ ops.Lock args) × (args.locker ≡ lockers.New locker) × (l ≡ locker.lock_owner) × IsFalse (is_known (lock_owner l) state)
+newcomer_unknown journal state client (ops.Lock args) l is = by args.locker refl is
+  where
+    by : (locker : Locker) → args.locker ≡ locker → newcomer_in journal state client locker ≡ Unknown l
+        → (a : Lock) × (locker : NewLocker) × (ops.Lock args ≡ ops.Lock a) × (a.locker ≡ lockers.New locker) × (l ≡ locker.lock_owner) × IsFalse (is_known (lock_owner l) state)
+    by (lockers.Known locker) same is = absurd cc
+    by (lockers.New locker) same is =
+        let found = of_client (is_same_client locker.lock_owner.client client) (newcomer_by journal state locker) (Unknown l) is (unknown_somebody l) in
+        let both = if_unknown journal locker (owner_of (lock_owner locker.lock_owner) state.owners) l found in
+        (args, locker, refl, same, both.0, ap (λ o. is_known (lock_owner o) state) both.0 ∙ both.1)
+newcomer_unknown journal state client op l is = absurd cc
+
+-- A LOCK that is granted to a new lock owner has a place for it.
+next_ok : {A B : Type 0} (r : Result A Refusal) (next : A → Result B Refusal) (b : B) → (r >>= next) ≡ Ok b → (a : A) × (next a ≡ Ok b)
+next_ok (Err refusal) next b is = absurd cc
+next_ok (Ok a) next b is = (a, is)
+
+let_in : {A : Type 0} (test : Bool) (refusal : Refusal) (a b : A) → refused_if test refusal a ≡ Ok b → a ≡ b
+let_in true refusal a b is = absurd cc
+let_in false refusal a b is = search is
+
+introduced_is : (journal : History) (state : State) (args : Lock) (locker : NewLocker) (at : OpenAt) (locking : Locking) → introduced journal state args locker at ≡ Ok locking
+    → (locking.owner ≡ locker.lock_owner) × (locking.state ≡ None)
+introduced_is journal state args locker at locking is =
+    let first = next_ok (refused_if args.reclaim refusals.NoGrace at) _ locking is in
+    let second = next_ok (refused_if (not (is_same_client locker.lock_owner.client first.0.state.owner.client)) refusals.Inval first.0) _ locking first.1 in
+    let third = next_ok (refused_if (is_some (lock_of locker.lock_owner (locks_of second.0.node state.locks))) refusals.BadSeqId second.0) _ locking second.1 in
+    let equal = let_in (not (has_turn journal state locker)) refusals.BadSeqId _ locking third.1 in
+    (ap (λ (l : Locking). l.owner) (sym equal), ap (λ (l : Locking). l.state) (sym equal))
+
+verdict_then : (journal : History) (state : State) (args : Lock) (locker : NewLocker) (found : Result OpenAt Refusal) (locking : Locking)
+    → (found >>= λ at. introduced journal state args locker at) ≡ Ok locking → (locking.owner ≡ locker.lock_owner) × (locking.state ≡ None)
+verdict_then journal state args locker (Err refusal) locking is = absurd cc
+verdict_then journal state args locker (Ok at) locking is = introduced_is journal state args locker at locking is
+
+new_locking : (journal : History) (state : State) (node : ℕ) (args : Lock) (locker : NewLocker) (locking : Locking) → args.locker ≡ lockers.New locker
+    → locking_of journal state node args args.locker ≡ Ok locking → (locking.owner ≡ locker.lock_owner) × (locking.state ≡ None)
+new_locking journal state node args locker locking new is =
+    verdict_then journal state args locker (verdict (record { node = node; also_unconfirmed = false }) journal.epoch state locker.open_stateid) locking
+    (sym (ap (locking_of journal state node args) new) ∙ is)
+
+begins_place : (place more : Bool) (r : Option Ruling) (ruling : Ruling) → Some ruling ≡ (if place && more then r else None) → place ≡ true
+begins_place true more r ruling same = refl
+begins_place false more r ruling same = absurd cc
+
+denied_not_ok : (b : Bool) (answer : OpResult) (ruling : Ruling) → is_ok_status (status_of answer) ≡ false → Some ruling ≡ (if b then Some (record { answer = answer; change = changes.Nothing }) else None)
+    → is_ok_status (status_of ruling.answer) ≡ true → ⊥
+denied_not_ok true answer ruling not_ok same ok = let never : false ≡ true = sym not_ok ∙ sym (ap is_done same) ∙ ok in cc
+denied_not_ok false answer ruling not_ok same ok = cc
+
+allowed_place : (allowed : Bool) (state : State) (locking : Locking) (range : Range) (ruling : Ruling) → locking.state ≡ None → IsAllowed allowed state locking range (Some ruling)
+    → is_ok_status (status_of ruling.answer) ≡ true → has_owner_place (lock_owner locking.owner) state ≡ true
+allowed_place false state locking range ruling new is ok = let never : false ≡ true = sym (ap is_done is) ∙ ok in absurd cc
+allowed_place true state locking range ruling new is ok = by is.0 is.2
+  where
+    by : (report : Option Report) → Some ruling ≡ unless_denied state locking range report → has_owner_place (lock_owner locking.owner) state ≡ true
+    by (Some report) same = absurd (denied_not_ok (can_be_written report) (results.Lock (Denied (denied_by report))) ruling refl same ok)
+    by None same =
+        begins_place (has_owner_place (lock_owner locking.owner) state) (has_state_place state) _ ruling
+        (same ∙ ap (granted state locking range) new)
+
+ranged_place : (state : State) (locking : Locking) (range : Option Range) (ruling : Ruling) → locking.state ≡ None → lock.IsOfRange state locking range (Some ruling)
+    → is_ok_status (status_of ruling.answer) ≡ true → has_owner_place (lock_owner locking.owner) state ≡ true
+ranged_place state locking None ruling new is ok = let never : false ≡ true = sym (ap is_done is) ∙ ok in absurd cc
+ranged_place state locking (Some range) ruling new is ok =
+    allowed_place (allows locking.mode (open_with_number locking.open_number (opens_of locking.node state.opens))) state locking range ruling new is ok
+
+lock_place : (journal : History) (state : State) (args : Lock) (locker : NewLocker) (node : ℕ) (found : Result Locking Refusal) (ruling : Ruling)
+    → args.locker ≡ lockers.New locker → locking_of journal state node args args.locker ≡ found → IsLock state args found (Some ruling)
+    → is_ok_status (status_of ruling.answer) ≡ true → has_owner_place (lock_owner locker.lock_owner) state ≡ true
+lock_place journal state args locker node (Err refusal) ruling new found is ok = let never : false ≡ true = sym (ap is_done is) ∙ ok in absurd cc
+lock_place journal state args locker node (Ok locking) ruling new found is ok =
+    let made = new_locking journal state node args locker locking new found in
+    ap (λ o. has_owner_place (lock_owner o) state) (sym made.0) ∙ ranged_place state locking is.0 ruling made.1 is.2 ok
+
+newcomer_below : (known below : Bool) → known ≡ false → (known || below) ≡ true → below ≡ true
+newcomer_below true below unknown place = absurd cc
+newcomer_below false below unknown place = place
+
+-- what a new lock owner that isn't known has a place for, where the LOCK is granted
+newcomer_place : (journal : History) (state : State) (client : ClientId) (op : Op) (node : ℕ) (passage : Passage) (ruling : Ruling) (l : LockOwner)
+    → newcomer_of journal state client op ≡ Unknown l → own_of op journal state node passage (Some ruling)
+    → is_ok_status (status_of ruling.answer) ≡ true → IsNewcomer (lock_owner l) state
+newcomer_place journal state client op node passage ruling l is own ok =
+    let new = newcomer_unknown journal state client op l is in
+    let args = new.0 in
+    let locker = new.1 in
+    let own_lock = subst (λ o. own_of o journal state node passage (Some ruling)) new.2 own in
+    let place = lock_place journal state args locker node (locking_of journal state node args args.locker) ruling new.3 refl own_lock ok in
+    let place_here : has_owner_place (lock_owner l) state ≡ true = ap (λ o. has_owner_place (lock_owner o) state) new.4 ∙ place in
+    (new.5, ltb-true _ _ (newcomer_below (is_known (lock_owner l) state) (nat_lt (length state.owners) OWNER_LIMIT) new.5 place_here))
+
+-- what an answer that counts means for the owners has a place
+kept_place : (state : State) (name : StateOwner) (newcomer : Newcomer) (status : Status) → IsTrue (is_known name state)
+    → ((l : LockOwner) → newcomer ≡ Known l → IsTrue (is_known (lock_owner l) state))
+    → ((l : LockOwner) → newcomer ≡ Unknown l → is_ok_status status ≡ true → IsNewcomer (lock_owner l) state)
+    → HasOwnerPlace (kept_with name newcomer status) state
+kept_place state name Nobody status known is_known_there is_new = known
+kept_place state name (Known l) status known is_known_there is_new = (known, is_known_there l refl)
+kept_place state name (Unknown l) status known is_known_there is_new = by (is_ok_status status) refl
+  where
+    by : (b : Bool) → is_ok_status status ≡ b → HasOwnerPlace (if b then Introduces name (lock_owner l) else Keeps name) state
+    by true ok = (known, is_new l refl ok)
+    by false ok = known
+
+counted_place : (b : Bool) (change : OwnerChange) (state : State) → HasOwnerPlace change state → HasOwnerPlace (if b then change else Nothing) state
+counted_place true change state place = place
+counted_place false change state place = tt
+
+records_place : (b : Bool) (name : StateOwner) (state : State) → name ≡ open_owner (as_open_owner name) → IsFalse (is_known name state) → (b ≡ true → length state.owners < OWNER_LIMIT) → HasOwnerPlace (if b then Records (as_open_owner name) else Nothing) state
+records_place true name state is_open_one unknown place = (ap (λ n. is_known n state) (sym is_open_one) ∙ unknown, place refl)
+records_place false name state is_open_one unknown place = tt
+
+restarts_place : (b : Bool) (name : StateOwner) (state : State) → name ≡ open_owner (as_open_owner name) → IsTrue (is_known name state) → HasOwnerPlace (if b then Restarts (as_open_owner name) else Drops (as_open_owner name)) state
+restarts_place true name state is_open_one known = ap (λ n. is_known n state) (sym is_open_one) ∙ known
+restarts_place false name state is_open_one known = tt
+
+-- an owner that begins or starts anew is an open owner
+abbrev IsOpenOwner : Passage → StateOwner → Type 0
+IsOpenOwner passages.Continues name = ⊤
+IsOpenOwner passage name = name ≡ open_owner (as_open_owner name)
+
+judged_continues : (kept : Kept) (n name : StateOwner) (request : Request) (passage : Passage) → IsJudged kept n request (GoesOn passage name) → (name ≡ n) × (passage ≡ passages.Continues)
+judged_continues kept n name request passage (verdicts.New, is, same) = (search same, search same)
+judged_continues kept n name request passage (verdicts.Replay answer, is, same) = absurd cc
+judged_continues kept n name request passage (verdicts.Bad, is, same) = absurd cc
+
+known_cases : (b : Bool) (kept : Kept) (n name : StateOwner) (request : Request) (passage : Passage) → (b ≡ true → is_open request.op ≡ true) → IsOfKnown b kept n request (GoesOn passage name)
+    → (name ≡ n) × ((passage ≡ passages.Continues) ⊎ (is_open request.op ≡ true))
+known_cases true kept n name request passage opens is = (is.2, inr (opens refl))
+known_cases false kept n name request passage opens is =
+    let both = judged_continues kept n name request passage is in
+    (both.0, inl both.1)
+
+unknown_cases : (b : Bool) (n name : StateOwner) (passage : Passage) (answer : OpResult) → GoesOn passage name ≡ (if b then GoesOn passages.Begins n else Answered answer) → (name ≡ n) × (b ≡ true)
+unknown_cases true n name passage answer same = (search same, refl)
+unknown_cases false n name passage answer same = absurd cc
+
+owner_cases : (journal : History) (found : Option KnownOwner) (n name : StateOwner) (request : Request) (passage : Passage) → IsOfOwner journal found n request (GoesOn passage name)
+    → (name ≡ n) × ((passage ≡ passages.Continues) ⊎ (is_open request.op ≡ true))
+owner_cases journal None n name request passage is =
+    let both = unknown_cases (is_open request.op) n name passage _ is in
+    (both.0, inr both.1)
+owner_cases journal (Some o) n name request passage is =
+    known_cases (is_open request.op && not o.confirmed) is.0 n name request passage
+    (λ both. (and_parts (is_open request.op) (not o.confirmed) both).0) is.2
+
+open_name : (op : Op) (n : StateOwner) → IsRequesterOf op (Owner n) → is_open op ≡ true → n ≡ open_owner (as_open_owner n)
+open_name (ops.Open args) n is opens = subst (λ m. m ≡ open_owner (as_open_owner m)) (sym is) refl
+open_name op n is opens = absurd cc
+
+open_owner_of : (journal : History) (state : State) (requester : Requester) (request : Request) (passage : Passage) (name : StateOwner) → IsRequesterOf request.op requester
+    → IsSequence journal state requester request (GoesOn passage name) → IsOpenOwner passage name
+open_owner_of journal state (Refused refusal) request passage name asked is = absurd cc
+open_owner_of journal state (Owner n) request passage name asked is =
+    let cases = owner_cases journal (owner_of n state.owners) n name request passage is in
+    let named : is_open request.op ≡ true → name ≡ open_owner (as_open_owner name) =
+    λ opens. subst (λ m. m ≡ open_owner (as_open_owner m)) (sym cases.0) (open_name request.op n asked opens) in
+    by passage cases.1 named
+  where
+    by : (passage : Passage) → (passage ≡ passages.Continues) ⊎ (is_open request.op ≡ true) → (is_open request.op ≡ true → name ≡ open_owner (as_open_owner name)) → IsOpenOwner passage name
+    by passages.Continues which named = tt
+    by passages.Begins (inl same) named = absurd cc
+    by passages.Begins (inr opens) named = named opens
+    by passages.Restarts (inl same) named = absurd cc
+    by passages.Restarts (inr opens) named = named opens
+
+owner_place : (journal : History) (state : State) (requester : Requester) (request : Request) (node : ℕ) (passage : Passage) (name : StateOwner) (ruling : Ruling) → IsSequence journal state requester request (GoesOn passage name) → IsPassage passage name state → IsOpenOwner passage name → own_of request.op journal state node passage (Some ruling) → HasOwnerPlace (owner_change_of passage name (newcomer_of journal state name.client request.op) (status_of ruling.answer)) state
+owner_place journal state requester request node passages.Continues name ruling sequenced known kind own =
+    let newcomer = newcomer_of journal state name.client request.op in
+    let status = status_of ruling.answer in
+    counted_place (counts status) (kept_with name newcomer status) state
+    (kept_place state name newcomer status known (newcomer_known journal state name.client request.op)
+    (λ l is ok. newcomer_place journal state name.client request.op node passages.Continues ruling l is own ok))
+owner_place journal state requester request node passages.Begins name ruling sequenced unknown kind own =
+    records_place (is_ok_status (status_of ruling.answer)) name state kind unknown
     (λ ok. place_of request.op journal state node ruling (begins_open journal state requester request name sequenced) own ok)
-owner_place journal state requester request node passages.Restarts name ruling sequenced known own =
-    restarts_place (is_ok_status (status_of ruling.answer)) name state known
+owner_place journal state requester request node passages.Restarts name ruling sequenced known kind own =
+    restarts_place (is_ok_status (status_of ruling.answer)) name state kind known
 
 -- what is decided by the operation's own rule
-pub goes_on : (journal : History) (state : State) (requester : Requester) (request : Request) (filehandle : Option ℕ) (node : ℕ) (sequence : Sequence) (passage : Passage) (name : OpenOwner) (ruling : Ruling) (decision : Decision) → filehandle ≡ Some node → sequence ≡ GoesOn passage name → IsSequence journal state requester request sequence → HasPassage state sequence → Rules (own_of request.op journal state node passage) state request.op (Ok ruling) → decision ≡ decision_of passage name ruling → Decides (IsSequenced journal state requester (own_of request.op journal state) filehandle request) state request.op (Ok decision)
-goes_on journal state requester request filehandle node sequence passage name ruling decision has is sequenced passes ruled made =
+pub goes_on : (journal : History) (state : State) (requester : Requester) (request : Request) (filehandle : Option ℕ) (node : ℕ) (sequence : Sequence) (passage : Passage) (name : StateOwner) (ruling : Ruling) (decision : Decision) → filehandle ≡ Some node → IsRequesterOf request.op requester → sequence ≡ GoesOn passage name → IsSequence journal state requester request sequence → HasPassage state sequence → Rules (own_of request.op journal state node passage) state request.op (Ok ruling) → decision ≡ decision_of passage name (newcomer_of journal state name.client request.op) ruling → Decides (IsSequencedUnder journal state requester (own_of request.op journal state) filehandle request) state request.op (Ok decision)
+goes_on journal state requester request filehandle node sequence passage name ruling decision has asked is sequenced passes ruled made =
     let own = own_of request.op journal state in
-    let P : Decision → Type 0 = λ d. Decides (IsSequenced journal state requester own filehandle request) state request.op (Ok d) in
-    let F : Option ℕ → Type 0 = λ f. Decides (IsSequenced journal state requester own f request) state request.op (Ok (decision_of passage name ruling)) in
+    let newcomer = newcomer_of journal state name.client request.op in
+    let P : Decision → Type 0 = λ d. Decides (IsSequencedUnder journal state requester own filehandle request) state request.op (Ok d) in
+    let F : Option ℕ → Type 0 = λ f. Decides (IsSequencedUnder journal state requester own f request) state request.op (Ok (decision_of passage name newcomer ruling)) in
     let Q : Sequence → Type 0 = λ s. IsSequence journal state requester request s in
     let H : Sequence → Type 0 = λ s. HasPassage state s in
     let on : IsSequence journal state requester request (GoesOn passage name) = subst Q is sequenced in
@@ -144,25 +377,28 @@ goes_on journal state requester request filehandle node sequence passage name ru
       (GoesOn passage name, on, (Some ruling, ruled.0, refl)),
       ruled.1,
       ruled.2,
-      owner_place journal state requester request node passage name ruling on (subst H is passes) ruled.0,
+      owner_place journal state requester request node passage name ruling on (subst H is passes) (open_owner_of journal state requester request passage name asked on) ruled.0,
     ))
 
-own_once : (op : Op) (journal : History) (state : State) → Once (own_of op journal state)
-own_once (ops.Open args) journal state = λ n p r u x y. x ∙ sym y
-own_once (ops.OpenConfirm args) journal state = λ n p r u x y. x ∙ sym y
-own_once (ops.OpenDowngrade args) journal state = downgrades_once journal state args
-own_once (ops.Close args) journal state = λ n p r u x y. x ∙ sym y
-own_once op journal state = λ n p r u x y. absurd x
+own_once : LockLaws → (op : Op) (journal : History) (state : State) → Once (own_of op journal state)
+own_once laws (ops.Open args) journal state = λ n p r u x y. x ∙ sym y
+own_once laws (ops.OpenConfirm args) journal state = λ n p r u x y. x ∙ sym y
+own_once laws (ops.OpenDowngrade args) journal state = downgrades_once journal state args
+own_once laws (ops.Close args) journal state = λ n p r u x y. x ∙ sym y
+own_once laws (ops.Lock args) journal state = locks_once laws journal state args
+own_once laws (ops.Locku args) journal state = unlocks_once laws journal state args
+own_once laws op journal state = λ n p r u x y. absurd x
 
 -- where the own rule gives a ruling, the limits leave room
-pub ruled_has_room : (journal : History) (state : State) (requester : Requester) (request : Request) (filehandle : Option ℕ) (node : ℕ) (sequence : Sequence) (passage : Passage) (name : OpenOwner) (ruling : Ruling) → filehandle ≡ Some node → sequence ≡ GoesOn passage name → IsSequence journal state requester request sequence → own_of request.op journal state node passage (Some ruling) → IsSequenced journal state requester (own_of request.op journal state) filehandle request None → ⊥
-ruled_has_room journal state requester request filehandle node sequence passage name ruling has is sequenced ruled none =
+pub ruled_has_room : LockLaws → (journal : History) (state : State) (requester : Requester) (request : Request) (filehandle : Option ℕ) (node : ℕ) (sequence : Sequence) (passage : Passage) (name : StateOwner) (ruling : Ruling) → filehandle ≡ Some node → sequence ≡ GoesOn passage name → IsSequence journal state requester request sequence → own_of request.op journal state node passage (Some ruling) → IsSequencedUnder journal state requester (own_of request.op journal state) filehandle request None → ⊥
+ruled_has_room laws journal state requester request filehandle node sequence passage name ruling has is sequenced ruled none =
     let own = own_of request.op journal state in
+    let decision = decision_of passage name (newcomer_of journal state name.client request.op) ruling in
     let Q : Sequence → Type 0 = λ s. IsSequence journal state requester request s in
-    let F : Option ℕ → Type 0 = λ f. IsSequenced journal state requester own f request (Some (decision_of passage name ruling)) in
-    let decided : IsSequenced journal state requester own filehandle request (Some (decision_of passage name ruling)) =
+    let F : Option ℕ → Type 0 = λ f. IsSequencedUnder journal state requester own f request (Some decision) in
+    let decided : IsSequencedUnder journal state requester own filehandle request (Some decision) =
     subst F (sym has) (GoesOn passage name, subst Q is sequenced, (Some ruling, ruled, refl)) in
-    let same = sequenced_once journal state requester own (own_once request.op journal state) filehandle request None (Some (decision_of passage name ruling)) none decided in
+    let same = sequenced_once journal state requester own (own_once laws request.op journal state) filehandle request None (Some decision) none decided in
     cc
 
 -- want of memory, where the limits leave room
@@ -172,33 +408,59 @@ memory_decides ruled state op (Err Limit) err memory room = absurd cc
 memory_decides ruled state op (Err Memory) err memory room = room
 
 -- the kept request again doesn't go on as the next one
-judged_stays : (kept : Kept) (name : OpenOwner) (request : Request) → IsAgain kept (seqid_of request.op) (request_of request.op request.filehandle) → (passage : Passage) (owner : OpenOwner) → IsJudged kept name request (GoesOn passage owner) → ⊥
+judged_stays : (kept : Kept) (name : StateOwner) (request : Request) → IsAgain kept (seqid_of request.op) (request_of request.op request.filehandle) → (passage : Passage) (owner : StateOwner) → IsJudged kept name request (GoesOn passage owner) → ⊥
 judged_stays kept name request again passage owner (verdicts.New, is, same) = next_differs kept.seqid (sym again.0 ∙ is)
 judged_stays kept name request again passage owner (verdicts.Replay answer, is, same) = absurd cc
 judged_stays kept name request again passage owner (verdicts.Bad, is, same) = absurd cc
 
-known_stays : (b : Bool) (kept : Kept) (name : OpenOwner) (request : Request) → IsAgain kept (seqid_of request.op) (request_of request.op request.filehandle) → (passage : Passage) (owner : OpenOwner) → IsOfKnown b kept name request (GoesOn passage owner) → ⊥
+known_stays : (b : Bool) (kept : Kept) (name : StateOwner) (request : Request) → IsAgain kept (seqid_of request.op) (request_of request.op request.filehandle) → (passage : Passage) (owner : StateOwner) → IsOfKnown b kept name request (GoesOn passage owner) → ⊥
 known_stays true kept name request again passage owner is = is.0 again
 known_stays false kept name request again passage owner is = judged_stays kept name request again passage owner is
 
-owner_stays : (journal : History) (found : Option KnownOwner) (name : OpenOwner) (request : Request) → IsReplayOf journal found request → (passage : Passage) (owner : OpenOwner) → IsOfOwner journal found name request (GoesOn passage owner) → ⊥
+owner_stays : (journal : History) (found : Option KnownOwner) (name : StateOwner) (request : Request) → IsReplayOf journal found request → (passage : Passage) (owner : StateOwner) → IsOfOwner journal found name request (GoesOn passage owner) → ⊥
 owner_stays journal None name request replay passage owner is = absurd replay
 owner_stays journal (Some o) name request replay passage owner is =
     let again : Kept → Type 0 = λ kept. IsAgain kept (seqid_of request.op) (request_of request.op request.filehandle) in
     known_stays (is_open request.op && not o.confirmed) is.0 name request (subst again (some_once (kept_for journal o) replay.0 is.0 replay.1 is.1) replay.2) passage owner is.2
 
 -- the last request again doesn't go on to its own rule
-pub replay_stays : (journal : History) (state : State) (requester : Requester) (request : Request) → IsReplay journal state requester request → (passage : Passage) (owner : OpenOwner) → IsSequence journal state requester request (GoesOn passage owner) → ⊥
+pub replay_stays : (journal : History) (state : State) (requester : Requester) (request : Request) → IsReplay journal state requester request → (passage : Passage) (owner : StateOwner) → IsSequence journal state requester request (GoesOn passage owner) → ⊥
 replay_stays journal state (Refused refusal) request replay passage owner is = absurd replay
 replay_stays journal state (Owner name) request replay passage owner is = owner_stays journal (owner_of name state.owners) name request replay passage owner is
 
-no_decision : (s : Sequence) (node : ℕ) (own : Own) → ((passage : Passage) (name : OpenOwner) → s ≡ GoesOn passage name → ⊥) → IsDecided s node own None → ⊥
-no_decision (Answered answer) node own stays none = absurd cc
-no_decision (GoesOn passage name) node own stays none = stays passage name refl
+no_decision : (s : Sequence) (node : ℕ) (newcomer : ClientId → Newcomer) (own : Own) → ((passage : Passage) (name : StateOwner) → s ≡ GoesOn passage name → ⊥) → IsDecided s newcomer (own node) None → ⊥
+no_decision (Answered answer) node newcomer own stays none = absurd cc
+no_decision (GoesOn passage name) node newcomer own stays none = stays passage name refl
 
 -- the last request again is within the limits, since it doesn't go on to the operation's own rule
-pub answered_has_room : (own : Own) (journal : History) (state : State) (requester : Requester) (request : Request) (filehandle : Option ℕ) (node : ℕ) → filehandle ≡ Some node → IsReplay journal state requester request → IsSequenced journal state requester own filehandle request None → ⊥
+pub answered_has_room : (own : Own) (journal : History) (state : State) (requester : Requester) (request : Request) (filehandle : Option ℕ) (node : ℕ) → filehandle ≡ Some node → IsReplay journal state requester request → IsSequencedUnder journal state requester own filehandle request None → ⊥
 answered_has_room own journal state requester request None node has replay none = absurd cc
 answered_has_room own journal state requester request (Some at) node has replay none =
     let Q : Sequence → Type 0 = λ s. IsSequence journal state requester request s in
-    no_decision none.0 at own (λ passage name is. replay_stays journal state requester request replay passage name (subst Q is none.1)) none.2
+    no_decision none.0 at (λ client. newcomer_of journal state client request.op) own (λ passage name is. replay_stays journal state requester request replay passage name (subst Q is none.1)) none.2
+
+-- what one relation of an own rule says, another one says too
+pub rules_onto : (P Q : Option Ruling → Type 0) (state : State) (op : Op) (result : Result Ruling Shortage) → ((r : Option Ruling) → P r → Q r) → (Q None → P None) → Rules P state op result → Rules Q state op result
+rules_onto P Q state op (Ok ruling) onto back h = (onto (Some ruling) h.0, h.1, h.2)
+rules_onto P Q state op (Err Limit) onto back h = onto None h
+rules_onto P Q state op (Err Memory) onto back h = λ q. h (back q)
+
+-- the rule of an operation that is known to be this one
+pub rules_of : (op op' : Op) (journal : History) (state : State) (node : ℕ) (passage : Passage) (result : Result Ruling Shortage) → op ≡ op' → Rules (own_of op' journal state node passage) state op' result → Rules (own_of op journal state node passage) state op result
+rules_of op op' journal state node passage result same rules =
+    let P : Op → Type 0 = λ o. Rules (own_of o journal state node passage) state o result in
+    subst P (sym same) rules
+
+-- A LOCK that meets another owner's lock, where the report of it isn't made.
+pub not_reported : ((locks : List ByteLocks) (owner : LockOwner) (range : Range) (mode : Mode) (a b : Option Report) → IsReport locks owner range mode a → IsReport locks owner range mode b → a ≡ b) → (state : State) (locking : Locking) (range : Range) (report : Report) (op : Op) (shortage : Shortage)
+    → IsReport (locks_of locking.node state.locks) locking.owner range locking.mode (Some report)
+    → (IsErrOf {T = LockDenied} (Err shortage) Limit → can_be_written report ≡ false) → (IsErrOf {T = LockDenied} (Err shortage) Memory → can_be_written report ≡ true)
+    → Rules (IsAllowed true state locking range) state op (Err shortage)
+not_reported one_report state locking range report op Limit met limit memory =
+    (Some report, met, sym (cond-false (can_be_written report) (Some (record { answer = results.Lock (Denied (denied_by report)); change = changes.Nothing })) None (limit refl)))
+not_reported one_report state locking range report op Memory met limit memory = λ none.
+    let denied : Ruling = record { answer = results.Lock (Denied (denied_by report)); change = changes.Nothing } in
+    let one = one_report (locks_of locking.node state.locks) locking.owner range locking.mode none.0 (Some report) none.1 met in
+    let given : None ≡ Some denied =
+    none.2 ∙ ap (unless_denied state locking range) one ∙ cond-true (can_be_written report) (Some denied) None (memory refl) in
+    cc

@@ -10,10 +10,13 @@ use Rattle.nfs_state.specs.Owners.{KnownOwner, confirmed_if_known, has_name, is_
 use Rattle.nfs_rules.specs.declared.passage.Passage.TheVariants as passages
 use Rattle.nfs_state.specs.declared.request.Request.{Request}
 use Rattle.nfs_state.specs.Room.{is_known}
+use Rattle.nfs_forms.specs.declared.locker.NewLocker.{NewLocker}
+use Rattle.nfs_owners.specs.Kept.{precedes}
+use Rattle.nfs_rules.specs.Newcomers.{Nobody, Known, Unknown, is_next, newcomer_if}
 use Rattle.nfs_rules.specs.Sequences.{IsOfKnown, IsOfOwner, IsOfUnknown, IsRestart, Sequence, Answered, GoesOn, by_verdict, has_closed, is_open, owner_or_bad, refusal_to}
 use Rattle.nfs_state.specs.State.{State, History}
 use Rattle.nfs_state.specs.Stored.{known_owner}
-use Rattle.nfs_forms.specs.declared.open_owner.OpenOwner.{OpenOwner}
+use Rattle.nfs_owners.specs.declared.state_owner.StateOwner.{StateOwner}
 use Rattle.nfs_forms.specs.declared.stateid.Stateid.{Stateid}
 use Rattle.nfs_forms.specs.declared.status.Refusal.{Refusal}
 use Rattle.nfs_forms.specs.declared.status.Refusal.TheVariants as refusals
@@ -46,10 +49,10 @@ all_of : (P : Owner → Type 0) → ((o : Owner) → P o) → (stored : List Own
 all_of P each [] = tt
 all_of P each (o ∷ stored) = (each o, all_of P each stored)
 
-pub owner_known : (name : OpenOwner) (stored : List Owner) → owner_of name (map known_owner stored) ≡ option_map known_owner (owners.owner_of name stored)
+pub owner_known : (name : StateOwner) (stored : List Owner) → owner_of name (map known_owner stored) ≡ option_map known_owner (owners.owner_of name stored)
 owner_known name stored = find_known (has_name name) (owners.has_name name) stored (all_of _ (λ o. refl) stored)
 
-pub confirmed_known : (name : OpenOwner) (stored : List Owner) (found : Option Owner) → found ≡ owners.owner_of name stored → is_confirmed name (map known_owner stored) ≡ confirmed_if_known (option_map known_owner found)
+pub confirmed_known : (name : StateOwner) (stored : List Owner) (found : Option Owner) → found ≡ owners.owner_of name stored → is_confirmed name (map known_owner stored) ≡ confirmed_if_known (option_map known_owner found)
 confirmed_known name stored found is = ap confirmed_if_known (owner_known name stored ∙ ap (option_map known_owner) (sym is))
 
 -- what holds of each owner holds of one that is found
@@ -62,7 +65,7 @@ found_has P p (first ∷ stored) o all found = by (λ found. found_has P p store
     by rest false found = rest found
 
 -- what is kept for the known owner is what is stored of it
-pub kept_found : (journal : History) (name : OpenOwner) (stored : List Owner) (o : Owner) → Agrees journal stored → owners.owner_of name stored ≡ Some o → IsKeptIn journal o
+pub kept_found : (journal : History) (name : StateOwner) (stored : List Owner) (o : Owner) → Agrees journal stored → owners.owner_of name stored ≡ Some o → IsKeptIn journal o
 kept_found journal name stored o agrees found = found_has (IsKeptIn journal) (owners.has_name name) stored o agrees found
 
 -- the owner whose kept entry closed the stateid's open is the one whose stored request did
@@ -94,46 +97,59 @@ refusal_sendable op refusal answer other is form short = record {
 }
 
 -- A sequence that the stored owner gives is one that the known owner gives.
-pub known_sequence : (journal : History) (name : OpenOwner) (stored : List Owner) (o : Owner) (request : Request) (s : Sequence) → Agrees journal stored → owners.owner_of name stored ≡ Some o → IsOfKnown (is_open request.op && not o.confirmed) o.kept name request s → IsOfOwner journal (owner_of name (map known_owner stored)) name request s
+pub known_sequence : (journal : History) (name : StateOwner) (stored : List Owner) (o : Owner) (request : Request) (s : Sequence) → Agrees journal stored → owners.owner_of name stored ≡ Some o → IsOfKnown (is_open request.op && not o.confirmed) o.kept name request s → IsOfOwner journal (owner_of name (map known_owner stored)) name request s
 known_sequence journal name stored o request s agrees found is =
     let of_owner : Option KnownOwner → Type 0 = λ known. IsOfOwner journal known name request s in
     subst of_owner (sym (owner_known name stored ∙ ap (option_map known_owner) found)) (o.kept, (kept_found journal name stored o agrees found).entry, is)
 
 -- The last request again by what is stored of the owner is the last one again by what is kept for the known owner.
-pub known_replay : (journal : History) (name : OpenOwner) (stored : List Owner) (o : Owner) (request : Request) → Agrees journal stored → owners.owner_of name stored ≡ Some o → IsAgain o.kept (seqid_of request.op) (request_of request.op request.filehandle) → IsReplayOf journal (owner_of name (map known_owner stored)) request
+pub known_replay : (journal : History) (name : StateOwner) (stored : List Owner) (o : Owner) (request : Request) → Agrees journal stored → owners.owner_of name stored ≡ Some o → IsAgain o.kept (seqid_of request.op) (request_of request.op request.filehandle) → IsReplayOf journal (owner_of name (map known_owner stored)) request
 known_replay journal name stored o request agrees found again =
     let of_owner : Option KnownOwner → Type 0 = λ known. IsReplayOf journal known request in
     subst of_owner (sym (owner_known name stored ∙ ap (option_map known_owner) found)) (o.kept, (kept_found journal name stored o agrees found).entry, again)
 
-pub unknown_sequence : (journal : History) (name : OpenOwner) (stored : List Owner) (request : Request) (s : Sequence) → owners.owner_of name stored ≡ None → IsOfUnknown name request s → IsOfOwner journal (owner_of name (map known_owner stored)) name request s
+pub unknown_sequence : (journal : History) (name : StateOwner) (stored : List Owner) (request : Request) (s : Sequence) → owners.owner_of name stored ≡ None → IsOfUnknown name request s → IsOfOwner journal (owner_of name (map known_owner stored)) name request s
 unknown_sequence journal name stored request s none is =
     let of_owner : Option KnownOwner → Type 0 = λ known. IsOfOwner journal known name request s in
     subst of_owner (sym (owner_known name stored ∙ ap (option_map known_owner) none)) is
 
 -- How a request goes on fits what is known of its owner.
-restart_passage : (state : State) (kept : Kept) (name : OpenOwner) (request : Request) (s : Sequence) → is_known name state ≡ true → IsRestart kept name request s → HasPassage state s
+restart_passage : (state : State) (kept : Kept) (name : StateOwner) (request : Request) (s : Sequence) → is_known name state ≡ true → IsRestart kept name request s → HasPassage state s
 restart_passage state kept name request (Answered answer) known is = tt
 restart_passage state kept name request (GoesOn passage owner) known is = rw (is.1, is.2) known
 
-verdict_passage : (state : State) (name : OpenOwner) (op : Op) (verdict : Verdict) → is_known name state ≡ true → HasPassage state (by_verdict name op verdict)
+verdict_passage : (state : State) (name : StateOwner) (op : Op) (verdict : Verdict) → is_known name state ≡ true → HasPassage state (by_verdict name op verdict)
 verdict_passage state name op verdicts.New known = known
 verdict_passage state name op (verdicts.Replay answer) known = tt
 verdict_passage state name op verdicts.Bad known = tt
 
-known_passage : (b : Bool) (state : State) (kept : Kept) (name : OpenOwner) (request : Request) (s : Sequence) → is_known name state ≡ true → IsOfKnown b kept name request s → HasPassage state s
+known_passage : (b : Bool) (state : State) (kept : Kept) (name : StateOwner) (request : Request) (s : Sequence) → is_known name state ≡ true → IsOfKnown b kept name request s → HasPassage state s
 known_passage true state kept name request s known is = restart_passage state kept name request s known is
 known_passage false state kept name request s known is = subst (HasPassage state) (sym is.2) (verdict_passage state name request.op is.0 known)
 
-pub passage_known : (state : State) (name : OpenOwner) (stored : List Owner) (o : Owner) (request : Request) (s : Sequence) → state.owners ≡ map known_owner stored → owners.owner_of name stored ≡ Some o → IsOfKnown (is_open request.op && not o.confirmed) o.kept name request s → HasPassage state s
+pub passage_known : (state : State) (name : StateOwner) (stored : List Owner) (o : Owner) (request : Request) (s : Sequence) → state.owners ≡ map known_owner stored → owners.owner_of name stored ≡ Some o → IsOfKnown (is_open request.op && not o.confirmed) o.kept name request s → HasPassage state s
 passage_known state name stored o request s are found is =
     known_passage _ state o.kept name request s
     (ap is_some (ap (owner_of name) are ∙ owner_known name stored ∙ ap (option_map known_owner) found)) is
 
-begin_passage : (b : Bool) (state : State) (name : OpenOwner) (op : Op) → is_known name state ≡ false → HasPassage state (if b then GoesOn passages.Begins name else refusal_to op refusals.BadStateId)
+begin_passage : (b : Bool) (state : State) (name : StateOwner) (op : Op) → is_known name state ≡ false → HasPassage state (if b then GoesOn passages.Begins name else refusal_to op refusals.BadStateId)
 begin_passage true state name op unknown = unknown
 begin_passage false state name op unknown = tt
 
-pub passage_unknown : (state : State) (name : OpenOwner) (stored : List Owner) (request : Request) (s : Sequence) → state.owners ≡ map known_owner stored → owners.owner_of name stored ≡ None → IsOfUnknown name request s → HasPassage state s
+pub passage_unknown : (state : State) (name : StateOwner) (stored : List Owner) (request : Request) (s : Sequence) → state.owners ≡ map known_owner stored → owners.owner_of name stored ≡ None → IsOfUnknown name request s → HasPassage state s
 passage_unknown state name stored request s are none is =
     subst (HasPassage state) (sym is) (begin_passage (is_open request.op) state name request.op
     (ap is_some (ap (owner_of name) are ∙ owner_known name stored ∙ ap (option_map known_owner) none)))
+
+-- The newcomer of a LOCK, by what is stored of the lock owner.
+pub newcomer_none : (journal : History) (locker : NewLocker) (name : StateOwner) (stored : List Owner) → owners.owner_of name stored ≡ None
+    → Unknown locker.lock_owner ≡ newcomer_if journal locker (owner_of name (map known_owner stored))
+newcomer_none journal locker name stored none =
+    ap (newcomer_if journal locker) (sym (owner_known name stored ∙ ap (option_map known_owner) none))
+
+pub newcomer_found : (journal : History) (locker : NewLocker) (name : StateOwner) (stored : List Owner) (o : Owner) (b : Bool) → Agrees journal stored → owners.owner_of name stored ≡ Some o
+    → b ≡ precedes o.kept locker.lock_seqid → (if b then Known locker.lock_owner else Nobody) ≡ newcomer_if journal locker (owner_of name (map known_owner stored))
+newcomer_found journal locker name stored o b agrees found is =
+    ap (λ b. if b then Known locker.lock_owner else Nobody)
+    (is ∙ sym (ap (is_next locker.lock_seqid) (kept_found journal name stored o agrees found).entry))
+    ∙ ap (newcomer_if journal locker) (sym (owner_known name stored ∙ ap (option_map known_owner) found))

@@ -1,28 +1,48 @@
 -- A request has at most one decision by its rule.
 use Rattle.std.proofs.Common.{◌≡◌, inl, inr, ℕ, Bool, true, false, Option, Some, None, Result, Ok, Err, refl, sym, ap, ◌∙◌, subst, arith}
-use Rattle.std.specs.Prelude.{◌==◌, ◌^◌, ◌-◌, ◌&&◌, not, option_map}
+use Rattle.std.specs.Prelude.{◌==◌, ◌^◌, ◌-◌, ◌&&◌, List, not, option_map}
 use Rattle.nfs_rules.specs.declared.decision.Decision.{Decision}
 use Rattle.nfs_state.specs.declared.request.Request.{Request}
 use Rattle.nfs_rules.specs.declared.passage.Passage.{Passage}
 use Rattle.nfs_state.specs.Owners.{KnownOwner, owner_of}
 use Rattle.nfs_rules.specs.operations.{IsRuled}
 use Rattle.nfs_rules.specs.operations.Close as close
+use Rattle.nfs_rules.specs.operations.Lock as lock
+use Rattle.nfs_rules.specs.operations.Lock.{IsAllowed, IsLock, Locking, allows, locking_of, unless_denied}
+use Rattle.nfs_rules.specs.operations.Lockt as lockt
+use Rattle.nfs_rules.specs.operations.Lockt.{IsTest, answer_of, file_asked}
+use Rattle.nfs_rules.specs.operations.Locku as locku
+use Rattle.nfs_rules.specs.operations.Locku.{IsUnlock, unlocking}
 use Rattle.nfs_rules.specs.operations.Open as opening
 use Rattle.nfs_rules.specs.operations.OpenConfirm as open_confirm
 use Rattle.nfs_rules.specs.operations.OpenDowngrade as open_downgrade
 use Rattle.nfs_rules.specs.operations.OpenDowngrade.{IsDowngrade, IsFound}
-use Rattle.nfs_rules.specs.Stateids.{verdict}
-use Rattle.nfs_share.specs.AllOpens.{OpenAt}
+use Rattle.nfs_rules.specs.Locking.{mode_of}
+use Rattle.nfs_rules.specs.Newcomers.{Newcomer, newcomer_of}
+use Rattle.nfs_rules.specs.Stateids.{lock_verdict, verdict}
+use Rattle.nfs_share.specs.AllOpens.{OpenAt, opens_of}
+use Rattle.nfs_share.specs.Opens.{open_with_number}
 use Rattle.nfs_rules.specs.declared.ruling.Ruling.{Ruling}
-use Rattle.nfs_rules.specs.Sequences.{IsDecided, IsJudged, IsOfKnown, IsOfOwner, IsRestart, IsSequence, IsSequenced, Own, Requester, Sequence, Answered, GoesOn, Refused, Owner, by_verdict, decision_of, is_open, requester_of_open, requester_of_stateid}
+use Rattle.nfs_rules.specs.Sequences.{IsDecided, IsJudged, IsOfKnown, IsOfOwner, IsRestart, IsSequence, IsUnder, Own, Requester, Sequence, Answered, GoesOn, Refused, Owner, by_verdict, decision_of, is_open, requester_of_open, requester_of_stateid, stateid_of}
 use Rattle.nfs_state.specs.Kept.{kept_for, seqid_of}
 use Rattle.nfs_state.specs.State.{State, History}
-use Rattle.nfs_forms.specs.declared.open_owner.OpenOwner.{OpenOwner}
+use Rattle.nfs_owners.specs.declared.state_owner.StateOwner.{StateOwner}
 use Rattle.nfs_owners.specs.declared.kept.Kept.{Kept}
 use Rattle.nfs_owners.specs.declared.kept.Verdict.{Verdict}
 use Rattle.nfs_owners.specs.declared.kept.Verdict.TheVariants as verdicts
 use Rattle.nfs_owners.specs.Kept.{IsVerdict, next_seqid, request_of}
-use Rattle.nfs_forms.specs.declared.operations.open_downgrade.OpenDowngrade.{OpenDowngrade}
+use Rattle.nfs_forms.specs.declared.client_id.ClientId.{ClientId}
+use Rattle.nfs_forms.specs.declared.lock_owner.LockOwner.{LockOwner}
+use Rattle.nfs_locks.specs.AllLocks.{LockAt, locks_of}
+use Rattle.nfs_locks.specs.Locks.{ByteLocks}
+use Rattle.nfs_locks.specs.Report.{IsReport, Report}
+use Rattle.nfs_operations.specs.declared.lock.Lock.{Lock}
+use Rattle.nfs_operations.specs.declared.lockt.Lockt.{Lockt}
+use Rattle.nfs_operations.specs.declared.locku.Locku.{Locku}
+use Rattle.nfs_ranges.specs.Bytes.{IsRangeOf}
+use Rattle.nfs_ranges.specs.declared.mode.Mode.{Mode}
+use Rattle.nfs_ranges.specs.declared.range.Range.{Range}
+use Rattle.nfs_operations.specs.declared.open_downgrade.OpenDowngrade.{OpenDowngrade}
 use Rattle.nfs_forms.specs.declared.status.Refusal.{Refusal}
 use Rattle.nfs_share.specs.declared.share.Share.{Share}
 use Rattle.nfs_share.specs.Share.{share_of_numbers}
@@ -36,7 +56,7 @@ next_differs seqid same = by (seqid == 2 ^ 32 - 1) refl
     by true is = grind (arith, is, same)
     by false is = grind (arith, is, same)
 
-by_same_verdict : (kept : Kept) (name : OpenOwner) (request : Request) (v w : Verdict) → IsVerdict kept (seqid_of request.op) (request_of request.op request.filehandle) v → IsVerdict kept (seqid_of request.op) (request_of request.op request.filehandle) w → by_verdict name request.op v ≡ by_verdict name request.op w
+by_same_verdict : (kept : Kept) (name : StateOwner) (request : Request) (v w : Verdict) → IsVerdict kept (seqid_of request.op) (request_of request.op request.filehandle) v → IsVerdict kept (seqid_of request.op) (request_of request.op request.filehandle) w → by_verdict name request.op v ≡ by_verdict name request.op w
 by_same_verdict kept name request verdicts.New verdicts.New a b = refl
 by_same_verdict kept name request (verdicts.Replay x) (verdicts.Replay y) a b = ap Answered (a.1 ∙ sym b.1)
 by_same_verdict kept name request verdicts.Bad verdicts.Bad a b = refl
@@ -47,16 +67,16 @@ by_same_verdict kept name request verdicts.Bad verdicts.New a b = absurd (a.0 b)
 by_same_verdict kept name request (verdicts.Replay x) verdicts.Bad a b = absurd (b.1 a.0)
 by_same_verdict kept name request verdicts.Bad (verdicts.Replay y) a b = absurd (a.1 b.0)
 
-judged_once : (kept : Kept) (name : OpenOwner) (request : Request) (s t : Sequence) → IsJudged kept name request s → IsJudged kept name request t → s ≡ t
+judged_once : (kept : Kept) (name : StateOwner) (request : Request) (s t : Sequence) → IsJudged kept name request s → IsJudged kept name request t → s ≡ t
 judged_once kept name request s t a b = a.2 ∙ by_same_verdict kept name request a.0 b.0 a.1 b.1 ∙ sym b.2
 
-restarted_once : (kept : Kept) (name : OpenOwner) (request : Request) (s t : Sequence) → IsRestart kept name request s → IsRestart kept name request t → s ≡ t
+restarted_once : (kept : Kept) (name : StateOwner) (request : Request) (s t : Sequence) → IsRestart kept name request s → IsRestart kept name request t → s ≡ t
 restarted_once kept name request (Answered x) (Answered y) a b = ap Answered (a.1 ∙ sym b.1)
 restarted_once kept name request (GoesOn p n) (GoesOn q m) a b = ap (λ r. GoesOn r n) (a.1 ∙ sym b.1) ∙ ap (GoesOn q) (a.2 ∙ sym b.2)
 restarted_once kept name request (Answered x) (GoesOn q m) a b = absurd (b.0 a.0)
 restarted_once kept name request (GoesOn p n) (Answered y) a b = absurd (a.0 b.0)
 
-known_once : (is_restart : Bool) (kept : Kept) (name : OpenOwner) (request : Request) (s t : Sequence) → IsOfKnown is_restart kept name request s → IsOfKnown is_restart kept name request t → s ≡ t
+known_once : (is_restart : Bool) (kept : Kept) (name : StateOwner) (request : Request) (s t : Sequence) → IsOfKnown is_restart kept name request s → IsOfKnown is_restart kept name request t → s ≡ t
 known_once true kept name request s t a b = restarted_once kept name request s t a b
 known_once false kept name request s t a b = judged_once kept name request s t a b
 
@@ -64,11 +84,11 @@ pub some_once : {A : Type 0} (o : Option A) (x y : A) → o ≡ Some x → o ≡
 some_once None x y a b = absurd cc
 some_once (Some z) x y a b = search (a, b)
 
-pub decided_once : (own : Own) → ((node : ℕ) (passage : Passage) (r u : Option Ruling) → own node passage r → own node passage u → r ≡ u) → (s : Sequence) (node : ℕ) (d e : Option Decision) → IsDecided s node own d → IsDecided s node own e → d ≡ e
-decided_once own once (Answered answer) node d e a b = a ∙ sym b
-decided_once own once (GoesOn passage name) node d e a b = a.2 ∙ ap (option_map (decision_of passage name)) (once node passage a.0 b.0 a.1 b.1) ∙ sym b.2
+pub decided_once : (newcomer : ClientId → Newcomer) (own : Own) → ((node : ℕ) (passage : Passage) (r u : Option Ruling) → own node passage r → own node passage u → r ≡ u) → (s : Sequence) (node : ℕ) (d e : Option Decision) → IsDecided s newcomer (own node) d → IsDecided s newcomer (own node) e → d ≡ e
+decided_once newcomer own once (Answered answer) node d e a b = a ∙ sym b
+decided_once newcomer own once (GoesOn passage name) node d e a b = a.2 ∙ ap (option_map (decision_of passage name (newcomer name.client))) (once node passage a.0 b.0 a.1 b.1) ∙ sym b.2
 
-owner_once : (journal : History) (found : Option KnownOwner) (name : OpenOwner) (request : Request) (s t : Sequence) → IsOfOwner journal found name request s → IsOfOwner journal found name request t → s ≡ t
+owner_once : (journal : History) (found : Option KnownOwner) (name : StateOwner) (request : Request) (s t : Sequence) → IsOfOwner journal found name request s → IsOfOwner journal found name request t → s ≡ t
 owner_once journal None name request s t a b = a ∙ sym b
 owner_once journal (Some o) name request s t a b =
     let same : a.0 ≡ b.0 = some_once (kept_for journal o) a.0 b.0 a.1 b.1 in
@@ -82,12 +102,23 @@ sequence_once journal state (Owner name) request s t a b = owner_once journal (o
 abbrev pub Once : Own → Type 0
 Once own = (node : ℕ) (passage : Passage) (r u : Option Ruling) → own node passage r → own node passage u → r ≡ u
 
-pub sequenced_once : (journal : History) (state : State) (requester : Requester) (own : Own) → Once own → (filehandle : Option ℕ) (request : Request) (d e : Option Decision) → IsSequenced journal state requester own filehandle request d → IsSequenced journal state requester own filehandle request e → d ≡ e
+-- what is decided for a sequenced operation under this filehandle
+abbrev pub IsSequencedUnder : History → State → Requester → Own → Option ℕ → Request → Option Decision → Type 0
+IsSequencedUnder journal state requester own filehandle request decision =
+    IsUnder filehandle request.op
+    (λ node.
+    (sequence : Sequence)
+    × IsSequence journal state requester request sequence
+    × IsDecided sequence (λ client. newcomer_of journal state client request.op) (own node) decision)
+    decision
+
+pub sequenced_once : (journal : History) (state : State) (requester : Requester) (own : Own) → Once own → (filehandle : Option ℕ) (request : Request) (d e : Option Decision) → IsSequencedUnder journal state requester own filehandle request d → IsSequencedUnder journal state requester own filehandle request e → d ≡ e
 sequenced_once journal state requester own once None request d e a b = a ∙ sym b
 sequenced_once journal state requester own once (Some node) request d e a b =
+    let newcomer : ClientId → Newcomer = λ client. newcomer_of journal state client request.op in
     let same = sequence_once journal state requester request a.0 b.0 a.1 b.1 in
-    let is_decided : Sequence → Type 0 = λ s. IsDecided s node own d in
-    decided_once own once b.0 node d e (subst is_decided same a.2) b.2
+    let is_decided : Sequence → Type 0 = λ s. IsDecided s newcomer (own node) d in
+    decided_once newcomer own once b.0 node d e (subst is_decided same a.2) b.2
 
 downgrade_once : (at : OpenAt) (share : Option Share) (r u : Ruling) → IsDowngrade at share r → IsDowngrade at share u → r ≡ u
 downgrade_once at None r u a b = a ∙ sym b
@@ -106,13 +137,67 @@ downgrades_once journal state args node passage (Some r) None a b = absurd b
 downgrades_once journal state args node passage (Some r) (Some u) a b =
     ap Some (found_once (verdict (record { node = node; also_unconfirmed = false }) journal.epoch state args.stateid) args r u a b)
 
-pub ruled_once : (op : Op) (journal : History) (state : State) (request : Request) (d e : Option Decision) → IsRuled op journal state request d → IsRuled op journal state request e → d ≡ e
-ruled_once (ops.Open args) journal state request d e a b =
+-- What the rules of locks rest on: an offset and a length name one range at most, and there is one report at most.
+pub record LockLaws : Type 0 where
+  pub one_range : (offset length : ℕ) (a b : Option Range) → IsRangeOf offset length a → IsRangeOf offset length b → a ≡ b
+  pub one_report : (locks : List ByteLocks) (owner : LockOwner) (range : Range) (mode : Mode) (a b : Option Report) → IsReport locks owner range mode a → IsReport locks owner range mode b → a ≡ b
+
+allowed_once : LockLaws → (allowed : Bool) (state : State) (locking : Locking) (range : Range) (r u : Option Ruling) → IsAllowed allowed state locking range r → IsAllowed allowed state locking range u → r ≡ u
+allowed_once laws false state locking range r u a b = a ∙ sym b
+allowed_once laws true state locking range r u a b =
+    let same = laws.one_report (locks_of locking.node state.locks) locking.owner range locking.mode a.0 b.0 a.1 b.1 in
+    a.2 ∙ ap (unless_denied state locking range) same ∙ sym b.2
+
+ranged_once : LockLaws → (state : State) (locking : Locking) (range : Option Range) (r u : Option Ruling) → lock.IsOfRange state locking range r → lock.IsOfRange state locking range u → r ≡ u
+ranged_once laws state locking None r u a b = a ∙ sym b
+ranged_once laws state locking (Some range) r u a b =
+    allowed_once laws (allows locking.mode (open_with_number locking.open_number (opens_of locking.node state.opens))) state locking range r u a b
+
+locking_once : LockLaws → (state : State) (args : Lock) (found : Result Locking Refusal) (r u : Option Ruling) → IsLock state args found r → IsLock state args found u → r ≡ u
+locking_once laws state args (Err refusal) r u a b = a ∙ sym b
+locking_once laws state args (Ok locking) r u a b =
+    let same = laws.one_range args.offset args.length a.0 b.0 a.1 b.1 in
+    ranged_once laws state locking b.0 r u (subst (λ range. lock.IsOfRange state locking range r) same a.2) b.2
+
+pub locks_once : LockLaws → (journal : History) (state : State) (args : Lock) → Once (lock.own journal state args)
+locks_once laws journal state args node passage r u a b =
+    locking_once laws state args (locking_of journal state node args args.locker) r u a b
+
+unlocking_once : LockLaws → (state : State) (args : Locku) (found : Result LockAt Refusal) (r u : Option Ruling) → IsUnlock state args found r → IsUnlock state args found u → r ≡ u
+unlocking_once laws state args (Err refusal) r u a b = a ∙ sym b
+unlocking_once laws state args (Ok at) r u a b =
+    let same = laws.one_range args.offset args.length a.0 b.0 a.1 b.1 in
+    a.2 ∙ ap (unlocking state at) same ∙ sym b.2
+
+pub unlocks_once : LockLaws → (journal : History) (state : State) (args : Locku) → Once (locku.own journal state args)
+unlocks_once laws journal state args node passage r u a b =
+    unlocking_once laws state args (lock_verdict node journal.epoch state args.stateid) r u a b
+
+pub tested_once : LockLaws → (state : State) (args : Lockt) (node : ℕ) (range : Option Range) (d e : Option Decision) → lockt.IsOfRange state args node range d → lockt.IsOfRange state args node range e → d ≡ e
+tested_once laws state args node None d e a b = a ∙ sym b
+tested_once laws state args node (Some range) d e a b =
+    let same = laws.one_report (locks_of node state.locks) args.owner range (mode_of args.locktype) a.0 b.0 a.1 b.1 in
+    a.2 ∙ ap (λ report. option_map lockt.only (answer_of report)) same ∙ sym b.2
+
+pub asked_once : LockLaws → (state : State) (args : Lockt) (found : Result ℕ Refusal) (d e : Option Decision) → IsTest state args found d → IsTest state args found e → d ≡ e
+asked_once laws state args (Err refusal) d e a b = a ∙ sym b
+asked_once laws state args (Ok node) d e a b =
+    let same = laws.one_range args.offset args.length a.0 b.0 a.1 b.1 in
+    tested_once laws state args node b.0 d e (subst (λ range. lockt.IsOfRange state args node range d) same a.2) b.2
+
+pub ruled_once : LockLaws → (op : Op) (journal : History) (state : State) (request : Request) (d e : Option Decision) → IsRuled op journal state request d → IsRuled op journal state request e → d ≡ e
+ruled_once laws (ops.Open args) journal state request d e a b =
     sequenced_once journal state (requester_of_open state args.owner) (opening.own journal state args) (λ n p r u x y. x ∙ sym y) request.filehandle request d e a b
-ruled_once (ops.OpenConfirm args) journal state request d e a b =
+ruled_once laws (ops.OpenConfirm args) journal state request d e a b =
     sequenced_once journal state (requester_of_stateid journal state args.stateid) (open_confirm.own journal state args) (λ n p r u x y. x ∙ sym y) request.filehandle request d e a b
-ruled_once (ops.OpenDowngrade args) journal state request d e a b =
+ruled_once laws (ops.OpenDowngrade args) journal state request d e a b =
     sequenced_once journal state (requester_of_stateid journal state args.stateid) (open_downgrade.own journal state args) (downgrades_once journal state args) request.filehandle request d e a b
-ruled_once (ops.Close args) journal state request d e a b =
+ruled_once laws (ops.Close args) journal state request d e a b =
     sequenced_once journal state (requester_of_stateid journal state args.stateid) (close.own journal state args) (λ n p r u x y. x ∙ sym y) request.filehandle request d e a b
-ruled_once op journal state request d e a b = a ∙ sym b
+ruled_once laws (ops.Lock args) journal state request d e a b =
+    sequenced_once journal state (requester_of_stateid journal state (stateid_of args.locker)) (lock.own journal state args) (locks_once laws journal state args) request.filehandle request d e a b
+ruled_once laws (ops.Locku args) journal state request d e a b =
+    sequenced_once journal state (requester_of_stateid journal state args.stateid) (locku.own journal state args) (unlocks_once laws journal state args) request.filehandle request d e a b
+ruled_once laws (ops.Lockt args) journal state request d e a b =
+    asked_once laws state args (file_asked journal state request.filehandle args) d e a b
+ruled_once laws op journal state request d e a b = a ∙ sym b

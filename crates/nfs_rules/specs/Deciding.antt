@@ -4,7 +4,7 @@ use Rattle.nfs_rules.specs.declared.decision.Decision.{Decision}
 use Rattle.nfs_state.specs.declared.shortage.Shortage.{Shortage}
 use Rattle.nfs_state.specs.declared.shortage.Shortage.TheVariants.{Limit, Memory}
 use Rattle.nfs_rules.specs.declared.ruling.Ruling.{Ruling}
-use Rattle.nfs_state.specs.Room.{HasNumbers, HasOwnerPlace, is_known}
+use Rattle.nfs_state.specs.Room.{IsWithinLimits, HasOwnerPlace, is_known}
 use Rattle.nfs_rules.specs.Sequences.{IsSequence, Requester, Refused, Owner, Sequence, Answered, GoesOn}
 use Rattle.nfs_rules.specs.declared.passage.Passage.{Passage}
 use Rattle.nfs_state.specs.State.{State, History}
@@ -19,11 +19,12 @@ use Rattle.nfs_forms.specs.declared.status.Refusal.TheVariants as refusals
 use Rattle.nfs_share.specs.AllOpens.{OpenAt}
 use Rattle.nfs_xdr.specs.declared.op.Op.{Op}
 use Rattle.nfs_xdr.specs.declared.op.Op.TheVariants as ops
-use Rattle.nfs_forms.specs.declared.open_owner.OpenOwner.{OpenOwner}
+use Rattle.nfs_owners.specs.StateOwner.{open_owner}
+use Rattle.nfs_owners.specs.declared.state_owner.StateOwner.{StateOwner}
 use Rattle.nfs_rules.specs.declared.passage.Passage.TheVariants as passages
 
 -- How the owner's request goes on fits what is known of the owner.
-abbrev pub IsPassage : Passage → OpenOwner → State → Type 0
+abbrev pub IsPassage : Passage → StateOwner → State → Type 0
 IsPassage passages.Begins name state = IsFalse (is_known name state)
 IsPassage passage name state = IsTrue (is_known name state)
 
@@ -31,7 +32,7 @@ IsPassage passage name state = IsTrue (is_known name state)
 -- gives no decision.
 abbrev pub Decides : (Option Decision → Type 0) → State → Op → Result Decision Shortage → Type 0
 Decides ruled state op (Ok decision) =
-    ruled (Some decision) × IsSendable op decision.answer × HasNumbers decision.change state
+    ruled (Some decision) × IsSendable op decision.answer × IsWithinLimits decision.change state
     × HasOwnerPlace decision.owner state
 Decides ruled state op (Err Limit) = ruled None
 Decides ruled state op (Err Memory) = ruled None → ⊥
@@ -48,7 +49,7 @@ HasPassage state (GoesOn passage name) = IsPassage passage name state
 
 -- An OPEN goes by the sequence id of the owner in its arguments.
 abbrev pub IsRequesterOf : Op → Requester → Type 0
-IsRequesterOf (ops.Open args) (Owner name) = name ≡ args.owner
+IsRequesterOf (ops.Open args) (Owner name) = name ≡ open_owner args.owner
 IsRequesterOf op requester = ⊤
 
 -- The request is the last one again of its owner, by what is kept for it in the journal.
@@ -68,7 +69,7 @@ abbrev pub IsAdmitted : History → State → Requester → Request → Type 0
 IsAdmitted journal state requester request =
     IsTrue (is_some request.filehandle)
     × (IsReplay journal state requester request
-    ⊎ ((passage : Passage) × (name : OpenOwner) × IsSequence journal state requester request (GoesOn passage name)))
+    ⊎ ((passage : Passage) × (name : StateOwner) × IsSequence journal state requester request (GoesOn passage name)))
 
 -- A request without an owner isn't refused with NFS4ERR_RESOURCE, which would have no entry in the journal.
 abbrev pub HasOtherRefusal : Requester → Type 0
@@ -77,17 +78,17 @@ HasOtherRefusal (Owner name) = ⊤
 
 -- How an OPEN goes on fits what is known of the owner in its arguments.
 abbrev pub IsPassageOf : Op → Passage → State → Type 0
-IsPassageOf (ops.Open args) passage state = IsPassage passage args.owner state
+IsPassageOf (ops.Open args) passage state = IsPassage passage (open_owner args.owner) state
 IsPassageOf op passage state = ⊤
 
 -- In this state, the answer and the change of the operation's own rule. Limit is returned exactly if it gives none.
 abbrev pub Rules : (Option Ruling → Type 0) → State → Op → Result Ruling Shortage → Type 0
 Rules own state op (Ok ruling) =
-    own (Some ruling) × IsSendable op ruling.answer × HasNumbers ruling.change state
+    own (Some ruling) × IsSendable op ruling.answer × IsWithinLimits ruling.change state
 Rules own state op (Err Limit) = own None
 Rules own state op (Err Memory) = own None → ⊥
 
 -- OPEN_CONFIRM's stateid names an open, by the verdict on it, whose owner isn't confirmed yet.
 abbrev pub IsConfirmable : State → Result OpenAt Refusal → Type 0
 IsConfirmable state (Err refusal) = ⊥
-IsConfirmable state (Ok at) = IsFalse (is_confirmed at.state.owner state.owners)
+IsConfirmable state (Ok at) = IsFalse (is_confirmed (open_owner at.state.owner) state.owners)

@@ -1,33 +1,68 @@
 -- What the functions that look up a stateid and an owner return, as the rules speak of it; used only in the contracts
 -- of this crate's own functions.
-use Rattle.std.specs.Prelude.{Option, Some, None, Result, Ok, Err}
+use Rattle.std.specs.Prelude.{Option, Some, None, option_map, Result, Ok, Err}
+use Rattle.std.specs.Option.{option_copied}
+use Rattle.nfs_locks.specs.AllLocks.{LockAt}
+use Rattle.nfs_locks.specs.LockFound.{lock_found_seen}
+use Rattle.nfs_locks.specs.StoredLocks.{lock_seen}
+use Rattle.nfs_locks.specs.declared.locks.LockFound.{LockFound}
 use Rattle.nfs_share.specs.declared.opens.OpenFound.{OpenFound}
 use Rattle.nfs_share.specs.OpenFound.{open_seen}
+use Rattle.nfs_rules.specs.declared.newcomer.Newcomer.{Newcomer}
+use Rattle.nfs_rules.specs.declared.newcomer.Newcomer.TheVariants as found_newcomers
+use Rattle.nfs_rules.specs.declared.operations.lock.Locking.{Locking}
 use Rattle.nfs_rules.specs.declared.stateids.Target.{Target}
 use Rattle.nfs_rules.specs.declared.stateids.Target.TheVariants as targets
 use Rattle.nfs_rules.specs.declared.sequence.Requester.{Requester}
 use Rattle.nfs_rules.specs.declared.sequence.Requester.TheVariants as requesters
 use Rattle.nfs_rules.specs.declared.sequence.Sequence.{Sequence}
 use Rattle.nfs_rules.specs.declared.sequence.Sequence.TheVariants as found_sequences
+use Rattle.nfs_rules.specs.Newcomers as newcomers
 use Rattle.nfs_rules.specs.Sequences as sequences
 use Rattle.nfs_rules.specs.Stateids as stateids
+use Rattle.nfs_rules.specs.operations.Lock as lock
 use Rattle.nfs_share.specs.AllOpens.{OpenAt}
 use Rattle.nfs_forms.specs.declared.status.Refusal.{Refusal}
 use Rattle.nfs_forms.specs.declared.status.Refusal.TheVariants as refusals
+use Rattle.nfs_owners.specs.StateOwner.{owner_seen}
 use Rattle.nfs_owners.specs.declared.owner.Owner.{Owner}
 
 abbrev pub target_seen : Target → stateids.Target
 target_seen (targets.Refused refusal) = stateids.Refused refusal
 target_seen (targets.AnOpen found) = stateids.AnOpen (open_seen found)
-target_seen targets.NoOpen = stateids.NoOpen
+target_seen (targets.ALock found) = stateids.ALock (lock_found_seen found)
+target_seen targets.NoState = stateids.NoState
 
 abbrev pub open_or_refusal_seen : Result OpenFound Refusal → Result OpenAt Refusal
 open_or_refusal_seen (Ok found) = Ok (open_seen found)
 open_or_refusal_seen (Err refusal) = Err refusal
 
+abbrev pub lock_or_refusal_seen : Result LockFound Refusal → Result LockAt Refusal
+lock_or_refusal_seen (Ok found) = Ok (lock_found_seen found)
+lock_or_refusal_seen (Err refusal) = Err refusal
+
+abbrev pub newcomer_seen : Newcomer → newcomers.Newcomer
+newcomer_seen found_newcomers.Nobody = newcomers.Nobody
+newcomer_seen (found_newcomers.Known name) = newcomers.Known name.now
+newcomer_seen (found_newcomers.Unknown name) = newcomers.Unknown name.now
+
+-- what a LOCK is to hold, as its rule speaks of it
+abbrev pub locking_seen : Locking → lock.Locking
+locking_seen l = record {
+  node = l.node;
+  owner = l.owner.now;
+  mode = l.mode;
+  open_number = l.open_number;
+  state = option_map lock_seen (option_copied l.state);
+}
+
+abbrev pub locking_or_refusal_seen : Result Locking Refusal → Result lock.Locking Refusal
+locking_or_refusal_seen (Ok l) = Ok (locking_seen l)
+locking_or_refusal_seen (Err refusal) = Err refusal
+
 abbrev pub requester_seen : Requester → sequences.Requester
 requester_seen (requesters.Refused refusal) = sequences.Refused refusal
-requester_seen (requesters.Owner name) = sequences.Owner name.now
+requester_seen (requesters.Owner name) = sequences.Owner (owner_seen name)
 
 -- the owner that was found among the stored ones, or NFS4ERR_BAD_STATEID
 abbrev pub stored_or_bad : Option Owner → sequences.Requester
@@ -36,4 +71,4 @@ stored_or_bad (Some o) = sequences.Owner o.name
 
 abbrev pub sequence_seen : Sequence → sequences.Sequence
 sequence_seen (found_sequences.Answered answer) = sequences.Answered answer
-sequence_seen (found_sequences.GoesOn passage name) = sequences.GoesOn passage name.now
+sequence_seen (found_sequences.GoesOn passage name) = sequences.GoesOn passage (owner_seen name)

@@ -1,11 +1,11 @@
--- Sequenced operations: OPEN, OPEN_CONFIRM, OPEN_DOWNGRADE and CLOSE go by the sequence id of an owner, so that a
--- request that comes again is answered as it was (RFC 7530, sections 9.1.7 to 9.1.11). In turn: the filehandle, the
--- owner, its sequence id, and then the operation's own rule.
+-- Sequenced operations: OPEN, OPEN_CONFIRM, OPEN_DOWNGRADE, CLOSE, LOCK and LOCKU go by the sequence id of an owner, so
+-- that a request that comes again is answered as it was (RFC 7530, sections 9.1.7 to 9.1.11). In turn: the filehandle,
+-- the owner, its sequence id, and then the operation's own rule.
 use Rattle.std.specs.Prelude.{◌≡◌, ℕ, Bool, true, false, not, ◌&&◌, find, Option, Some, None, option_map, is_some, if◌then◌else◌}
 use Rattle.nfs_state.specs.declared.change.Change.TheVariants as changes
 use Rattle.nfs_rules.specs.declared.decision.Decision.{Decision}
 use Rattle.nfs_state.specs.declared.owner_change.OwnerChange.{OwnerChange}
-use Rattle.nfs_state.specs.declared.owner_change.OwnerChange.TheVariants.{Nothing, Keeps, Records, Restarts, Drops}
+use Rattle.nfs_state.specs.declared.owner_change.OwnerChange.TheVariants.{Nothing, Keeps, KeepsBoth, Introduces, Records, Restarts, Drops}
 use Rattle.nfs_rules.specs.declared.passage.Passage.{Passage}
 use Rattle.nfs_rules.specs.declared.passage.Passage.TheVariants as passages
 use Rattle.nfs_state.specs.declared.request.Request.{Request}
@@ -13,10 +13,16 @@ use Rattle.nfs_rules.specs.declared.ruling.Ruling.{Ruling}
 use Rattle.nfs_state.specs.Changes.{without}
 use Rattle.nfs_state.specs.Kept.{kept_for, seqid_of}
 use Rattle.nfs_state.specs.Owners.{KnownOwner, owner_of}
+use Rattle.nfs_rules.specs.Newcomers.{Newcomer, Nobody, Known, Unknown, newcomer_of}
 use Rattle.nfs_rules.specs.Stateids as stateids
 use Rattle.nfs_rules.specs.Stateids.{Target, target_of}
 use Rattle.nfs_state.specs.State.{State, History}
+use Rattle.nfs_forms.specs.declared.client_id.ClientId.{ClientId}
 use Rattle.nfs_forms.specs.declared.open_owner.OpenOwner.{OpenOwner}
+use Rattle.nfs_forms.specs.declared.locker.Locker.{Locker}
+use Rattle.nfs_forms.specs.declared.locker.Locker.TheVariants as lockers
+use Rattle.nfs_owners.specs.StateOwner.{as_open_owner, lock_owner, open_owner}
+use Rattle.nfs_owners.specs.declared.state_owner.StateOwner.{StateOwner}
 use Rattle.nfs_forms.specs.declared.stateid.Stateid.{Stateid}
 use Rattle.nfs_forms.specs.declared.status.Refusal.{Refusal}
 use Rattle.nfs_forms.specs.declared.status.Refusal.TheVariants as refusals
@@ -44,6 +50,8 @@ is_sequenced (ops.Open args) = true
 is_sequenced (ops.OpenConfirm args) = true
 is_sequenced (ops.OpenDowngrade args) = true
 is_sequenced (ops.Close args) = true
+is_sequenced (ops.Lock args) = true
+is_sequenced (ops.Locku args) = true
 is_sequenced op = false
 
 -- These statuses leave the owner's sequence id as it is (section 9.1.7, which has NFS4ERR_MOVED as well; this server
@@ -70,12 +78,12 @@ is_ok_status status = false
 -- Whose sequence id a request goes by, or why it goes by none.
 pub data Requester : Type 0 where
   Refused : Refusal → Requester
-  Owner : OpenOwner → Requester
+  Owner : StateOwner → Requester
 
 -- The owner in an OPEN's arguments: NFS4ERR_STALE_CLIENTID unless the clientid is that of a known client.
 abbrev pub requester_of_open : State → OpenOwner → Requester
 requester_of_open state owner =
-    if is_some (record_of owner.client state.clients) then Owner owner else Refused refusals.StaleClientId
+    if is_some (record_of owner.client state.clients) then Owner (open_owner owner) else Refused refusals.StaleClientId
 
 -- what is kept for the owner closed the state that the stateid names
 abbrev pub has_closed : Stateid → Option Kept → Bool
@@ -86,32 +94,38 @@ abbrev pub owner_or_bad : Option KnownOwner → Requester
 owner_or_bad None = Refused refusals.BadStateId
 owner_or_bad (Some o) = Owner o.name
 
--- The owner that a stateid names: that of its open, no matter which file the open is of, whether its owner is
--- confirmed, and how old the stateid is; or the owner whose kept request closed the stateid's open.
+-- The owner that a stateid names: that of its open or lock state, no matter which file the state is of, whether its
+-- owner is confirmed, and how old the stateid is; or the owner whose kept request closed the stateid's open.
 abbrev pub requester_of_target : History → State → Stateid → Target → Requester
 requester_of_target journal state id (stateids.Refused refusal) = Refused refusal
-requester_of_target journal state id (stateids.AnOpen at) = Owner at.state.owner
-requester_of_target journal state id stateids.NoOpen =
+requester_of_target journal state id (stateids.AnOpen at) = Owner (open_owner at.state.owner)
+requester_of_target journal state id (stateids.ALock at) = Owner (lock_owner at.state.owner)
+requester_of_target journal state id stateids.NoState =
     owner_or_bad (find (λ o. has_closed id (kept_for journal o)) state.owners)
 
 abbrev pub requester_of_stateid : History → State → Stateid → Requester
 requester_of_stateid journal state id = requester_of_target journal state id (target_of journal.epoch state id)
 
+-- The stateid in a LOCK: that of an open with a new lock owner, or that of a lock state.
+abbrev pub stateid_of : Locker → Stateid
+stateid_of (lockers.New locker) = locker.open_stateid
+stateid_of (lockers.Known locker) = locker.lock_stateid
+
 -- Whether a request is answered without its own rule, or goes on to it, as one of this owner's.
 pub data Sequence : Type 0 where
   Answered : OpResult → Sequence
-  GoesOn : Passage → OpenOwner → Sequence
+  GoesOn : Passage → StateOwner → Sequence
 
 abbrev pub refusal_to : Op → Refusal → Sequence
 refusal_to op refusal = Answered (refusal_of (opnum_of op) refusal)
 
-abbrev pub by_verdict : OpenOwner → Op → Verdict → Sequence
+abbrev pub by_verdict : StateOwner → Op → Verdict → Sequence
 by_verdict name op verdicts.New = GoesOn passages.Continues name
 by_verdict name op (verdicts.Replay answer) = Answered answer.now
 by_verdict name op verdicts.Bad = refusal_to op refusals.BadSeqId
 
 -- The owner's next request goes on, its kept one again is answered as it was, and any other is NFS4ERR_BAD_SEQID.
-abbrev pub IsJudged : Kept → OpenOwner → Request → Sequence → Type 0
+abbrev pub IsJudged : Kept → StateOwner → Request → Sequence → Type 0
 IsJudged kept name request sequence =
     (verdict : Verdict)
     × IsVerdict kept (seqid_of request.op) (request_of request.op request.filehandle) verdict
@@ -119,7 +133,7 @@ IsJudged kept name request sequence =
 
 -- An OPEN of an unconfirmed owner: the kept one again is answered as it was. Any other starts the owner anew, whatever
 -- its sequence id.
-abbrev pub IsRestart : Kept → OpenOwner → Request → Sequence → Type 0
+abbrev pub IsRestart : Kept → StateOwner → Request → Sequence → Type 0
 IsRestart kept name request (Answered answer) =
     IsAgain kept (seqid_of request.op) (request_of request.op request.filehandle) × (answer ≡ kept.answer)
 IsRestart kept name request (GoesOn passage owner) =
@@ -127,18 +141,18 @@ IsRestart kept name request (GoesOn passage owner) =
     × (passage ≡ passages.Restarts) × (owner ≡ name)
 
 -- A known owner's request, by whether it is an OPEN of an unconfirmed one.
-abbrev pub IsOfKnown : Bool → Kept → OpenOwner → Request → Sequence → Type 0
+abbrev pub IsOfKnown : Bool → Kept → StateOwner → Request → Sequence → Type 0
 IsOfKnown true kept name request sequence = IsRestart kept name request sequence
 IsOfKnown false kept name request sequence = IsJudged kept name request sequence
 
 -- An owner that isn't known begins with an OPEN of any sequence id; no other request comes from one.
-abbrev pub IsOfUnknown : OpenOwner → Request → Sequence → Type 0
+abbrev pub IsOfUnknown : StateOwner → Request → Sequence → Type 0
 IsOfUnknown name request sequence =
     sequence ≡ (if is_open request.op then GoesOn passages.Begins name
     else refusal_to request.op refusals.BadStateId)
 
 -- A request of this owner, by whether it is known.
-abbrev pub IsOfOwner : History → Option KnownOwner → OpenOwner → Request → Sequence → Type 0
+abbrev pub IsOfOwner : History → Option KnownOwner → StateOwner → Request → Sequence → Type 0
 IsOfOwner journal None name request sequence = IsOfUnknown name request sequence
 IsOfOwner journal (Some o) name request sequence =
     (kept : Kept)
@@ -150,18 +164,28 @@ IsSequence journal state (Refused refusal) request sequence = sequence ≡ refus
 IsSequence journal state (Owner name) request sequence =
     IsOfOwner journal (owner_of name state.owners) name request sequence
 
+-- what an answer that counts means for the owner of the request and for the lock owner that it introduces
+abbrev pub kept_with : StateOwner → Newcomer → Status → OwnerChange
+kept_with name Nobody status = Keeps name
+kept_with name (Known newcomer) status = KeepsBoth name (lock_owner newcomer)
+kept_with name (Unknown newcomer) status =
+    if is_ok_status status then Introduces name (lock_owner newcomer) else Keeps name
+
 -- What an answer means for the owner: it is kept where it counts. A refusal to an owner that isn't known is kept for
 -- nobody, and one to an owner that starts anew leaves it dropped.
-abbrev pub owner_change_of : Passage → OpenOwner → Status → OwnerChange
-owner_change_of passages.Continues name status = if counts status then Keeps name else Nothing
-owner_change_of passages.Begins name status = if is_ok_status status then Records name else Nothing
-owner_change_of passages.Restarts name status = if is_ok_status status then Restarts name else Drops name
+abbrev pub owner_change_of : Passage → StateOwner → Newcomer → Status → OwnerChange
+owner_change_of passages.Continues name newcomer status =
+    if counts status then kept_with name newcomer status else Nothing
+owner_change_of passages.Begins name newcomer status =
+    if is_ok_status status then Records (as_open_owner name) else Nothing
+owner_change_of passages.Restarts name newcomer status =
+    if is_ok_status status then Restarts (as_open_owner name) else Drops (as_open_owner name)
 
-abbrev pub decision_of : Passage → OpenOwner → Ruling → Decision
-decision_of passage name ruling = record {
+abbrev pub decision_of : Passage → StateOwner → Newcomer → Ruling → Decision
+decision_of passage name newcomer ruling = record {
   answer = ruling.answer;
   change = ruling.change;
-  owner = owner_change_of passage name (status_of ruling.answer);
+  owner = owner_change_of passage name newcomer (status_of ruling.answer);
 }
 
 -- An operation's own rule: it relates the node of the current filehandle and how the request goes on to what is
@@ -169,20 +193,32 @@ decision_of passage name ruling = record {
 abbrev pub Own : Type 1
 Own = ℕ → Passage → Option Ruling → Type 0
 
-abbrev pub IsDecided : Sequence → ℕ → Own → Option Decision → Type 0
-IsDecided (Answered answer) node own decision =
-    decision ≡ Some (record { answer = answer; change = changes.Nothing; owner = Nothing })
-IsDecided (GoesOn passage name) node own decision =
-    (ruling : Option Ruling) × own node passage ruling × (decision ≡ option_map (decision_of passage name) ruling)
+-- an answer without an operation's own rule, which changes nothing
+abbrev pub only : OpResult → Decision
+only answer = record { answer = answer; change = changes.Nothing; owner = Nothing }
 
--- what is decided for a sequenced operation: NFS4ERR_NOFILEHANDLE comes first
-abbrev pub IsSequenced : History → State → Requester → Own → Option ℕ → Request → Option Decision → Type 0
-IsSequenced journal state requester own None request decision =
-    IsDecided (refusal_to request.op refusals.NoFileHandle) 0 own decision
-IsSequenced journal state requester own (Some node) request decision =
+-- by the lock owner that a request of each client introduces, and the own rule under its filehandle
+abbrev pub IsDecided : Sequence → (ClientId → Newcomer) → (Passage → Option Ruling → Type 0) → Option Decision → Type 0
+IsDecided (Answered answer) newcomer own decision = decision ≡ Some (only answer)
+IsDecided (GoesOn passage name) newcomer own decision =
+    (ruling : Option Ruling) × own passage ruling
+    × (decision ≡ option_map (decision_of passage name (newcomer name.client)) ruling)
+
+-- NFS4ERR_NOFILEHANDLE comes first
+abbrev pub IsUnder : Option ℕ → Op → (ℕ → Type 0) → Option Decision → Type 0
+IsUnder None op decides decision =
+    decision ≡ Some (only (refusal_of (opnum_of op) refusals.NoFileHandle))
+IsUnder (Some node) op decides decision = decides node
+
+-- what is decided for a sequenced operation
+abbrev pub IsSequenced : History → State → Requester → Own → Request → Option Decision → Type 0
+IsSequenced journal state requester own request decision =
+    IsUnder request.filehandle request.op
+    (λ node.
     (sequence : Sequence)
     × IsSequence journal state requester request sequence
-    × IsDecided sequence node own decision
+    × IsDecided sequence (λ client. newcomer_of journal state client request.op) (own node) decision)
+    decision
 
 -- the state that an OPEN's own rule sees: without the owner that it starts anew
 abbrev pub before_own : Passage → OpenOwner → State → State

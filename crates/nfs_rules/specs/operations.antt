@@ -4,21 +4,29 @@ use Rattle.nfs_rules.specs.declared.decision.Decision.{Decision}
 use Rattle.nfs_state.specs.declared.request.Request.{Request}
 use Rattle.nfs_rules.specs.operations.Close as close
 use Rattle.nfs_rules.specs.operations.Getattr as getattr
+use Rattle.nfs_rules.specs.operations.Lock as lock
+use Rattle.nfs_rules.specs.operations.Lockt as lockt
+use Rattle.nfs_rules.specs.operations.Locku as locku
 use Rattle.nfs_rules.specs.operations.Open as opening
 use Rattle.nfs_rules.specs.operations.OpenConfirm as open_confirm
 use Rattle.nfs_rules.specs.operations.OpenDowngrade as open_downgrade
+use Rattle.nfs_rules.specs.operations.ReleaseLockowner as release
 use Rattle.nfs_rules.specs.operations.Setclientid as setclientid
 use Rattle.nfs_rules.specs.operations.SetclientidConfirm as confirm
-use Rattle.nfs_rules.specs.Sequences.{IsSequenced, Own, requester_of_open, requester_of_stateid}
+use Rattle.nfs_rules.specs.Sequences.{IsSequenced, Own, requester_of_open, requester_of_stateid, stateid_of}
 use Rattle.nfs_state.specs.State.{State, History}
 use Rattle.nfs_xdr.specs.declared.op.Op.{Op}
 use Rattle.nfs_xdr.specs.declared.op.Op.TheVariants as ops
 pub mod Close
 pub mod Getattr
+pub mod Lock
+pub mod Lockt
+pub mod Locku
 pub mod Open
 pub mod OpenGrant
 pub mod OpenConfirm
 pub mod OpenDowngrade
+pub mod ReleaseLockowner
 pub mod Setclientid
 pub mod SetclientidConfirm
 
@@ -28,6 +36,8 @@ own_of (ops.Open args) journal state = opening.own journal state args
 own_of (ops.OpenConfirm args) journal state = open_confirm.own journal state args
 own_of (ops.OpenDowngrade args) journal state = open_downgrade.own journal state args
 own_of (ops.Close args) journal state = close.own journal state args
+own_of (ops.Lock args) journal state = lock.own journal state args
+own_of (ops.Locku args) journal state = locku.own journal state args
 own_of op journal state = λ node passage ruling. ⊥
 
 -- What the rule of an operation decides for a request, given the journal and the state; `None` if a limit would be
@@ -41,16 +51,26 @@ IsRuled (ops.SetclientidConfirm args) journal state request decision =
     decision ≡ confirm.rule journal state request args
 IsRuled (ops.Open args) journal state request decision =
     IsSequenced journal state (requester_of_open state args.owner) (opening.own journal state args)
-    request.filehandle request decision
+    request decision
 IsRuled (ops.OpenConfirm args) journal state request decision =
     IsSequenced journal state (requester_of_stateid journal state args.stateid)
-    (open_confirm.own journal state args) request.filehandle request decision
+    (open_confirm.own journal state args) request decision
 IsRuled (ops.OpenDowngrade args) journal state request decision =
     IsSequenced journal state (requester_of_stateid journal state args.stateid)
-    (open_downgrade.own journal state args) request.filehandle request decision
+    (open_downgrade.own journal state args) request decision
 IsRuled (ops.Close args) journal state request decision =
     IsSequenced journal state (requester_of_stateid journal state args.stateid)
-    (close.own journal state args) request.filehandle request decision
+    (close.own journal state args) request decision
+IsRuled (ops.Lock args) journal state request decision =
+    IsSequenced journal state (requester_of_stateid journal state (stateid_of args.locker))
+    (lock.own journal state args) request decision
+IsRuled (ops.Lockt args) journal state request decision =
+    lockt.IsRuled journal state request.filehandle args decision
+IsRuled (ops.Locku args) journal state request decision =
+    IsSequenced journal state (requester_of_stateid journal state args.stateid)
+    (locku.own journal state args) request decision
+IsRuled (ops.ReleaseLockowner args) journal state request decision =
+    decision ≡ release.rule state args
 IsRuled op journal state request decision = decision ≡ None
 
 -- For one journal, state and request the rules give at most one decision, or none.

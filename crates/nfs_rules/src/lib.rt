@@ -4,6 +4,8 @@
 mod decision;
 mod demand;
 mod laws;
+mod locking;
+mod newcomer;
 mod opening;
 mod operations;
 mod passage;

@@ -1,24 +1,29 @@
 // The operations that have an entry in the journal. Each has its own file, which decides the answer and the change.
-ghost use Rattle.std.specs.Prelude.{◌-◌, ◌^◌, ◌<◌, IsFalse, IsTrue};
+ghost use Rattle.std.specs.Prelude.{◌≡◌, ◌-◌, ◌^◌, ◌<◌, IsFalse, IsTrue};
 ghost use Rattle.nfs_rules.specs.operations.{IsRuled, own_of};
 ghost use Rattle.nfs_rules.specs.Deciding.{Decides};
 ghost use Rattle.nfs_state.specs.Kept.{Agrees};
-ghost use Rattle.nfs_rules.specs.Sequences.{IsSequenced, is_open, is_sequenced, requester_of_stateid};
+ghost use Rattle.nfs_rules.specs.Sequences.{IsSequenced, is_open, is_sequenced, requester_of_stateid, stateid_of};
 ghost use Rattle.nfs_state.specs.Entries.{IsFilehandle};
 ghost use Rattle.nfs_state.specs.Room.{state_of};
 ghost use Rattle.nfs_xdr.specs.Op.{has_entry};
 
 mod close;
 mod getattr;
+mod lock;
+mod lockt;
+mod locku;
 mod open;
 mod open_confirm;
 mod open_downgrade;
+mod release_lockowner;
 mod sequenced;
 mod setclientid;
 mod setclientid_confirm;
 
 use crate::decision::Decision;
 use crate::sequence::{requester_of_open, requester_of_stateid};
+use nfs_forms::Locker;
 use nfs_state::{Journal, Request, Shortage, Tables};
 use nfs_xdr::{Op, Stateid};
 use std::alloc::Global;
@@ -49,6 +54,13 @@ pub fn decide(
         Op::OpenConfirm(args) => by_stateid(alloc, tables, journal, request, args.stateid),
         Op::OpenDowngrade(args) => by_stateid(alloc, tables, journal, request, args.stateid),
         Op::Close(args) => by_stateid(alloc, tables, journal, request, args.stateid),
+        Op::Lock(args) => {
+            let stateid = stateid_of(&args.locker);
+            by_stateid(alloc, tables, journal, request, stateid)
+        }
+        Op::Locku(args) => by_stateid(alloc, tables, journal, request, args.stateid),
+        Op::Lockt(args) => lockt::decide(tables, journal, request, args),
+        Op::ReleaseLockowner(args) => release_lockowner::decide(tables, args),
         _ => unreachable!(),
     }
 }
@@ -67,9 +79,19 @@ fn by_stateid(
     requires kept { Agrees journal.now tables.now.owners.owners }
     ensures { Decides (IsSequenced journal.now (state_of tables.now)
         (requester_of_stateid journal.now (state_of tables.now) stateid)
-        (own_of request.now.op journal.now (state_of tables.now)) request.now.filehandle request.now)
+        (own_of request.now.op journal.now (state_of tables.now)) request.now)
         (state_of tables.now) request.now.op result }
 {
     let requester = requester_of_stateid(tables, journal, stateid);
     sequenced::decide(alloc, tables, journal, request, requester)
+}
+
+// The stateid in a LOCK: that of an open with a new lock owner, or that of a lock state.
+fn stateid_of(locker: &Locker) -> Stateid
+    ensures { result ≡ stateid_of locker.now }
+{
+    match locker {
+        Locker::New(locker) => locker.open_stateid,
+        Locker::Known(locker) => locker.lock_stateid,
+    }
 }

@@ -6,10 +6,11 @@ ghost use Rattle.nfs_state.specs.Kept.{Agrees, seqid_of};
 ghost use Rattle.nfs_state.specs.Room.{state_of};
 ghost use Rattle.nfs_rules.specs.Sequences.{IsJudged, IsOfKnown, IsOfUnknown, IsRestart, IsSequence, is_open, refusal_to, requester_of_open, requester_of_stateid};
 ghost use Rattle.nfs_owners.specs.Kept.{IsAgain, closes, request_of};
+ghost use Rattle.nfs_owners.specs.StateOwner.{owner_seen};
 
 use crate::passage::Passage;
 use crate::stateids::{Target, target_of};
-use nfs_owners::{Kept, Owner, Verdict};
+use nfs_owners::{Kept, Owner, OwnerRef, Verdict};
 use nfs_state::{Journal, Request, Tables, seqid_of};
 use nfs_xdr::{Op, OpResult, OpenOwner, Refusal, Stateid};
 use std::alloc::AllocError;
@@ -18,14 +19,14 @@ use std::alloc::AllocError;
 #[derive(Clone, Copy, Debug)]
 pub(crate) enum Requester<'a> {
     Refused(Refusal),
-    Owner(&'a OpenOwner),
+    Owner(OwnerRef<'a>),
 }
 
 /// Whether a request is answered without its own rule, or goes on to it, as one of this owner's.
 #[derive(Debug, Drop)]
 pub(crate) enum Sequence<'a> {
     Answered(OpResult),
-    GoesOn(Passage, &'a OpenOwner),
+    GoesOn(Passage, OwnerRef<'a>),
 }
 
 /// The owner in an OPEN's arguments, if its client is known.
@@ -35,12 +36,12 @@ pub(crate) fn requester_of_open<'a>(tables: &Tables, owner: &'a OpenOwner) -> Re
     ensures refusal { HasOtherRefusal (requester_seen result) }
 {
     match tables.clients.of(owner.client) {
-        Some(_) => Requester::Owner(owner),
+        Some(_) => Requester::Owner(OwnerRef::of_open(owner)),
         None => Requester::Refused(Refusal::StaleClientId),
     }
 }
 
-/// The owner that a stateid names, also by an open that it has closed by its kept request.
+/// The owner that a stateid names, by its open or its lock state, or by an open that it has closed by its kept request.
 pub(crate) fn requester_of_stateid<'a>(
     tables: &'a Tables,
     journal: &Journal,
@@ -53,8 +54,9 @@ pub(crate) fn requester_of_stateid<'a>(
 {
     match target_of(tables, journal.epoch(), stateid) {
         Target::Refused(refusal) => Requester::Refused(refusal),
-        Target::AnOpen(found) => Requester::Owner(&found.state.owner),
-        Target::NoOpen => closer_of(tables, stateid),
+        Target::AnOpen(found) => Requester::Owner(OwnerRef::of_open(&found.state.owner)),
+        Target::ALock(found) => Requester::Owner(OwnerRef::of_lock(&found.state.owner)),
+        Target::NoState => closer_of(tables, stateid),
     }
 }
 
@@ -65,7 +67,7 @@ fn closer_of(tables: &Tables, stateid: Stateid) -> Requester<'_>
         tables.now.owners.owners) }
 {
     match tables.owners.closer_of(stateid.client, stateid.number) {
-        Some(owner) => Requester::Owner(&owner.name),
+        Some(owner) => Requester::Owner(owner.name.as_ref()),
         None => Requester::Refused(Refusal::BadStateId),
     }
 }
@@ -97,8 +99,8 @@ pub(crate) fn sequence_of<'a>(
 }
 
 // A request of an owner that isn't known: only an OPEN goes on.
-fn begin<'a>(request: &Request, name: &'a OpenOwner) -> Sequence<'a>
-    ensures sequence { IsOfUnknown name.now request.now (sequence_seen result) }
+fn begin<'a>(request: &Request, name: OwnerRef<'a>) -> Sequence<'a>
+    ensures sequence { IsOfUnknown (owner_seen name.entry) request.now (sequence_seen result) }
     ensures sendable { IsSendableSequence request.now.op (sequence_seen result) }
 {
     if is_open(&request.op) {
@@ -112,12 +114,12 @@ fn begin<'a>(request: &Request, name: &'a OpenOwner) -> Sequence<'a>
 fn resume<'a>(
     owner: &Owner,
     request: &Request,
-    name: &'a OpenOwner,
+    name: OwnerRef<'a>,
 ) -> Result<Sequence<'a>, AllocError>
     requires { IsSendable owner.now.kept.request.op owner.now.kept.answer }
     ensures sequence { IfOk result (λ s. IsOfKnown
         (is_open request.now.op && not owner.now.confirmed)
-        owner.now.kept name.now request.now (sequence_seen s)) }
+        owner.now.kept (owner_seen name.entry) request.now (sequence_seen s)) }
     ensures sendable { IfOk result (λ s. IsSendableSequence request.now.op (sequence_seen s)) }
     ensures memory { OnErr result (IsAgain owner.now.kept (seqid_of request.now.op)
         (request_of request.now.op request.now.filehandle)) }
@@ -130,13 +132,10 @@ fn resume<'a>(
 }
 
 // The owner's next request goes on, its kept one again is answered as it was, and any other is NFS4ERR_BAD_SEQID.
-fn judge<'a>(
-    kept: &Kept,
-    request: &Request,
-    name: &'a OpenOwner,
-) -> Result<Sequence<'a>, AllocError>
+fn judge<'a>(kept: &Kept, request: &Request, name: OwnerRef<'a>) -> Result<Sequence<'a>, AllocError>
     requires { IsSendable kept.now.request.op kept.now.answer }
-    ensures sequence { IfOk result (λ s. IsJudged kept.now name.now request.now (sequence_seen s)) }
+    ensures sequence { IfOk result (λ s.
+        IsJudged kept.now (owner_seen name.entry) request.now (sequence_seen s)) }
     ensures sendable { IfOk result (λ s. IsSendableSequence request.now.op (sequence_seen s)) }
     ensures memory { OnErr result (IsAgain kept.now (seqid_of request.now.op)
         (request_of request.now.op request.now.filehandle)) }
@@ -152,11 +151,11 @@ fn judge<'a>(
 fn restart<'a>(
     kept: &Kept,
     request: &Request,
-    name: &'a OpenOwner,
+    name: OwnerRef<'a>,
 ) -> Result<Sequence<'a>, AllocError>
     requires { IsSendable kept.now.request.op kept.now.answer }
     ensures sequence { IfOk result (λ s.
-        IsRestart kept.now name.now request.now (sequence_seen s)) }
+        IsRestart kept.now (owner_seen name.entry) request.now (sequence_seen s)) }
     ensures sendable { IfOk result (λ s. IsSendableSequence request.now.op (sequence_seen s)) }
     ensures memory { OnErr result (IsAgain kept.now (seqid_of request.now.op)
         (request_of request.now.op request.now.filehandle)) }

@@ -1,13 +1,16 @@
 ghost use Rattle.std.specs.Prelude.{◌≡◌};
-ghost use Rattle.nfs_rules.specs.Finding.{open_or_refusal_seen, target_seen};
+ghost use Rattle.nfs_locks.specs.AllLocks.{lock_named_in};
+ghost use Rattle.nfs_owners.specs.StateOwner.{open_owner};
+ghost use Rattle.nfs_rules.specs.Finding.{lock_or_refusal_seen, open_or_refusal_seen, target_seen};
 ghost use Rattle.nfs_state.specs.Owners.{is_confirmed};
 ghost use Rattle.nfs_state.specs.Room.{state_of};
 ghost use Rattle.nfs_rules.specs.Stateids as stateids;
-ghost use Rattle.nfs_rules.specs.Stateids.{by_seqid, is_all, is_special, verdict};
-ghost use Rattle.nfs_share.specs.OpenFound.{open_seen};
+ghost use Rattle.nfs_rules.specs.Stateids.{by_seqid, is_all, is_special, lock_verdict, verdict};
+ghost use Rattle.nfs_share.specs.AllOpens.{named_in};
 
 use crate::demand::Demand;
-use nfs_owners::OwnerStanding;
+use nfs_locks::LockFound;
+use nfs_owners::{OwnerRef, OwnerStanding};
 use nfs_share::OpenFound;
 use nfs_state::Tables;
 use nfs_xdr::{OpenOwner, Refusal, Stateid};
@@ -15,11 +18,12 @@ use nfs_xdr::{OpenOwner, Refusal, Stateid};
 /// What a stateid names, before its file and its seqid are looked at.
 #[derive(Clone, Copy, Debug)]
 pub(crate) enum Target<'a> {
-    /// It can't name an open.
+    /// It can't name a state.
     Refused(Refusal),
     AnOpen(OpenFound<'a>),
-    /// Its client is known, and none of the client's opens has its number.
-    NoOpen,
+    ALock(LockFound<'a>),
+    /// Its client is known, and none of the client's states has its number.
+    NoState,
 }
 
 /// What the stateid names, in the server's run `epoch`.
@@ -38,17 +42,29 @@ pub(crate) fn target_of(tables: &Tables, epoch: u32, stateid: Stateid) -> Target
     if tables.clients.of(stateid.client).is_none() {
         return Target::Refused(Refusal::Expired);
     }
-    match tables.opens.find(stateid) {
-        Some(found) => Target::AnOpen(found),
-        None => Target::NoOpen,
+    target_in(tables, stateid)
+}
+
+// The open or the lock state that the stateid names.
+fn target_in(tables: &Tables, stateid: Stateid) -> Target<'_>
+    ensures { target_seen result ≡ stateids.target_in
+        (named_in stateid (state_of tables.now).opens)
+        (lock_named_in stateid (state_of tables.now).locks) }
+{
+    if let Some(found) = tables.opens.find(stateid) {
+        return Target::AnOpen(found);
+    }
+    match tables.locks.find(stateid) {
+        Some(found) => Target::ALock(found),
+        None => Target::NoState,
     }
 }
 
 /// Whether the owner is known and confirmed.
 pub(crate) fn is_confirmed(tables: &Tables, owner: &OpenOwner) -> bool
-    ensures { result ≡ is_confirmed owner.now (state_of tables.now).owners }
+    ensures { result ≡ is_confirmed (open_owner owner.now) (state_of tables.now).owners }
 {
-    tables.owners.known(owner) == OwnerStanding::Confirmed
+    tables.owners.known(OwnerRef::of_open(owner)) == OwnerStanding::Confirmed
 }
 
 /// The open that the stateid names, if it is as the operation demands, or why it isn't.
@@ -63,7 +79,7 @@ pub(crate) fn verdict(
 {
     match target_of(tables, epoch, stateid) {
         Target::Refused(refusal) => Err(refusal),
-        Target::NoOpen => Err(Refusal::BadStateId),
+        Target::NoState | Target::ALock(_) => Err(Refusal::BadStateId),
         Target::AnOpen(found) => {
             if found.node != demand.node {
                 return Err(Refusal::BadStateId);
@@ -71,21 +87,42 @@ pub(crate) fn verdict(
             if !demand.also_unconfirmed && !is_confirmed(tables, &found.state.owner) {
                 return Err(Refusal::BadStateId);
             }
-            by_seqid(stateid, found)
+            by_seqid(stateid.seqid, found.state.seqid)?;
+            Ok(found)
         }
     }
 }
 
-// NFS4ERR_OLD_STATEID for a seqid below the open's, NFS4ERR_BAD_STATEID for one above.
-fn by_seqid(stateid: Stateid, found: OpenFound<'_>) -> Result<OpenFound<'_>, Refusal>
-    ensures { open_or_refusal_seen result ≡ by_seqid stateid (open_seen found.entry) }
+/// The lock state of the node's file that the stateid names, or why it names none.
+pub(crate) fn lock_verdict(
+    tables: &Tables,
+    node: u32,
+    epoch: u32,
+    stateid: Stateid,
+) -> Result<LockFound<'_>, Refusal>
+    ensures { lock_or_refusal_seen result
+        ≡ lock_verdict node epoch (state_of tables.now) stateid }
 {
-    if stateid.seqid < found.state.seqid {
+    match target_of(tables, epoch, stateid) {
+        Target::Refused(refusal) => Err(refusal),
+        Target::ALock(found) if found.node == node => {
+            by_seqid(stateid.seqid, found.state.seqid)?;
+            Ok(found)
+        }
+        Target::ALock(_) | Target::AnOpen(_) | Target::NoState => Err(Refusal::BadStateId),
+    }
+}
+
+// NFS4ERR_OLD_STATEID for a seqid below the state's, NFS4ERR_BAD_STATEID for one above.
+fn by_seqid(given: u32, current: u32) -> Result<(), Refusal>
+    ensures { result ≡ by_seqid given current tt }
+{
+    if given < current {
         Err(Refusal::OldStateId)
-    } else if found.state.seqid < stateid.seqid {
+    } else if current < given {
         Err(Refusal::BadStateId)
     } else {
-        Ok(found)
+        Ok(())
     }
 }
 

@@ -1,8 +1,9 @@
 -- The opens of a file (RFC 7530, sections 9.9 to 9.11).
-use Rattle.std.specs.Prelude.{ℕ, ◌+◌, ◌-◌, ◌^◌, Bool, ◌&&◌, ◌==◌, not, if◌then◌else◌, List, [], ◌∷◌, ◌++◌, filter, find, map, Option, is_some, IsSomeAnd}
+use Rattle.std.specs.Prelude.{ℕ, Bool, ◌&&◌, ◌==◌, not, if◌then◌else◌, List, [], ◌∷◌, ◌++◌, filter, find, map, Option, is_some, IsSomeAnd}
 use Rattle.std.specs.List.{list_any}
 use Rattle.nfs_forms.specs.ClientId.{is_same_client}
 use Rattle.nfs_forms.specs.OpenOwner.{is_same_owner}
+use Rattle.nfs_forms.specs.Stateid.{next_seqid, next_stateid}
 use Rattle.nfs_forms.specs.declared.client_id.ClientId.{ClientId}
 use Rattle.nfs_forms.specs.declared.open_owner.OpenOwner.{OpenOwner}
 use Rattle.nfs_forms.specs.declared.stateid.Stateid.{Stateid}
@@ -59,21 +60,13 @@ abbrev pub is_refused : OpenOwner → Share → List OpenState → Bool
 is_refused owner share opens =
     list_any (λ o. not (is_of owner o) && conflicts_with share (share_of o)) opens
 
--- the seqid after this one: after 2^32 - 1 comes 1 (section 9.1.4)
-abbrev pub next_seqid : ℕ → ℕ
-next_seqid seqid = if seqid == 2 ^ 32 - 1 then 1 else seqid + 1
-
 -- the open's stateid (section 9.1.4)
 abbrev pub stateid_of : OpenState → Stateid
 stateid_of o = record { seqid = o.seqid; client = o.owner.client; number = o.number }
 
 -- the open's stateid after its next change
 abbrev pub next_stateid_of : OpenState → Stateid
-next_stateid_of o = record {
-  seqid = next_seqid o.seqid;
-  client = o.owner.client;
-  number = o.number;
-}
+next_stateid_of o = next_stateid (stateid_of o)
 
 -- the open that an owner's first OPEN of the file makes
 abbrev pub first_open : OpenOwner → Share → ℕ → OpenState

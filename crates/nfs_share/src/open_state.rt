@@ -15,7 +15,7 @@ pub struct OpenState {
 
 impl OpenState {
     ghost use Rattle.std.specs.Prelude.{◌≡◌};
-    ghost use Rattle.nfs_share.specs.Opens.{with_next_seqid, after_downgrade, first_open, is_of, is_of_client, is_stateid_of, after_open, next_seqid, next_stateid_of, share_of, stateid_of};
+    ghost use Rattle.nfs_share.specs.Opens.{with_next_seqid, after_downgrade, first_open, is_of, is_of_client, is_stateid_of, after_open, next_stateid_of, share_of, stateid_of};
 
     /// The open that an owner's first OPEN of the file makes.
     pub fn new(owner: OpenOwner, share: Share, number: u32) -> OpenState
@@ -47,26 +47,11 @@ impl OpenState {
         }
     }
 
-    /// The seqid of the open's stateid after its next change.
-    pub fn next_seqid(&self) -> u32
-        ensures { result ≡ next_seqid self.now.seqid }
-    {
-        if self.seqid == u32::MAX {
-            1
-        } else {
-            self.seqid + 1
-        }
-    }
-
     /// The open's stateid after its next change.
     pub fn next_stateid(&self) -> Stateid
         ensures { result ≡ next_stateid_of self.now }
     {
-        Stateid {
-            seqid: self.next_seqid(),
-            client: self.owner.client,
-            number: self.number,
-        }
+        self.stateid().next()
     }
 
     /// Whether this owner has the open.
@@ -94,7 +79,7 @@ impl OpenState {
     pub(crate) fn advance(&mut self)
         ensures { self.new ≡ with_next_seqid self.old }
     {
-        self.seqid = self.next_seqid();
+        self.seqid = self.next_stateid().seqid;
     }
 
     /// Adds the share of another OPEN.

@@ -3,7 +3,7 @@ ghost use Rattle.std.specs.List.{list_any};
 ghost use Rattle.std.specs.Option.{option_copied};
 ghost use Rattle.nfs_share.specs.AllOpens.{HasRoomAt, at_node, named_in, open_count, opens_in, opens_of, with_opens};
 ghost use Rattle.nfs_share.specs.OpenFound.{open_seen};
-ghost use Rattle.nfs_share.specs.Opens.{after_downgrade, is_numbered, is_of, is_of_client, is_refused, is_stateid_of, open_of, with_each, with_next_seqid, with_opening, without};
+ghost use Rattle.nfs_share.specs.Opens.{after_downgrade, is_numbered, is_of, is_of_client, is_refused, is_stateid_of, open_of, open_with_number, with_each, with_next_seqid, with_opening, without};
 
 use crate::{FileShare, OpenState, Share};
 use nfs_forms::{ClientId, OpenOwner, Stateid};
@@ -71,6 +71,14 @@ impl Opens {
         ensures { option_copied result ≡ open_of owner.now (opens_of node (opens_in self.now)) }
     {
         self.files.get(node as usize)?.open_of(owner)
+    }
+
+    /// The open of the node's file whose stateid has this number, if there is one.
+    pub fn numbered(&self, node: u32, number: u32) -> Option<&OpenState>
+        ensures { option_copied result
+            ≡ open_with_number number (opens_of node (opens_in self.now)) }
+    {
+        self.files.get(node as usize)?.find(number)
     }
 
     /// Whether an open of the node's file by another owner conflicts with the share.

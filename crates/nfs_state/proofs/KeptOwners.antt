@@ -1,35 +1,41 @@
 -- What is stored of the owners agrees with the journal, entry after entry.
-use Rattle.std.proofs.Common.{◌≡◌, ℕ, zero, suc, Bool, true, false, Some, List, [], ◌∷◌, ◌++◌, length, map, refl, subst, sym}
-use Rattle.std.specs.Prelude.{not, option_map, slice_get, if◌then◌else◌}
+use Rattle.std.proofs.Common.{◌≡◌, ℕ, zero, suc, Bool, true, false, Some, List, [], ◌∷◌, ◌++◌, length, map, refl, ap, ◌∙◌, subst, sym}
+use Rattle.std.specs.Str.{bytes_eq}
+use Rattle.std.specs.Prelude.{◌&&◌, not, option_map, slice_get, if◌then◌else◌}
 use Rattle.nfs_state.specs.declared.entry.Entry.{Entry}
 use Rattle.nfs_state.specs.declared.owner_change.OwnerChange.{OwnerChange}
 use Rattle.nfs_state.specs.declared.owner_change.OwnerChange.TheVariants as owner_changes
 use Rattle.nfs_state.specs.Entries.{IsSendable, with_entry}
 use Rattle.nfs_state.specs.Kept.{Agrees, IsKeptIn, owners_after, update_of, kept_of}
 use Rattle.nfs_state.specs.State.{History}
-use Rattle.nfs_forms.specs.declared.open_owner.OpenOwner.{OpenOwner}
+use Rattle.std.proofs.lemmas.Bool.{and_parts, cond_both, false≢true}
+use Rattle.nfs_forms.specs.ClientId.{is_same_client}
+use Rattle.nfs_owners.specs.StateOwner.{is_same_kind, open_owner}
+use Rattle.nfs_owners.specs.declared.state_owner.OwnerKind.{OwnerKind}
+use Rattle.nfs_owners.specs.declared.state_owner.OwnerKind.TheVariants as kinds
+use Rattle.nfs_owners.specs.declared.state_owner.StateOwner.{StateOwner}
 use Rattle.nfs_owners.specs.declared.kept.Kept.{Kept}
 use Rattle.nfs_owners.specs.declared.owner.Owner.{Owner}
 use Rattle.nfs_owners.specs.Owner.{has_name, is_known, new_owner}
 use Rattle.nfs_owners.specs.Owners.{with_kept, without_owner}
 
 -- what an entry has, a longer journal has
-kept_longer : (entries more : List Entry) (number : ℕ) (kept : Kept) → option_map kept_of (slice_get entries number) ≡ Some kept → option_map kept_of (slice_get (entries ++ more) number) ≡ Some kept
-kept_longer [] more number kept is = absurd cc
-kept_longer (first ∷ entries) more zero kept is = is
-kept_longer (first ∷ entries) more (suc number) kept is = kept_longer entries more number kept is
+kept_longer : (keep : Entry → Kept) (entries more : List Entry) (number : ℕ) (kept : Kept) → option_map keep (slice_get entries number) ≡ Some kept → option_map keep (slice_get (entries ++ more) number) ≡ Some kept
+kept_longer keep [] more number kept is = absurd cc
+kept_longer keep (first ∷ entries) more zero kept is = is
+kept_longer keep (first ∷ entries) more (suc number) kept is = kept_longer keep entries more number kept is
 
 -- what the last entry has
-kept_last : (entries : List Entry) (entry : Entry) → option_map kept_of (slice_get (entries ++ entry ∷ []) (length entries)) ≡ Some (kept_of entry)
-kept_last [] entry = refl
-kept_last (first ∷ entries) entry = kept_last entries entry
+kept_last : (keep : Entry → Kept) (entries : List Entry) (entry : Entry) → option_map keep (slice_get (entries ++ entry ∷ []) (length entries)) ≡ Some (keep entry)
+kept_last keep [] entry = refl
+kept_last keep (first ∷ entries) entry = kept_last keep entries entry
 
 -- the stored owners agree with a longer journal too
 Agrees-longer : (journal : History) (entry : Entry) (owners : List Owner) → Agrees journal owners → Agrees (with_entry entry journal) owners
 Agrees-longer journal entry [] agrees = agrees
 Agrees-longer journal entry (o ∷ owners) agrees = (
   record {
-    entry = kept_longer journal.entries (entry ∷ []) o.number o.kept agrees.0.entry;
+    entry = kept_longer (kept_of o.name.kind) journal.entries (entry ∷ []) o.number o.kept agrees.0.entry;
     sendable = agrees.0.sendable;
   },
   Agrees-longer journal entry owners agrees.1,
@@ -43,53 +49,75 @@ Agrees-either : (journal : History) (b : Bool) (o : Owner) (owners : List Owner)
 Agrees-either journal true o owners is agrees = (is, agrees)
 Agrees-either journal false o owners is agrees = agrees
 
-Agrees-without : (journal : History) (name : OpenOwner) (owners : List Owner) → Agrees journal owners → Agrees journal (without_owner name owners)
+Agrees-without : (journal : History) (name : StateOwner) (owners : List Owner) → Agrees journal owners → Agrees journal (without_owner name owners)
 Agrees-without journal name [] agrees = agrees
 Agrees-without journal name (o ∷ owners) agrees =
     Agrees-either journal (not (has_name name o)) o (without_owner name owners) agrees.0 (Agrees-without journal name owners agrees.1)
 
--- the entry with this number has this to keep, which can be sent again
-record IsEntryOf (journal : History) (number : ℕ) (kept : Kept) : Type 0 where
-  pub entry : option_map kept_of (slice_get journal.entries number) ≡ Some kept
-  pub sendable : IsSendable kept.request.op kept.answer
+-- the entry with this number has this to keep for owners of each kind, which can be sent again
+record IsEntryOf (journal : History) (number : ℕ) (kept : OwnerKind → Kept) : Type 0 where
+  pub entry : (kind : OwnerKind) → option_map (kept_of kind) (slice_get journal.entries number) ≡ Some (kept kind)
+  pub sendable : (kind : OwnerKind) → IsSendable (kept kind).request.op (kept kind).answer
 
-kept_by : (journal : History) (number : ℕ) (kept : Kept) (o : Owner) → IsEntryOf journal number kept → IsKeptIn journal (record o { number = number; kept = kept })
-kept_by journal number kept o is = record { entry = is.entry; sendable = is.sendable }
+-- an owner with the name is of its kind
+same_kind : (a b : OwnerKind) → is_same_kind a b ≡ true → a ≡ b
+same_kind kinds.Open kinds.Open same = refl
+same_kind kinds.Open kinds.Lock same = absurd (false≢true same)
+same_kind kinds.Lock kinds.Open same = absurd (false≢true same)
+same_kind kinds.Lock kinds.Lock same = refl
 
-either_kept : (journal : History) (b : Bool) (o changed : Owner) → IsKeptIn journal o → IsKeptIn journal changed → IsKeptIn journal (if b then changed else o)
-either_kept journal true o changed is now = now
-either_kept journal false o changed is now = is
+kind_of_name : (name : StateOwner) (o : Owner) → has_name name o ≡ true → o.name.kind ≡ name.kind
+kind_of_name name o has =
+    let beside_name = and_parts (is_same_kind o.name.kind name.kind && is_same_client o.name.client name.client) (bytes_eq o.name.name name.name) has in
+    same_kind o.name.kind name.kind (and_parts (is_same_kind o.name.kind name.kind) (is_same_client o.name.client name.client) beside_name.0).0
 
-Agrees-change : (journal : History) (name : OpenOwner) (number : ℕ) (kept : Kept) (owners : List Owner) → IsEntryOf journal number kept → Agrees journal owners → Agrees journal (map (λ o. if has_name name o then record o { number = number; kept = kept } else o) owners)
+kept_by : (journal : History) (name : StateOwner) (number : ℕ) (kept : OwnerKind → Kept) (o : Owner) → IsEntryOf journal number kept → o.name.kind ≡ name.kind → IsKeptIn journal (record o { number = number; kept = kept name.kind })
+kept_by journal name number kept o is kind = record {
+  entry = is.entry o.name.kind ∙ ap (λ k. Some (kept k)) kind;
+  sendable = is.sendable name.kind;
+}
+
+Agrees-change : (journal : History) (name : StateOwner) (number : ℕ) (kept : OwnerKind → Kept) (owners : List Owner) → IsEntryOf journal number kept → Agrees journal owners → Agrees journal (map (λ o. if has_name name o then record o { number = number; kept = kept name.kind } else o) owners)
 Agrees-change journal name number kept [] is agrees = agrees
-Agrees-change journal name number kept (o ∷ owners) is agrees =
-    (either_kept journal (has_name name o) o (record o { number = number; kept = kept }) agrees.0 (kept_by journal number kept o is), Agrees-change journal name number kept owners is agrees.1)
+Agrees-change journal name number kept (o ∷ owners) is agrees = (
+  cond_both (has_name name o) (record o { number = number; kept = kept name.kind }) o (IsKeptIn journal)
+      (λ has. kept_by journal name number kept o is (kind_of_name name o has)) (λ _. agrees.0),
+  Agrees-change journal name number kept owners is agrees.1,
+)
 
-Agrees-kept : (journal : History) (name : OpenOwner) (number : ℕ) (kept : Kept) (owners : List Owner) → IsEntryOf journal number kept → Agrees journal owners → Agrees journal (with_kept name number kept owners)
+Agrees-kept : (journal : History) (name : StateOwner) (number : ℕ) (kept : OwnerKind → Kept) (owners : List Owner) → IsEntryOf journal number kept → Agrees journal owners → Agrees journal (with_kept name number (kept name.kind) owners)
 Agrees-kept journal name number kept owners is agrees = by (is_known name owners)
   where
-    by : (b : Bool) → Agrees journal (if b then map (λ o. if has_name name o then record o { number = number; kept = kept } else o) owners else owners ++ new_owner name number kept ∷ [])
+    by : (b : Bool) → Agrees journal (if b then map (λ o. if has_name name o then record o { number = number; kept = kept name.kind } else o) owners else owners ++ new_owner name number (kept name.kind) ∷ [])
     by true = Agrees-change journal name number kept owners is agrees
-    by false = Agrees-push journal owners (new_owner name number kept) agrees (record { entry = is.entry; sendable = is.sendable })
+    by false = Agrees-push journal owners (new_owner name number (kept name.kind)) agrees (record { entry = is.entry name.kind; sendable = is.sendable name.kind })
 
-after_update : (journal : History) (change : OwnerChange) (number : ℕ) (kept : Kept) (owners : List Owner) → IsEntryOf journal number kept → Agrees journal owners → Agrees journal (owners_after (update_of change kept) number owners)
+after_update : (journal : History) (change : OwnerChange) (number : ℕ) (kept : OwnerKind → Kept) (owners : List Owner) → IsEntryOf journal number kept → Agrees journal owners → Agrees journal (owners_after (update_of change kept) number owners)
 after_update journal owner_changes.Nothing number kept owners is agrees = agrees
 after_update journal (owner_changes.Keeps name) number kept owners is agrees = Agrees-kept journal name number kept owners is agrees
-after_update journal (owner_changes.Records name) number kept owners is agrees = Agrees-kept journal name number kept owners is agrees
+after_update journal (owner_changes.KeepsBoth name newcomer) number kept owners is agrees =
+    Agrees-kept journal newcomer number kept (with_kept name number (kept name.kind) owners) is (Agrees-kept journal name number kept owners is agrees)
+after_update journal (owner_changes.Introduces name newcomer) number kept owners is agrees =
+    Agrees-kept journal newcomer number kept (with_kept name number (kept name.kind) owners) is (Agrees-kept journal name number kept owners is agrees)
+after_update journal (owner_changes.Records name) number kept owners is agrees = Agrees-kept journal (open_owner name) number kept owners is agrees
 after_update journal (owner_changes.Restarts name) number kept owners is agrees =
-    Agrees-kept journal name number kept (without_owner name owners) is (Agrees-without journal name owners agrees)
-after_update journal (owner_changes.Drops name) number kept owners is agrees = Agrees-without journal name owners agrees
+    Agrees-kept journal (open_owner name) number kept (without_owner (open_owner name) owners) is (Agrees-without journal (open_owner name) owners agrees)
+after_update journal (owner_changes.Drops name) number kept owners is agrees = Agrees-without journal (open_owner name) owners agrees
+
+-- the entry can be sent again, whoever keeps it
+abbrev pub CanBeSent : Entry → Type 0
+CanBeSent entry = (kind : OwnerKind) → IsSendable (kept_of kind entry).request.op (kept_of kind entry).answer
 
 -- after an entry that can be sent again, the stored owners agree with the journal that ends with it
-pub Agrees-after : (journal : History) (entry : Entry) (change : OwnerChange) (owners : List Owner) → IsSendable (kept_of entry).request.op (kept_of entry).answer → Agrees journal owners → Agrees (with_entry entry journal) (owners_after (update_of change (kept_of entry)) (length journal.entries) owners)
+pub Agrees-after : (journal : History) (entry : Entry) (change : OwnerChange) (owners : List Owner) → CanBeSent entry → Agrees journal owners → Agrees (with_entry entry journal) (owners_after (update_of change (λ kind. kept_of kind entry)) (length journal.entries) owners)
 Agrees-after journal entry change owners sendable agrees =
-    after_update (with_entry entry journal) change (length journal.entries) (kept_of entry) owners (record { entry = kept_last journal.entries entry; sendable = sendable }) (Agrees-longer journal entry owners agrees)
+    after_update (with_entry entry journal) change (length journal.entries) (λ kind. kept_of kind entry) owners (record { entry = λ kind. kept_last (kept_of kind) journal.entries entry; sendable = sendable }) (Agrees-longer journal entry owners agrees)
 
 -- after an entry that can be sent again, and the operation's own change, the stored owners agree with the journal; the
 -- journal, the number and the owners after the change have names of their own
-pub Agrees-changed : (old new : History) (entry : Entry) (change : OwnerChange) (number : ℕ) (owners after : List Owner) → ((journal : History) → Agrees journal (owners_after (update_of change (kept_of entry)) number owners) → Agrees journal after) → new ≡ with_entry entry old → number ≡ length old.entries → IsSendable (kept_of entry).request.op (kept_of entry).answer → Agrees old owners → Agrees new after
+pub Agrees-changed : (old new : History) (entry : Entry) (change : OwnerChange) (number : ℕ) (owners after : List Owner) → ((journal : History) → Agrees journal (owners_after (update_of change (λ kind. kept_of kind entry)) number owners) → Agrees journal after) → new ≡ with_entry entry old → number ≡ length old.entries → CanBeSent entry → Agrees old owners → Agrees new after
 Agrees-changed old new entry change number owners after keeps is at sendable agrees =
-    let kept = kept_of entry in
+    let kept : OwnerKind → Kept = λ kind. kept_of kind entry in
     let with_number : ℕ → Type 0 = λ n. Agrees (with_entry entry old) (owners_after (update_of change kept) n owners) in
     let with_journal : History → Type 0 = λ journal. Agrees journal after in
     subst with_journal (sym is) (keeps (with_entry entry old) (subst with_number (sym at) (Agrees-after old entry change owners sendable agrees)))

@@ -1,6 +1,10 @@
--- What an entry means for an owner: its room among the stored owners, and the numbers that the change after it uses.
-use Rattle.std.proofs.Common.{◌≡◌, ℕ, suc, true, List, [], ◌∷◌, length, map, refl, sym, ap, subst, arith}
-use Rattle.std.specs.Prelude.{is_some}
+-- What an entry means for an owner: its room among the stored owners, and the limits of the change after it.
+use Rattle.std.proofs.Common.{◌≡◌, ◌<◌, ℕ, suc, true, false, List, [], ◌∷◌, length, map, refl, sym, ap, ◌∙◌, subst, arith}
+use Rattle.std.specs.Prelude.{◌||◌, is_some, nat_lt, if◌then◌else◌}
+use Rattle.std.proofs.lemmas.Bool.{cond-true}
+use Rattle.std.proofs.lemmas.List.{length-map}
+use Rattle.nfs_owners.specs.StateOwner.{is_same_state_owner}
+use Rattle.nfs_owners.specs.declared.owner.TheConstants.{OWNER_LIMIT}
 use Rattle.nfs_state.specs.declared.change.Change.{Change}
 use Rattle.nfs_state.specs.declared.change.Change.TheVariants as changes
 use Rattle.nfs_state.specs.declared.owner_change.OwnerChange.{OwnerChange}
@@ -8,19 +12,22 @@ use Rattle.nfs_state.specs.declared.owner_change.OwnerChange.TheVariants as owne
 use Rattle.nfs_state.specs.declared.tables.Tables.{Tables}
 use Rattle.nfs_state.specs.Kept.{update_of}
 use Rattle.nfs_state.specs.Owners as known
-use Rattle.nfs_state.specs.Room.{HasNumbers, HasOwnerPlace, HasOwnerRoom, HasUpdateRoom, state_of}
+use Rattle.nfs_locks.specs.AllLocks.{is_full_for, locks_of}
+use Rattle.nfs_state.specs.Room.{IsWithinLimits, HasOwnerPlace, HasOwnerRoom, CanKeep, HasUpdateRoom, IsNewcomer, is_known as is_known_in, state_of}
 use Rattle.nfs_state.specs.Changes.{with_owner_change}
 use Rattle.nfs_state.specs.State.{State}
 use Rattle.nfs_state.specs.Stored.{known_owner}
-use Rattle.nfs_forms.specs.declared.open_owner.OpenOwner.{OpenOwner}
+use Rattle.nfs_owners.specs.StateOwner.{open_owner}
+use Rattle.nfs_owners.specs.declared.state_owner.OwnerKind.{OwnerKind}
+use Rattle.nfs_owners.specs.declared.state_owner.StateOwner.{StateOwner}
 use Rattle.nfs_owners.specs.ClientRoom.{HasNumbersFor}
 use Rattle.nfs_owners.specs.declared.kept.Kept.{Kept}
 use Rattle.nfs_owners.specs.declared.owner.Owner.{Owner}
-use Rattle.nfs_owners.specs.Owner.{is_known}
-use Rattle.nfs_owners.specs.Owners.{has_place}
+use Rattle.nfs_owners.specs.Owner.{has_name, is_known}
+use Rattle.nfs_owners.specs.Owners.{RoomyOwners, has_place, with_change, with_kept}
 
 -- the state knows the owners that are stored
-known_alike : (name : OpenOwner) (owners : List Owner) → is_some (known.owner_of name (map known_owner owners)) ≡ is_known name owners
+known_alike : (name : StateOwner) (owners : List Owner) → is_some (known.owner_of name (map known_owner owners)) ≡ is_known name owners
 known_alike name [] = refl
 known_alike name (o ∷ owners) = grind (arith, known_alike name owners)
 
@@ -28,27 +35,42 @@ count_alike : (owners : List Owner) → length (map known_owner owners) ≡ leng
 count_alike [] = refl
 count_alike (o ∷ owners) = ap suc (count_alike owners)
 
-known_place : (name : OpenOwner) (owners : List Owner) → is_some (known.owner_of name (map known_owner owners)) ≡ true → has_place name owners ≡ true
+known_place : (name : StateOwner) (owners : List Owner) → is_some (known.owner_of name (map known_owner owners)) ≡ true → has_place name owners ≡ true
 known_place name owners is = grind (arith, known_alike name owners, is)
 
--- where there is a place for what an entry means for an owner, and memory for it, the stored owners have room for it
-pub update_room : (change : OwnerChange) (kept : Kept) (tables : Tables) → HasOwnerPlace change (state_of tables) → HasOwnerRoom change tables → HasUpdateRoom (update_of change kept) tables
-update_room owner_changes.Nothing kept tables place room = tt
-update_room (owner_changes.Keeps name) kept tables place room =
+-- an owner that is known can keep a request, and so can a new one for which there is memory
+can_keep : (name : StateOwner) (tables : Tables) → is_known_in name (state_of tables) ≡ true → CanKeep name tables.owners
+can_keep name tables place =
     (known_place name tables.owners.owners place, λ unknown. absurd (grind (arith, known_alike name tables.owners.owners, place, unknown)))
-update_room (owner_changes.Records name) kept tables place room =
+
+new_can_keep : (name : StateOwner) (tables : Tables) → IsNewcomer name (state_of tables) → 0 < tables.owners.room → CanKeep name tables.owners
+new_can_keep name tables place room =
     (grind (arith, place.1, count_alike tables.owners.owners), λ unknown. room)
-update_room (owner_changes.Restarts name) kept tables place room = (known_place name tables.owners.owners place, room)
+
+-- where there is a place for what an entry means for an owner, and memory for it, the stored owners have room for it
+pub update_room : (change : OwnerChange) (kept : OwnerKind → Kept) (tables : Tables) → HasOwnerPlace change (state_of tables) → HasOwnerRoom change tables → HasUpdateRoom (update_of change kept) tables
+update_room owner_changes.Nothing kept tables place room = tt
+update_room (owner_changes.Keeps name) kept tables place room = can_keep name tables place
+update_room (owner_changes.KeepsBoth name newcomer) kept tables place room =
+    (sym (known_alike name tables.owners.owners) ∙ place.0, can_keep newcomer tables place.1)
+update_room (owner_changes.Introduces name newcomer) kept tables place room =
+    (sym (known_alike name tables.owners.owners) ∙ place.0, new_can_keep newcomer tables place.1 room)
+update_room (owner_changes.Records name) kept tables place room = new_can_keep (open_owner name) tables place room
+update_room (owner_changes.Restarts name) kept tables place room = (known_place (open_owner name) tables.owners.owners place, room)
 update_room (owner_changes.Drops name) kept tables place room = tt
 
--- what an entry means for an owner uses no numbers
-numbers_alike : (change : Change) (old new : State) → new.clients ≡ old.clients → new.last_state ≡ old.last_state → HasNumbers change old → HasNumbers change new
-numbers_alike (changes.Clients change) old new clients states has = subst (HasNumbersFor change) (sym clients) has
-numbers_alike (changes.Opens node owner share) old new clients states has = omega (arith, states, has)
-numbers_alike changes.Nothing old new clients states has = tt
-numbers_alike (changes.Confirms node number owner) old new clients states has = tt
-numbers_alike (changes.Downgrades node number share) old new clients states has = tt
-numbers_alike (changes.Closes node number) old new clients states has = tt
+-- what an entry means for an owner passes no limit of the change after it
+limits_alike : (change : Change) (old new : State) → new.clients ≡ old.clients → new.last_state ≡ old.last_state → new.locks ≡ old.locks → IsWithinLimits change old → IsWithinLimits change new
+limits_alike (changes.Clients change) old new clients states locks has = subst (HasNumbersFor change) (sym clients) has
+limits_alike (changes.Opens node owner share) old new clients states locks has = omega (arith, states, has)
+limits_alike changes.Nothing old new clients states locks has = tt
+limits_alike (changes.Confirms node number owner) old new clients states locks has = tt
+limits_alike (changes.Downgrades node number share) old new clients states locks has = tt
+limits_alike (changes.Closes node number) old new clients states locks has = tt
+limits_alike (changes.Begins node first) old new clients states locks has = omega (arith, states, has)
+limits_alike (changes.Locks node number change) old new clients states locks has =
+    ap (λ all. is_full_for number change (locks_of node all)) locks ∙ has
+limits_alike (changes.Releases owner) old new clients states locks has = tt
 
 same_clients : (owner : OwnerChange) (number : ℕ) (old : State) → (with_owner_change owner number old).clients ≡ old.clients
 same_clients owner_changes.Nothing number old = refl
@@ -58,6 +80,29 @@ same_last_state : (owner : OwnerChange) (number : ℕ) (old : State) → (with_o
 same_last_state owner_changes.Nothing number old = refl
 same_last_state owner number old = refl
 
-pub numbers_after : (change : Change) (owner : OwnerChange) (number : ℕ) (old : State) → HasNumbers change old → HasNumbers change (with_owner_change owner number old)
-numbers_after change owner number old has =
-    numbers_alike change old (with_owner_change owner number old) (same_clients owner number old) (same_last_state owner number old) has
+same_locks : (owner : OwnerChange) (number : ℕ) (old : State) → (with_owner_change owner number old).locks ≡ old.locks
+same_locks owner_changes.Nothing number old = refl
+same_locks owner number old = refl
+
+pub limits_after : (change : Change) (owner : OwnerChange) (number : ℕ) (old : State) → IsWithinLimits change old → IsWithinLimits change (with_owner_change owner number old)
+limits_after change owner number old has =
+    limits_alike change old (with_owner_change owner number old) (same_clients owner number old) (same_last_state owner number old) (same_locks owner number old) has
+
+-- an owner that keeps a request, which is known before it, leaves who is known and how many they are
+known_after_change : (change : Owner → Owner) → ((o : Owner) → (change o).name ≡ o.name) → (name other : StateOwner) (owners : List Owner) → is_known other (with_change change name owners) ≡ is_known other owners
+known_after_change change same name other [] = refl
+known_after_change change same name other (o ∷ owners) =
+    let rest = known_after_change change same name other owners in
+    elim (has_name name o) as (λ b. (has_name other (if b then change o else o) || is_known other (with_change change name owners)) ≡ (has_name other o || is_known other owners)) [
+      | true ↦ λ i. is_same_state_owner (same o i) other || rest i
+      | false ↦ λ i. has_name other o || rest i
+    ]
+
+pub can_keep_beside : (name other : StateOwner) (number : ℕ) (kept : Kept) (old new : RoomyOwners) → new.owners ≡ with_kept name number kept old.owners
+    → (is_known name old.owners ≡ true → new.room ≡ old.room) → is_known name old.owners ≡ true → CanKeep other old → CanKeep other new
+can_keep_beside name other number kept old new is room known can =
+    let change : Owner → Owner = λ o. record o { number = number; kept = kept } in
+    let changed : new.owners ≡ with_change change name old.owners = is ∙ cond-true (is_known name old.owners) _ _ known in
+    let same : is_known other new.owners ≡ is_known other old.owners = ap (is_known other) changed ∙ known_after_change change (λ o. refl) name other old.owners in
+    let many : length new.owners ≡ length old.owners = ap length changed ∙ length-map old.owners (λ o. if has_name name o then change o else o) in
+    ((λ i. same i || nat_lt (many i) OWNER_LIMIT) ∙ can.0, λ unknown. omega (arith, room known, can.1 (sym same ∙ unknown)))

@@ -2,11 +2,16 @@
 use Rattle.std.proofs.Common.{◌≡◌, ℕ, ◌<◌, Bool, true, false, List, [], ◌∷◌, length, map, ◌⊎◌, inl, inr, refl, sym, ap, subst, ◌∙◌, arith}
 use Rattle.std.specs.Prelude.{filter, is_some, not, if◌then◌else◌}
 use Rattle.std.proofs.lemmas.List.{length-map, map-append}
-use Rattle.nfs_state.specs.Kept.{Agrees, IsKeptIn, update_of}
+use Rattle.nfs_locks.specs.AllLocks.{with_locks}
+use Rattle.nfs_locks.specs.Locks as locks
+use Rattle.nfs_locks.specs.Locks.{ByteLocks}
+use Rattle.nfs_locks.specs.StoredLocks.{StoredLock, byte_locks}
+use Rattle.nfs_state.specs.Kept.{Agrees, IsKeptIn, kept_by, update_of}
+use Rattle.nfs_state.specs.declared.owner_update.Keeping.{Keeping}
 use Rattle.nfs_state.specs.Owners as known
 use Rattle.nfs_state.specs.Owners.{KnownOwner}
 use Rattle.nfs_state.specs.Room.{HasOwnerPlace}
-use Rattle.nfs_state.specs.Changes.{with_owner_change, without, changed, left_by, without_client}
+use Rattle.nfs_state.specs.Changes.{with_owner_change, without, changed, left_by}
 use Rattle.nfs_state.specs.State.{History, State}
 use Rattle.nfs_state.specs.declared.change.Change.{Change}
 use Rattle.nfs_state.specs.declared.change.Change.TheVariants as own_changes
@@ -15,12 +20,16 @@ use Rattle.nfs_state.specs.declared.owner_change.OwnerChange.{OwnerChange}
 use Rattle.nfs_state.specs.declared.owner_change.OwnerChange.TheVariants as changes
 use Rattle.nfs_state.specs.declared.owner_update.OwnerUpdate.TheVariants as updates
 use Rattle.nfs_forms.specs.declared.client_id.ClientId.{ClientId}
+use Rattle.nfs_forms.specs.declared.lock_owner.LockOwner.{LockOwner}
 use Rattle.nfs_forms.specs.declared.open_owner.OpenOwner.{OpenOwner}
 use Rattle.nfs_forms.specs.ClientId.{is_same_client}
 use Rattle.nfs_owners.specs.declared.client_record.ClientRecord.{ClientRecord}
 use Rattle.nfs_owners.specs.declared.clients.client_change.ClientChange.{ClientChange}
 use Rattle.nfs_owners.specs.declared.clients.client_change.ClientChange.TheVariants as client_changes
 use Rattle.nfs_owners.specs.declared.kept.Kept.{Kept}
+use Rattle.nfs_owners.specs.StateOwner.{lock_owner, open_owner}
+use Rattle.nfs_owners.specs.declared.state_owner.OwnerKind.{OwnerKind}
+use Rattle.nfs_owners.specs.declared.state_owner.StateOwner.{StateOwner}
 use Rattle.nfs_owners.specs.declared.owner.Owner.{Owner}
 use Rattle.nfs_owners.specs.declared.owner.TheConstants.{OWNER_LIMIT}
 use Rattle.nfs_owners.specs.Owner.{has_name, is_known, new_owner}
@@ -39,14 +48,14 @@ filter_seen p (o ∷ owners) =
       | false ↦ filter_seen p owners
     ]
 
-pub without_seen : (name : OpenOwner) (owners : List Owner) → map known_owner (without_owner name owners) ≡ known.without_owner name (map known_owner owners)
+pub without_seen : (name : StateOwner) (owners : List Owner) → map known_owner (without_owner name owners) ≡ known.without_owner name (map known_owner owners)
 without_seen name owners = filter_seen (λ o. not (known.has_name name o)) owners
 
 pub without_client_seen : (client : ClientId) (owners : List Owner) → map known_owner (without_owners_of client owners) ≡ filter (λ o. not (is_same_client o.name.client client)) (map known_owner owners)
 without_client_seen client owners = filter_seen (λ o. not (is_same_client o.name.client client)) owners
 
 -- a change of the owners of one name, as the rules see it
-change_seen : (change : Owner → Owner) (seen : KnownOwner → KnownOwner) → ((o : Owner) → known_owner (change o) ≡ seen (known_owner o)) → (name : OpenOwner) (owners : List Owner)
+change_seen : (change : Owner → Owner) (seen : KnownOwner → KnownOwner) → ((o : Owner) → known_owner (change o) ≡ seen (known_owner o)) → (name : StateOwner) (owners : List Owner)
     → map known_owner (with_change change name owners) ≡ map (λ o. if known.has_name name o then seen o else o) (map known_owner owners)
 change_seen change seen same name [] = refl
 change_seen change seen same name (o ∷ owners) =
@@ -55,33 +64,33 @@ change_seen change seen same name (o ∷ owners) =
       | false ↦ ap (λ rest. known_owner o ∷ rest) (change_seen change seen same name owners)
     ]
 
-pub confirmed_seen : (name : OpenOwner) (owners : List Owner) → map known_owner (with_confirmed name owners) ≡ known.with_confirmation name (map known_owner owners)
+pub confirmed_seen : (name : StateOwner) (owners : List Owner) → map known_owner (with_confirmed name owners) ≡ known.with_confirmation name (map known_owner owners)
 confirmed_seen name owners = change_seen (λ o. record o { confirmed = true }) (λ o. record o { confirmed = true }) (λ o. refl) name owners
 
 -- an owner is stored exactly if the rules know it
-pub known_seen : (name : OpenOwner) (owners : List Owner) → is_some (known.owner_of name (map known_owner owners)) ≡ is_known name owners
+pub known_seen : (name : StateOwner) (owners : List Owner) → is_some (known.owner_of name (map known_owner owners)) ≡ is_known name owners
 known_seen name [] = refl
 known_seen name (o ∷ owners) = grind (arith, known_seen name owners)
 
-pub kept_seen : (name : OpenOwner) (number : ℕ) (kept : Kept) (owners : List Owner) → is_known name owners ≡ true
+pub kept_seen : (name : StateOwner) (number : ℕ) (kept : Kept) (owners : List Owner) → is_known name owners ≡ true
     → map known_owner (with_kept name number kept owners) ≡ known.with_kept_entry number name (map known_owner owners)
 kept_seen name number kept owners is =
     rw is (change_seen (λ o. record o { number = number; kept = kept }) (λ o. record o { kept_entry = number }) (λ o. refl) name owners)
 
-pub record_seen : (name : OpenOwner) (number : ℕ) (kept : Kept) (owners : List Owner) → is_known name owners ≡ false
+pub record_seen : (name : StateOwner) (number : ℕ) (kept : Kept) (owners : List Owner) → is_known name owners ≡ false
     → map known_owner (with_kept name number kept owners) ≡ known.with_record number name (map known_owner owners)
 record_seen name number kept owners none = rw none (map-append known_owner owners (new_owner name number kept ∷ []))
 
 -- without its owner, a name isn't known
-pub unknown_without : (name : OpenOwner) (owners : List Owner) → is_known name (without_owner name owners) ≡ false
+pub unknown_without : (name : StateOwner) (owners : List Owner) → is_known name (without_owner name owners) ≡ false
 unknown_without name [] = refl
 unknown_without name (o ∷ owners) = grind (arith, unknown_without name owners)
 
 -- an owner that is known has a place, and so has one that is yet to be recorded where there are fewer than the limit
-pub place_known : (name : OpenOwner) (owners : List Owner) → is_known name owners ≡ true → has_place name owners ≡ true
+pub place_known : (name : StateOwner) (owners : List Owner) → is_known name owners ≡ true → has_place name owners ≡ true
 place_known name owners is = grind (arith, is)
 
-pub place_below : (name : OpenOwner) (owners : List Owner) → length (map known_owner owners) < OWNER_LIMIT → has_place name owners ≡ true
+pub place_below : (name : StateOwner) (owners : List Owner) → length (map known_owner owners) < OWNER_LIMIT → has_place name owners ≡ true
 place_below name owners below = grind (arith, length-map owners known_owner, below)
 
 -- What is kept of the owners agrees with the journal after some are removed, and after one is confirmed.
@@ -96,91 +105,181 @@ confirmed_kept : (journal : History) (b : Bool) (o : Owner) → IsKeptIn journal
 confirmed_kept journal true o is = record { entry = is.entry; sendable = is.sendable }
 confirmed_kept journal false o is = is
 
-pub agrees_confirmed : (journal : History) (name : OpenOwner) (owners : List Owner) → Agrees journal owners → Agrees journal (with_confirmed name owners)
+pub agrees_confirmed : (journal : History) (name : StateOwner) (owners : List Owner) → Agrees journal owners → Agrees journal (with_confirmed name owners)
 agrees_confirmed journal name [] agrees = agrees
 agrees_confirmed journal name (o ∷ owners) agrees =
     (confirmed_kept journal (has_name name o) o agrees.0, agrees_confirmed journal name owners agrees.1)
 
+-- an owner that is known before another one keeps a request is known after it, and one that isn't known is not
+known_beside : (n m : StateOwner) (number : ℕ) (owners : List KnownOwner)
+    → is_some (known.owner_of m (known.with_kept_entry number n owners)) ≡ is_some (known.owner_of m owners)
+known_beside n m number [] = refl
+known_beside n m number (o ∷ owners) =
+    elim (known.has_name n o) as (λ b. is_some (known.owner_of m ((if b then record o { kept_entry = number } else o) ∷ known.with_kept_entry number n owners)) ≡ is_some (known.owner_of m (o ∷ owners))) [
+      | true ↦ grind (arith, known_beside n m number owners)
+      | false ↦ grind (arith, known_beside n m number owners)
+    ]
+
+-- what is stored, with an entry that is kept for an owner that is known, and for one that isn't
+kept_known : (old : Stored) (k : Keeping) (number : ℕ) (new : Stored) → new ≡ record old { owners = kept_by k number old.owners }
+    → is_some (known.owner_of k.owner (map known_owner old.owners)) ≡ true
+    → meaning new ≡ record (meaning old) { owners = known.with_kept_entry number k.owner (map known_owner old.owners) }
+kept_known old k number new is place =
+    ap meaning is
+    ∙ ap (λ (owners : List KnownOwner). record (meaning old) { owners = owners })
+    (kept_seen k.owner number k.kept old.owners (sym (known_seen k.owner old.owners) ∙ place))
+
+kept_new : (old : Stored) (k : Keeping) (number : ℕ) (new : Stored) → new ≡ record old { owners = kept_by k number old.owners }
+    → is_some (known.owner_of k.owner (map known_owner old.owners)) ≡ false
+    → meaning new ≡ record (meaning old) { owners = known.with_record number k.owner (map known_owner old.owners) }
+kept_new old k number new is place =
+    ap meaning is
+    ∙ ap (λ (owners : List KnownOwner). record (meaning old) { owners = owners })
+    (record_seen k.owner number k.kept old.owners (sym (known_seen k.owner old.owners) ∙ place))
+
 -- what is stored, with an entry that is kept for an owner
-pub keeps_seen : (old : Stored) (name : OpenOwner) (number : ℕ) (kept : Kept) (new : List Owner) → new ≡ with_kept name number kept old.owners
-    → (change : OwnerChange) (other : Kept) → updates.Keeps name kept ≡ update_of change other → HasOwnerPlace change (meaning old)
-    → meaning (record old { owners = new }) ≡ with_owner_change change number (meaning old)
-keeps_seen old name number kept new is changes.Nothing other update place = cc
-keeps_seen old name number kept new is (changes.Keeps n) other update place =
-    let same : name ≡ n = search update in
-    let is_known : is_known name old.owners ≡ true = ap (λ m. is_known m old.owners) same ∙ sym (known_seen n old.owners) ∙ place in
-    ap (λ (owners : List KnownOwner). record (meaning old) { owners = owners })
-    (ap (map known_owner) is ∙ kept_seen name number kept old.owners is_known ∙ ap (λ m. known.with_kept_entry number m (map known_owner old.owners)) same)
-keeps_seen old name number kept new is (changes.Records n) other update place =
-    let same : name ≡ n = search update in
-    let unknown : is_known name old.owners ≡ false = ap (λ m. is_known m old.owners) same ∙ sym (known_seen n old.owners) ∙ place.0 in
-    ap (λ (owners : List KnownOwner). record (meaning old) { owners = owners })
-    (ap (map known_owner) is ∙ record_seen name number kept old.owners unknown ∙ ap (λ m. known.with_record number m (map known_owner old.owners)) same)
-keeps_seen old name number kept new is (changes.Restarts n) other update place = cc
-keeps_seen old name number kept new is (changes.Drops n) other update place = cc
+pub keeps_seen : (old new : Stored) (k : Keeping) (number : ℕ) → new ≡ record old { owners = kept_by k number old.owners }
+    → (change : OwnerChange) (other : OwnerKind → Kept) → updates.Keeps k ≡ update_of change other → HasOwnerPlace change (meaning old)
+    → meaning new ≡ with_owner_change change number (meaning old)
+keeps_seen old new k number is changes.Nothing other update place = cc
+keeps_seen old new k number is (changes.Keeps n) other update place =
+    let same : k.owner ≡ n = search update in
+    kept_known old k number new is (ap (λ m. is_some (known.owner_of m (map known_owner old.owners))) same ∙ place)
+    ∙ ap (λ m. record (meaning old) { owners = known.with_kept_entry number m (map known_owner old.owners) }) same
+keeps_seen old new k number is (changes.KeepsBoth n m) other update place = cc
+keeps_seen old new k number is (changes.Introduces n m) other update place = cc
+keeps_seen old new k number is (changes.Records n) other update place =
+    let same : k.owner ≡ open_owner n = search update in
+    kept_new old k number new is (ap (λ m. is_some (known.owner_of m (map known_owner old.owners))) same ∙ place.0)
+    ∙ ap (λ m. record (meaning old) { owners = known.with_record number m (map known_owner old.owners) }) same
+keeps_seen old new k number is (changes.Restarts n) other update place = cc
+keeps_seen old new k number is (changes.Drops n) other update place = cc
+
+-- what is stored, with an entry that is kept for two owners
+pub keeps_both_seen : (old middle new : Stored) (k j : Keeping) (number : ℕ)
+    → middle ≡ record old { owners = kept_by k number old.owners } → new ≡ record middle { owners = kept_by j number middle.owners }
+    → (change : OwnerChange) (other : OwnerKind → Kept) → updates.KeepsBoth k j ≡ update_of change other → HasOwnerPlace change (meaning old)
+    → meaning new ≡ with_owner_change change number (meaning old)
+keeps_both_seen old middle new k j number first second changes.Nothing other update place = cc
+keeps_both_seen old middle new k j number first second (changes.Keeps n) other update place = cc
+keeps_both_seen old middle new k j number first second (changes.KeepsBoth n m) other update place =
+    let one : k.owner ≡ n = search update in
+    let two : j.owner ≡ m = search update in
+    let known_one = ap (λ o. is_some (known.owner_of o (map known_owner old.owners))) one ∙ place.0 in
+    let seen = kept_known old k number middle first known_one in
+    let owners : map known_owner middle.owners ≡ known.with_kept_entry number k.owner (map known_owner old.owners) = ap (λ (s : State). s.owners) seen in
+    let known_two = ap (λ all. is_some (known.owner_of j.owner all)) owners ∙ known_beside k.owner j.owner number (map known_owner old.owners)
+    ∙ ap (λ o. is_some (known.owner_of o (map known_owner old.owners))) two ∙ place.1 in
+    kept_known middle j number new second known_two
+    ∙ ap (λ (s : State). record s { owners = known.with_kept_entry number j.owner s.owners }) seen
+    ∙ (λ i. record (meaning old) { owners = known.with_kept_entry number (two i) (known.with_kept_entry number (one i) (map known_owner old.owners)) })
+keeps_both_seen old middle new k j number first second (changes.Introduces n m) other update place =
+    let one : k.owner ≡ n = search update in
+    let two : j.owner ≡ m = search update in
+    let known_one = ap (λ o. is_some (known.owner_of o (map known_owner old.owners))) one ∙ place.0 in
+    let seen = kept_known old k number middle first known_one in
+    let owners : map known_owner middle.owners ≡ known.with_kept_entry number k.owner (map known_owner old.owners) = ap (λ (s : State). s.owners) seen in
+    let unknown_two = ap (λ all. is_some (known.owner_of j.owner all)) owners ∙ known_beside k.owner j.owner number (map known_owner old.owners)
+    ∙ ap (λ o. is_some (known.owner_of o (map known_owner old.owners))) two ∙ place.1.0 in
+    kept_new middle j number new second unknown_two
+    ∙ ap (λ (s : State). record s { owners = known.with_record number j.owner s.owners }) seen
+    ∙ (λ i. record (meaning old) { owners = known.with_record number (two i) (known.with_kept_entry number (one i) (map known_owner old.owners)) })
+keeps_both_seen old middle new k j number first second (changes.Records n) other update place = cc
+keeps_both_seen old middle new k j number first second (changes.Restarts n) other update place = cc
+keeps_both_seen old middle new k j number first second (changes.Drops n) other update place = cc
 
 -- what is stored without an owner and its opens
 abbrev pub stored_without : OpenOwner → Stored → Stored
 stored_without name old = record old {
-  owners = without_owner name old.owners;
+  owners = without_owner (open_owner name) old.owners;
   opens = map (opens.without (opens.is_of name)) old.opens;
 }
 
 without_owner_seen : (old : Stored) (name : OpenOwner) → meaning (stored_without name old) ≡ without name (meaning old)
-without_owner_seen old name = ap (λ (owners : List KnownOwner). record (without name (meaning old)) { owners = owners }) (without_seen name old.owners)
+without_owner_seen old name = ap (λ (owners : List KnownOwner). record (without name (meaning old)) { owners = owners }) (without_seen (open_owner name) old.owners)
 
 pub drops_seen : (old new : Stored) (name : OpenOwner) (number : ℕ) → new ≡ stored_without name old
-    → (change : OwnerChange) (other : Kept) → updates.Drops name ≡ update_of change other
+    → (change : OwnerChange) (other : OwnerKind → Kept) → updates.Drops name ≡ update_of change other
     → meaning new ≡ with_owner_change change number (meaning old)
 drops_seen old new name number is changes.Nothing other update = cc
 drops_seen old new name number is (changes.Keeps n) other update = cc
+drops_seen old new name number is (changes.KeepsBoth n m) other update = cc
+drops_seen old new name number is (changes.Introduces n m) other update = cc
 drops_seen old new name number is (changes.Records n) other update = cc
 drops_seen old new name number is (changes.Restarts n) other update = cc
 drops_seen old new name number is (changes.Drops n) other update =
     let same : name ≡ n = search update in
     ap meaning is ∙ without_owner_seen old name ∙ ap (λ m. without m (meaning old)) same
 
-pub restarts_seen : (old removed : Stored) (name : OpenOwner) (number : ℕ) (kept : Kept) (new : List Owner) → removed ≡ stored_without name old → new ≡ with_kept name number kept removed.owners
-    → (change : OwnerChange) (other : Kept) → updates.Restarts name kept ≡ update_of change other
+pub restarts_seen : (old removed : Stored) (name : OpenOwner) (number : ℕ) (kept : Kept) (new : List Owner) → removed ≡ stored_without name old → new ≡ with_kept (open_owner name) number kept removed.owners
+    → (change : OwnerChange) (other : OwnerKind → Kept) → updates.Restarts name kept ≡ update_of change other
     → meaning (record removed { owners = new }) ≡ with_owner_change change number (meaning old)
 restarts_seen old removed name number kept new removes is changes.Nothing other update = cc
 restarts_seen old removed name number kept new removes is (changes.Keeps n) other update = cc
+restarts_seen old removed name number kept new removes is (changes.KeepsBoth n m) other update = cc
+restarts_seen old removed name number kept new removes is (changes.Introduces n m) other update = cc
 restarts_seen old removed name number kept new removes is (changes.Records n) other update = cc
 restarts_seen old removed name number kept new removes is (changes.Drops n) other update = cc
 restarts_seen old removed name number kept new removes is (changes.Restarts n) other update =
     let same : name ≡ n = search update in
-    let unknown : is_known name removed.owners ≡ false = ap (λ (s : Stored). is_known name s.owners) removes ∙ unknown_without name old.owners in
-    let recorded : State → State = λ s. record s { owners = known.with_record number name s.owners } in
-    ap (λ (owners : List KnownOwner). record (meaning removed) { owners = owners }) (ap (map known_owner) is ∙ record_seen name number kept removed.owners unknown)
+    let owner = open_owner name in
+    let unknown : is_known owner removed.owners ≡ false = ap (λ (s : Stored). is_known owner s.owners) removes ∙ unknown_without owner old.owners in
+    let recorded : State → State = λ s. record s { owners = known.with_record number owner s.owners } in
+    ap (λ (owners : List KnownOwner). record (meaning removed) { owners = owners }) (ap (map known_owner) is ∙ record_seen owner number kept removed.owners unknown)
     ∙ ap recorded (ap meaning removes ∙ without_owner_seen old name)
     ∙ ap (λ m. with_owner_change (changes.Restarts m) number (meaning old)) same
 
 -- what is stored after an owner and its open are confirmed
-pub confirms_seen : (old : Stored) (node number : ℕ) (name : OpenOwner) (new : List Owner) (opened : List (List OpenState)) → new ≡ with_confirmed name old.owners
+pub confirms_seen : (old : Stored) (node number : ℕ) (name : OpenOwner) (new : List Owner) (opened : List (List OpenState)) → new ≡ with_confirmed (open_owner name) old.owners
     → opened ≡ with_opens node (opens.with_each (opens.is_numbered number) opens.with_next_seqid) old.opens
     → (change : Change) → change ≡ own_changes.Confirms node number name
     → meaning (record old { owners = new; opens = opened }) ≡ changed change (meaning old)
 confirms_seen old node number name new opened confirmed advanced change is =
-    ap (λ (owners : List KnownOwner). record (meaning old) { owners = owners; opens = opened }) (ap (map known_owner) confirmed ∙ confirmed_seen name old.owners)
-    ∙ ap (λ (all : List (List OpenState)). record (meaning old) { owners = known.with_confirmation name (map known_owner old.owners); opens = all }) advanced
+    ap (λ (owners : List KnownOwner). record (meaning old) { owners = owners; opens = opened }) (ap (map known_owner) confirmed ∙ confirmed_seen (open_owner name) old.owners)
+    ∙ ap (λ (all : List (List OpenState)). record (meaning old) { owners = known.with_confirmation (open_owner name) (map known_owner old.owners); opens = all }) advanced
     ∙ ap (λ ch. changed ch (meaning old)) (sym is)
 
--- what is stored without the owners and the opens of a client that is replaced
-pub left_seen : (old : Stored) (client : ClientId) (new : List Owner) (opened : List (List OpenState)) → new ≡ without_owners_of client old.owners
+-- what is stored after an open is freed with its lock states
+pub closes_seen : (old : Stored) (node number : ℕ) (opened : List (List OpenState)) (locked : List (List StoredLock))
+    → opened ≡ with_opens node (opens.without (opens.is_numbered number)) old.opens
+    → map (map byte_locks) locked ≡ with_locks node (locks.without (locks.is_under number)) (map (map byte_locks) old.locks)
+    → (change : Change) → change ≡ own_changes.Closes node number
+    → meaning (record old { opens = opened; locks = locked }) ≡ changed change (meaning old)
+closes_seen old node number opened locked closed freed change is =
+    (λ i. record (meaning old) { opens = closed i; locks = freed i }) ∙ ap (λ ch. changed ch (meaning old)) (sym is)
+
+-- what is stored after a lock owner is forgotten with its lock states
+pub releases_seen : (old : Stored) (name : LockOwner) (new : List Owner) (locked : List (List StoredLock))
+    → new ≡ without_owner (lock_owner name) old.owners
+    → map (map byte_locks) locked ≡ map (locks.without (locks.is_lock_of name)) (map (map byte_locks) old.locks)
+    → (change : Change) → change ≡ own_changes.Releases name
+    → meaning (record old { owners = new; locks = locked }) ≡ changed change (meaning old)
+releases_seen old name new locked fewer freed change is =
+    (λ i. record (meaning old) { owners = (ap (map known_owner) fewer ∙ without_seen (lock_owner name) old.owners) i; locks = freed i })
+    ∙ ap (λ ch. changed ch (meaning old)) (sym is)
+
+-- what is stored without the owners, the opens and the lock states of a client that is replaced
+pub left_seen : (old : Stored) (client : ClientId) (new : List Owner) (opened : List (List OpenState)) (locked : List (List StoredLock)) → new ≡ without_owners_of client old.owners
     → opened ≡ map (opens.without (opens.is_of_client client)) old.opens
+    → map (map byte_locks) locked ≡ map (locks.without (locks.is_lock_of_client client)) (map (map byte_locks) old.locks)
     → (change : ClientChange) (r : ClientRecord) → change ≡ client_changes.Replaces r client
-    → meaning (record old { owners = new; opens = opened }) ≡ left_by change (meaning old)
-left_seen old client new opened fewer closed change r is =
-    ap (λ (owners : List KnownOwner). record (meaning old) { owners = owners; opens = opened }) (ap (map known_owner) fewer ∙ without_client_seen client old.owners)
-    ∙ ap (λ (all : List (List OpenState)). record (without_client client (meaning old)) { opens = all }) closed
+    → meaning (record old { owners = new; opens = opened; locks = locked }) ≡ left_by change (meaning old)
+left_seen old client new opened locked fewer closed freed change r is =
+    (λ i. record (meaning old) { owners = (ap (map known_owner) fewer ∙ without_client_seen client old.owners) i; opens = closed i; locks = freed i })
     ∙ ap (λ ch. left_by ch (meaning old)) (sym is)
 
 -- A change for which there is an owner's place has a place among the stored owners.
+pub introduces_place : (old : Stored) (name newcomer : StateOwner) (change : OwnerChange) → change ≡ changes.Introduces name newcomer
+    → HasOwnerPlace change (meaning old) → has_place newcomer old.owners ≡ true
+introduces_place old name newcomer change introduces place =
+    let place_here = subst (λ c. HasOwnerPlace c (meaning old)) introduces place in
+    place_below newcomer old.owners place_here.1.1
+
 pub records_place : (old : Stored) (name : OpenOwner) (change : OwnerChange) → (change ≡ changes.Records name) ⊎ (change ≡ changes.Restarts name)
-    → HasOwnerPlace change (meaning old) → has_place name old.owners ≡ true
+    → HasOwnerPlace change (meaning old) → has_place (open_owner name) old.owners ≡ true
 records_place old name change (inl records) place =
     let place_here = subst (λ c. HasOwnerPlace c (meaning old)) records place in
-    place_below name old.owners place_here.1
+    place_below (open_owner name) old.owners place_here.1
 records_place old name change (inr restarts) place =
     let place_here = subst (λ c. HasOwnerPlace c (meaning old)) restarts place in
-    place_known name old.owners (sym (known_seen name old.owners) ∙ place_here)
+    place_known (open_owner name) old.owners (sym (known_seen (open_owner name) old.owners) ∙ place_here)

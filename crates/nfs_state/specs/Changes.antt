@@ -8,6 +8,10 @@ use Rattle.nfs_forms.specs.declared.open_owner.OpenOwner.{OpenOwner}
 use Rattle.nfs_owners.specs.ClientChange.{with_change}
 use Rattle.nfs_owners.specs.declared.clients.client_change.ClientChange.{ClientChange}
 use Rattle.nfs_owners.specs.declared.clients.client_change.ClientChange.TheVariants as client_changes
+use Rattle.nfs_locks.specs.AllLocks.{with_locks}
+use Rattle.nfs_locks.specs.Locks.{with_first_lock, with_lock_change}
+use Rattle.nfs_locks.specs.Locks as locks
+use Rattle.nfs_owners.specs.StateOwner.{lock_owner, open_owner}
 use Rattle.nfs_share.specs.AllOpens.{opens_of, with_opens}
 use Rattle.nfs_share.specs.Opens.{after_downgrade, is_numbered, is_of_client, open_of, with_each, with_next_seqid, with_opening}
 use Rattle.nfs_share.specs.Opens as opens
@@ -16,12 +20,13 @@ use Rattle.nfs_state.specs.State.{State}
 use Rattle.nfs_state.specs.declared.change.Change.{Change}
 use Rattle.nfs_state.specs.declared.change.Change.TheVariants as changes
 use Rattle.nfs_state.specs.declared.owner_change.OwnerChange.{OwnerChange}
-use Rattle.nfs_state.specs.declared.owner_change.OwnerChange.TheVariants.{Nothing, Keeps, Records, Restarts, Drops}
+use Rattle.nfs_state.specs.declared.owner_change.OwnerChange.TheVariants.{Nothing, Keeps, KeepsBoth, Introduces, Records, Restarts, Drops}
 
--- the state without an owner and its opens
+-- The state without an open owner and its opens. It is for owners that aren't confirmed: under their opens there are no
+-- lock states.
 abbrev pub without : OpenOwner → State → State
 without name old = record old {
-  owners = without_owner name old.owners;
+  owners = without_owner (open_owner name) old.owners;
   opens = map (λ opens. filter (λ o. not (is_same_owner o.owner name)) opens) old.opens;
 }
 
@@ -30,17 +35,23 @@ abbrev pub with_owner_change : OwnerChange → ℕ → State → State
 with_owner_change Nothing number old = old
 with_owner_change (Keeps name) number old =
     record old { owners = with_kept_entry number name old.owners }
-with_owner_change (Records name) number old = record old { owners = with_record number name old.owners }
+with_owner_change (KeepsBoth name newcomer) number old =
+    record old { owners = with_kept_entry number newcomer (with_kept_entry number name old.owners) }
+with_owner_change (Introduces name newcomer) number old =
+    record old { owners = with_record number newcomer (with_kept_entry number name old.owners) }
+with_owner_change (Records name) number old =
+    record old { owners = with_record number (open_owner name) old.owners }
 with_owner_change (Restarts name) number old =
     let fresh = without name old in
-    record fresh { owners = with_record number name fresh.owners }
+    record fresh { owners = with_record number (open_owner name) fresh.owners }
 with_owner_change (Drops name) number old = without name old
 
--- The state without the owners and the opens of a client that a confirmation replaces.
+-- The state without the owners, the opens and the lock states of a client that a confirmation replaces.
 abbrev pub without_client : ClientId → State → State
 without_client client old = record old {
   owners = filter (λ o. not (is_same_client o.name.client client)) old.owners;
   opens = map (opens.without (is_of_client client)) old.opens;
+  locks = map (locks.without (locks.is_lock_of_client client)) old.locks;
 }
 
 abbrev pub left_by : ClientChange → State → State
@@ -62,12 +73,25 @@ changed (changes.Opens node owner share) old = record old {
   last_state = last_state_after (is_some (open_of owner (opens_of node old.opens))) old.last_state;
 }
 changed (changes.Confirms node number owner) old = record old {
-  owners = with_confirmation owner old.owners;
+  owners = with_confirmation (open_owner owner) old.owners;
   opens = with_opens node (with_each (is_numbered number) with_next_seqid) old.opens;
 }
 changed (changes.Downgrades node number share) old = record old {
   opens = with_opens node (with_each (is_numbered number) (after_downgrade share)) old.opens;
 }
+-- all lock states under an open are of the open's file
 changed (changes.Closes node number) old = record old {
   opens = with_opens node (opens.without (is_numbered number)) old.opens;
+  locks = with_locks node (locks.without (locks.is_under number)) old.locks;
+}
+changed (changes.Begins node first) old = record old {
+  locks = with_locks node (with_first_lock first (old.last_state + 1)) old.locks;
+  last_state = old.last_state + 1;
+}
+changed (changes.Locks node number change) old = record old {
+  locks = with_locks node (with_lock_change number change) old.locks;
+}
+changed (changes.Releases owner) old = record old {
+  owners = without_owner (lock_owner owner) old.owners;
+  locks = map (locks.without (locks.is_lock_of owner)) old.locks;
 }

@@ -5,9 +5,16 @@ use Rattle.nfs_state.specs.Entries.{IsSendable}
 use Rattle.nfs_state.specs.State.{History}
 use Rattle.nfs_state.specs.declared.owner_change.OwnerChange.{OwnerChange}
 use Rattle.nfs_state.specs.declared.owner_change.OwnerChange.TheVariants as changes
+use Rattle.nfs_state.specs.declared.owner_update.Keeping.{Keeping}
 use Rattle.nfs_state.specs.declared.owner_update.OwnerUpdate.{OwnerUpdate}
 use Rattle.nfs_state.specs.declared.owner_update.OwnerUpdate.TheVariants as updates
+use Rattle.nfs_forms.specs.declared.locker.Locker.{Locker}
+use Rattle.nfs_forms.specs.declared.locker.Locker.TheVariants as lockers
+use Rattle.nfs_owners.specs.StateOwner.{open_owner}
 use Rattle.nfs_owners.specs.declared.kept.Kept.{Kept}
+use Rattle.nfs_owners.specs.declared.state_owner.OwnerKind.{OwnerKind}
+use Rattle.nfs_owners.specs.declared.state_owner.OwnerKind.TheVariants as kinds
+use Rattle.nfs_owners.specs.declared.state_owner.StateOwner.{StateOwner}
 use Rattle.nfs_owners.specs.declared.owner.Owner.{Owner}
 use Rattle.nfs_owners.specs.Owners.{with_kept, without_owner}
 use Rattle.nfs_owners.specs.Kept.{request_of}
@@ -17,46 +24,76 @@ use Rattle.nfs_state.specs.declared.entry.Entry.TheVariants as entries
 use Rattle.nfs_xdr.specs.declared.op.Op.{Op}
 use Rattle.nfs_xdr.specs.declared.op.Op.TheVariants as ops
 
+-- The sequence ids in the arguments of a LOCK: that of the stateid's owner, and that of the lock owner. They differ where
+-- the LOCK has a new lock owner.
+abbrev pub locker_seqid : Locker → ℕ
+locker_seqid (lockers.New locker) = locker.open_seqid
+locker_seqid (lockers.Known locker) = locker.lock_seqid
+
+abbrev pub lock_owner_seqid : Locker → ℕ
+lock_owner_seqid (lockers.New locker) = locker.lock_seqid
+lock_owner_seqid (lockers.Known locker) = locker.lock_seqid
+
 -- the sequence id in the operation's arguments; 0 if it has none
 abbrev pub seqid_of : Op → ℕ
 seqid_of (ops.Open args) = args.seqid
 seqid_of (ops.OpenConfirm args) = args.seqid
 seqid_of (ops.OpenDowngrade args) = args.seqid
 seqid_of (ops.Close args) = args.seqid
+seqid_of (ops.Lock args) = locker_seqid args.locker
+seqid_of (ops.Locku args) = args.seqid
 seqid_of op = 0
 
--- the request and the answer of an entry, as they are kept for an owner
-abbrev pub kept_of : Entry → Kept
-kept_of (entries.Call call) = record {
-  seqid = seqid_of call.request.op;
+-- the sequence id that an owner of this kind keeps of the operation
+abbrev pub seqid_for : OwnerKind → Op → ℕ
+seqid_for kinds.Open op = seqid_of op
+seqid_for kinds.Lock (ops.Lock args) = lock_owner_seqid args.locker
+seqid_for kinds.Lock op = seqid_of op
+
+-- the request and the answer of an entry, as they are kept for an owner of this kind
+abbrev pub kept_of : OwnerKind → Entry → Kept
+kept_of kind (entries.Call call) = record {
+  seqid = seqid_for kind call.request.op;
   request = request_of call.request.op call.request.filehandle;
   answer = call.answer;
 }
 
 -- what is kept for the owner
 abbrev pub kept_for : History → KnownOwner → Option Kept
-kept_for journal o = option_map kept_of (slice_get journal.entries o.kept_entry)
+kept_for journal o = option_map (kept_of o.name.kind) (slice_get journal.entries o.kept_entry)
 
 -- the owner keeps the request and the answer of its entry, which can be sent again
 pub record IsKeptIn (journal : History) (o : Owner) : Type 0 where
-  pub entry : option_map kept_of (slice_get journal.entries o.number) ≡ Some o.kept
+  pub entry : option_map (kept_of o.name.kind) (slice_get journal.entries o.number) ≡ Some o.kept
   pub sendable : IsSendable o.kept.request.op o.kept.answer
 
 abbrev pub Agrees : History → List Owner → Type 0
 Agrees journal owners = AllByRecursion (IsKeptIn journal) owners
 
--- what an entry means for an owner, with the request and the answer to keep
-abbrev pub update_of : OwnerChange → Kept → OwnerUpdate
+-- an owner, with what owners of its kind keep
+abbrev pub keeping : StateOwner → (OwnerKind → Kept) → Keeping
+keeping owner kept = record { owner = owner; kept = kept owner.kind }
+
+-- what an entry means for the owners, with the request and the answer as owners of each kind keep them
+abbrev pub update_of : OwnerChange → (OwnerKind → Kept) → OwnerUpdate
 update_of changes.Nothing kept = updates.Nothing
-update_of (changes.Keeps name) kept = updates.Keeps name kept
-update_of (changes.Records name) kept = updates.Keeps name kept
-update_of (changes.Restarts name) kept = updates.Restarts name kept
-update_of (changes.Drops name) kept = updates.Drops name
+update_of (changes.Keeps owner) kept = updates.Keeps (keeping owner kept)
+update_of (changes.KeepsBoth owner newcomer) kept = updates.KeepsBoth (keeping owner kept) (keeping newcomer kept)
+update_of (changes.Introduces owner newcomer) kept = updates.KeepsBoth (keeping owner kept) (keeping newcomer kept)
+update_of (changes.Records owner) kept = updates.Keeps (keeping (open_owner owner) kept)
+update_of (changes.Restarts owner) kept = updates.Restarts owner (kept kinds.Open)
+update_of (changes.Drops owner) kept = updates.Drops owner
+
+-- the owners after one keeps a request and an answer, in the entry with this number
+abbrev pub kept_by : Keeping → ℕ → List Owner → List Owner
+kept_by keeping number owners = with_kept keeping.owner number keeping.kept owners
 
 -- the stored owners after an entry with this number
 abbrev pub owners_after : OwnerUpdate → ℕ → List Owner → List Owner
 owners_after updates.Nothing number owners = owners
-owners_after (updates.Keeps name kept) number owners = with_kept name number kept owners
-owners_after (updates.Restarts name kept) number owners =
-    with_kept name number kept (without_owner name owners)
-owners_after (updates.Drops name) number owners = without_owner name owners
+owners_after (updates.Keeps keeping) number owners = kept_by keeping number owners
+owners_after (updates.KeepsBoth keeping newcomer) number owners =
+    kept_by newcomer number (kept_by keeping number owners)
+owners_after (updates.Restarts owner kept) number owners =
+    with_kept (open_owner owner) number kept (without_owner (open_owner owner) owners)
+owners_after (updates.Drops owner) number owners = without_owner (open_owner owner) owners

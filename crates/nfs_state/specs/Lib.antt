@@ -4,5 +4,6 @@ pub mod Stored
 pub mod Entries
 pub mod Kept
 pub mod Changes
+pub mod Places
 pub mod Room
 pub mod Shortage

@@ -9,8 +9,11 @@ use Rattle.nfs_state.specs.declared.owner_update.OwnerUpdate.{OwnerUpdate}
 use Rattle.nfs_state.specs.declared.owner_update.OwnerUpdate.TheVariants as updates
 use Rattle.nfs_state.specs.Owners.{owner_of}
 use Rattle.nfs_owners.specs.Owner as owners
-use Rattle.nfs_owners.specs.Owners.{has_place}
-use Rattle.nfs_forms.specs.declared.open_owner.OpenOwner.{OpenOwner}
+use Rattle.nfs_locks.specs.AllLocks.{HasLockRoomAt, is_full_for, locks_of, stored_in}
+use Rattle.nfs_locks.specs.AllLocks as locks
+use Rattle.nfs_owners.specs.Owners.{RoomyOwners, has_place}
+use Rattle.nfs_owners.specs.StateOwner.{open_owner}
+use Rattle.nfs_owners.specs.declared.state_owner.StateOwner.{StateOwner}
 use Rattle.nfs_owners.specs.declared.owner.TheConstants.{OWNER_LIMIT}
 use Rattle.nfs_state.specs.State.{State}
 use Rattle.nfs_state.specs.Stored.{Stored, meaning}
@@ -23,6 +26,7 @@ stored_of tables = record {
   clients = tables.clients.registry;
   owners = tables.owners.owners;
   opens = opens_in tables.opens;
+  locks = stored_in tables.locks;
   last_state = tables.numbers;
   files = tables.files;
 }
@@ -39,40 +43,61 @@ HasRoom (changes.Opens node owner share) tables = HasRoomAt node tables.opens
 HasRoom (changes.Confirms node number owner) tables = ⊤
 HasRoom (changes.Downgrades node number share) tables = ⊤
 HasRoom (changes.Closes node number) tables = ⊤
+HasRoom (changes.Begins node first) tables = HasLockRoomAt node tables.locks
+HasRoom (changes.Locks node number change) tables = locks.HasRoomFor node number tables.locks
+HasRoom (changes.Releases owner) tables = ⊤
 
 -- what the entry means for an owner takes no memory
 abbrev pub HasOwnerRoom : OwnerChange → Tables → Type 0
 HasOwnerRoom owner_changes.Nothing tables = ⊤
 HasOwnerRoom (owner_changes.Drops name) tables = ⊤
 HasOwnerRoom (owner_changes.Keeps name) tables = ⊤
+HasOwnerRoom (owner_changes.KeepsBoth name newcomer) tables = ⊤
 HasOwnerRoom change tables = 0 < tables.owners.room
+
+-- the owner can keep a request without taking memory
+abbrev pub CanKeep : StateOwner → RoomyOwners → Type 0
+CanKeep owner stored =
+    IsTrue (has_place owner stored.owners)
+    × (IsFalse (owners.is_known owner stored.owners) → 0 < stored.room)
 
 -- the stored owners can keep it without taking memory
 abbrev pub HasUpdateRoom : OwnerUpdate → Tables → Type 0
 HasUpdateRoom updates.Nothing tables = ⊤
-HasUpdateRoom (updates.Keeps name kept) tables =
-    IsTrue (has_place name tables.owners.owners)
-    × (IsFalse (owners.is_known name tables.owners.owners) → 0 < tables.owners.room)
+HasUpdateRoom (updates.Keeps keeping) tables = CanKeep keeping.owner tables.owners
+HasUpdateRoom (updates.KeepsBoth keeping newcomer) tables =
+    IsTrue (owners.is_known keeping.owner tables.owners.owners) × CanKeep newcomer.owner tables.owners
 HasUpdateRoom (updates.Restarts name kept) tables =
-    IsTrue (has_place name tables.owners.owners) × (0 < tables.owners.room)
+    IsTrue (has_place (open_owner name) tables.owners.owners) × (0 < tables.owners.room)
 HasUpdateRoom (updates.Drops name) tables = ⊤
 
 -- the owner is known
-abbrev pub is_known : OpenOwner → State → Bool
+abbrev pub is_known : StateOwner → State → Bool
 is_known name state = is_some (owner_of name state.owners)
 
--- What is known of the owner before the entry: one that keeps it or starts anew is known; one that is recorded isn't,
+-- the owner isn't known, and there is a place for it
+abbrev pub IsNewcomer : StateOwner → State → Type 0
+IsNewcomer name state = IsFalse (is_known name state) × (length state.owners < OWNER_LIMIT)
+
+-- What is known of the owners before the entry: one that keeps it or starts anew is known; one that is recorded isn't,
 -- and there is a place for it.
 abbrev pub HasOwnerPlace : OwnerChange → State → Type 0
 HasOwnerPlace owner_changes.Nothing state = ⊤
 HasOwnerPlace (owner_changes.Keeps name) state = IsTrue (is_known name state)
-HasOwnerPlace (owner_changes.Records name) state =
-    IsFalse (is_known name state) × (length state.owners < OWNER_LIMIT)
-HasOwnerPlace (owner_changes.Restarts name) state = IsTrue (is_known name state)
+HasOwnerPlace (owner_changes.KeepsBoth name newcomer) state =
+    IsTrue (is_known name state) × IsTrue (is_known newcomer state)
+HasOwnerPlace (owner_changes.Introduces name newcomer) state =
+    IsTrue (is_known name state) × IsNewcomer newcomer state
+HasOwnerPlace (owner_changes.Records name) state = IsNewcomer (open_owner name) state
+HasOwnerPlace (owner_changes.Restarts name) state = IsTrue (is_known (open_owner name) state)
 HasOwnerPlace (owner_changes.Drops name) state = ⊤
 
--- the numbers that the change uses exist: the next client number, the next confirm value, the next state's number
-abbrev pub HasNumbers : Change → State → Type 0
-HasNumbers (changes.Clients change) state = HasNumbersFor change state.clients
-HasNumbers (changes.Opens node owner share) state = state.last_state < 2 ^ 32 - 1
-HasNumbers change state = ⊤
+-- The next client number, confirm value and state number that the change uses exist, and the runs of a lock state
+-- aren't too many after it. (How many states there may be is judged by the rules.)
+abbrev pub IsWithinLimits : Change → State → Type 0
+IsWithinLimits (changes.Clients change) state = HasNumbersFor change state.clients
+IsWithinLimits (changes.Opens node owner share) state = state.last_state < 2 ^ 32 - 1
+IsWithinLimits (changes.Begins node first) state = state.last_state < 2 ^ 32 - 1
+IsWithinLimits (changes.Locks node number change) state =
+    IsFalse (is_full_for number change (locks_of node state.locks))
+IsWithinLimits change state = ⊤

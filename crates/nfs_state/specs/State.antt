@@ -1,5 +1,5 @@
 -- The state that the rules of the operations refer to, and the journal of its changes.
-use Rattle.std.specs.Prelude.{ℕ, zero, suc, Bool, false, ◌==◌, List, [], ◌∷◌, ◌++◌, length, find, replicate, Option, Some, None}
+use Rattle.std.specs.Prelude.{ℕ, zero, suc, Bool, false, ◌==◌, ◌||◌, List, [], ◌∷◌, ◌++◌, length, find, replicate, Option, Some, None}
 use Rattle.std.specs.List.{list_any}
 use Rattle.nfs_forms.specs.declared.client_id.ClientId.{ClientId}
 use Rattle.nfs_owners.specs.declared.client_record.ClientRecord.{ClientRecord}
@@ -8,6 +8,7 @@ use Rattle.nfs_owners.specs.Registry.{Registry, no_clients}
 use Rattle.nfs_state.specs.Owners.{KnownOwner}
 use Rattle.nfs_state.specs.declared.stored_file.StoredFile.{StoredFile}
 use Rattle.nfs_share.specs.declared.open_state.OpenState.{OpenState}
+use Rattle.nfs_locks.specs.Locks.{ByteLocks, is_lock_of_client}
 use Rattle.nfs_share.specs.Opens.{is_of_client}
 use Rattle.nfs_tree.specs.declared.node.Node.{Node}
 use Rattle.nfs_tree.specs.declared.policy.Policy.{Policy}
@@ -19,6 +20,8 @@ pub record State : Type 0 where
   pub owners : List KnownOwner
   -- those of each node, by its number, in the order in which they came
   pub opens : List (List OpenState)
+  -- those of each node, as the opens are
+  pub locks : List (List ByteLocks)
   -- the number that was given to a state last; 0 before the first
   pub last_state : ℕ
   -- ordered by the numbers of their nodes
@@ -56,6 +59,7 @@ empty_server nodes = record {
   clients = no_clients;
   owners = [];
   opens = replicate (node_count nodes) [];
+  locks = replicate (node_count nodes) [];
   last_state = 0;
   files = initial_files nodes;
 }
@@ -71,9 +75,11 @@ pub record History : Type 0 where
   pub policy : Policy
   pub entries : List Entry
 
--- whether the client has state (RFC 7530, section 9.1.1): an open, also one of an unconfirmed owner
+-- whether the client has state (RFC 7530, section 9.1.1): an open, also one of an unconfirmed owner, or a lock state
 abbrev pub has_state : State → ClientId → Bool
-has_state state client = list_any (list_any (is_of_client client)) state.opens
+has_state state client =
+    list_any (list_any (is_of_client client)) state.opens
+    || list_any (list_any (is_lock_of_client client)) state.locks
 
 -- whether the client of a record has state, if there is a record
 abbrev pub record_has_state : State → Option ClientRecord → Bool

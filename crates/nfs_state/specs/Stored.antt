@@ -5,6 +5,7 @@ use Rattle.nfs_state.specs.Owners.{KnownOwner}
 use Rattle.nfs_state.specs.State.{State, initial_files}
 use Rattle.nfs_owners.specs.declared.owner.Owner.{Owner}
 use Rattle.nfs_owners.specs.Registry.{Registry, no_clients}
+use Rattle.nfs_locks.specs.StoredLocks.{StoredLock, byte_locks}
 use Rattle.nfs_share.specs.declared.open_state.OpenState.{OpenState}
 use Rattle.nfs_tree.specs.declared.node.Node.{Node}
 use Rattle.nfs_tree.specs.Tree.{node_count}
@@ -15,6 +16,8 @@ pub record Stored : Type 0 where
   pub owners : List Owner
   -- those of each node, by its number
   pub opens : List (List OpenState)
+  -- those of each node, by its number
+  pub locks : List (List StoredLock)
   -- the number that was given to a state last
   pub last_state : ℕ
   -- ordered by the numbers of their nodes
@@ -34,6 +37,7 @@ meaning stored = record {
   clients = stored.clients;
   owners = map known_owner stored.owners;
   opens = stored.opens;
+  locks = map (map byte_locks) stored.locks;
   last_state = stored.last_state;
   files = stored.files;
 }
@@ -44,6 +48,7 @@ empty_store nodes = record {
   clients = no_clients;
   owners = [];
   opens = replicate (node_count nodes) [];
+  locks = replicate (node_count nodes) [];
   last_state = 0;
   files = initial_files nodes;
 }

@@ -1,4 +1,7 @@
+use nfs_forms::LockOwner;
+use nfs_locks::FirstLock;
 use nfs_owners::ClientChange;
+use nfs_ranges::Piece;
 use nfs_share::Share;
 use nfs_xdr::OpenOwner;
 
@@ -6,7 +9,7 @@ use nfs_xdr::OpenOwner;
 #[derive(Debug, Drop)]
 pub enum Change {
     Nothing,
-    /// The clients' records. A client that is replaced loses its owners and its opens.
+    /// The clients' records. A client that is replaced loses its owners, its opens and its lock states.
     Clients(ClientChange),
     /// The owner opens the node's file for this share: its open of the file gains it, or it gets one with the next
     /// number.
@@ -27,9 +30,24 @@ pub enum Change {
         number: u32,
         share: Share,
     },
-    /// The open with this number is freed.
+    /// The open with this number is freed, with its lock states.
     Closes {
         node: u32,
         number: u32,
+    },
+    /// A lock owner's first lock of the node's file makes a lock state with the next number.
+    Begins {
+        node: u32,
+        first: FirstLock,
+    },
+    /// The lock state with this number holds other bytes, and gets its next seqid.
+    Locks {
+        node: u32,
+        number: u32,
+        change: Piece,
+    },
+    /// The lock owner is forgotten with its lock states.
+    Releases {
+        owner: LockOwner,
     },
 }

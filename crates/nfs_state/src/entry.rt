@@ -1,8 +1,9 @@
 ghost use Rattle.std.specs.Prelude.{◌≡◌, IfOk};
-ghost use Rattle.nfs_state.specs.Kept.{kept_of, seqid_of};
+ghost use Rattle.nfs_state.specs.Kept.{kept_of, lock_owner_seqid, locker_seqid, seqid_for, seqid_of};
 
 use crate::Request;
-use nfs_owners::{Kept, KeptRequest};
+use nfs_forms::Locker;
+use nfs_owners::{Kept, KeptRequest, OwnerKind};
 use nfs_xdr::{Op, OpResult};
 use std::alloc::AllocError;
 
@@ -27,12 +28,12 @@ pub const JOURNAL_LIMIT: usize = 1_000_000;
 pub const ANSWER_LIMIT: usize = 2036;
 
 impl Call {
-    /// The request and the answer, as they are kept for an owner.
-    pub(crate) fn kept(&self) -> Result<Kept, AllocError>
-        ensures { IfOk result (λ k. k ≡ kept_of (Entry.Call self.now)) }
+    /// The request and the answer, as they are kept for an owner of this kind.
+    pub(crate) fn kept(&self, kind: OwnerKind) -> Result<Kept, AllocError>
+        ensures { IfOk result (λ k. k ≡ kept_of kind (Entry.Call self.now)) }
     {
         Ok(Kept {
-            seqid: seqid_of(&self.request.op),
+            seqid: seqid_for(kind, &self.request.op),
             request: KeptRequest {
                 op: copy_of_op(&self.request.op)?,
                 filehandle: self.request.filehandle,
@@ -56,7 +57,8 @@ pub fn copy_of_answer(answer: &OpResult) -> Result<OpResult, AllocError>
     answer.clone()
 }
 
-/// The sequence id in the operation's arguments; 0 if it has none.
+/// The sequence id in the operation's arguments, in a LOCK that of the owner which its stateid names; 0 if there is
+/// none.
 pub fn seqid_of(op: &Op) -> u32
     ensures { result ≡ seqid_of op.now }
 {
@@ -65,6 +67,38 @@ pub fn seqid_of(op: &Op) -> u32
         Op::OpenConfirm(args) => args.seqid,
         Op::OpenDowngrade(args) => args.seqid,
         Op::Close(args) => args.seqid,
+        Op::Lock(args) => locker_seqid(&args.locker),
+        Op::Locku(args) => args.seqid,
         _ => 0,
+    }
+}
+
+// The sequence id that an owner of this kind keeps of the operation.
+fn seqid_for(kind: OwnerKind, op: &Op) -> u32
+    ensures { result ≡ seqid_for kind op.now }
+{
+    match (kind, op) {
+        (OwnerKind::Lock, Op::Lock(args)) => lock_owner_seqid(&args.locker),
+        _ => seqid_of(op),
+    }
+}
+
+// The sequence id in a LOCK of the owner that its stateid names.
+fn locker_seqid(locker: &Locker) -> u32
+    ensures { result ≡ locker_seqid locker.now }
+{
+    match locker {
+        Locker::New(locker) => locker.open_seqid,
+        Locker::Known(locker) => locker.lock_seqid,
+    }
+}
+
+// The sequence id in a LOCK of the lock owner.
+fn lock_owner_seqid(locker: &Locker) -> u32
+    ensures { result ≡ lock_owner_seqid locker.now }
+{
+    match locker {
+        Locker::New(locker) => locker.lock_seqid,
+        Locker::Known(locker) => locker.lock_seqid,
     }
 }

@@ -19,7 +19,7 @@ pub use change::Change;
 pub use entry::{ANSWER_LIMIT, Call, Entry, JOURNAL_LIMIT, copy_of_answer, seqid_of};
 pub use intake::take_in;
 pub use journal::{Journal, LEASE_MAX, LEASE_MIN};
-pub use limits::{OPEN_LIMIT, limits_of_the_state};
+pub use limits::{STATE_LIMIT, limits_of_the_state};
 pub use moment::Moment;
 pub use owner_change::OwnerChange;
 pub use request::Request;

@@ -1,36 +1,64 @@
 ghost use Rattle.std.specs.Prelude.{◌≡◌, IfOk};
-ghost use Rattle.nfs_state.specs.Kept.{update_of, kept_of};
+ghost use Rattle.nfs_state.specs.Kept.{kept_of, update_of};
 
 use crate::owner_change::OwnerChange;
 use crate::{Call, Entry};
-use nfs_owners::Kept;
-use nfs_xdr::OpenOwner;
+use nfs_forms::OpenOwner;
+use nfs_owners::{Kept, OwnerKind, StateOwner};
 use std::alloc::AllocError;
 
-/// What an entry means for an owner, with a copy of the request and the answer to keep.
+/// What an entry means for the owners, with a copy of the request and the answer for each that keeps them.
 #[derive(Debug, Drop)]
 pub(crate) enum OwnerUpdate {
     Nothing,
     /// This owner keeps the request and the answer, and is recorded if it isn't known.
-    Keeps(OpenOwner, Kept),
+    Keeps(Keeping),
+    /// These two do.
+    KeepsBoth(Keeping, Keeping),
     /// This owner is dropped with its opens, becomes known anew, and keeps the request and the answer.
     Restarts(OpenOwner, Kept),
     /// This owner is dropped with its opens.
     Drops(OpenOwner),
 }
 
+/// An owner, and what it keeps.
+#[derive(Debug, Drop)]
+pub(crate) struct Keeping {
+    pub owner: StateOwner,
+    pub kept: Kept,
+}
+
 impl OwnerUpdate {
-    /// What the call means for an owner.
+    /// What the call means for the owners.
     pub(crate) fn of(change: OwnerChange, call: &Call) -> Result<OwnerUpdate, AllocError>
-        ensures { IfOk result (λ u. u ≡ update_of change (kept_of (Entry.Call call.now))) }
+        ensures { IfOk result (λ u. u ≡ update_of change (λ kind. kept_of kind (Entry.Call call.now))) }
     {
         Ok(match change {
             OwnerChange::Nothing => OwnerUpdate::Nothing,
-            OwnerChange::Keeps(name) | OwnerChange::Records(name) => {
-                OwnerUpdate::Keeps(name, call.kept()?)
+            OwnerChange::Keeps(owner) => OwnerUpdate::Keeps(Keeping::of(owner, call)?),
+            OwnerChange::KeepsBoth(owner, newcomer) | OwnerChange::Introduces(owner, newcomer) => {
+                OwnerUpdate::KeepsBoth(Keeping::of(owner, call)?, Keeping::of(newcomer, call)?)
             }
-            OwnerChange::Restarts(name) => OwnerUpdate::Restarts(name, call.kept()?),
-            OwnerChange::Drops(name) => OwnerUpdate::Drops(name),
+            OwnerChange::Records(owner) => {
+                OwnerUpdate::Keeps(Keeping::of(StateOwner::of_open(owner), call)?)
+            }
+            OwnerChange::Restarts(owner) => OwnerUpdate::Restarts(
+                owner,
+                call.kept(OwnerKind::Open)?,
+            ),
+            OwnerChange::Drops(owner) => OwnerUpdate::Drops(owner),
         })
+    }
+}
+
+impl Keeping {
+    ghost use Rattle.nfs_state.specs.Kept.{keeping};
+
+    // The owner with what it keeps of the call.
+    fn of(owner: StateOwner, call: &Call) -> Result<Keeping, AllocError>
+        ensures { IfOk result (λ k. k ≡ keeping owner (λ kind. kept_of kind (Entry.Call call.now))) }
+    {
+        let kept = call.kept(owner.kind)?;
+        Ok(Keeping { owner, kept })
     }
 }

@@ -1,11 +1,13 @@
 ghost use Rattle.std.specs.Prelude.{◌≡◌, ◌<◌, ◌≤◌, ◌-◌, ◌^◌, IfErr, IfOk, IsOk, IsTrue, OnOk, map};
 
 use crate::change::Change;
+use crate::limits::STATE_LIMIT;
 use crate::owner_change::OwnerChange;
-use crate::owner_update::OwnerUpdate;
+use crate::owner_update::{Keeping, OwnerUpdate};
 use crate::shortage::Shortage;
 use crate::stored_files::StoredFiles;
-use nfs_owners::{ClientChange, ClientRecord, Clients, Numbers, Owners};
+use nfs_locks::{FirstLock, Locks};
+use nfs_owners::{ClientChange, ClientRecord, Clients, Numbers, OwnerRef, Owners, StateOwner};
 use nfs_share::{Opens, Share};
 use nfs_tree::Tree;
 use nfs_xdr::{ClientId, OpenOwner};
@@ -17,7 +19,8 @@ pub struct Tables {
     pub clients: Clients,
     pub owners: Owners,
     pub opens: Opens,
-    /// The numbers of the opens.
+    pub locks: Locks,
+    /// The numbers of the opens and lock states.
     pub numbers: Numbers,
     pub files: StoredFiles,
 }
@@ -25,13 +28,19 @@ pub struct Tables {
 impl Tables {
     ghost use Rattle.std.specs.Option.{option_copied};
     ghost use Rattle.nfs_state.specs.State.{change_of, file_of, has_state, record_has_state, size_of, History};
-    ghost use Rattle.nfs_state.specs.Kept.{Agrees, owners_after, update_of};
+    ghost use Rattle.nfs_state.specs.Kept.{Agrees, kept_by, owners_after, update_of};
     ghost use Rattle.nfs_state.specs.Changes.{with_owner_change, changed, left_by};
-    ghost use Rattle.nfs_state.specs.Room.{HasNumbers, HasOwnerPlace, HasOwnerRoom, HasRoom, HasUpdateRoom, state_of, stored_of};
+    ghost use Rattle.nfs_state.specs.Changes as changed_state;
+    ghost use Rattle.nfs_state.specs.Room.{IsWithinLimits, HasOwnerPlace, HasOwnerRoom, HasRoom, HasUpdateRoom, CanKeep, state_of, stored_of};
     ghost use Rattle.nfs_state.specs.declared.owner_change.OwnerChange.{OwnerChange};
     ghost use Rattle.nfs_owners.specs.declared.kept.Kept.{Kept};
     ghost use Rattle.nfs_state.specs.declared.change.Change.{Change};
-    ghost use Rattle.nfs_forms.specs.declared.open_owner.OpenOwner.{OpenOwner};
+    ghost use Rattle.nfs_owners.specs.Owner.{is_known};
+    ghost use Rattle.nfs_owners.specs.StateOwner.{open_owner};
+    ghost use Rattle.nfs_owners.specs.declared.state_owner.OwnerKind.{OwnerKind};
+    ghost use Rattle.nfs_owners.specs.declared.state_owner.StateOwner.{StateOwner};
+    ghost use Rattle.nfs_locks.specs.AllLocks.{HasLockRoomAt};
+    ghost use Rattle.nfs_state.specs.Places.{has_state_place};
     ghost use Rattle.nfs_owners.specs.Owners.{has_place, without_owner};
     ghost use Rattle.nfs_share.specs.AllOpens.{HasRoomAt, opens_in};
     ghost use Rattle.nfs_share.specs.Opens.{is_of, without};
@@ -47,6 +56,7 @@ impl Tables {
             clients: Clients::new(alloc),
             owners: Owners::new(alloc),
             opens: Opens::new(alloc, tree.len())?,
+            locks: Locks::new(alloc, tree.len())?,
             numbers: Numbers::new(),
             files: StoredFiles::of_tree(alloc, tree)?,
         })
@@ -77,12 +87,32 @@ impl Tables {
     fn has_state(&self, client: ClientId) -> bool
         ensures { result ≡ has_state (state_of self.now) client }
     {
-        self.opens.has_client(client)
+        self.opens.has_client(client) || self.locks.has_client(client)
+    }
+
+    /// Whether there is a place for one more open or lock state.
+    pub fn has_state_place(&self) -> bool
+        ensures { result ≡ has_state_place (state_of self.now) }
+    {
+        self.opens.has_place(self.locks.places_left(STATE_LIMIT))
+    }
+
+    /// Whether there is a place for one more open or lock state without the opens of this owner.
+    pub fn has_state_place_without(&self, owner: &OpenOwner) -> bool
+        ensures { result ≡ has_state_place (changed_state.without owner.now (state_of self.now)) }
+    {
+        self.opens
+            .has_place_without(owner, self.locks.places_left(STATE_LIMIT))
     }
 
     /// Makes room for the change, and for what the entry means for an owner. Fails for want of memory alone, and never
     /// where there is room already.
-    pub(crate) fn make_room(&mut self, change: &Change, owner: &OwnerChange) -> Result<(), Shortage>
+    pub(crate) fn make_room(
+        &mut self,
+        alloc: Global,
+        change: &Change,
+        owner: &OwnerChange,
+    ) -> Result<(), Shortage>
         requires place { HasOwnerPlace owner.now (state_of self.old) }
         ensures same { stored_of self.new ≡ stored_of self.old }
         ensures room { OnOk result (HasRoom change.now self.new × HasOwnerRoom owner.now self.new) }
@@ -93,10 +123,13 @@ impl Tables {
         match change {
             Change::Clients(change) => self.clients.make_room(change)?,
             Change::Opens { node, .. } => self.opens.reserve(*node)?,
+            Change::Begins { node, .. } => self.locks.reserve(alloc, *node)?,
+            Change::Locks { node, number, .. } => self.locks.reserve_change(*node, *number)?,
             Change::Nothing
             | Change::Confirms { .. }
             | Change::Downgrades { .. }
-            | Change::Closes { .. } => {}
+            | Change::Closes { .. }
+            | Change::Releases { .. } => {}
         }
         Ok(())
     }
@@ -111,9 +144,13 @@ impl Tables {
         ensures memory { IfErr result (λ e. e ≡ Shortage.Memory) }
     {
         match change {
-            OwnerChange::Nothing | OwnerChange::Keeps(_) | OwnerChange::Drops(_) => Ok(()),
-            OwnerChange::Records(name) | OwnerChange::Restarts(name) => {
-                Ok(self.owners.reserve(name)?)
+            OwnerChange::Nothing
+            | OwnerChange::Keeps(_)
+            | OwnerChange::KeepsBoth(_, _)
+            | OwnerChange::Drops(_) => Ok(()),
+            OwnerChange::Introduces(_, newcomer) => Ok(self.owners.reserve(newcomer.as_ref())?),
+            OwnerChange::Records(owner) | OwnerChange::Restarts(owner) => {
+                Ok(self.owners.reserve(OwnerRef::of_open(owner))?)
             }
         }
     }
@@ -121,7 +158,7 @@ impl Tables {
     /// Makes what the entry with this number means for an owner, for which there has to be room. It takes no memory.
     pub(crate) fn commit_owner(&mut self, update: OwnerUpdate, number: u32)
         requires room { HasUpdateRoom update self.old }
-        ensures state { (change : OwnerChange) (kept : Kept) → update ≡ update_of change kept
+        ensures state { (change : OwnerChange) (kept : OwnerKind → Kept) → update ≡ update_of change kept
             → HasOwnerPlace change (state_of self.old)
             → state_of self.new ≡ with_owner_change change number (state_of self.old) }
         ensures owners { self.new.owners.owners ≡ owners_after update number self.old.owners.owners }
@@ -129,34 +166,51 @@ impl Tables {
     {
         match update {
             OwnerUpdate::Nothing => {}
-            OwnerUpdate::Keeps(name, kept) => self.owners.keep(name, number, kept),
-            OwnerUpdate::Restarts(name, kept) => {
-                self.remove_owner(&name);
-                self.owners.keep(name, number, kept);
+            OwnerUpdate::Keeps(keeping) => self.keep(keeping, number),
+            OwnerUpdate::KeepsBoth(keeping, newcomer) => {
+                self.keep(keeping, number);
+                self.keep(newcomer, number);
             }
-            OwnerUpdate::Drops(name) => self.remove_owner(&name),
+            OwnerUpdate::Restarts(owner, kept) => {
+                self.remove_owner(&owner);
+                self.owners.keep(StateOwner::of_open(owner), number, kept);
+            }
+            OwnerUpdate::Drops(owner) => self.remove_owner(&owner),
         }
+    }
+
+    // Makes the request and the answer the kept ones of an owner, in the entry with this number.
+    fn keep(&mut self, keeping: Keeping, number: u32)
+        requires room { CanKeep keeping.owner self.old.owners }
+        ensures stored { stored_of self.new ≡ record (stored_of self.old) {
+          owners = kept_by keeping number self.old.owners.owners;
+        } }
+        ensures room { (change : Change) → HasRoom change self.old → HasRoom change self.new }
+        ensures known { (other : StateOwner) → IsTrue (is_known keeping.owner self.old.owners.owners)
+            → CanKeep other self.old.owners → CanKeep other self.new.owners }
+    {
+        self.owners.keep(keeping.owner, number, keeping.kept);
     }
 
     // Forgets the owner, and frees its opens.
     fn remove_owner(&mut self, name: &OpenOwner)
         ensures stored { stored_of self.new ≡ record (stored_of self.old) {
-          owners = without_owner name.now self.old.owners.owners;
+          owners = without_owner (open_owner name.now) self.old.owners.owners;
           opens = map (without (is_of name.now)) (opens_in self.old.opens);
         } }
         ensures room { (change : Change) → HasRoom change self.old → HasRoom change self.new }
         ensures owner_room { self.old.owners.room ≤ self.new.owners.room }
-        ensures owner_places { (other : OpenOwner) → IsTrue (has_place other self.old.owners.owners)
+        ensures owner_places { (other : StateOwner) → IsTrue (has_place other self.old.owners.owners)
             → IsTrue (has_place other self.new.owners.owners) }
     {
-        self.owners.remove(name);
+        self.owners.remove(OwnerRef::of_open(name));
         self.opens.remove_owner(name);
     }
 
     /// Makes the change, for which there has to be room. It takes no memory.
     pub(crate) fn commit(&mut self, change: Change)
         requires room { HasRoom change self.old }
-        requires numbers { HasNumbers change (state_of self.old) }
+        requires numbers { IsWithinLimits change (state_of self.old) }
         ensures state { state_of self.new ≡ changed change (state_of self.old) }
         ensures kept { (journal : History)
             → Agrees journal self.old.owners.owners → Agrees journal self.new.owners.owners }
@@ -170,7 +224,7 @@ impl Tables {
                 number,
                 owner,
             } => {
-                self.owners.confirm(&owner);
+                self.owners.confirm(OwnerRef::of_open(&owner));
                 self.opens.advance(node, number);
             }
             Change::Downgrades {
@@ -178,7 +232,20 @@ impl Tables {
                 number,
                 share,
             } => self.opens.keep_within(node, number, share),
-            Change::Closes { node, number } => self.opens.close(node, number),
+            Change::Closes { node, number } => {
+                self.opens.close(node, number);
+                self.locks.close(node, number);
+            }
+            Change::Begins { node, first } => self.commit_first_lock(node, first),
+            Change::Locks {
+                node,
+                number,
+                change,
+            } => self.locks.change(node, number, change),
+            Change::Releases { owner } => {
+                self.owners.remove(OwnerRef::of_lock(&owner));
+                self.locks.remove_owner(&owner);
+            }
         }
     }
 
@@ -196,7 +263,19 @@ impl Tables {
         self.opens.grant(node, owner, share, number);
     }
 
-    // Changes the clients' records. A client that is replaced loses its owners and its opens.
+    // Makes a lock state with the next number.
+    fn commit_first_lock(&mut self, node: u32, first: FirstLock)
+        requires room { HasLockRoomAt node self.old.locks }
+        requires numbers { self.old.numbers < 2 ^ 32 - 1 }
+        ensures state { state_of self.new ≡ changed (changes.Begins node first) (state_of self.old) }
+        ensures owners { self.new.owners ≡ self.old.owners }
+    {
+        let number = self.numbers.upcoming();
+        self.numbers.next();
+        self.locks.begin(node, first, number);
+    }
+
+    // Changes the clients' records. A client that is replaced loses its owners, its opens and its lock states.
     fn commit_clients(&mut self, change: ClientChange)
         requires room { HasRoomFor change self.old.clients }
         requires numbers { HasNumbersFor change self.old.clients.registry }
@@ -208,7 +287,7 @@ impl Tables {
         self.clients.commit(change);
     }
 
-    // Forgets the owners and the opens of a client that is replaced.
+    // Forgets the owners, the opens and the lock states of a client that is replaced.
     fn leave(&mut self, change: &ClientChange)
         ensures state { state_of self.new ≡ left_by change.now (state_of self.old) }
         ensures clients { self.new.clients ≡ self.old.clients }
@@ -218,6 +297,7 @@ impl Tables {
         if let ClientChange::Replaces(_, client) = change {
             self.owners.remove_client(*client);
             self.opens.remove_client(*client);
+            self.locks.remove_client(*client);
         }
     }
 }

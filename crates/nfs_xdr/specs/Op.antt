@@ -5,7 +5,7 @@ use Rattle.nfs_xdr.specs.declared.op.Op.{Op}
 use Rattle.nfs_xdr.specs.declared.op.Op.TheVariants as ops
 use Rattle.nfs_xdr.specs.declared.opnum.Opnum.{Opnum}
 use Rattle.nfs_xdr.specs.declared.opnum.Opnum.TheVariants as opnums
-use Rattle.nfs_forms.specs.operations as of
+use Rattle.nfs_operations.specs as of
 use Rattle.nfs_xdr.specs.Opnum.{class_of, is_on_state, is_of_tree, opnum}
 use Rattle.xdr.specs.Form.{Form}
 use Rattle.xdr.specs.Switch.{Case, Content, case, no_case, Arm, arm_in, Agrees, IsRead}
@@ -17,6 +17,9 @@ op_case opnums.Access = case of.Access.arguments ops.Access
 op_case opnums.Close = case of.Close.arguments ops.Close
 op_case opnums.Getattr = case of.Getattr.arguments ops.Getattr
 op_case opnums.Getfh = case of.Getfh.arguments (λ v. ops.Getfh)
+op_case opnums.Lock = case of.Lock.arguments ops.Lock
+op_case opnums.Lockt = case of.Lockt.arguments ops.Lockt
+op_case opnums.Locku = case of.Locku.arguments ops.Locku
 op_case opnums.Lookup = case of.Lookup.arguments ops.Lookup
 op_case opnums.Open = case of.Open.arguments ops.Open
 op_case opnums.OpenConfirm = case of.OpenConfirm.arguments ops.OpenConfirm
@@ -27,6 +30,7 @@ op_case opnums.Restorefh = case of.Restorefh.arguments (λ v. ops.Restorefh)
 op_case opnums.Savefh = case of.Savefh.arguments (λ v. ops.Savefh)
 op_case opnums.Setclientid = case of.Setclientid.arguments ops.Setclientid
 op_case opnums.SetclientidConfirm = case of.SetclientidConfirm.arguments ops.SetclientidConfirm
+op_case opnums.ReleaseLockowner = case of.ReleaseLockowner.arguments ops.ReleaseLockowner
 op_case (opnums.Unsupported o) = no_case
 op_case opnums.Illegal = no_case
 
@@ -39,6 +43,9 @@ row_of (ops.Access v) = row opnums.Access v
 row_of (ops.Close v) = row opnums.Close v
 row_of (ops.Getattr v) = row opnums.Getattr v
 row_of ops.Getfh = row opnums.Getfh tt
+row_of (ops.Lock v) = row opnums.Lock v
+row_of (ops.Lockt v) = row opnums.Lockt v
+row_of (ops.Locku v) = row opnums.Locku v
 row_of (ops.Lookup v) = row opnums.Lookup v
 row_of (ops.Open v) = row opnums.Open v
 row_of (ops.OpenConfirm v) = row opnums.OpenConfirm v
@@ -49,6 +56,7 @@ row_of ops.Restorefh = row opnums.Restorefh tt
 row_of ops.Savefh = row opnums.Savefh tt
 row_of (ops.Setclientid v) = row opnums.Setclientid v
 row_of (ops.SetclientidConfirm v) = row opnums.SetclientidConfirm v
+row_of (ops.ReleaseLockowner v) = row opnums.ReleaseLockowner v
 
 abbrev pub opnum_of : Op → Opnum
 opnum_of o = (row_of o).0

@@ -13,7 +13,7 @@ use Rattle.nfs_forms.specs.declared.status.Refusal.TheVariants as refusals
 use Rattle.nfs_forms.specs.declared.status.Status.{Status}
 use Rattle.nfs_forms.specs.declared.status.Status.TheVariants as statuses
 use Rattle.nfs_forms.specs.Answer as answer
-use Rattle.nfs_forms.specs.operations as of
+use Rattle.nfs_operations.specs as of
 use Rattle.nfs_xdr.specs.Opnum.{opnum}
 use Rattle.xdr.specs.Form.{Form, ◌and◌, nothing, constant}
 use Rattle.xdr.specs.Switch.{Case, Content, case, Arm, arm_in, Agrees, IsRead}
@@ -38,6 +38,9 @@ outcomes_of opnums.Access = outcomes of.Access.result results.Access
 outcomes_of opnums.Close = outcomes of.Close.result results.Close
 outcomes_of opnums.Getattr = outcomes of.Getattr.result results.Getattr
 outcomes_of opnums.Getfh = outcomes of.Getfh.result results.Getfh
+outcomes_of opnums.Lock = outcomes of.Lock.result results.Lock
+outcomes_of opnums.Lockt = outcomes of.Lockt.result results.Lockt
+outcomes_of opnums.Locku = outcomes of.Locku.result results.Locku
 outcomes_of opnums.Lookup = outcomes of.Lookup.result results.Lookup
 outcomes_of opnums.Open = outcomes of.Open.result results.Open
 outcomes_of opnums.OpenConfirm = outcomes of.OpenConfirm.result results.OpenConfirm
@@ -49,6 +52,7 @@ outcomes_of opnums.Savefh = outcomes of.Savefh.result results.Savefh
 outcomes_of opnums.Setclientid = outcomes of.Setclientid.result results.Setclientid
 outcomes_of opnums.SetclientidConfirm =
     outcomes of.SetclientidConfirm.result results.SetclientidConfirm
+outcomes_of opnums.ReleaseLockowner = outcomes of.ReleaseLockowner.result results.ReleaseLockowner
 outcomes_of (opnums.Unsupported o) = record {
   read = case (unsupported_answer o) (λ v. results.Unsupported o);
   refused = λ r. results.Unsupported o;
@@ -72,6 +76,9 @@ row_of (results.Access a) = row opnums.Access (answer.status_of a) a
 row_of (results.Close a) = row opnums.Close (answer.status_of a) a
 row_of (results.Getattr a) = row opnums.Getattr (answer.status_of a) a
 row_of (results.Getfh a) = row opnums.Getfh (answer.status_of a) a
+row_of (results.Lock a) = row opnums.Lock (answer.status_of a) a
+row_of (results.Lockt a) = row opnums.Lockt (answer.status_of a) a
+row_of (results.Locku a) = row opnums.Locku (answer.status_of a) a
 row_of (results.Lookup a) = row opnums.Lookup (answer.status_of a) a
 row_of (results.Open a) = row opnums.Open (answer.status_of a) a
 row_of (results.OpenConfirm a) = row opnums.OpenConfirm (answer.status_of a) a
@@ -82,6 +89,7 @@ row_of (results.Restorefh a) = row opnums.Restorefh (answer.status_of a) a
 row_of (results.Savefh a) = row opnums.Savefh (answer.status_of a) a
 row_of (results.Setclientid a) = row opnums.Setclientid (answer.status_of a) a
 row_of (results.SetclientidConfirm a) = row opnums.SetclientidConfirm (answer.status_of a) a
+row_of (results.ReleaseLockowner a) = row opnums.ReleaseLockowner (answer.status_of a) a
 row_of (results.Unsupported o) =
     row (opnums.Unsupported o) (statuses.Refused refusals.NotSupp) (tt, tt)
 row_of (results.Illegal a) = row opnums.Illegal (answer.status_of a) a

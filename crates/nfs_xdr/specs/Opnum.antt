@@ -18,9 +18,6 @@ number_of_unsupported without.Create = 6
 number_of_unsupported without.Delegpurge = 7
 number_of_unsupported without.Delegreturn = 8
 number_of_unsupported without.Link = 11
-number_of_unsupported without.Lock = 12
-number_of_unsupported without.Lockt = 13
-number_of_unsupported without.Locku = 14
 number_of_unsupported without.Lookupp = 16
 number_of_unsupported without.Nverify = 17
 number_of_unsupported without.Openattr = 19
@@ -35,7 +32,6 @@ number_of_unsupported without.Secinfo = 33
 number_of_unsupported without.Setattr = 34
 number_of_unsupported without.Verify = 37
 number_of_unsupported without.Write = 38
-number_of_unsupported without.ReleaseLockowner = 39
 
 -- an operation's row in the list: its number, and what it works on
 abbrev pub row_of : Opnum → ℕ × Class
@@ -43,6 +39,9 @@ row_of op.Access = (3, OnTree)
 row_of op.Close = (4, OnState)
 row_of op.Getattr = (9, OnState)
 row_of op.Getfh = (10, OnTree)
+row_of op.Lock = (12, OnState)
+row_of op.Lockt = (13, OnState)
+row_of op.Locku = (14, OnState)
 row_of op.Lookup = (15, OnTree)
 row_of op.Open = (18, OnState)
 row_of op.OpenConfirm = (20, OnState)
@@ -53,6 +52,7 @@ row_of op.Restorefh = (31, OnTree)
 row_of op.Savefh = (32, OnTree)
 row_of op.Setclientid = (35, OnState)
 row_of op.SetclientidConfirm = (36, OnState)
+row_of op.ReleaseLockowner = (39, OnState)
 row_of (op.Unsupported o) = (number_of_unsupported o, OnNothing)
 row_of op.Illegal = (10044, OnNothing)
 

@@ -15,8 +15,9 @@ pub use compound::{
 pub use limits::limit_of_compounds;
 pub use nfs_forms::{
     Address, Answer, Bitmap, Callback, ChangeInfo, Claim, ClientId, CreateHow, DelegationType,
-    FILE_HANDLE_LIMIT, Fattr, FileHandle, OWNER_NAME_LIMIT, OpenDelegation, OpenHow, OpenOwner,
-    Principal, Refusal, STATUSES, Stateid, Status, Verifier, limits_of_forms, operations,
+    FILE_HANDLE_LIMIT, Fattr, FileHandle, KnownLocker, LockDenied, LockOwner, LockType, Locker,
+    NewLocker, OWNER_NAME_LIMIT, OpenDelegation, OpenHow, OpenOwner, Principal, Refusal, STATUSES,
+    Stateid, Status, Verifier, limits_of_forms,
 };
 pub use op::Op;
 pub use op_result::OpResult;

@@ -5,7 +5,8 @@ ghost use Rattle.xdr.specs.Reading.{Gives};
 ghost use Rattle.xdr.specs.Switch.{case_at};
 
 use crate::opnum::each_operation;
-use crate::{Class, Opnum, operations as of};
+use crate::{Class, Opnum};
+use nfs_operations as of;
 use std::alloc::Global;
 use xdr::{Wire, WireError, write_two};
 
@@ -56,6 +57,9 @@ pub enum Op {
     Close(of::close::Arguments),
     Getattr(of::getattr::Arguments),
     Getfh,
+    Lock(of::lock::Arguments),
+    Lockt(of::lockt::Arguments),
+    Locku(of::locku::Arguments),
     Lookup(of::lookup::Arguments),
     Open(of::open::Arguments),
     OpenConfirm(of::open_confirm::Arguments),
@@ -66,6 +70,7 @@ pub enum Op {
     Savefh,
     Setclientid(of::setclientid::Arguments),
     SetclientidConfirm(of::setclientid_confirm::Arguments),
+    ReleaseLockowner(of::release_lockowner::Arguments),
 }
 
 impl Op {
@@ -81,6 +86,7 @@ impl Op {
     {
         match (self, other) {
             (Op::Open(open), Op::Open(other)) => open.is_same(other),
+            (Op::Lock(lock), Op::Lock(other)) => lock.is_same(other),
             _ => self == other,
         }
     }

@@ -9,8 +9,9 @@ ghost use Rattle.xdr.specs.Switch.{case_at};
 ghost use Rattle.xdr.specs.Writing.{Writes};
 
 use crate::opnum::each_operation;
-use crate::{Answer, Opnum, Refusal, Status, Unsupported, operations as of};
-use std::alloc::Global;
+use crate::{Answer, Opnum, Refusal, Status, Unsupported};
+use nfs_operations as of;
+use std::alloc::{AllocError, Global};
 use xdr::{Measure, Wire, WireError, read_constant, write_three, write_two};
 
 // Matches a result, and evaluates an expression over the answer inside it.
@@ -84,13 +85,31 @@ macro_rules! refusal_of_opnum {
     };
 }
 
+macro_rules! copy_of_result {
+    (
+        [$($X:ident = $n:literal $c:ident,)*]
+        [$($Y:ident = $m:literal $d:ident,)*]
+        $result:expr
+    ) => {
+        match $result {
+            $(OpResult::$X(answer) => Ok(OpResult::$X(answer.clone()?)),)*
+            $(OpResult::$Y(answer) => Ok(OpResult::$Y(answer.clone()?)),)*
+            OpResult::Unsupported(op) => Ok(OpResult::Unsupported(*op)),
+            OpResult::Illegal(answer) => Ok(OpResult::Illegal(answer.clone()?)),
+        }
+    };
+}
+
 /// The result of an operation (nfs_resop4).
-#[derive(Clone, Debug, PartialEq, Drop)]
+#[derive(Debug, PartialEq, Drop)]
 pub enum OpResult {
     Access(of::access::Outcome),
     Close(of::close::Outcome),
     Getattr(of::getattr::Outcome),
     Getfh(of::getfh::Outcome),
+    Lock(of::lock::Outcome),
+    Lockt(of::lockt::Outcome),
+    Locku(of::locku::Outcome),
     Lookup(of::lookup::Outcome),
     Open(of::open::Outcome),
     OpenConfirm(of::open_confirm::Outcome),
@@ -101,10 +120,20 @@ pub enum OpResult {
     Savefh(of::savefh::Outcome),
     Setclientid(of::setclientid::Outcome),
     SetclientidConfirm(of::setclientid_confirm::Outcome),
+    ReleaseLockowner(of::release_lockowner::Outcome),
     /// NFS4ERR_NOTSUPP, the result of an operation that this server doesn't implement.
     Unsupported(Unsupported),
     /// The result for an operation that doesn't exist.
     Illegal(Answer<()>),
+}
+
+// By hand, since a copy is equal to its result for any operation; what `derive` says takes each apart.
+impl Clone for OpResult {
+    ghost is_clone = { λ x y. y ≡ x };
+
+    fn clone(&self) -> Result<OpResult, AllocError> {
+        each_operation!(copy_of_result self)
+    }
 }
 
 impl OpResult {

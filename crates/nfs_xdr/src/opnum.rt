@@ -17,6 +17,9 @@ macro_rules! each_operation {
                 Access = 3 OnTree,
                 Close = 4 OnState,
                 Getattr = 9 OnState,
+                Lock = 12 OnState,
+                Lockt = 13 OnState,
+                Locku = 14 OnState,
                 Lookup = 15 OnTree,
                 Open = 18 OnState,
                 OpenConfirm = 20 OnState,
@@ -24,6 +27,7 @@ macro_rules! each_operation {
                 Putfh = 22 OnTree,
                 Setclientid = 35 OnState,
                 SetclientidConfirm = 36 OnState,
+                ReleaseLockowner = 39 OnState,
             ]
             [
                 Getfh = 10 OnTree,
@@ -46,9 +50,6 @@ pub enum Unsupported {
     Delegpurge = 7,
     Delegreturn = 8,
     Link = 11,
-    Lock = 12,
-    Lockt = 13,
-    Locku = 14,
     Lookupp = 16,
     Nverify = 17,
     Openattr = 19,
@@ -63,7 +64,6 @@ pub enum Unsupported {
     Setattr = 34,
     Verify = 37,
     Write = 38,
-    ReleaseLockowner = 39,
 }
 
 impl Unsupported {
@@ -81,6 +81,9 @@ pub enum Opnum {
     Close,
     Getattr,
     Getfh,
+    Lock,
+    Lockt,
+    Locku,
     Lookup,
     Open,
     OpenConfirm,
@@ -91,6 +94,7 @@ pub enum Opnum {
     Savefh,
     Setclientid,
     SetclientidConfirm,
+    ReleaseLockowner,
     /// An operation that this server doesn't implement.
     Unsupported(Unsupported),
     /// The operation whose number is written in the answer to an operation that doesn't exist.
@@ -143,9 +147,9 @@ pub const OPNUMS: [Opnum; 38] = [
     Opnum::Getattr,
     Opnum::Getfh,
     Opnum::Unsupported(Unsupported::Link),
-    Opnum::Unsupported(Unsupported::Lock),
-    Opnum::Unsupported(Unsupported::Lockt),
-    Opnum::Unsupported(Unsupported::Locku),
+    Opnum::Lock,
+    Opnum::Lockt,
+    Opnum::Locku,
     Opnum::Lookup,
     Opnum::Unsupported(Unsupported::Lookupp),
     Opnum::Unsupported(Unsupported::Nverify),
@@ -170,7 +174,7 @@ pub const OPNUMS: [Opnum; 38] = [
     Opnum::SetclientidConfirm,
     Opnum::Unsupported(Unsupported::Verify),
     Opnum::Unsupported(Unsupported::Write),
-    Opnum::Unsupported(Unsupported::ReleaseLockowner),
+    Opnum::ReleaseLockowner,
     Opnum::Illegal,
 ];
 

@@ -1,11 +1,11 @@
 //! Owners with their kept requests, the clients' records, and the numbers of states, each in a short run.
 
+use nfs_operations::setclientid::Setclientid;
+use nfs_operations::setclientid_confirm::{Outcome, SetclientidConfirm};
 use nfs_owners::{
-    Clients, Kept, KeptRequest, Numbers, OwnerStanding, Owners, OwnersError, PathMark, Verdict,
-    numbers_rise,
+    Clients, Kept, KeptRequest, Numbers, OwnerStanding, Owners, OwnersError, PathMark, StateOwner,
+    Verdict, numbers_rise,
 };
-use nfs_xdr::operations::setclientid::Setclientid;
-use nfs_xdr::operations::setclientid_confirm::{Outcome, SetclientidConfirm};
 use nfs_xdr::{
     Address, Callback, ClientId, Op, OpResult, OpenOwner, Opnum, Principal, Refusal, Verifier,
 };
@@ -13,11 +13,11 @@ use std::alloc::{AllocError, Global};
 use std::test::Fail;
 use xdr::{Bytes, Opaque};
 
-/// The owner `o` of the client with this number.
-fn owner_at(alloc: Global, number: u32) -> Result<OpenOwner, AllocError> {
+/// The open owner `o` of the client with this number.
+fn owner_at(alloc: Global, number: u32) -> Result<StateOwner, AllocError> {
     let client = ClientId { epoch: 7, number };
     let name = Opaque::copy_of(alloc, b"o")?;
-    Ok(OpenOwner { client, name })
+    Ok(StateOwner::of_open(OpenOwner { client, name }))
 }
 
 /// The answer that is kept: that a file isn't there.
@@ -42,7 +42,7 @@ fn kept(seqid: u32) -> Kept {
 fn with_owner(alloc: Global, seqid: u32) -> Result<Owners, Fail> {
     let name = owner_at(alloc, 1)?;
     let mut owners = Owners::new(alloc);
-    owners.reserve(&name)?;
+    owners.reserve(name.as_ref())?;
     owners.keep(name, 5, kept(seqid));
     Ok(owners)
 }
@@ -51,16 +51,16 @@ fn with_owner(alloc: Global, seqid: u32) -> Result<Owners, Fail> {
 fn an_owner_is_recorded_and_confirmed(rt: HostRuntime) -> Result<(), Fail> {
     let name = owner_at(rt.alloc(), 1)?;
     let mut owners = with_owner(rt.alloc(), 9)?;
-    assert!(rt; owners.known(&name) == OwnerStanding::Unconfirmed);
+    assert!(rt; owners.known(name.as_ref()) == OwnerStanding::Unconfirmed);
     assert!(rt;
         owners
-            .find(&name)
+            .find(name.as_ref())
             .is_some_and(|o| o.recorded == 5 && o.number == 5)
     );
-    owners.confirm(&name);
-    assert!(rt; owners.known(&name) == OwnerStanding::Confirmed);
-    owners.remove(&name);
-    assert!(rt; owners.known(&name) == OwnerStanding::Unknown);
+    owners.confirm(name.as_ref());
+    assert!(rt; owners.known(name.as_ref()) == OwnerStanding::Confirmed);
+    owners.remove(name.as_ref());
+    assert!(rt; owners.known(name.as_ref()) == OwnerStanding::Unknown);
     Ok(())
 }
 
@@ -68,16 +68,20 @@ fn an_owner_is_recorded_and_confirmed(rt: HostRuntime) -> Result<(), Fail> {
 fn another_client_has_another_owner_of_the_name(rt: HostRuntime) -> Result<(), Fail> {
     let name = owner_at(rt.alloc(), 2)?;
     let mut owners = with_owner(rt.alloc(), 9)?;
-    assert!(rt; owners.known(&name) == OwnerStanding::Unknown);
-    assert!(rt; owners.judge(&name, 9, &Op::Savefh, Some(3)).is_none());
-    owners.reserve(&name)?;
+    assert!(rt; owners.known(name.as_ref()) == OwnerStanding::Unknown);
+    assert!(rt;
+        owners
+            .judge(name.as_ref(), 9, &Op::Savefh, Some(3))
+            .is_none()
+    );
+    owners.reserve(name.as_ref())?;
     owners.keep(name, 6, kept(1));
     owners.remove_client(ClientId {
         epoch: 7,
         number: 1,
     });
-    assert!(rt; owners.known(&owner_at(rt.alloc(), 1)?) == OwnerStanding::Unknown);
-    assert!(rt; owners.known(&owner_at(rt.alloc(), 2)?) == OwnerStanding::Unconfirmed);
+    assert!(rt; owners.known(owner_at(rt.alloc(), 1)?.as_ref()) == OwnerStanding::Unknown);
+    assert!(rt; owners.known(owner_at(rt.alloc(), 2)?.as_ref()) == OwnerStanding::Unconfirmed);
     Ok(())
 }
 
@@ -85,11 +89,11 @@ fn another_client_has_another_owner_of_the_name(rt: HostRuntime) -> Result<(), F
 fn the_last_request_again_gets_its_answer(rt: HostRuntime) -> Result<(), Fail> {
     let name = owner_at(rt.alloc(), 1)?;
     let owners = with_owner(rt.alloc(), u32::MAX)?;
-    let again = owners.judge(&name, u32::MAX, &Op::Savefh, Some(3));
+    let again = owners.judge(name.as_ref(), u32::MAX, &Op::Savefh, Some(3));
     assert!(rt; matches!(again, Some(Verdict::Replay(answer)) if *answer == kept_answer()));
-    let next = owners.judge(&name, 0, &Op::Getfh, None);
+    let next = owners.judge(name.as_ref(), 0, &Op::Getfh, None);
     assert!(rt; matches!(next, Some(Verdict::New)));
-    let elsewhere = owners.judge(&name, u32::MAX, &Op::Savefh, Some(4));
+    let elsewhere = owners.judge(name.as_ref(), u32::MAX, &Op::Savefh, Some(4));
     assert!(rt; matches!(elsewhere, Some(Verdict::Bad)));
     Ok(())
 }

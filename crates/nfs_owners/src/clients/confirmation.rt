@@ -7,7 +7,7 @@ ghost use Rattle.nfs_owners.specs.declared.client_record.PathMark.{PathMark};
 
 use super::{ClientChange, Clients};
 use crate::{ClientRecord, PathMark};
-use nfs_xdr::operations::setclientid_confirm::{Outcome, SetclientidConfirm};
+use nfs_operations::setclientid_confirm::{Outcome, SetclientidConfirm};
 use nfs_xdr::{Principal, Refusal};
 use std::alloc::AllocError;
 

@@ -1,14 +1,14 @@
 ghost use Rattle.std.specs.Prelude.{◌≡◌, ℕ, ◌-◌, ◌^◌, ◌<◌, ◌≤◌, ◌↔◌, false, true, None, Some, IfOk, IsErrOf, length};
 ghost use Rattle.nfs_forms.specs.declared.answer.Answer.TheVariants.{ClidInUse};
-ghost use Rattle.nfs_forms.specs.operations.Setclientid as setclientid;
+ghost use Rattle.nfs_operations.specs.Setclientid as setclientid;
 ghost use Rattle.nfs_owners.specs.Registration.{Arrival, Update, registration, registration_by, unconfirmed_record};
 ghost use Rattle.nfs_owners.specs.ClientRoom.{HasNumbersFor};
 ghost use Rattle.nfs_owners.specs.Addresses.{is_within_limit};
 
 use super::{ClientChange, Clients};
 use crate::{CLIENT_LIMIT, ClientCallback, ClientRecord, OwnersError, PathMark};
-use nfs_xdr::operations::setclientid::{Outcome, Setclientid};
-use nfs_xdr::operations::setclientid_confirm::SetclientidConfirm;
+use nfs_operations::setclientid::{Outcome, Setclientid};
+use nfs_operations::setclientid_confirm::SetclientidConfirm;
 use nfs_xdr::{Address, ClientId, Principal};
 use std::alloc::AllocError;
 
@@ -16,7 +16,7 @@ impl Clients {
     /// The answer of SETCLIENTID (RFC 7530, section 16.33.5) in the server's run `epoch`, and its change of the
     /// clients' records. `has_state` is whether the client of the confirmed record with the id has state. Full if a
     /// limit would be exceeded.
-    #[tactic(auto, unfolding(nfs_forms::specs::Answer::answer, nfs_forms::specs::Status::status, nfs_forms::specs::operations::SetclientidConfirm::arguments, nfs_forms::specs::ClientId::client_id, xdr::specs::Writing::written_number))]
+    #[tactic(auto, unfolding(nfs_forms::specs::Answer::answer, nfs_forms::specs::Status::status, nfs_operations::specs::SetclientidConfirm::arguments, nfs_forms::specs::ClientId::client_id, xdr::specs::Writing::written_number))]
     pub fn set(
         &self,
         epoch: u32,
@@ -50,7 +50,7 @@ impl Clients {
     }
 
     // A client updates its callback, and keeps its clientid.
-    #[tactic(auto, unfolding(nfs_forms::specs::Answer::answer, nfs_forms::specs::Status::status, nfs_forms::specs::operations::SetclientidConfirm::arguments, nfs_forms::specs::ClientId::client_id, xdr::specs::Writing::written_number))]
+    #[tactic(auto, unfolding(nfs_forms::specs::Answer::answer, nfs_forms::specs::Status::status, nfs_operations::specs::SetclientidConfirm::arguments, nfs_forms::specs::ClientId::client_id, xdr::specs::Writing::written_number))]
     fn set_update(
         &self,
         principal: Principal,
@@ -73,7 +73,7 @@ impl Clients {
     }
 
     // A client gets a new client number.
-    #[tactic(auto, unfolding(nfs_forms::specs::Answer::answer, nfs_forms::specs::Status::status, nfs_forms::specs::operations::SetclientidConfirm::arguments, nfs_forms::specs::ClientId::client_id, xdr::specs::Writing::written_number))]
+    #[tactic(auto, unfolding(nfs_forms::specs::Answer::answer, nfs_forms::specs::Status::status, nfs_operations::specs::SetclientidConfirm::arguments, nfs_forms::specs::ClientId::client_id, xdr::specs::Writing::written_number))]
     fn set_arrival(
         &self,
         epoch: u32,

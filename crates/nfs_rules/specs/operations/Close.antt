@@ -9,7 +9,7 @@ use Rattle.nfs_share.specs.AllOpens.{OpenAt}
 use Rattle.nfs_share.specs.Opens.{next_stateid_of}
 use Rattle.nfs_forms.specs.declared.answer.Answer.TheVariants.{Done, Refused}
 use Rattle.nfs_xdr.specs.declared.op_result.OpResult.TheVariants as results
-use Rattle.nfs_forms.specs.declared.operations.close.Close.{Close}
+use Rattle.nfs_operations.specs.declared.close.Close.{Close}
 use Rattle.nfs_forms.specs.declared.status.Refusal.{Refusal}
 
 -- the open is freed, and its stateid comes back with the next seqid

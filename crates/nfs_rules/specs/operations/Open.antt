@@ -3,9 +3,10 @@ use Rattle.std.specs.Prelude.{◌≡◌, ℕ, ◌+◌, nat_lt, Bool, true, false
 use Rattle.nfs_state.specs.declared.change.Change.TheVariants.{Nothing, Opens}
 use Rattle.nfs_rules.specs.declared.passage.Passage.{Passage}
 use Rattle.nfs_rules.specs.declared.passage.Passage.TheVariants.{Continues}
-use Rattle.nfs_state.specs.declared.limits.TheConstants.{OPEN_LIMIT}
+use Rattle.nfs_state.specs.Places.{has_state_place}
 use Rattle.nfs_rules.specs.declared.opening.Opening.{Opening}
 use Rattle.nfs_rules.specs.declared.ruling.Ruling.{Ruling}
+use Rattle.nfs_rules.specs.Refusing.{◌>>=◌}
 use Rattle.nfs_rules.specs.Sequences.{Own, before_own}
 use Rattle.nfs_rules.specs.Stateids as stateids
 use Rattle.nfs_rules.specs.Stateids.{Target, target_of}
@@ -13,7 +14,7 @@ use Rattle.nfs_state.specs.State.{State, History}
 use Rattle.nfs_owners.specs.declared.owner.TheConstants.{OWNER_LIMIT}
 use Rattle.nfs_share.specs.declared.open_state.OpenState.{OpenState}
 use Rattle.nfs_share.specs.declared.share.Share.{Share}
-use Rattle.nfs_share.specs.AllOpens.{open_count, opens_of}
+use Rattle.nfs_share.specs.AllOpens.{opens_of}
 use Rattle.nfs_share.specs.Opens.{is_refused, next_stateid_of, open_of}
 use Rattle.nfs_share.specs.Share.{share_of_numbers}
 use Rattle.nfs_tree.specs.Tree.{is_directory, resolved}
@@ -26,17 +27,11 @@ use Rattle.nfs_forms.specs.declared.open_delegation.OpenDelegation.TheVariants a
 use Rattle.nfs_forms.specs.declared.open_how.OpenHow.{OpenHow}
 use Rattle.nfs_forms.specs.declared.open_how.OpenHow.TheVariants as hows
 use Rattle.nfs_forms.specs.declared.open_owner.OpenOwner.{OpenOwner}
-use Rattle.nfs_forms.specs.declared.operations.«open».Open.{Open}
-use Rattle.nfs_forms.specs.declared.operations.«open».OpenOk.{OpenOk}
+use Rattle.nfs_operations.specs.declared.«open».Open.{Open}
+use Rattle.nfs_operations.specs.declared.«open».OpenOk.{OpenOk}
 use Rattle.nfs_forms.specs.declared.stateid.Stateid.{Stateid}
 use Rattle.nfs_forms.specs.declared.status.Refusal.{Refusal}
 use Rattle.nfs_forms.specs.declared.status.Refusal.TheVariants as refusals
-
--- the first refusal, if there is one, and otherwise what follows
-infixl 10 ◌>>=◌
-abbrev pub ◌>>=◌ : {A B : Type 0} → Result A Refusal → (A → Result B Refusal) → Result B Refusal
-(Err refusal) >>= next = Err refusal
-(Ok a) >>= next = next a
 
 -- The name that the claim opens. Nothing can be reclaimed, since the server keeps no state from one run to the next:
 -- NFS4ERR_NO_GRACE. CLAIM_DELEGATE_PREV isn't supported: NFS4ERR_NOTSUPP.
@@ -124,7 +119,7 @@ has_owner_place passage state = nat_lt (length state.owners) OWNER_LIMIT
 -- the owner has an open of the file already, or there is a place for one
 abbrev pub has_open_place : State → OpenOwner → ℕ → Bool
 has_open_place state owner node =
-    is_some (open_of owner (opens_of node state.opens)) || nat_lt (open_count state.opens) OPEN_LIMIT
+    is_some (open_of owner (opens_of node state.opens)) || has_state_place state
 
 -- the answer and the change, or `None` if a limit would be exceeded
 abbrev pub ruling_of : State → Passage → OpenOwner → Result Opening Refusal → Option Ruling

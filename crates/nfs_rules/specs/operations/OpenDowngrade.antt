@@ -12,7 +12,7 @@ use Rattle.nfs_share.specs.Share.{share_of_numbers}
 use Rattle.nfs_share.specs.Shares.{IsLawfulDowngrade}
 use Rattle.nfs_forms.specs.declared.answer.Answer.TheVariants.{Done, Refused}
 use Rattle.nfs_xdr.specs.declared.op_result.OpResult.TheVariants as results
-use Rattle.nfs_forms.specs.declared.operations.open_downgrade.OpenDowngrade.{OpenDowngrade}
+use Rattle.nfs_operations.specs.declared.open_downgrade.OpenDowngrade.{OpenDowngrade}
 use Rattle.nfs_forms.specs.declared.status.Refusal.{Refusal}
 use Rattle.nfs_forms.specs.declared.status.Refusal.TheVariants.{Inval}
 

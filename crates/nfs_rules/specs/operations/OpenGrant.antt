@@ -1,10 +1,10 @@
 -- How an OPEN without a refusal is granted; used only in the contracts of this crate's own functions.
-use Rattle.std.specs.Prelude.{ℕ, true, nat_lt, ◌&&◌, [], Option, Some, None, if◌then◌else◌}
-use Rattle.nfs_state.specs.declared.limits.TheConstants.{OPEN_LIMIT}
+use Rattle.std.specs.Prelude.{ℕ, true, ◌&&◌, [], Option, Some, None, if◌then◌else◌}
+use Rattle.nfs_state.specs.Places.{has_state_place}
 use Rattle.nfs_rules.specs.declared.passage.Passage.{Passage}
 use Rattle.nfs_rules.specs.operations.Open.{has_open_place, has_owner_place, rflags_of, stateid_after}
 use Rattle.nfs_state.specs.State.{State}
-use Rattle.nfs_share.specs.AllOpens.{open_count, opens_of}
+use Rattle.nfs_share.specs.AllOpens.{opens_of}
 use Rattle.nfs_share.specs.Opens.{open_of}
 use Rattle.nfs_forms.specs.declared.answer.Answer.TheVariants.{Done}
 use Rattle.nfs_forms.specs.declared.open_delegation.OpenDelegation.TheVariants as delegations
@@ -16,7 +16,7 @@ use Rattle.nfs_xdr.specs.declared.op_result.OpResult.TheVariants as results
 -- the stateid of a new open, if there is a place for one
 abbrev pub new_stateid : State → OpenOwner → Option Stateid
 new_stateid state owner =
-    if nat_lt (open_count state.opens) OPEN_LIMIT then Some (stateid_after state owner None)
+    if has_state_place state then Some (stateid_after state owner None)
     else None
 
 -- the stateid that the owner gets for the file, unless a limit would be exceeded

@@ -9,7 +9,7 @@ use Rattle.nfs_owners.specs.Registration.{Outcome, registration}
 use Rattle.nfs_owners.specs.Registry.{confirmed_of}
 use Rattle.nfs_state.specs.State.{State, History, record_has_state}
 use Rattle.nfs_xdr.specs.declared.op_result.OpResult.TheVariants as results
-use Rattle.nfs_forms.specs.declared.operations.setclientid.Setclientid.{Setclientid}
+use Rattle.nfs_operations.specs.declared.setclientid.Setclientid.{Setclientid}
 
 -- the answer and the change of the clients' records, as a decision
 abbrev pub decision_of : Outcome × ClientChange → Decision

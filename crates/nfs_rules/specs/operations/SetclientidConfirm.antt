@@ -13,7 +13,7 @@ use Rattle.nfs_state.specs.State.{State, History, record_has_state}
 use Rattle.nfs_tree.specs.declared.policy.Callbacks.{Callbacks}
 use Rattle.nfs_tree.specs.declared.policy.Callbacks.TheVariants.{Probe, Assume}
 use Rattle.nfs_xdr.specs.declared.op_result.OpResult.TheVariants as results
-use Rattle.nfs_forms.specs.declared.operations.setclientid_confirm.SetclientidConfirm.{SetclientidConfirm}
+use Rattle.nfs_operations.specs.declared.setclientid_confirm.SetclientidConfirm.{SetclientidConfirm}
 
 -- the mark that the policy gives the path of a client that is confirmed by this call
 abbrev pub path_of : Callbacks → PathMark

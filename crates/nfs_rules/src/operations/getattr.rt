@@ -4,7 +4,7 @@ ghost use Rattle.nfs_rules.specs.operations.Getattr.{attributes, rule};
 ghost use Rattle.nfs_rules.specs.Deciding.{Decides};
 ghost use Rattle.nfs_state.specs.Entries.{IsFilehandle};
 ghost use Rattle.nfs_state.specs.Room.{state_of};
-ghost use Rattle.nfs_forms.specs.operations.Getattr as getattr;
+ghost use Rattle.nfs_operations.specs.Getattr as getattr;
 
 use crate::decision::Decision;
 use nfs_state::{Change, Journal, OwnerChange, Request, Shortage, Tables};

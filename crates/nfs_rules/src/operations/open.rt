@@ -1,13 +1,15 @@
-ghost use Rattle.std.specs.Prelude.{◌≡◌, ◌≤◌, ◌<◌, ◌-◌, ◌^◌, Ok, OnErr, nat_lt, length};
+ghost use Rattle.std.specs.Prelude.{◌≡◌, ◌≤◌, ◌<◌, ◌-◌, ◌^◌, Ok, OnErr, length};
 ghost use Rattle.std.specs.Option.{option_copied};
 ghost use Rattle.std.specs.Result.{IsOk, result_map_both};
+ghost use Rattle.nfs_owners.specs.StateOwner.{open_owner};
 ghost use Rattle.nfs_rules.specs.Deciding.{Rules, IsPassage};
 ghost use Rattle.nfs_rules.specs.Finding.{target_seen};
 ghost use Rattle.nfs_state.specs.Room.{state_of};
 ghost use Rattle.nfs_rules.specs.Sequences.{before_own};
 ghost use Rattle.nfs_rules.specs.operations.Open.{file_at, found_by, has_owner_place, name_of, opening, own, refusal_of_target, rflags_of, ruling_of, unless_delegated, unless_denied, wants_new};
 ghost use Rattle.nfs_rules.specs.operations.OpenGrant.{granted, granted_stateid, new_stateid};
-ghost use Rattle.nfs_share.specs.AllOpens.{open_count, opens_of};
+ghost use Rattle.nfs_share.specs.AllOpens.{opens_of};
+ghost use Rattle.nfs_state.specs.Places.{has_state_place};
 ghost use Rattle.nfs_share.specs.Opens.{open_of};
 ghost use Rattle.nfs_xdr.specs.OpResult.{op_result};
 
@@ -15,9 +17,10 @@ use crate::opening::Opening;
 use crate::passage::Passage;
 use crate::ruling::Ruling;
 use crate::stateids::{Target, target_of};
+use nfs_operations::open::{Open, OpenOk};
+use nfs_owners::OwnerRef;
 use nfs_share::{OpenState, Share};
-use nfs_state::{ANSWER_LIMIT, Change, Journal, OPEN_LIMIT, Shortage, Tables};
-use nfs_xdr::operations::open::{Open, OpenOk};
+use nfs_state::{ANSWER_LIMIT, Change, Journal, Shortage, Tables};
 use nfs_xdr::{
     Answer, Bitmap, ChangeInfo, Claim, CreateHow, Op, OpResult, OpenDelegation, OpenHow, OpenOwner,
     Refusal, Stateid,
@@ -34,7 +37,7 @@ pub(super) fn rule(
     args: &Open,
 ) -> Result<Ruling, Shortage>
     requires states { tables.now.numbers < 2 ^ 32 - 1 }
-    requires passage { IsPassage passage args.now.owner (state_of tables.now) }
+    requires passage { IsPassage passage (open_owner args.now.owner) (state_of tables.now) }
     ensures rules { Rules (own journal.now (state_of tables.now) args.now directory passage)
         (state_of tables.now) (Op.Open args.now) result }
     ensures error { OnErr result
@@ -133,7 +136,7 @@ fn refusal_of_target(found: Target<'_>) -> Refusal
 {
     match found {
         Target::Refused(refusal) => refusal,
-        Target::AnOpen(_) | Target::NoOpen => Refusal::BadStateId,
+        Target::AnOpen(_) | Target::ALock(_) | Target::NoState => Refusal::BadStateId,
     }
 }
 
@@ -161,7 +164,7 @@ fn grant(
     opening: Opening,
 ) -> Result<Ruling, Shortage>
     requires states { tables.now.numbers < 2 ^ 32 - 1 }
-    requires passage { IsPassage passage args.now.owner (state_of tables.now) }
+    requires passage { IsPassage passage (open_owner args.now.owner) (state_of tables.now) }
     ensures { Rules (λ ruling. ruling ≡ ruling_of
         (before_own passage args.now.owner (state_of tables.now))
         passage args.now.owner (Ok opening))
@@ -183,7 +186,7 @@ fn grant(
 // The stateid that the owner gets for the file; `None` if a limit would be exceeded.
 fn stateid_for(tables: &Tables, passage: Passage, owner: &OpenOwner, node: u32) -> Option<Stateid>
     requires states { tables.now.numbers < 2 ^ 32 - 1 }
-    requires passage { IsPassage passage owner.now (state_of tables.now) }
+    requires passage { IsPassage passage (open_owner owner.now) (state_of tables.now) }
     ensures { result ≡ granted_stateid passage
         (before_own passage owner.now (state_of tables.now)) owner.now node }
 {
@@ -198,11 +201,11 @@ fn stateid_for(tables: &Tables, passage: Passage, owner: &OpenOwner, node: u32) 
 
 // Whether there is a place for the owner. One that starts anew has left its own.
 fn has_owner_place(tables: &Tables, passage: Passage, owner: &OpenOwner) -> bool
-    requires passage { IsPassage passage owner.now (state_of tables.now) }
+    requires passage { IsPassage passage (open_owner owner.now) (state_of tables.now) }
     ensures { result
         ≡ has_owner_place passage (before_own passage owner.now (state_of tables.now)) }
 {
-    tables.owners.has_place(owner)
+    tables.owners.has_place(OwnerRef::of_open(owner))
 }
 
 // The open that the owner has of the node's file. One that starts anew has none.
@@ -226,7 +229,7 @@ fn new_stateid(tables: &Tables, passage: Passage, owner: &OpenOwner) -> Option<S
     requires states { tables.now.numbers < 2 ^ 32 - 1 }
     ensures { result ≡ new_stateid (before_own passage owner.now (state_of tables.now)) owner.now }
 {
-    if !has_open_place(tables, passage, owner) {
+    if !has_state_place(tables, passage, owner) {
         return None;
     }
     Some(Stateid {
@@ -237,18 +240,17 @@ fn new_stateid(tables: &Tables, passage: Passage, owner: &OpenOwner) -> Option<S
 }
 
 // Whether there is a place for one more open. An owner that starts anew leaves its own places.
-fn has_open_place(tables: &Tables, passage: Passage, owner: &OpenOwner) -> bool
-    ensures { result ≡ nat_lt
-        (open_count (before_own passage owner.now (state_of tables.now)).opens) OPEN_LIMIT }
+fn has_state_place(tables: &Tables, passage: Passage, owner: &OpenOwner) -> bool
+    ensures { result ≡ has_state_place (before_own passage owner.now (state_of tables.now)) }
 {
     match passage {
-        Passage::Restarts => tables.opens.has_place_without(owner, OPEN_LIMIT),
-        Passage::Continues | Passage::Begins => tables.opens.has_place(OPEN_LIMIT),
+        Passage::Restarts => tables.has_state_place_without(owner),
+        Passage::Continues | Passage::Begins => tables.has_state_place(),
     }
 }
 
 // The answer to an OPEN that is granted.
-#[tactic(auto, unfolding(nfs_xdr::specs::OpResult::op_result, nfs_xdr::specs::Opnum::opnum, nfs_forms::specs::Status::status, xdr::specs::Writing::written_number, nfs_forms::specs::Answer::answer, nfs_forms::specs::operations::Open::open_ok, nfs_forms::specs::Stateid::stateid, nfs_forms::specs::ClientId::client_id, nfs_forms::specs::ChangeInfo::change_info, nfs_forms::specs::DelegationType::delegation_type, nfs_forms::specs::OpenDelegation::open_delegation))]
+#[tactic(auto, unfolding(nfs_xdr::specs::OpResult::op_result, nfs_xdr::specs::Opnum::opnum, nfs_forms::specs::Status::status, xdr::specs::Writing::written_number, nfs_forms::specs::Answer::answer, nfs_operations::specs::Open::open_ok, nfs_forms::specs::Stateid::stateid, nfs_forms::specs::ClientId::client_id, nfs_forms::specs::ChangeInfo::change_info, nfs_forms::specs::DelegationType::delegation_type, nfs_forms::specs::OpenDelegation::open_delegation))]
 fn granted(alloc: Global, passage: Passage, stateid: Stateid) -> OpResult
     ensures value { result ≡ granted passage stateid }
     ensures form { op_result.Fits result }

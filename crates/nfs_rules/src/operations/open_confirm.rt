@@ -2,7 +2,7 @@ ghost use Rattle.std.specs.Prelude.{◌≡◌, ◌≤◌, IfOk, OnErr, Some, len
 ghost use Rattle.nfs_share.specs.Opens.{next_stateid_of};
 ghost use Rattle.nfs_xdr.specs.OpResult.{op_result};
 ghost use Rattle.nfs_state.specs.Entries.{IsSendable};
-ghost use Rattle.nfs_state.specs.Room.{HasNumbers, state_of};
+ghost use Rattle.nfs_state.specs.Room.{IsWithinLimits, state_of};
 ghost use Rattle.nfs_rules.specs.declared.passage.Passage.{Passage};
 ghost use Rattle.nfs_rules.specs.operations.OpenConfirm.{own, refusal_of};
 ghost use Rattle.nfs_rules.specs.Deciding.{IsConfirmable};
@@ -11,9 +11,9 @@ ghost use Rattle.nfs_rules.specs.Stateids as stateids;
 use crate::demand::Demand;
 use crate::ruling::Ruling;
 use crate::stateids::{is_confirmed, verdict};
+use nfs_operations::open_confirm::OpenConfirm;
 use nfs_share::OpenState;
 use nfs_state::{ANSWER_LIMIT, Change, Journal, Tables};
-use nfs_xdr::operations::open_confirm::OpenConfirm;
 use nfs_xdr::{Answer, Op, OpResult, Refusal};
 use std::alloc::AllocError;
 
@@ -27,7 +27,7 @@ pub(super) fn rule(
     ensures own { IfOk result (λ r. (passage : Passage)
         → own journal.now (state_of tables.now) args.now node passage (Some r)) }
     ensures sendable { IfOk result (λ r. IsSendable (Op.OpenConfirm args.now) r.answer) }
-    ensures numbers { IfOk result (λ r. HasNumbers r.change (state_of tables.now)) }
+    ensures numbers { IfOk result (λ r. IsWithinLimits r.change (state_of tables.now)) }
     ensures memory { OnErr result (IsConfirmable (state_of tables.now)
         (stateids.verdict (record { node = node; also_unconfirmed = true }) journal.now.epoch
         (state_of tables.now) args.now.stateid)) }

@@ -2,16 +2,16 @@ ghost use Rattle.std.specs.Prelude.{◌≡◌, ◌≤◌, Some, length};
 ghost use Rattle.nfs_share.specs.Opens.{next_stateid_of};
 ghost use Rattle.nfs_xdr.specs.OpResult.{op_result};
 ghost use Rattle.nfs_state.specs.Entries.{IsSendable};
-ghost use Rattle.nfs_state.specs.Room.{HasNumbers, state_of};
+ghost use Rattle.nfs_state.specs.Room.{IsWithinLimits, state_of};
 ghost use Rattle.nfs_rules.specs.declared.passage.Passage.{Passage};
 ghost use Rattle.nfs_rules.specs.operations.OpenDowngrade.{own, refusal_of};
 
 use crate::demand::Demand;
 use crate::ruling::Ruling;
 use crate::stateids::verdict;
+use nfs_operations::open_downgrade::OpenDowngrade;
 use nfs_share::{OpenState, Share};
 use nfs_state::{ANSWER_LIMIT, Change, Journal, Tables};
-use nfs_xdr::operations::open_downgrade::OpenDowngrade;
 use nfs_xdr::{Answer, Op, OpResult, Refusal};
 
 /// The own rule of OPEN_DOWNGRADE, under the current filehandle `node`.
@@ -19,7 +19,7 @@ pub(super) fn rule(tables: &Tables, journal: &Journal, node: u32, args: &OpenDow
     ensures own { (passage : Passage)
         → own journal.now (state_of tables.now) args.now node passage (Some result) }
     ensures sendable { IsSendable (Op.OpenDowngrade args.now) result.answer }
-    ensures numbers { HasNumbers result.change (state_of tables.now) }
+    ensures numbers { IsWithinLimits result.change (state_of tables.now) }
 {
     let demand = Demand {
         node,

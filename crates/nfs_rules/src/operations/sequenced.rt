@@ -2,21 +2,26 @@
 
 ghost use Rattle.std.specs.Prelude.{◌≡◌, ◌<◌, ◌-◌, ◌^◌, IfOk, IsTrue, OnErr};
 ghost use Rattle.nfs_rules.specs.Deciding.{Decides, HasOtherRefusal, IsAdmitted, IsPassageOf, IsRequesterOf, Rules};
-ghost use Rattle.nfs_rules.specs.Finding.{requester_seen};
+ghost use Rattle.nfs_owners.specs.StateOwner.{owner_seen};
+ghost use Rattle.nfs_rules.specs.Finding.{newcomer_seen, requester_seen};
 ghost use Rattle.nfs_state.specs.Kept.{Agrees};
 ghost use Rattle.nfs_state.specs.Room.{state_of};
-ghost use Rattle.nfs_rules.specs.Sequences.{IsSequenced, decision_of, counts, is_sequenced, owner_change_of};
+ghost use Rattle.nfs_rules.specs.Sequences.{IsSequenced, decision_of, counts, is_sequenced, kept_with, owner_change_of};
 ghost use Rattle.nfs_state.specs.declared.change.Change.TheVariants as changes;
 ghost use Rattle.nfs_state.specs.declared.owner_change.OwnerChange.TheVariants as owner_changes;
 ghost use Rattle.nfs_rules.specs.operations.{own_of};
 
-use super::{close, open, open_confirm, open_downgrade};
+use super::{close, lock, locku, open, open_confirm, open_downgrade};
 use crate::decision::Decision;
+use crate::newcomer::{Newcomer, newcomer_of};
 use crate::passage::Passage;
 use crate::ruling::Ruling;
 use crate::sequence::{Requester, Sequence, sequence_of};
+use nfs_locks::at_most_one_report;
+use nfs_owners::OwnerRef;
+use nfs_ranges::at_most_one_range;
 use nfs_state::{Change, Journal, OwnerChange, Request, Shortage, Tables};
-use nfs_xdr::{Op, OpResult, OpenOwner, Refusal, Status};
+use nfs_xdr::{Op, OpResult, Refusal, Status};
 use std::alloc::{AllocError, Global};
 
 /// Decides a sequenced operation of this requester: the filehandle, the owner and its sequence id come before the
@@ -35,10 +40,12 @@ pub(super) fn decide(
     requires owner { IsRequesterOf request.now.op (requester_seen requester) }
     ensures decides { Decides (IsSequenced journal.now (state_of tables.now)
         (requester_seen requester.entry) (own_of request.now.op journal.now (state_of tables.now))
-        request.now.filehandle request.now) (state_of tables.now) request.now.op result }
+        request.now) (state_of tables.now) request.now.op result }
     ensures error { OnErr result (IsAdmitted journal.now (state_of tables.now)
         (requester_seen requester.entry) request.now) }
 {
+    at_most_one_range();
+    at_most_one_report();
     let Some(node) = request.filehandle else {
         return Ok(unsequenced(request.op.opnum().refusal(Refusal::NoFileHandle)));
     };
@@ -46,7 +53,8 @@ pub(super) fn decide(
         Sequence::Answered(answer) => Ok(unsequenced(answer)),
         Sequence::GoesOn(passage, name) => {
             let ruling = rule(alloc, tables, journal, node, passage, &request.op)?;
-            Ok(decision_of(passage, name, ruling)?)
+            let newcomer = newcomer_of(tables, name.client, &request.op);
+            Ok(decision_of(passage, name, newcomer, ruling)?)
         }
     }
 }
@@ -74,6 +82,7 @@ fn rule(
 ) -> Result<Ruling, Shortage>
     requires sequenced { IsTrue (is_sequenced op.now) }
     requires states { tables.now.numbers < 2 ^ 32 - 1 }
+    requires kept { Agrees journal.now tables.now.owners.owners }
     requires passage { IsPassageOf op.now passage (state_of tables.now) }
     ensures { Rules (own_of op.now journal.now (state_of tables.now) node passage)
         (state_of tables.now) op.now result }
@@ -83,15 +92,23 @@ fn rule(
         Op::OpenConfirm(args) => Ok(open_confirm::rule(tables, journal, node, args)?),
         Op::OpenDowngrade(args) => Ok(open_downgrade::rule(tables, journal, node, args)),
         Op::Close(args) => Ok(close::rule(tables, journal, node, args)),
+        Op::Lock(args) => lock::rule(tables, journal, node, args),
+        Op::Locku(args) => locku::rule(tables, journal, node, args),
         _ => unreachable!(),
     }
 }
 
-// The ruling, and what its answer means for the owner.
-fn decision_of(passage: Passage, name: &OpenOwner, ruling: Ruling) -> Result<Decision, AllocError>
-    ensures { IfOk result (λ d. d ≡ decision_of passage name.now ruling) }
+// The ruling, and what its answer means for the owners.
+fn decision_of(
+    passage: Passage,
+    name: OwnerRef<'_>,
+    newcomer: Newcomer<'_>,
+    ruling: Ruling,
+) -> Result<Decision, AllocError>
+    ensures { IfOk result (λ d. d ≡ decision_of passage (owner_seen name.entry)
+        (newcomer_seen newcomer.entry) ruling) }
 {
-    let owner = owner_change_of(passage, name, ruling.answer.status())?;
+    let owner = owner_change_of(passage, name, newcomer, ruling.answer.status())?;
     Ok(Decision {
         answer: ruling.answer,
         change: ruling.change,
@@ -99,20 +116,43 @@ fn decision_of(passage: Passage, name: &OpenOwner, ruling: Ruling) -> Result<Dec
     })
 }
 
-// What an answer with this status means for the owner.
+// What an answer with this status means for the owner of the request, and for the lock owner that it introduces.
 fn owner_change_of(
     passage: Passage,
-    name: &OpenOwner,
+    name: OwnerRef<'_>,
+    newcomer: Newcomer<'_>,
     status: Status,
 ) -> Result<OwnerChange, AllocError>
-    ensures { IfOk result (λ c. c ≡ owner_change_of passage name.now status) }
+    ensures { IfOk result (λ c. c ≡ owner_change_of passage (owner_seen name.entry)
+        (newcomer_seen newcomer.entry) status) }
 {
     Ok(match passage {
-        Passage::Continues if counts(status) => OwnerChange::Keeps(name.clone()?),
-        Passage::Begins if status == Status::Ok => OwnerChange::Records(name.clone()?),
-        Passage::Restarts if status == Status::Ok => OwnerChange::Restarts(name.clone()?),
-        Passage::Restarts => OwnerChange::Drops(name.clone()?),
+        Passage::Continues if counts(status) => kept_with(name, newcomer, status)?,
+        Passage::Begins if status == Status::Ok => OwnerChange::Records(name.to_open_owner()?),
+        Passage::Restarts if status == Status::Ok => OwnerChange::Restarts(name.to_open_owner()?),
+        Passage::Restarts => OwnerChange::Drops(name.to_open_owner()?),
         _ => OwnerChange::Nothing,
+    })
+}
+
+// What an answer that counts means for the two.
+fn kept_with(
+    name: OwnerRef<'_>,
+    newcomer: Newcomer<'_>,
+    status: Status,
+) -> Result<OwnerChange, AllocError>
+    ensures { IfOk result (λ c. c ≡ kept_with (owner_seen name.entry)
+        (newcomer_seen newcomer.entry) status) }
+{
+    let owner = name.to_owned()?;
+    Ok(match newcomer {
+        Newcomer::Known(newcomer) => {
+            OwnerChange::KeepsBoth(owner, OwnerRef::of_lock(newcomer).to_owned()?)
+        }
+        Newcomer::Unknown(newcomer) if status == Status::Ok => {
+            OwnerChange::Introduces(owner, OwnerRef::of_lock(newcomer).to_owned()?)
+        }
+        _ => OwnerChange::Keeps(owner),
     })
 }
 

@@ -4,14 +4,14 @@ ghost use Rattle.nfs_rules.specs.Deciding.{Decides};
 ghost use Rattle.nfs_state.specs.Room.{state_of};
 
 use crate::decision::Decision;
+use nfs_operations::setclientid_confirm::SetclientidConfirm;
 use nfs_owners::PathMark;
 use nfs_state::{Change, Journal, OwnerChange, Request, Shortage, Tables};
 use nfs_tree::Callbacks;
-use nfs_xdr::operations::setclientid_confirm::SetclientidConfirm;
 use nfs_xdr::{Op, OpResult};
 
 /// Decides a SETCLIENTID_CONFIRM: its answer and its change.
-#[tactic(auto, unfolding(nfs_xdr::specs::OpResult::op_result, nfs_xdr::specs::Opnum::opnum, nfs_forms::specs::Status::status, xdr::specs::Writing::written_number, nfs_forms::specs::Answer::answer, nfs_forms::specs::operations::SetclientidConfirm::arguments, nfs_forms::specs::ClientId::client_id))]
+#[tactic(auto, unfolding(nfs_xdr::specs::OpResult::op_result, nfs_xdr::specs::Opnum::opnum, nfs_forms::specs::Status::status, xdr::specs::Writing::written_number, nfs_forms::specs::Answer::answer, nfs_operations::specs::SetclientidConfirm::arguments, nfs_forms::specs::ClientId::client_id))]
 pub(super) fn decide(
     tables: &Tables,
     journal: &Journal,

@@ -5,7 +5,7 @@ use Rattle.nfs_tree.specs.declared.filehandles.Filehandles.{Filehandles}
 use Rattle.nfs_tree.specs.declared.operations.access.TheConstants.{ACCESS_READ, ACCESS_LOOKUP, ACCESS_MODIFY, ACCESS_EXTEND, ACCESS_DELETE, ACCESS_EXECUTE}
 use Rattle.nfs_tree.specs.Effect.{Effect, stays}
 use Rattle.nfs_tree.specs.Tree.{Files, is_directory}
-use Rattle.nfs_forms.specs.declared.operations.access.AccessBits.{AccessBits}
+use Rattle.nfs_operations.specs.declared.access.AccessBits.{AccessBits}
 use Rattle.nfs_forms.specs.declared.answer.Answer.TheVariants.{Done, Refused}
 use Rattle.nfs_xdr.specs.declared.op_result.OpResult.TheVariants as results
 use Rattle.nfs_forms.specs.declared.status.Refusal.TheVariants as refusals

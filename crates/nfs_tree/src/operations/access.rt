@@ -5,7 +5,7 @@ ghost use Rattle.nfs_tree.specs.Tree.{is_directory};
 ghost use Rattle.nfs_xdr.specs.OpResult.{op_result};
 
 use crate::{Filehandles, Tree};
-use nfs_xdr::operations::access::AccessBits;
+use nfs_operations::access::AccessBits;
 use nfs_xdr::{Answer, OpResult, Refusal};
 
 /// The access rights of ACCESS, as bits (RFC 7530, section 16.1.2).
@@ -52,7 +52,7 @@ impl Tree {
 impl Filehandles {
     /// ACCESS (RFC 7530, section 16.1): returns which of the requested access rights the client has on the current
     /// object.
-    #[tactic(auto, unfolding(nfs_xdr::specs::OpResult::op_result, nfs_xdr::specs::Opnum::opnum, nfs_forms::specs::Answer::answer, nfs_forms::specs::operations::Access::access_bits, nfs_forms::specs::Status::status, xdr::specs::Writing::written_number))]
+    #[tactic(auto, unfolding(nfs_xdr::specs::OpResult::op_result, nfs_xdr::specs::Opnum::opnum, nfs_forms::specs::Answer::answer, nfs_operations::specs::Access::access_bits, nfs_forms::specs::Status::status, xdr::specs::Writing::written_number))]
     pub(crate) fn access(&self, tree: &Tree, requested: u32) -> OpResult
         ensures effect { record { answer = result; after = self.now }
             ≡ access tree.now self.now requested }

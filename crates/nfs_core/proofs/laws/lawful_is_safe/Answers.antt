@@ -3,12 +3,15 @@ use Rattle.nfs_core.proofs.Safety.{Lawful-safe}
 
 pub returns : goal.returns
 returns c =
-    let stay = c.opens_stay_compatible.ensures in
+    let opens = c.opens_stay_compatible.ensures in
+    let locks = c.locks_stay_compatible.ensures in
     record {
-      safe = Lawful-safe (record {
-        try_open = stay.try_open;
-        advance = stay.advance;
-        downgrade = stay.downgrade;
-        removal = stay.removal;
-      });
+      safe = Lawful-safe
+          (record {
+            try_open = opens.try_open;
+            advance = opens.advance;
+            downgrade = opens.downgrade;
+            removal = opens.removal;
+          })
+          (record { begin = locks.begin; change = locks.change; removal = locks.removal });
     }

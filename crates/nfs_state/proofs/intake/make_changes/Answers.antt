@@ -1,4 +1,6 @@
 use Rattle.std.proofs.Common.{◌∙◌, ap, sym, subst}
+use Rattle.nfs_owners.specs.declared.kept.Kept.{Kept}
+use Rattle.nfs_owners.specs.declared.state_owner.OwnerKind.{OwnerKind}
 use Rattle.nfs_state.specs.declared.entry.Entry.TheVariants as entries
 use Rattle.nfs_state.specs.Kept.{Agrees, owners_after, update_of, kept_of}
 use Rattle.nfs_state.specs.Room.{HasOwnerPlace, HasUpdateRoom}
@@ -9,7 +11,7 @@ use Rattle.nfs_state.proofs.intake.make_changes.Goals as goal
 pub commit_owner-requires : goal.commit_owner-requires
 commit_owner-requires c =
     let roomy = c.make_room.new.self in
-    let kept = kept_of (entries.Call c.args.call.now) in
+    let kept : OwnerKind → Kept = λ kind. kept_of kind (entries.Call c.args.call.now) in
     let has_place : Stored → Type 0 = λ stored. HasOwnerPlace c.args.owner (meaning stored) in
     let place = subst has_place (sym c.in_ok-make_room.ensures.same) c.requires.place in
     record { room = subst (λ u. HasUpdateRoom u roomy) (sym c.in_ok-update.ensures) (update_room c.args.owner kept roomy place c.in_ok-make_room.ensures.room.1) }
@@ -17,7 +19,7 @@ commit_owner-requires c =
 pub returns-clause-kept : goal.returns-clause-kept
 returns-clause-kept c = λ journal agrees.
     let roomy = c.make_room.new.self in
-    let update = update_of c.args.owner (kept_of (entries.Call c.args.call.now)) in
+    let update = update_of c.args.owner (λ kind. kept_of kind (entries.Call c.args.call.now)) in
     let are = c.commit_owner.ensures.owners
     ∙ ap (λ u. owners_after u c.args.number roomy.owners.owners) c.in_ok-update.ensures
     ∙ ap (λ (s : Stored). owners_after update c.args.number s.owners) c.in_ok-make_room.ensures.same in

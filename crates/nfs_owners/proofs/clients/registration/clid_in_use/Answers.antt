@@ -6,7 +6,7 @@ use Rattle.nfs_forms.specs.declared.callback.Address.{Address}
 use Rattle.nfs_forms.specs.Answer.{answer}
 use Rattle.nfs_forms.specs.Callback.{address}
 use Rattle.nfs_forms.specs.Status.{status}
-use Rattle.nfs_forms.specs.operations.Setclientid as setclientid
+use Rattle.nfs_operations.specs.Setclientid as setclientid
 use Rattle.xdr.specs.Layout.{padding_of}
 use Rattle.xdr.specs.Writing.{written_number, written_opaque, zeros}
 use Rattle.nfs_owners.proofs.clients.registration.clid_in_use.Goals as goal

@@ -10,7 +10,7 @@ use Rattle.nfs_forms.specs.declared.answer.Answer.TheVariants.{Done}
 use Rattle.nfs_forms.specs.Answer.{answer}
 use Rattle.nfs_forms.specs.Fattr.{fattr}
 use Rattle.nfs_forms.specs.Status.{status}
-use Rattle.nfs_forms.specs.operations.Getattr as getattr
+use Rattle.nfs_operations.specs.Getattr as getattr
 use Rattle.xdr.specs.Layout.{padding_of}
 use Rattle.xdr.specs.Writing.{written_number, written_opaque, written_u32, zeros}
 use Rattle.nfs_tree.specs.declared.attribute.Attribute.{Attribute}

@@ -1,7 +1,8 @@
 use Rattle.nfs_rules.proofs.Sequenced.{answered, answered_has_room, goes_on, memory_decides, ruled_has_room, without_filehandle}
 use Rattle.nfs_rules.specs.Finding.{requester_seen, sequence_seen}
 use Rattle.nfs_state.specs.Room.{state_of}
-use Rattle.nfs_rules.specs.Sequences.{IsSequenced}
+use Rattle.nfs_owners.specs.StateOwner.{owner_seen}
+use Rattle.nfs_rules.specs.Sequences.{IsSequenced, decision_of}
 use Rattle.nfs_rules.specs.operations.{own_of}
 use Rattle.nfs_rules.proofs.operations.sequenced.decide.Goals as goal
 use Rattle.std.proofs.Common.{◌∙◌, ap}
@@ -25,7 +26,7 @@ returns-in_err-answer-clause-decides c =
     let state = state_of c.args.tables.now in
     let requester = requester_seen c.args.requester in
     let own = own_of request.op journal state in
-    memory_decides (IsSequenced journal state requester own request.filehandle request) state request.op c.from_residual.result c.from_residual.ensures.0 c.from_residual.ensures.1 (answered_has_room own journal state requester request request.filehandle c.in-Some.node c.in-Some.is c.in_err-answer.ensures.memory)
+    memory_decides (IsSequenced journal state requester own request) state request.op c.from_residual.result c.from_residual.ensures.0 c.from_residual.ensures.1 (answered_has_room own journal state requester request request.filehandle c.in-Some.node c.in-Some.is c.in_err-answer.ensures.memory)
 
 pub returns-in_err-decision_of-in-GoesOn-clause-decides : goal.returns-in_err-decision_of-in-GoesOn-clause-decides
 returns-in_err-decision_of-in-GoesOn-clause-decides c =
@@ -36,7 +37,7 @@ returns-in_err-decision_of-in-GoesOn-clause-decides c =
     let own = own_of request.op journal state in
     let found = c.in_ok-answer in
     let failed = c.from_residual-in_err-decision_of-in-GoesOn in
-    memory_decides (IsSequenced journal state requester own request.filehandle request) state request.op failed.result failed.ensures.0 failed.ensures.1 (ruled_has_room journal state requester request request.filehandle c.in-Some.node (sequence_seen found.field-0) c.in-GoesOn.passage c.in-GoesOn.name.now c.in_ok-ruling-in-GoesOn.ruling c.in-Some.is (ap sequence_seen c.in-GoesOn.is) found.ensures.sequence c.in_ok-ruling-in-GoesOn.ensures.0)
+    memory_decides (IsSequenced journal state requester own request) state request.op failed.result failed.ensures.0 failed.ensures.1 (ruled_has_room (record { one_range = c.at_most_one_range.ensures; one_report = c.at_most_one_report.ensures }) journal state requester request request.filehandle c.in-Some.node (sequence_seen found.field-0) c.in-GoesOn.passage (owner_seen c.in-GoesOn.name) c.in_ok-ruling-in-GoesOn.ruling c.in-Some.is (ap sequence_seen c.in-GoesOn.is) found.ensures.sequence c.in_ok-ruling-in-GoesOn.ensures.0)
 
 pub returns-in-Answered-clause-decides : goal.returns-in-Answered-clause-decides
 returns-in-Answered-clause-decides c =
@@ -52,4 +53,5 @@ returns-in_ok-decision_of-in-GoesOn-clause-decides c =
     let journal = c.args.journal.now in
     let state = state_of c.args.tables.now in
     let found = c.in_ok-answer in
-    goes_on journal state (requester_seen c.args.requester) request request.filehandle c.in-Some.node (sequence_seen found.field-0) c.in-GoesOn.passage c.in-GoesOn.name.now c.in_ok-ruling-in-GoesOn.ruling c.in_ok-decision_of-in-GoesOn.field-0 c.in-Some.is (ap sequence_seen c.in-GoesOn.is) found.ensures.sequence found.ensures.passage c.in_ok-ruling-in-GoesOn.ensures c.in_ok-decision_of-in-GoesOn.ensures
+    goes_on journal state (requester_seen c.args.requester) request request.filehandle c.in-Some.node (sequence_seen found.field-0) c.in-GoesOn.passage (owner_seen c.in-GoesOn.name) c.in_ok-ruling-in-GoesOn.ruling c.in_ok-decision_of-in-GoesOn.field-0 c.in-Some.is c.requires.owner (ap sequence_seen c.in-GoesOn.is) found.ensures.sequence found.ensures.passage c.in_ok-ruling-in-GoesOn.ensures
+    (c.in_ok-decision_of-in-GoesOn.ensures ∙ ap (λ n. decision_of c.in-GoesOn.passage (owner_seen c.in-GoesOn.name) n c.in_ok-ruling-in-GoesOn.ruling) (c.newcomer_of-newcomer.ensures journal c.requires.kept))

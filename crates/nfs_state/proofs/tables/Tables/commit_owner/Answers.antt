@@ -1,16 +1,23 @@
-use Rattle.std.proofs.Common.{sym, ◌∙◌}
+use Rattle.std.proofs.Common.{ap, sym, ◌∙◌}
+use Rattle.nfs_owners.specs.Owners.{with_kept}
 use Rattle.nfs_state.specs.Room.{stored_of}
-use Rattle.nfs_state.proofs.StoredOwners.{drops_seen, keeps_seen, restarts_seen}
+use Rattle.nfs_state.proofs.StoredOwners.{drops_seen, keeps_both_seen, keeps_seen, restarts_seen}
 use Rattle.nfs_state.proofs.tables.Tables.commit_owner.Goals as goal
 
 pub returns-in-Keeps-clause-state : goal.returns-in-Keeps-clause-state
 returns-in-Keeps-clause-state c change kept update place =
-    keeps_seen (stored_of c.args.self.now) c.in-Keeps.name c.args.number c.in-Keeps.kept c.keep.new.self.owners c.keep.ensures.owners change kept (sym c.in-Keeps.is ∙ update) place
+    keeps_seen (stored_of c.args.self.now) (stored_of c.keep.new.self) c.in-Keeps.keeping c.args.number c.keep.ensures.stored change kept (sym c.in-Keeps.is ∙ update) place
 
 pub returns-in-Restarts-clause-state : goal.returns-in-Restarts-clause-state
 returns-in-Restarts-clause-state c change kept update place =
-    restarts_seen (stored_of c.args.self.now) (stored_of c.remove_owner.new.self) c.in-Restarts.name c.args.number c.in-Restarts.kept c.keep-in-Restarts.new.self.owners c.remove_owner.ensures.stored c.keep-in-Restarts.ensures.owners change kept (sym c.in-Restarts.is ∙ update)
+    restarts_seen (stored_of c.args.self.now) (stored_of c.remove_owner.new.self) c.in-Restarts.owner c.args.number c.in-Restarts.kept c.keep-in-Restarts.new.self.owners c.remove_owner.ensures.stored
+    (c.keep-in-Restarts.ensures.owners ∙ ap (λ n. with_kept n c.args.number c.in-Restarts.kept (stored_of c.remove_owner.new.self).owners) c.of_open.ensures) change kept (sym c.in-Restarts.is ∙ update)
 
 pub returns-in-Drops-clause-state : goal.returns-in-Drops-clause-state
 returns-in-Drops-clause-state c change kept update place =
-    drops_seen (stored_of c.args.self.now) (stored_of c.remove_owner-in-Drops.new.self) c.in-Drops.name c.args.number c.remove_owner-in-Drops.ensures.stored change kept (sym c.in-Drops.is ∙ update)
+    drops_seen (stored_of c.args.self.now) (stored_of c.remove_owner-in-Drops.new.self) c.in-Drops.owner c.args.number c.remove_owner-in-Drops.ensures.stored change kept (sym c.in-Drops.is ∙ update)
+
+pub returns-in-KeepsBoth-clause-state : goal.returns-in-KeepsBoth-clause-state
+returns-in-KeepsBoth-clause-state c change kept update place =
+    keeps_both_seen (stored_of c.args.self.now) (stored_of c.keep-in-KeepsBoth.new.self) (stored_of c.keep-in-KeepsBoth-2.new.self) c.in-KeepsBoth.keeping c.in-KeepsBoth.newcomer c.args.number
+    c.keep-in-KeepsBoth.ensures.stored c.keep-in-KeepsBoth-2.ensures.stored change kept (sym c.in-KeepsBoth.is ∙ update) place

@@ -8,7 +8,7 @@ use Rattle.nfs_state.proofs.tables.Tables.leave.Goals as goal
 
 pub returns-in-Replaces-clause-state : goal.returns-in-Replaces-clause-state
 returns-in-Replaces-clause-state c =
-    left_seen (stored_of c.args.self.now) c.in-Replaces.client c.remove_client.new.self.owners _ c.remove_client.ensures.owners c.remove_client-in-Replaces.ensures c.args.change.now _ c.in-Replaces.is
+    left_seen (stored_of c.args.self.now) c.in-Replaces.client c.remove_client.new.self.owners _ _ c.remove_client.ensures.owners c.remove_client-in-Replaces.ensures c.remove_client-in-Replaces-2.ensures c.args.change.now _ c.in-Replaces.is
 
 pub returns-in-Replaces-clause-kept : goal.returns-in-Replaces-clause-kept
 returns-in-Replaces-clause-kept c journal agrees =

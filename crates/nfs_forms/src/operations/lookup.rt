@@ -1,8 +1,0 @@
-use crate::Answer;
-use xdr::Bytes;
-
-/// A name in the current directory (RFC 7530, section 16.13).
-pub type Arguments = Bytes;
-
-/// A status without further data.
-pub type Outcome = Answer<()>;

@@ -1,7 +1,0 @@
-use crate::Answer;
-
-/// SAVEFH has no arguments (RFC 7530, section 16.30).
-pub type Arguments = ();
-
-/// A status without further data.
-pub type Outcome = Answer<()>;

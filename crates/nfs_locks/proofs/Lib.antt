@@ -1,0 +1,6 @@
+pub mod Elements
+pub mod Files
+pub mod SameSet
+pub mod Compatible
+pub mod Meetings
+pub mod Unique

@@ -1,0 +1,14 @@
+use Rattle.std.proofs.Common.{◌∙◌, Bool, ◌&&◌, List, ap}
+use Rattle.std.specs.List.{list_any}
+use Rattle.nfs_locks.specs.AllLocks.{locks_in}
+use Rattle.nfs_locks.specs.Locks.{ByteLocks, holds_bytes, is_lock_of}
+use Rattle.nfs_locks.specs.StoredLocks.{StoredLocks}
+use Rattle.nfs_locks.proofs.Files.{any_file}
+use Rattle.nfs_locks.proofs.locks.Locks.holds.Goals as goal
+
+pub returns : goal.returns
+returns c =
+    let test : ByteLocks → Bool = λ l. is_lock_of c.args.owner.now l && holds_bytes l in
+    c.holds_in.ensures
+    ∙ any_file test c.deref.result.now
+    ∙ ap (λ (files : List StoredLocks). list_any (list_any test) (locks_in files)) (c.deref.ensures.value ∙ c.self.view_is)

@@ -1,0 +1,184 @@
+ghost use Rattle.std.specs.Prelude.{◌≡◌, ◌≤◌, ◌<◌, ◌&&◌, [], IfOk, IsFalse, IsOk, OnOk, None, length, option_map};
+ghost use Rattle.std.specs.List.{AllByRecursion, find, list_any};
+ghost use Rattle.std.specs.Option.{option_copied};
+ghost use Rattle.nfs_locks.specs.AllLocks.{HasLockRoom, HasRangeRoom, is_full_for};
+ghost use Rattle.nfs_locks.specs.Locks.{holds_bytes, is_lock_of, is_lock_of_client, is_numbered, is_stateid_of, is_under, with_first_lock, with_lock_change, without, would_be_full};
+ghost use Rattle.nfs_locks.specs.Report.{IsReport};
+ghost use Rattle.nfs_locks.specs.ReportSeen.{report_seen};
+ghost use Rattle.nfs_locks.specs.StoredLocks.{lock_seen, locks_seen, stored_locks};
+
+use crate::changes::change_each;
+use crate::report::report_among;
+use crate::reserves::{reserve_each, roomy_ranges};
+use crate::{FirstLock, LockState, Report};
+use nfs_forms::{ClientId, LockOwner, Stateid};
+use nfs_ranges::{Mode, Piece, Range, Ranges};
+use std::alloc::{AllocError, Global};
+use std::marker::Model;
+
+/// The lock states of a file, in the order in which they began.
+#[derive(Debug, Drop)]
+pub(crate) struct FileLocks {
+    states: Vec<LockState>,
+    // ranges that are free and have room, for the next lock state
+    spare: Option<Ranges>,
+}
+
+impl Model for FileLocks {
+    ghost use Rattle.std.specs.Prelude.{◌≡◌, ◌<◌, ◌-◌, [], IfSome, is_some};
+    ghost use Rattle.std.specs.Vec.{vec_capacity, vec_len};
+    ghost use Rattle.nfs_locks.specs.StoredLocks.{StoredLocks};
+
+    ghost Value = { StoredLocks };
+
+    ghost view = { λ f. record {
+      states = f.states.items;
+      room = vec_capacity f.states - vec_len f.states;
+      spare = is_some f.spare;
+    } };
+
+    ghost invariant = { λ f. IfSome f.spare (λ r. (r.pieces ≡ []) × (0 < r.room)) };
+}
+
+impl FileLocks {
+    /// A file without lock states, taking no memory.
+    pub fn new(alloc: Global) -> FileLocks
+        ensures { result.states ≡ [] }
+    {
+        FileLocks {
+            states: Vec::new(alloc),
+            spare: None,
+        }
+    }
+
+    /// How many lock states there are.
+    pub fn len(&self) -> usize
+        ensures { result ≡ length self.now.states }
+    {
+        self.states.len()
+    }
+
+    /// The lock state that the stateid names, no matter its seqid, if there is one.
+    pub fn named_by(&self, stateid: Stateid) -> Option<&LockState>
+        ensures { option_copied result
+            ≡ find (λ l. is_stateid_of stateid (lock_seen l)) self.now.states }
+    {
+        self.states.iter().find(|state| state.is_named_by(stateid))
+    }
+
+    /// Whether the stateid names a lock state.
+    pub fn names(&self, stateid: Stateid) -> bool
+        ensures { result ≡ list_any (λ l. is_stateid_of stateid (lock_seen l)) self.now.states }
+    {
+        self.states.iter().any(|state| state.is_named_by(stateid))
+    }
+
+    /// The lock state of this owner, if there is one.
+    pub fn lock_of(&self, owner: &LockOwner) -> Option<&LockState>
+        ensures { option_copied result
+            ≡ find (λ l. is_lock_of owner.now (lock_seen l)) self.now.states }
+    {
+        self.states.iter().find(|state| state.is_of(owner))
+    }
+
+    /// Whether an owner of this client has a lock state.
+    pub fn has_client(&self, client: ClientId) -> bool
+        ensures { result ≡ list_any (λ l. is_lock_of_client client (lock_seen l)) self.now.states }
+    {
+        self.states.iter().any(|state| state.is_of_client(client))
+    }
+
+    /// Whether this owner holds a byte.
+    pub fn holds(&self, owner: &LockOwner) -> bool
+        ensures { result ≡ list_any
+            (λ l. is_lock_of owner.now (lock_seen l) && holds_bytes (lock_seen l)) self.now.states }
+    {
+        self.states.iter().any(|state| state.is_held_by(owner))
+    }
+
+    /// Whether a change of the lock state with this number would make too many runs of bytes.
+    pub fn is_full_for(&self, number: u32, change: Piece) -> bool
+        ensures { result ≡ list_any
+            (λ l. is_numbered number (lock_seen l) && would_be_full change (lock_seen l)) self.now.states }
+    {
+        self.states
+            .iter()
+            .any(|state| state.is_full_for(number, change))
+    }
+
+    /// The lock that is in the way of the owner's lock of the range in this mode, if there is one.
+    pub fn report(&self, owner: &LockOwner, range: Range, mode: Mode) -> Option<Report<'_>>
+        ensures { IsReport (locks_seen self.now.states) owner.now range mode
+            (option_map report_seen result) }
+    {
+        report_among(&self.states, owner, range, mode)
+    }
+
+    /// Makes room for an owner's first lock.
+    pub fn reserve(&mut self, alloc: Global) -> Result<(), AllocError>
+        ensures states { self.new.states ≡ self.old.states }
+        ensures room { OnOk result (HasLockRoom self.new) }
+        ensures ready { HasLockRoom self.old → IsOk result }
+    {
+        self.states.reserve(1)?;
+        if self.spare.is_none() {
+            self.spare = Some(roomy_ranges(alloc)?);
+        }
+        Ok(())
+    }
+
+    /// Makes room for the next change of the lock state with this number.
+    pub fn reserve_change(&mut self, number: u32) -> Result<(), AllocError>
+        ensures states { stored_locks self.new.states ≡ stored_locks self.old.states }
+        ensures room { OnOk result (AllByRecursion (HasRangeRoom number) self.new.states) }
+        ensures ready { AllByRecursion (HasRangeRoom number) self.old.states → IsOk result }
+    {
+        reserve_each(&mut self.states, number)
+    }
+
+    /// LOCK of an owner that has no lock state of the file: makes one with this number. It takes no memory.
+    pub fn begin(&mut self, first: FirstLock, number: u32)
+        requires room { HasLockRoom self.old }
+        ensures { locks_seen self.new.states
+            ≡ with_first_lock first number (locks_seen self.old.states) }
+    {
+        if let Some(ranges) = self.spare.take() {
+            self.states
+                .push_reserved(LockState::new(first, number, ranges));
+        }
+    }
+
+    /// LOCK or LOCKU by the lock state with this number. It takes no memory.
+    pub fn change(&mut self, number: u32, change: Piece)
+        requires room { AllByRecursion (HasRangeRoom number) self.old.states }
+        requires place { IsFalse (is_full_for number change (locks_seen self.old.states)) }
+        ensures { locks_seen self.new.states
+            ≡ with_lock_change number change (locks_seen self.old.states) }
+    {
+        change_each(&mut self.states, number, change);
+    }
+
+    /// CLOSE: removes the lock states under the open with this number.
+    pub fn close(&mut self, open_number: u32)
+        ensures { locks_seen self.new.states
+            ≡ without (is_under open_number) (locks_seen self.old.states) }
+    {
+        self.states.retain(|state| state.open_number != open_number);
+    }
+
+    /// Removes the lock state of this owner.
+    pub fn remove_owner(&mut self, owner: &LockOwner)
+        ensures { locks_seen self.new.states
+            ≡ without (is_lock_of owner.now) (locks_seen self.old.states) }
+    {
+        self.states.retain(|state| !state.is_of(owner));
+    }
+
+    /// Removes the lock states of all owners of this client.
+    pub fn remove_client(&mut self, client: ClientId)
+        ensures { locks_seen self.new.states
+            ≡ without (is_lock_of_client client) (locks_seen self.old.states) }
+    {
+        self.states.retain(|state| !state.is_of_client(client));
+    }
+}

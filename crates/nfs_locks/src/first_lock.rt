@@ -1,0 +1,11 @@
+use nfs_forms::LockOwner;
+use nfs_ranges::Piece;
+
+/// A lock owner's first lock of a file.
+#[derive(Debug, Drop)]
+pub struct FirstLock {
+    pub owner: LockOwner,
+    /// The number of the open that it comes under.
+    pub open_number: u32,
+    pub change: Piece,
+}

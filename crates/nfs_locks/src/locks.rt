@@ -1,0 +1,258 @@
+ghost use Rattle.std.specs.Prelude.{◌≡◌, ◌<◌, ◌-◌, ◌&&◌, [], IfOk, IfSome, IsFalse, IsOk, OnOk, length, map, option_map, position, replicate};
+ghost use Rattle.std.specs.List.{list_any};
+ghost use Rattle.std.specs.Option.{option_copied};
+ghost use Rattle.nfs_locks.specs.AllLocks.{HasLockRoomAt, HasRoomFor, at_node, holds, is_full_for, lock_count, lock_named_in, locks_in, locks_of, stored_in, with_locks};
+ghost use Rattle.nfs_locks.specs.LockFound.{lock_found_seen};
+ghost use Rattle.nfs_locks.specs.Locks.{holds_bytes, is_lock_of, is_lock_of_client, is_stateid_of, is_under, lock_of, with_first_lock, with_lock_change, without};
+ghost use Rattle.nfs_locks.specs.Report.{IsReport};
+ghost use Rattle.nfs_locks.specs.ReportSeen.{report_seen};
+ghost use Rattle.nfs_locks.specs.StoredLocks.{lock_seen};
+
+use crate::file_locks::FileLocks;
+use crate::{FirstLock, LockState, Report};
+use nfs_forms::{ClientId, LockOwner, Stateid};
+use nfs_ranges::{Mode, Piece, Range};
+use std::alloc::{AllocError, Global};
+use std::marker::Model;
+
+/// The lock states of all files, by the numbers of their nodes. A node that there isn't has no lock states, and a change
+/// of its lock states changes nothing.
+#[derive(Debug, Drop)]
+pub struct Locks {
+    files: Vec<FileLocks>,
+}
+
+/// A lock state, and the node of its file.
+#[derive(Clone, Copy, Debug)]
+pub struct LockFound<'a> {
+    pub node: u32,
+    pub state: &'a LockState,
+}
+
+impl Model for Locks {
+    ghost use Rattle.std.specs.Prelude.{◌<◌, ◌^◌, List, length};
+    ghost use Rattle.nfs_locks.specs.StoredLocks.{StoredLocks};
+
+    ghost Value = { List StoredLocks };
+
+    ghost view = { λ l. l.files.items };
+
+    ghost invariant = { λ l. length l.files.items < 2 ^ 32 };
+}
+
+impl Locks {
+    /// No lock states of any of these nodes.
+    pub fn new(alloc: Global, nodes: u32) -> Result<Locks, AllocError>
+        ensures { IfOk result (λ locks. stored_in locks ≡ replicate nodes []) }
+    {
+        let mut files = Vec::new(alloc);
+        files.reserve(nodes as usize)?;
+        for _ in 0..nodes {
+            files.push_reserved(FileLocks::new(alloc));
+        }
+        Ok(Locks { files })
+    }
+
+    /// The lock state that the stateid names, no matter its seqid, if there is one.
+    pub fn find(&self, stateid: Stateid) -> Option<LockFound<'_>>
+        ensures { option_map lock_found_seen result ≡ lock_named_in stateid (locks_in self.now) }
+    {
+        match self.node_of(stateid) {
+            Some(node) => found_at(node as u32, self.files[node].named_by(stateid)),
+            None => None,
+        }
+    }
+
+    // The node with a lock state that the stateid names.
+    fn node_of(&self, stateid: Stateid) -> Option<usize>
+        ensures node { result ≡ position
+            (λ f. list_any (λ l. is_stateid_of stateid (lock_seen l)) f.states) self.now }
+        ensures below { IfSome result (λ node. node < length self.now) }
+    {
+        self.files.iter().position(|file| file.names(stateid))
+    }
+
+    /// The lock state that this owner has of the node's file, if there is one.
+    pub fn lock_of(&self, node: u32, owner: &LockOwner) -> Option<&LockState>
+        ensures { option_map lock_seen (option_copied result)
+            ≡ lock_of owner.now (locks_of node (locks_in self.now)) }
+    {
+        self.files.get(node as usize)?.lock_of(owner)
+    }
+
+    /// Whether an owner of the client has a lock state.
+    pub fn has_client(&self, client: ClientId) -> bool
+        ensures { result ≡ list_any (list_any (is_lock_of_client client)) (locks_in self.now) }
+    {
+        has_client_in(&self.files, client)
+    }
+
+    /// Whether the owner holds a byte of a file.
+    pub fn holds(&self, owner: &LockOwner) -> bool
+        ensures { result ≡ holds owner.now (locks_in self.now) }
+    {
+        holds_in(&self.files, owner)
+    }
+
+    /// How many places of this limit the lock states leave.
+    pub fn places_left(&self, limit: usize) -> usize
+        ensures { result ≡ limit - lock_count (locks_in self.now) }
+    {
+        places_left(&self.files, limit)
+    }
+
+    /// Whether a change of the lock state of the node's file with this number would make more runs of bytes than an owner
+    /// may have of a file.
+    pub fn is_full_for(&self, node: u32, number: u32, change: Piece) -> bool
+        ensures { result ≡ is_full_for number change (locks_of node (locks_in self.now)) }
+    {
+        match self.files.get(node as usize) {
+            Some(file) => file.is_full_for(number, change),
+            None => false,
+        }
+    }
+
+    /// The lock of the node's file that is in the way of the owner's lock of the range in this mode, if there is one.
+    pub fn report(
+        &self,
+        node: u32,
+        owner: &LockOwner,
+        range: Range,
+        mode: Mode,
+    ) -> Option<Report<'_>>
+        ensures { IsReport (locks_of node (locks_in self.now)) owner.now range mode
+            (option_map report_seen result) }
+    {
+        self.files.get(node as usize)?.report(owner, range, mode)
+    }
+
+    /// Makes room for an owner's first lock of the node's file.
+    pub fn reserve(&mut self, alloc: Global, node: u32) -> Result<(), AllocError>
+        ensures stored { stored_in self.new ≡ stored_in self.old }
+        ensures room { OnOk result (HasLockRoomAt node self.new) }
+        ensures ready { HasLockRoomAt node self.old → IsOk result }
+    {
+        let node = node as usize;
+        if node < self.files.len() {
+            self.files[node].reserve(alloc)?;
+        }
+        Ok(())
+    }
+
+    /// Makes room for the next change of the lock state of the node's file with this number.
+    pub fn reserve_change(&mut self, node: u32, number: u32) -> Result<(), AllocError>
+        ensures stored { stored_in self.new ≡ stored_in self.old }
+        ensures room { OnOk result (HasRoomFor node number self.new) }
+        ensures ready { HasRoomFor node number self.old → IsOk result }
+    {
+        let node = node as usize;
+        if node < self.files.len() {
+            self.files[node].reserve_change(number)?;
+        }
+        Ok(())
+    }
+
+    /// LOCK of an owner that has no lock state of the node's file, no matter what others hold: makes one with this number.
+    /// It takes no memory.
+    pub fn begin(&mut self, node: u32, first: FirstLock, number: u32)
+        requires room { HasLockRoomAt node self.old }
+        ensures { locks_in self.new
+            ≡ with_locks node (with_first_lock first number) (locks_in self.old) }
+    {
+        let node = node as usize;
+        if node < self.files.len() {
+            self.files[node].begin(first, number);
+        }
+    }
+
+    /// LOCK or LOCKU by the lock state of the node's file with this number, no matter what others hold. It takes no
+    /// memory.
+    pub fn change(&mut self, node: u32, number: u32, change: Piece)
+        requires room { HasRoomFor node number self.old }
+        requires place { IsFalse (is_full_for number change (locks_of node (locks_in self.old))) }
+        ensures { locks_in self.new
+            ≡ with_locks node (with_lock_change number change) (locks_in self.old) }
+    {
+        let node = node as usize;
+        if node < self.files.len() {
+            self.files[node].change(number, change);
+        }
+    }
+
+    /// CLOSE: removes the lock states of the node's file under the open with this number.
+    pub fn close(&mut self, node: u32, open_number: u32)
+        ensures { locks_in self.new
+            ≡ with_locks node (without (is_under open_number)) (locks_in self.old) }
+    {
+        let node = node as usize;
+        if node < self.files.len() {
+            self.files[node].close(open_number);
+        }
+    }
+
+    /// Removes the lock states of the owner.
+    pub fn remove_owner(&mut self, owner: &LockOwner)
+        ensures { locks_in self.new ≡ map (without (is_lock_of owner.now)) (locks_in self.old) }
+    {
+        remove_owner_in(&mut self.files, owner);
+    }
+
+    /// Removes the lock states of all owners of this client.
+    pub fn remove_client(&mut self, client: ClientId)
+        ensures { locks_in self.new
+            ≡ map (without (is_lock_of_client client)) (locks_in self.old) }
+    {
+        remove_client_in(&mut self.files, client);
+    }
+}
+
+fn has_client_in(files: &[FileLocks], client: ClientId) -> bool
+    ensures { result ≡ list_any
+        (λ f. list_any (λ l. is_lock_of_client client (lock_seen l)) f.states) files.now }
+{
+    files.iter().any(|file| file.has_client(client))
+}
+
+fn holds_in(files: &[FileLocks], owner: &LockOwner) -> bool
+    ensures { result ≡ list_any (λ f. list_any
+        (λ l. is_lock_of owner.now (lock_seen l) && holds_bytes (lock_seen l)) f.states) files.now }
+{
+    files.iter().any(|file| file.holds(owner))
+}
+
+fn places_left(files: &[FileLocks], limit: usize) -> usize
+    ensures { result ≡ limit - lock_count (locks_in files.now) }
+{
+    let mut left = limit;
+    for file in files.iter() {
+        left = left.saturating_sub(file.len());
+    }
+    left
+}
+
+fn remove_owner_in(files: &mut [FileLocks], owner: &LockOwner)
+    ensures { locks_in files.new ≡ map (without (is_lock_of owner.now)) (locks_in files.old) }
+{
+    for file in files.iter_mut() {
+        file.remove_owner(owner);
+    }
+}
+
+fn remove_client_in(files: &mut [FileLocks], client: ClientId)
+    ensures { locks_in files.new ≡ map (without (is_lock_of_client client)) (locks_in files.old) }
+{
+    for file in files.iter_mut() {
+        file.remove_client(client);
+    }
+}
+
+// The lock state, if there is one, as one of this node's file.
+fn found_at(node: u32, state: Option<&LockState>) -> Option<LockFound<'_>>
+    ensures { option_map lock_found_seen result
+        ≡ at_node node (option_map lock_seen (option_copied state.entry)) }
+{
+    match state {
+        Some(state) => Some(LockFound { node, state }),
+        None => None,
+    }
+}

@@ -1,0 +1,20 @@
+-- OPEN_DOWNGRADE (RFC 7530, section 16.19): its arguments are an open, a sequence id, and the access and deny that the
+-- open is to have; its result is the open's new stateid.
+use Rattle.std.proofs.Common.{refl}
+use Rattle.nfs_operations.specs.declared.open_downgrade.OpenDowngrade.{OpenDowngrade}
+use Rattle.nfs_forms.specs.declared.stateid.Stateid.{Stateid}
+use Rattle.nfs_forms.specs.Answer.{PlainAnswer, plain_answer}
+use Rattle.nfs_forms.specs.Stateid.{stateid}
+use Rattle.xdr.specs.Form.{Form, ◌and◌, of, u32}
+
+-- struct OPEN_DOWNGRADE4args { stateid4 open_stateid; seqid4 seqid; uint32_t share_access; uint32_t share_deny; };
+unfoldable pub arguments : Form OpenDowngrade
+arguments =
+    of (λ p. record { stateid = p.0; seqid = p.1.0; access = p.1.1.0; deny = p.1.1.1 })
+    (λ a. (a.stateid, (a.seqid, (a.access, a.deny)))) (λ p. refl) (λ a. refl)
+    (stateid and u32 and u32 and u32)
+
+-- union OPEN_DOWNGRADE4res switch (nfsstat4 status) { case NFS4_OK: OPEN_DOWNGRADE4resok resok4; default: void; };
+-- struct OPEN_DOWNGRADE4resok { stateid4 open_stateid; };
+abbrev pub result : Form (PlainAnswer Stateid)
+result = plain_answer stateid

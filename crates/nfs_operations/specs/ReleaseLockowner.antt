@@ -1,0 +1,14 @@
+-- RELEASE_LOCKOWNER (RFC 7530, section 16.37): its argument is a lock owner, and its result a status.
+use Rattle.std.proofs.Common.{refl}
+use Rattle.nfs_operations.specs.declared.release_lockowner.ReleaseLockowner.{ReleaseLockowner}
+use Rattle.nfs_forms.specs.Answer.{PlainAnswer, plain_answer}
+use Rattle.nfs_forms.specs.LockOwner.{lock_owner}
+use Rattle.xdr.specs.Form.{Form, of, nothing}
+
+-- struct RELEASE_LOCKOWNER4args { lock_owner4 lock_owner; };
+unfoldable pub arguments : Form ReleaseLockowner
+arguments = of (λ o. record { owner = o }) (λ a. a.owner) (λ o. refl) (λ a. refl) lock_owner
+
+-- struct RELEASE_LOCKOWNER4res { nfsstat4 status; };
+abbrev pub result : Form (PlainAnswer (Unit {0}))
+result = plain_answer nothing

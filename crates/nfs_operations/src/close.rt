@@ -1,0 +1,38 @@
+ghost use Rattle.nfs_operations.specs.Close as forms;
+ghost use Rattle.xdr.specs.Reading.{Answers};
+
+use nfs_forms::{Answer, Stateid};
+use std::alloc::Global;
+use xdr::{Wire, WireError, write_two};
+
+/// An open that is given up (RFC 7530, section 16.2).
+pub type Arguments = Close;
+
+/// The arguments of CLOSE.
+#[derive(Clone, Copy, Debug, PartialEq, Eq)]
+pub struct Close {
+    /// The place of the request among those of its owner.
+    pub seqid: u32,
+    pub stateid: Stateid,
+}
+
+/// With NFS4_OK, a stateid that no operation takes any more.
+pub type Outcome = Answer<Stateid>;
+
+impl Wire for Close {
+    ghost form = { forms.arguments };
+
+    #[tactic(auto, unfolding(crate::specs::Close::arguments))]
+    fn read(alloc: Global, bytes: &[u8]) -> Result<(Close, &[u8]), WireError>
+        ensures { Answers (λ x. (x.0, x.1.now)) result (forms.arguments.at bytes.now) }
+    {
+        let (seqid, rest) = u32::read(alloc, bytes)?;
+        let (stateid, rest) = Stateid::read(alloc, rest)?;
+        Ok((Close { seqid, stateid }, rest))
+    }
+
+    #[tactic(auto, unfolding(crate::specs::Close::arguments))]
+    fn write(&self, out: &mut Vec<u8>) -> Result<(), WireError> {
+        write_two(out, &self.seqid, &self.stateid)
+    }
+}

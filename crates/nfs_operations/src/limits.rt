@@ -1,0 +1,8 @@
+ghost use Rattle.std.specs.Prelude.{◌≡◌};
+
+use crate::setclientid::ID_LIMIT;
+
+/// The limit of a client's id (NFS4_OPAQUE_LIMIT; RFC 7531).
+pub fn limit_of_ids()
+    ensures { ID_LIMIT ≡ 1024 }
+{}

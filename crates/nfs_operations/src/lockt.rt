@@ -1,0 +1,47 @@
+ghost use Rattle.nfs_operations.specs.Lockt as forms;
+
+use nfs_forms::{Answer, LockDenied, LockOwner, LockType};
+use std::alloc::Global;
+use xdr::{Wire, WireError, write_four};
+
+/// The lock that is asked about (RFC 7530, section 16.11).
+pub type Arguments = Lockt;
+
+/// The arguments of LOCKT.
+#[derive(Clone, Debug, PartialEq, Drop)]
+pub struct Lockt {
+    pub locktype: LockType,
+    /// The first byte.
+    pub offset: u64,
+    /// How many bytes; all ones for those up to the last one that a file can have.
+    pub length: u64,
+    /// Who would have the lock.
+    pub owner: LockOwner,
+}
+
+/// With NFS4ERR_DENIED, a lock that would be in the way.
+pub type Outcome = Answer<(), LockDenied>;
+
+impl Wire for Lockt {
+    ghost form = { forms.arguments };
+
+    #[tactic(auto, unfolding(crate::specs::Lockt::arguments))]
+    fn read(alloc: Global, bytes: &[u8]) -> Result<(Lockt, &[u8]), WireError> {
+        let (locktype, rest) = LockType::read(alloc, bytes)?;
+        let (offset, rest) = u64::read(alloc, rest)?;
+        let (length, rest) = u64::read(alloc, rest)?;
+        let (owner, rest) = LockOwner::read(alloc, rest)?;
+        let arguments = Lockt {
+            locktype,
+            offset,
+            length,
+            owner,
+        };
+        Ok((arguments, rest))
+    }
+
+    #[tactic(auto, unfolding(crate::specs::Lockt::arguments))]
+    fn write(&self, out: &mut Vec<u8>) -> Result<(), WireError> {
+        write_four(out, &self.locktype, &self.offset, &self.length, &self.owner)
+    }
+}

@@ -1,0 +1,38 @@
+ghost use Rattle.nfs_operations.specs.OpenConfirm as forms;
+ghost use Rattle.xdr.specs.Reading.{Answers};
+
+use nfs_forms::{Answer, Stateid};
+use std::alloc::Global;
+use xdr::{Wire, WireError, write_two};
+
+/// An open of the owner that is confirmed (RFC 7530, section 16.18).
+pub type Arguments = OpenConfirm;
+
+/// The arguments of OPEN_CONFIRM.
+#[derive(Clone, Copy, Debug, PartialEq, Eq)]
+pub struct OpenConfirm {
+    pub stateid: Stateid,
+    /// The place of the request among those of its owner.
+    pub seqid: u32,
+}
+
+/// With NFS4_OK, the open's stateid from now on.
+pub type Outcome = Answer<Stateid>;
+
+impl Wire for OpenConfirm {
+    ghost form = { forms.arguments };
+
+    #[tactic(auto, unfolding(crate::specs::OpenConfirm::arguments))]
+    fn read(alloc: Global, bytes: &[u8]) -> Result<(OpenConfirm, &[u8]), WireError>
+        ensures { Answers (λ x. (x.0, x.1.now)) result (forms.arguments.at bytes.now) }
+    {
+        let (stateid, rest) = Stateid::read(alloc, bytes)?;
+        let (seqid, rest) = u32::read(alloc, rest)?;
+        Ok((OpenConfirm { stateid, seqid }, rest))
+    }
+
+    #[tactic(auto, unfolding(crate::specs::OpenConfirm::arguments))]
+    fn write(&self, out: &mut Vec<u8>) -> Result<(), WireError> {
+        write_two(out, &self.stateid, &self.seqid)
+    }
+}

@@ -1,0 +1,45 @@
+ghost use Rattle.nfs_operations.specs.SetclientidConfirm as forms;
+ghost use Rattle.xdr.specs.Reading.{Answers};
+
+use nfs_forms::{Answer, ClientId};
+use std::alloc::Global;
+use xdr::{Measure, Wire, WireError, write_two};
+
+/// The values that SETCLIENTID returned (RFC 7530, section 16.34).
+pub type Arguments = SetclientidConfirm;
+
+/// The arguments of SETCLIENTID_CONFIRM, which SETCLIENTID also returns.
+#[derive(Clone, Copy, Debug, PartialEq, Eq)]
+pub struct SetclientidConfirm {
+    pub client: ClientId,
+    /// The value by which the client confirms the clientid.
+    pub confirm: u64,
+}
+
+/// A status without further data.
+pub type Outcome = Answer<()>;
+
+impl Wire for SetclientidConfirm {
+    ghost form = { forms.arguments };
+
+    #[tactic(auto, unfolding(crate::specs::SetclientidConfirm::arguments))]
+    fn read(alloc: Global, bytes: &[u8]) -> Result<(SetclientidConfirm, &[u8]), WireError>
+        ensures { Answers (λ x. (x.0, x.1.now)) result (forms.arguments.at bytes.now) }
+    {
+        let (client, rest) = ClientId::read(alloc, bytes)?;
+        let (confirm, rest) = u64::read(alloc, rest)?;
+        Ok((SetclientidConfirm { client, confirm }, rest))
+    }
+
+    #[tactic(auto, unfolding(crate::specs::SetclientidConfirm::arguments))]
+    fn write(&self, out: &mut Vec<u8>) -> Result<(), WireError> {
+        write_two(out, &self.client, &self.confirm)
+    }
+}
+
+impl Measure for SetclientidConfirm {
+    #[tactic(auto, unfolding(crate::specs::SetclientidConfirm::arguments))]
+    fn written_len(&self) -> usize {
+        self.client.written_len() + self.confirm.written_len()
+    }
+}

@@ -1,0 +1,69 @@
+ghost use Rattle.std.specs.Prelude.{◌≡◌, IfOk};
+ghost use Rattle.nfs_owners.specs.StateOwner.{as_open_owner, is_same_state_owner, lock_owner, open_owner, owner_seen};
+
+use crate::{OwnerKind, StateOwner};
+use nfs_forms::{ClientId, LockOwner, OWNER_NAME_LIMIT, OpenOwner};
+use std::alloc::AllocError;
+use xdr::Opaque;
+
+/// An owner's kind, client and name, lent: by these an owner is looked for without a copy of its name.
+#[derive(Clone, Copy, Debug)]
+pub struct OwnerRef<'a> {
+    pub kind: OwnerKind,
+    pub client: ClientId,
+    pub name: &'a Opaque<OWNER_NAME_LIMIT>,
+}
+
+impl<'a> OwnerRef<'a> {
+    /// This open owner.
+    pub fn of_open(owner: &'a OpenOwner) -> OwnerRef<'a>
+        ensures { owner_seen result ≡ open_owner owner.now }
+    {
+        OwnerRef {
+            kind: OwnerKind::Open,
+            client: owner.client,
+            name: &owner.name,
+        }
+    }
+
+    /// This lock owner.
+    pub fn of_lock(owner: &'a LockOwner) -> OwnerRef<'a>
+        ensures { owner_seen result ≡ lock_owner owner.now }
+    {
+        OwnerRef {
+            kind: OwnerKind::Lock,
+            client: owner.client,
+            name: &owner.name,
+        }
+    }
+
+    /// A copy of the owner.
+    pub fn to_owned(self) -> Result<StateOwner, AllocError>
+        ensures { IfOk result (λ o. o ≡ owner_seen self.entry) }
+    {
+        Ok(StateOwner {
+            kind: self.kind,
+            client: self.client,
+            name: self.name.clone()?,
+        })
+    }
+
+    /// A copy of the owner as an open owner, whatever its kind.
+    pub fn to_open_owner(self) -> Result<OpenOwner, AllocError>
+        ensures { IfOk result (λ o. o ≡ as_open_owner (owner_seen self.entry)) }
+    {
+        Ok(OpenOwner {
+            client: self.client,
+            name: self.name.clone()?,
+        })
+    }
+
+    /// Whether the owner is this one.
+    pub fn is(self, owner: &StateOwner) -> bool
+        ensures { result ≡ is_same_state_owner owner.now (owner_seen self.entry) }
+    {
+        owner.kind == self.kind
+            && owner.client == self.client
+            && owner.name.as_slice() == self.name.as_slice()
+    }
+}

@@ -1,0 +1,72 @@
+//! What LOCK, LOCKT and LOCKU have in common (RFC 7530, sections 9.2, 9.3 and 16.10 to 16.12).
+
+ghost use Rattle.std.specs.Prelude.{◌≡◌, ◌≤◌, IfOk, IsErrOf, IsFalse, IsTrue, OnOk, length};
+ghost use Rattle.nfs_forms.specs.LockDenied.{lock_denied};
+ghost use Rattle.nfs_locks.specs.ReportSeen.{report_seen};
+ghost use Rattle.nfs_rules.specs.Locking.{can_be_written, denied_by, lock_of_bytes, mode_of, type_of, unlock_of_bytes};
+
+use nfs_forms::{LockDenied, LockType, OWNER_NAME_LIMIT};
+use nfs_locks::Report;
+use nfs_ranges::{Mode, Piece, Range};
+use nfs_state::Shortage;
+
+/// The mode in which a lock of this type holds its bytes. No list of those who wait is kept, so that the types of lock
+/// that wait are as those that don't.
+pub(crate) fn mode_of(locktype: LockType) -> Mode
+    ensures { result ≡ mode_of locktype }
+{
+    match locktype {
+        LockType::Read | LockType::ReadWait => Mode::Read,
+        LockType::Write | LockType::WriteWait => Mode::Write,
+    }
+}
+
+// The type of lock that is held in this mode.
+fn type_of(mode: Mode) -> LockType
+    ensures { result ≡ type_of mode }
+{
+    match mode {
+        Mode::Read => LockType::Read,
+        Mode::Write => LockType::Write,
+    }
+}
+
+/// The change of a LOCK.
+pub(crate) fn lock_of_bytes(mode: Mode, range: Range) -> Piece
+    ensures { result ≡ lock_of_bytes mode range }
+{
+    Piece {
+        range,
+        mode: Some(mode),
+    }
+}
+
+/// The change of a LOCKU.
+pub(crate) fn unlock_of_bytes(range: Range) -> Piece
+    ensures { result ≡ unlock_of_bytes range }
+{
+    Piece { range, mode: None }
+}
+
+/// What NFS4ERR_DENIED tells of the lock that is in the way. Limit if it can't be written.
+#[tactic(auto, unfolding(nfs_forms::specs::LockDenied::lock_denied, nfs_forms::specs::LockOwner::lock_owner, nfs_forms::specs::LockType::lock_type, nfs_forms::specs::ClientId::client_id, xdr::specs::Writing::written_number, xdr::specs::Writing::written_opaque))]
+pub(crate) fn denied_by(report: Report<'_>) -> Result<LockDenied, Shortage>
+    ensures denied { IfOk result (λ d. d ≡ denied_by (report_seen report.entry)) }
+    ensures fits { IfOk result (λ d. lock_denied.Fits d) }
+    ensures short { IfOk result (λ d. length (lock_denied.spelling d) ≤ 1056) }
+    ensures within { OnOk result (IsTrue (can_be_written (report_seen report.entry))) }
+    ensures limit { IsErrOf result Shortage.Limit
+        → IsFalse (can_be_written (report_seen report.entry)) }
+    ensures memory { IsErrOf result Shortage.Memory
+        → IsTrue (can_be_written (report_seen report.entry)) }
+{
+    if report.owner.name.as_slice().len() > OWNER_NAME_LIMIT as usize {
+        return Err(Shortage::Limit);
+    }
+    Ok(LockDenied {
+        offset: report.range.first,
+        length: report.range.length(),
+        locktype: type_of(report.mode),
+        owner: report.owner.clone()?,
+    })
+}

@@ -1,0 +1,80 @@
+ghost use Rattle.std.specs.Prelude.{◌≡◌, ◌≤◌, IfOk, IsErrOf, Ok, Some, None, length};
+ghost use Rattle.nfs_operations.specs.Lockt as lockt;
+ghost use Rattle.nfs_rules.specs.Deciding.{Decides};
+ghost use Rattle.nfs_rules.specs.operations.Lockt.{IsRuled, IsTest, file_asked, only};
+ghost use Rattle.nfs_state.specs.Room.{state_of};
+
+use crate::decision::Decision;
+use crate::locking::{denied_by, mode_of};
+use nfs_forms::LockDenied;
+use nfs_locks::at_most_one_report;
+use nfs_operations::lockt::Lockt;
+use nfs_ranges::{at_most_one_range, range_of};
+use nfs_state::{Change, Journal, OwnerChange, Request, Shortage, Tables};
+use nfs_xdr::{Answer, Op, OpResult, Refusal};
+
+/// Decides a LOCKT: its answer, and that it changes nothing.
+#[tactic(auto, unfolding(nfs_xdr::specs::OpResult::op_result, nfs_xdr::specs::Opnum::opnum, nfs_forms::specs::Status::status, xdr::specs::Writing::written_number, nfs_forms::specs::Answer::answer))]
+pub(super) fn decide(
+    tables: &Tables,
+    journal: &Journal,
+    request: &Request,
+    args: &Lockt,
+) -> Result<Decision, Shortage>
+    ensures { Decides (IsRuled journal.now (state_of tables.now) request.now.filehandle args.now)
+        (state_of tables.now) (Op.Lockt args.now) result }
+{
+    let answer = match file_asked(tables, journal, request.filehandle, args) {
+        Ok(node) => test(tables, node, args)?,
+        Err(refusal) => Answer::Refused(refusal),
+    };
+    Ok(Decision {
+        answer: OpResult::Lockt(answer),
+        change: Change::Nothing,
+        owner: OwnerChange::Nothing,
+    })
+}
+
+// The node of the file that is asked about, or the first refusal.
+fn file_asked(
+    tables: &Tables,
+    journal: &Journal,
+    filehandle: Option<u32>,
+    args: &Lockt,
+) -> Result<u32, Refusal>
+    ensures { result
+        ≡ file_asked journal.now (state_of tables.now) filehandle args.now }
+{
+    let node = filehandle.ok_or(Refusal::NoFileHandle)?;
+    if tables.clients.of(args.owner.client).is_none() {
+        Err(Refusal::StaleClientId)
+    } else if journal.tree().is_directory(node) {
+        Err(Refusal::IsDir)
+    } else {
+        Ok(node)
+    }
+}
+
+// Whether a LOCK of the node's file would be refused, and for which lock.
+#[tactic(auto, unfolding(nfs_forms::specs::Answer::answer, nfs_forms::specs::Status::status, xdr::specs::Writing::written_number))]
+fn test(tables: &Tables, node: u32, args: &Lockt) -> Result<Answer<(), LockDenied>, Shortage>
+    ensures answer { IfOk result (λ a.
+        IsTest (state_of tables.now) args.now (Ok node) (Some (only a))) }
+    ensures form { IfOk result (λ a. lockt.result.Fits a) }
+    ensures short { IfOk result (λ a. length (lockt.result.spelling a) ≤ 1060) }
+    ensures limit { IsErrOf result Shortage.Limit
+        → IsTest (state_of tables.now) args.now (Ok node) None }
+    ensures memory { IsErrOf result Shortage.Memory
+        → IsTest (state_of tables.now) args.now (Ok node) None → ⊥ }
+{
+    at_most_one_range();
+    at_most_one_report();
+    let Some(range) = range_of(args.offset, args.length) else {
+        return Ok(Answer::Refused(Refusal::Inval));
+    };
+    let mode = mode_of(args.locktype);
+    match tables.locks.report(node, &args.owner, range, mode) {
+        None => Ok(Answer::Done(())),
+        Some(report) => Ok(Answer::Denied(denied_by(report)?)),
+    }
+}

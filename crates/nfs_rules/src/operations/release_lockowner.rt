@@ -1,0 +1,40 @@
+ghost use Rattle.std.specs.Prelude.{◌≡◌};
+ghost use Rattle.nfs_rules.specs.Deciding.{Decides};
+ghost use Rattle.nfs_rules.specs.operations.ReleaseLockowner.{refusal_of, rule};
+ghost use Rattle.nfs_state.specs.Room.{state_of};
+
+use crate::decision::Decision;
+use nfs_operations::release_lockowner::ReleaseLockowner;
+use nfs_state::{Change, OwnerChange, Shortage, Tables};
+use nfs_xdr::{Answer, Op, OpResult, Refusal};
+
+/// Decides a RELEASE_LOCKOWNER: its answer and its change.
+#[tactic(auto, unfolding(nfs_xdr::specs::OpResult::op_result, nfs_xdr::specs::Opnum::opnum, nfs_forms::specs::Status::status, xdr::specs::Writing::written_number, nfs_forms::specs::Answer::answer))]
+pub(super) fn decide(tables: &Tables, args: &ReleaseLockowner) -> Result<Decision, Shortage>
+    ensures { Decides (λ d. d ≡ rule (state_of tables.now) args.now) (state_of tables.now)
+        (Op.ReleaseLockowner args.now) result }
+{
+    if tables.clients.of(args.owner.client).is_none() {
+        return Ok(refused(Refusal::StaleClientId));
+    }
+    if tables.locks.holds(&args.owner) {
+        return Ok(refused(Refusal::LocksHeld));
+    }
+    Ok(Decision {
+        answer: OpResult::ReleaseLockowner(Answer::Done(())),
+        change: Change::Releases {
+            owner: args.owner.clone()?,
+        },
+        owner: OwnerChange::Nothing,
+    })
+}
+
+fn refused(refusal: Refusal) -> Decision
+    ensures { result ≡ refusal_of refusal }
+{
+    Decision {
+        answer: OpResult::ReleaseLockowner(Answer::Refused(refusal)),
+        change: Change::Nothing,
+        owner: OwnerChange::Nothing,
+    }
+}
