@@ -21,7 +21,7 @@ fn lock_owner(alloc: Global) -> Result<LockOwner, Fail> {
 }
 
 /// A lock for writing of the bytes from 4 to the last one.
-fn denied(alloc: Global) -> Result<LockDenied, Fail> {
+fn denied_lock(alloc: Global) -> Result<LockDenied, Fail> {
     let owner = lock_owner(alloc)?;
     Ok(LockDenied {
         offset: 4,
@@ -122,9 +122,9 @@ fn results_that_are_denied(rt: HostRuntime) -> Result<(), Fail> {
         2,
         0x6c31_0000,
     ];
-    let locked: lock::Outcome = Answer::Denied(denied(alloc)?);
+    let locked: lock::Outcome = Answer::Denied(denied_lock(alloc)?);
     assert!(rt; is_encoded_as(alloc, &locked, &words)?);
-    let asked: lockt::Outcome = Answer::Denied(denied(alloc)?);
+    let asked: lockt::Outcome = Answer::Denied(denied_lock(alloc)?);
     assert!(rt; is_encoded_as(alloc, &asked, &words)?);
     Ok(())
 }

@@ -1,7 +1,7 @@
 //! What lock states there are after locks, unlocks and removals, and what each holds.
 
 use crate::steps::{
-    CLIENT, FILE, OPEN, OTHER_CLIENT, OTHER_FILE, begin, change, found, hold, locker, no_locks,
+    CLIENT, FILE, OPEN, OTHER_CLIENT, OTHER_FILE, begin, change, hold, locker, no_locks, place_of,
     read, run_of, unlock, write,
 };
 use nfs_forms::LockOwner;
@@ -26,8 +26,10 @@ fn one_lock(alloc: Global) -> Result<Locks, AllocError> {
 fn a_first_lock_begins_a_lock_state(rt: HostRuntime) -> Result<(), Fail> {
     let locks = one_lock(rt.alloc())?;
     let a = owner_a(rt.alloc())?;
-    assert!(rt; found(&locks, CLIENT, 7) == Some((FILE, 1)));
-    assert!(rt; found(&locks, OTHER_CLIENT, 7).is_none() && found(&locks, CLIENT, 8).is_none());
+    assert!(rt; place_of(&locks, CLIENT, 7) == Some((FILE, 1)));
+    assert!(rt;
+        place_of(&locks, OTHER_CLIENT, 7).is_none() && place_of(&locks, CLIENT, 8).is_none()
+    );
     assert!(rt; run_of(&locks, &a, 7) == Some(write(0, 99)));
     assert!(rt;
         locks
@@ -45,7 +47,7 @@ fn a_second_lock_joins_the_first(rt: HostRuntime) -> Result<(), Fail> {
     let mut locks = one_lock(rt.alloc())?;
     assert!(rt; change(&mut locks, 7, write(100, 119))?);
     assert!(rt; run_of(&locks, &owner_a(rt.alloc())?, 7) == Some(write(0, 119)));
-    assert!(rt; found(&locks, CLIENT, 7) == Some((FILE, 2)));
+    assert!(rt; place_of(&locks, CLIENT, 7) == Some((FILE, 2)));
     Ok(())
 }
 
@@ -73,7 +75,7 @@ fn an_unlock_of_all_bytes_leaves_the_lock_state(rt: HostRuntime) -> Result<(), F
     let mut locks = one_lock(rt.alloc())?;
     assert!(rt; change(&mut locks, 7, unlock(0, 99))?);
     assert!(rt; !locks.holds(&owner_a(rt.alloc())?) && locks.has_client(CLIENT));
-    assert!(rt; found(&locks, CLIENT, 7) == Some((FILE, 2)));
+    assert!(rt; place_of(&locks, CLIENT, 7) == Some((FILE, 2)));
     Ok(())
 }
 
@@ -105,10 +107,10 @@ fn four_locks(alloc: Global) -> Result<Locks, AllocError> {
 /// Whether of the four lock states, 7 to 10, these are there.
 fn are_left(locks: &Locks, want: [bool; 4]) -> bool {
     let [seven, eight, nine, ten] = want;
-    found(locks, CLIENT, 7).is_some() == seven
-        && found(locks, CLIENT, 8).is_some() == eight
-        && found(locks, CLIENT, 9).is_some() == nine
-        && found(locks, OTHER_CLIENT, 10).is_some() == ten
+    place_of(locks, CLIENT, 7).is_some() == seven
+        && place_of(locks, CLIENT, 8).is_some() == eight
+        && place_of(locks, CLIENT, 9).is_some() == nine
+        && place_of(locks, OTHER_CLIENT, 10).is_some() == ten
 }
 
 #[test]

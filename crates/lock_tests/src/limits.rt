@@ -1,11 +1,11 @@
 //! A lock state with as many runs of bytes as an owner may have of a file.
 
-use crate::steps::{CLIENT, FILE, change, found, hold, locker, no_locks, read, run_of, unlock};
+use crate::steps::{CLIENT, FILE, change, hold, locker, no_locks, place_of, read, run_of, unlock};
 use nfs_locks::Locks;
 use std::alloc::{AllocError, Global};
 use std::test::Fail;
 
-/// 1,024 runs of the owner `a` by lock state 7, each of one byte, with one byte free behind it; and the last of these
+/// 1,024 runs of the owner `a` by lock state 7, each of one byte, with one byte free after it; and the last of these
 /// free bytes held by the owner `b`, by lock state 8.
 fn full(alloc: Global) -> Result<Locks, AllocError> {
     let mut locks = no_locks(alloc)?;
@@ -33,9 +33,9 @@ fn full(alloc: Global) -> Result<Locks, AllocError> {
 fn one_run_too_many(rt: HostRuntime) -> Result<(), Fail> {
     let mut locks = full(rt.alloc())?;
     let a = locker(rt.alloc(), CLIENT, b"a")?;
-    assert!(rt; found(&locks, CLIENT, 7) == Some((FILE, 1024)));
+    assert!(rt; place_of(&locks, CLIENT, 7) == Some((FILE, 1024)));
     assert!(rt; !change(&mut locks, 7, read(2048, 2048))?);
-    assert!(rt; found(&locks, CLIENT, 7) == Some((FILE, 1024)));
+    assert!(rt; place_of(&locks, CLIENT, 7) == Some((FILE, 1024)));
     assert!(rt; run_of(&locks, &a, 2048).is_none());
     Ok(())
 }

@@ -1,4 +1,4 @@
-//! Which lock is in the way of another one, and what is told of it.
+//! Which lock is in the way of another one, and how it is reported.
 
 use crate::steps::{
     CLIENT, FILE, OTHER_CLIENT, OTHER_FILE, change, hold, locker, no_locks, read, unlock, write,
@@ -27,7 +27,7 @@ fn is_free(locks: &Locks, owner: &LockOwner, wanted: Piece) -> bool {
 }
 
 /// Whether this owner's lock is in the way of the first one's, and the report has these bytes of it.
-fn is_told(
+fn is_reported(
     locks: &Locks,
     owner: &LockOwner,
     wanted: Piece,
@@ -51,8 +51,8 @@ fn the_first_byte_that_is_refused_decides(rt: HostRuntime) -> Result<(), Fail> {
     let mut locks = no_locks(alloc)?;
     hold(alloc, &mut locks, &a, 7, write(50, 59))?;
     hold(alloc, &mut locks, &b, 8, read(30, 39))?;
-    assert!(rt; is_told(&locks, &z, write(0, 99), &b, read(30, 39)));
-    assert!(rt; is_told(&locks, &z, read(0, 99), &a, write(50, 59)));
+    assert!(rt; is_reported(&locks, &z, write(0, 99), &b, read(30, 39)));
+    assert!(rt; is_reported(&locks, &z, read(0, 99), &a, write(50, 59)));
     assert!(rt; is_free(&locks, &z, write(40, 49)));
     Ok(())
 }
@@ -79,16 +79,16 @@ fn each_file_has_its_own_locks(rt: HostRuntime) -> Result<(), Fail> {
     Ok(())
 }
 
-/// Whether the first owner is told, where both hold a byte and the second began before the first.
+/// Whether the first owner is reported, where both hold a byte and the second began before the first.
 fn comes_first(alloc: Global, first: &LockOwner, second: &LockOwner) -> Result<bool, AllocError> {
     let mut locks = no_locks(alloc)?;
     hold(alloc, &mut locks, second, 7, read(10, 29))?;
     hold(alloc, &mut locks, first, 8, read(20, 39))?;
-    Ok(is_told(&locks, &asker(alloc)?, write(25, 25), first, read(20, 39)))
+    Ok(is_reported(&locks, &asker(alloc)?, write(25, 25), first, read(20, 39)))
 }
 
 #[test]
-fn at_one_byte_the_first_owner_is_told(rt: HostRuntime) -> Result<(), Fail> {
+fn at_one_byte_the_first_owner_is_reported(rt: HostRuntime) -> Result<(), Fail> {
     let alloc = rt.alloc();
     let table = [
         (6, 9, "b", 7, 1, "a"),
@@ -131,19 +131,19 @@ fn long_locks(alloc: Global) -> Result<Locks, AllocError> {
 }
 
 #[test]
-fn the_whole_run_is_told(rt: HostRuntime) -> Result<(), Fail> {
+fn the_whole_run_is_reported(rt: HostRuntime) -> Result<(), Fail> {
     let locks = long_locks(rt.alloc())?;
     let a = locker(rt.alloc(), CLIENT, b"a")?;
     let z = asker(rt.alloc())?;
-    assert!(rt; is_told(&locks, &z, read(50, 59), &a, write(10, 99)));
-    assert!(rt; is_told(&locks, &z, write(100, 100), &a, read(100, 199)));
-    assert!(rt; is_told(&locks, &z, write(205, 210), &a, read(210, LAST)));
+    assert!(rt; is_reported(&locks, &z, read(50, 59), &a, write(10, 99)));
+    assert!(rt; is_reported(&locks, &z, write(100, 100), &a, read(100, 199)));
+    assert!(rt; is_reported(&locks, &z, write(205, 210), &a, read(210, LAST)));
     assert!(rt; is_free(&locks, &z, write(200, 209)));
     Ok(())
 }
 
 /// The length that the report to the owner tells, or 0 where there is none.
-fn told_length(locks: &Locks, owner: &LockOwner, wanted: Piece) -> u64 {
+fn reported_length(locks: &Locks, owner: &LockOwner, wanted: Piece) -> u64 {
     match report(locks, FILE, owner, wanted) {
         Some(report) => report.range.length(),
         None => 0,
@@ -151,11 +151,11 @@ fn told_length(locks: &Locks, owner: &LockOwner, wanted: Piece) -> u64 {
 }
 
 #[test]
-fn lengths_that_are_told(rt: HostRuntime) -> Result<(), Fail> {
+fn lengths_that_are_reported(rt: HostRuntime) -> Result<(), Fail> {
     let locks = long_locks(rt.alloc())?;
     let z = asker(rt.alloc())?;
-    assert_eq!(rt; told_length(&locks, &z, read(50, 59)), 90);
-    assert_eq!(rt; told_length(&locks, &z, write(300, 300)), LAST);
+    assert_eq!(rt; reported_length(&locks, &z, read(50, 59)), 90);
+    assert_eq!(rt; reported_length(&locks, &z, write(300, 300)), LAST);
     Ok(())
 }
 
@@ -180,20 +180,20 @@ fn readers_are_not_in_the_way_of_readers(rt: HostRuntime) -> Result<(), Fail> {
     hold(alloc, &mut locks, &a, 7, read(0, 99))?;
     hold(alloc, &mut locks, &b, 8, read(50, 149))?;
     assert!(rt; is_free(&locks, &a, read(0, 149)) && is_free(&locks, &a, write(20, 49)));
-    assert!(rt; is_told(&locks, &a, write(20, 50), &b, read(50, 149)));
+    assert!(rt; is_reported(&locks, &a, write(20, 50), &b, read(50, 149)));
     Ok(())
 }
 
 #[test]
-fn an_upgrade_in_the_middle_is_told(rt: HostRuntime) -> Result<(), Fail> {
+fn an_upgrade_in_the_middle_is_reported(rt: HostRuntime) -> Result<(), Fail> {
     let alloc = rt.alloc();
     let a = locker(alloc, CLIENT, b"a")?;
     let b = locker(alloc, CLIENT, b"b")?;
     let mut locks = no_locks(alloc)?;
     hold(alloc, &mut locks, &a, 7, read(0, 99))?;
     change(&mut locks, 7, write(20, 39))?;
-    assert!(rt; is_told(&locks, &b, read(0, 49), &a, write(20, 39)));
-    assert!(rt; is_told(&locks, &b, write(0, 49), &a, read(0, 19)));
-    assert!(rt; is_told(&locks, &b, write(60, 60), &a, read(40, 99)));
+    assert!(rt; is_reported(&locks, &b, read(0, 49), &a, write(20, 39)));
+    assert!(rt; is_reported(&locks, &b, write(0, 49), &a, read(0, 19)));
+    assert!(rt; is_reported(&locks, &b, write(60, 60), &a, read(40, 99)));
     Ok(())
 }

@@ -144,7 +144,7 @@ pub(crate) fn change(locks: &mut Locks, number: u32, change: Piece) -> Result<bo
 }
 
 /// The node of the client's lock state with this number, and the seqid in its stateid.
-pub(crate) fn found(locks: &Locks, client: ClientId, number: u32) -> Option<(u32, u32)> {
+pub(crate) fn place_of(locks: &Locks, client: ClientId, number: u32) -> Option<(u32, u32)> {
     let stateid = Stateid {
         seqid: 0,
         client,

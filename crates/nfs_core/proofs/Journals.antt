@@ -9,7 +9,7 @@ use Rattle.nfs_share.specs.Opens.{open_of}
 use Rattle.nfs_rules.specs.operations.{AtMostOneDecision, IsRuled}
 use Rattle.nfs_state.specs.declared.owner_change.OwnerChange.{OwnerChange}
 use Rattle.nfs_state.specs.declared.owner_change.OwnerChange.TheVariants.{Nothing}
-use Rattle.nfs_state.specs.Changes.{with_owner_change, changed, last_state_after}
+use Rattle.nfs_state.specs.Changes.{with_owner_change, with_state_change, last_state_after}
 use Rattle.nfs_owners.specs.Registry.{Registry}
 use Rattle.nfs_state.specs.Stored.{Stored, empty_store, meaning}
 use Rattle.nfs_core.proofs.SafeLists.{map_replicate}
@@ -89,7 +89,7 @@ pub Lawful-same : (journal journal' : History) (stored stored' : Stored) → jou
 Lawful-same journal journal' stored stored' same_journal same_stored lawful = rw (same_journal, same_stored) lawful
 
 -- a change uses at most one confirm value
-changed_confirm : (change : Change) (old : State) → (changed change old).clients.last_confirm ≤ old.clients.last_confirm + 1
+changed_confirm : (change : Change) (old : State) → (with_state_change change old).clients.last_confirm ≤ old.clients.last_confirm + 1
 changed_confirm changes.Nothing old = omega arith
 changed_confirm (changes.Clients client_changes.Nothing) old = omega arith
 changed_confirm change old = omega arith
@@ -120,7 +120,7 @@ last_after : (has_open : Bool) (last : ℕ) → last_state_after has_open last �
 last_after true last = omega arith
 last_after false last = omega arith
 
-changed_state : (change : Change) (old : State) → (changed change old).last_state ≤ old.last_state + 1
+changed_state : (change : Change) (old : State) → (with_state_change change old).last_state ≤ old.last_state + 1
 changed_state changes.Nothing old = omega arith
 changed_state (changes.Clients (client_changes.Replaces r client)) old = omega arith
 changed_state (changes.Clients change) old = omega arith

@@ -74,20 +74,20 @@ found_cases p x xs found = elim (cases_Bool (p x)) [
 pub found_first : {X : Type 0} (p : X → Bool) (x : X) (xs : List X) → p x ≡ true → is_some (find p (x ∷ xs)) ≡ true
 found_first p x xs passes = ap is_some (cond-true (p x) (Some x) (find p xs) passes)
 
-pub found_behind : {X : Type 0} (p : X → Bool) (x : X) (xs : List X) → is_some (find p xs) ≡ true → is_some (find p (x ∷ xs)) ≡ true
-found_behind p x xs found = cond_both (p x) (Some x) (find p xs) (λ o. is_some o ≡ true) (λ _. refl) (λ _. found)
+pub found_beyond : {X : Type 0} (p : X → Bool) (x : X) (xs : List X) → is_some (find p xs) ≡ true → is_some (find p (x ∷ xs)) ≡ true
+found_beyond p x xs found = cond_both (p x) (Some x) (find p xs) (λ o. is_some o ≡ true) (λ _. refl) (λ _. found)
 
 -- what is found in a list is found in it with more at the end
 pub found_more : {X : Type 0} (p : X → Bool) (xs ys : List X) → is_some (find p xs) ≡ true → is_some (find p (xs ++ ys)) ≡ true
 found_more p [] ys found = absurd cc
 found_more p (x ∷ xs) ys found = elim (found_cases p x xs found) [
   | inl first ↦ found_first p x (xs ++ ys) first
-  | inr behind ↦ found_behind p x (xs ++ ys) (found_more p xs ys behind)
+  | inr beyond ↦ found_beyond p x (xs ++ ys) (found_more p xs ys beyond)
 ]
 
 pub found_last : {X : Type 0} (p : X → Bool) (xs : List X) (y : X) → p y ≡ true → is_some (find p (xs ++ y ∷ [])) ≡ true
 found_last p [] y passes = found_first p y [] passes
-found_last p (x ∷ xs) y passes = found_behind p x (xs ++ y ∷ []) (found_last p xs y passes)
+found_last p (x ∷ xs) y passes = found_beyond p x (xs ++ y ∷ []) (found_last p xs y passes)
 
 -- What is found is found still where a filter keeps it.
 pub found_filtered : {X : Type 0} (P : X → Type 0) (p q : X → Bool) → ((x : X) → P x → p x ≡ true → q x ≡ true)
@@ -95,9 +95,9 @@ pub found_filtered : {X : Type 0} (P : X → Type 0) (p q : X → Bool) → ((x 
 found_filtered P p q keep [] h found = absurd cc
 found_filtered P p q keep (x ∷ xs) h found = elim (found_cases p x xs found) [
   | inl first ↦ subst (λ zs. is_some (find p zs) ≡ true) (sym (cond-true (q x) (x ∷ filter q xs) (filter q xs) (keep x h.0 first))) (found_first p x (filter q xs) first)
-  | inr behind ↦ cond_both (q x) (x ∷ filter q xs) (filter q xs) (λ zs. is_some (find p zs) ≡ true)
-      (λ _. found_behind p x (filter q xs) (found_filtered P p q keep xs h.1 behind))
-      (λ _. found_filtered P p q keep xs h.1 behind)
+  | inr beyond ↦ cond_both (q x) (x ∷ filter q xs) (filter q xs) (λ zs. is_some (find p zs) ≡ true)
+      (λ _. found_beyond p x (filter q xs) (found_filtered P p q keep xs h.1 beyond))
+      (λ _. found_filtered P p q keep xs h.1 beyond)
 ]
 
 -- Something is found still where a filter keeps what is found, or the element that is added would be found too.
@@ -119,7 +119,7 @@ pub found_map : {X : Type 0} (p : X → Bool) (f : X → X) → ((x : X) → p x
 found_map p f same [] found = absurd cc
 found_map p f same (x ∷ xs) found = elim (found_cases p x xs found) [
   | inl first ↦ found_first p (f x) (map f xs) (same x first)
-  | inr behind ↦ found_behind p (f x) (map f xs) (found_map p f same xs behind)
+  | inr beyond ↦ found_beyond p (f x) (map f xs) (found_map p f same xs beyond)
 ]
 
 -- where something is found, there is an element that passes the test, and what holds of each holds of it
@@ -127,7 +127,7 @@ pub found_holds : {X : Type 0} (P : X → Type 0) (p : X → Bool) (xs : List X)
 found_holds P p [] found h = absurd cc
 found_holds P p (x ∷ xs) found h = elim (found_cases p x xs found) [
   | inl first ↦ (x, h.0, first)
-  | inr behind ↦ found_holds P p xs behind h.1
+  | inr beyond ↦ found_holds P p xs beyond h.1
 ]
 
 -- where an element is found, something is found by each test that it passes
@@ -138,7 +138,7 @@ found_some p q (y ∷ xs) x is passes = elim (cases_Bool (p y)) [
       let same : Some y ≡ Some x = sym (cond-true (p y) (Some y) (find p xs) here) ∙ is in
       let equal : y ≡ x = search same in
       found_first q y xs (ap q equal ∙ passes)
-  | inr fails ↦ found_behind q y xs (found_some p q xs x (sym (cond-false (p y) (Some y) (find p xs) fails) ∙ is) passes)
+  | inr fails ↦ found_beyond q y xs (found_some p q xs x (sym (cond-false (p y) (Some y) (find p xs) fails) ∙ is) passes)
 ]
 
 -- where something is found, an element passes the test
@@ -146,7 +146,7 @@ pub any_found : {X : Type 0} (p : X → Bool) (xs : List X) → is_some (find p 
 any_found p [] found = absurd cc
 any_found p (x ∷ xs) found = elim (found_cases p x xs found) [
   | inl first ↦ or_left (p x) (list_any p xs) first
-  | inr behind ↦ or_right (p x) (list_any p xs) (any_found p xs behind)
+  | inr beyond ↦ or_right (p x) (list_any p xs) (any_found p xs beyond)
 ]
 
 -- Where something is found by one test, and all that pass it pass another, something is found by that one.
@@ -154,7 +154,7 @@ pub found_by : {X : Type 0} (p q : X → Bool) → ((x : X) → p x ≡ true →
 found_by p q passes [] found = absurd cc
 found_by p q passes (x ∷ xs) found = elim (found_cases p x xs found) [
   | inl first ↦ found_first q x xs (passes x first)
-  | inr behind ↦ found_behind q x xs (found_by p q passes xs behind)
+  | inr beyond ↦ found_beyond q x xs (found_by p q passes xs beyond)
 ]
 
 -- What is found, where a filter keeps all that pass the test.
@@ -166,10 +166,10 @@ find_filtered p q keep (x ∷ xs) = elim (cases_Bool (p x)) [
       ∙ cond-true (p x) (Some x) (find p (filter q xs)) passes
       ∙ sym (cond-true (p x) (Some x) (find p xs) passes)
   | inr fails ↦
-      let behind = find_filtered p q keep xs ∙ sym (cond-false (p x) (Some x) (find p xs) fails) in
+      let beyond = find_filtered p q keep xs ∙ sym (cond-false (p x) (Some x) (find p xs) fails) in
       cond_both (q x) (x ∷ filter q xs) (filter q xs) (λ zs. find p zs ≡ find p (x ∷ xs))
-      (λ _. cond-false (p x) (Some x) (find p (filter q xs)) fails ∙ behind)
-      (λ _. behind)
+      (λ _. cond-false (p x) (Some x) (find p (filter q xs)) fails ∙ beyond)
+      (λ _. beyond)
 ]
 
 -- What is found, after a change of each element that the test can't see.
@@ -192,10 +192,10 @@ find_more p (x ∷ xs) ys found = elim (cases_Bool (p x)) [
   | inl passes ↦
       cond-true (p x) (Some x) (find p (xs ++ ys)) passes ∙ sym (cond-true (p x) (Some x) (find p xs) passes)
   | inr fails ↦
-      let behind = cond-false (p x) (Some x) (find p xs) fails in
+      let beyond = cond-false (p x) (Some x) (find p xs) fails in
       cond-false (p x) (Some x) (find p (xs ++ ys)) fails
-      ∙ find_more p xs ys (sym (ap is_some behind) ∙ found)
-      ∙ sym behind
+      ∙ find_more p xs ys (sym (ap is_some beyond) ∙ found)
+      ∙ sym beyond
 ]
 
 -- What holds of each element and what holds of it too.

@@ -130,7 +130,7 @@ AreSingle records = AllByRecursion (λ r. AllByRecursion (HasSameClient r) recor
 abbrev pub IsLockerKnownIn : List KnownOwner → ByteLocks → Type 0
 IsLockerKnownIn owners l = is_known_in owners (lock_owner l.owner) ≡ true
 
--- the lock state stands under one of the opens
+-- the lock state belongs to one of the opens
 abbrev pub StandsUnder : List KnownOwner → List OpenState → ByteLocks → Type 0
 StandsUnder owners opens l = is_some (find (bears owners l) opens) ≡ true
 

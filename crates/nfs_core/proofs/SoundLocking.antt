@@ -175,7 +175,7 @@ locking_founded : (journal : History) (state : State) (node : ℕ) (args : Lock)
 locking_founded journal state node args (lockers.New locker) l name is of =
     let newcomer = newcomer_in journal state name.client (lockers.New locker) in
     let P : Type 0 = IsFounded state newcomer l l.state in
-    bound P (verdict (record { node = node; also_unconfirmed = false }) journal.epoch state locker.open_stateid) (λ at. lock.introduced journal state args locker at) l
+    bound P (verdict (record { node = node; also_unconfirmed = false }) journal.epoch state locker.open_stateid) (λ at. lock.introduction journal state args locker at) l
     (λ at found rest.
     let reclaims = unrefused_then args.reclaim refusals.NoGrace at _ l rest in
     let client = unrefused_then (not (is_same_client locker.lock_owner.client at.state.owner.client)) refusals.Inval at _ l reclaims.1 in
@@ -199,7 +199,7 @@ locking_founded journal state node args (lockers.New locker) l name is of =
 locking_founded journal state node args (lockers.Known locker) l name is of =
     let newcomer = newcomer_in journal state name.client (lockers.Known locker) in
     let P : Type 0 = IsFounded state newcomer l l.state in
-    bound P (lock_verdict node journal.epoch state locker.lock_stateid) (λ at. lock.locking_found args at) l
+    bound P (lock_verdict node journal.epoch state locker.lock_stateid) (λ at. lock.locking_of_state args at) l
     (λ at found rest.
     let there : Locking = record {
       node = at.node;
@@ -218,7 +218,7 @@ abbrev seen : ℕ → State → StateOwner → Newcomer → Ruling → State
 seen number state name newcomer ruling = with_owner_change (owner_change_of passages.Continues name newcomer (status_of ruling.answer)) number state
 
 granted_ready : (number : ℕ) (state : State) (name : StateOwner) (newcomer : Newcomer) (l : Locking) (range : Range) (there : Option ByteLocks) (ruling : Ruling)
-    → IsFounded state newcomer l there → IsReport (locks_of l.node state.locks) l.owner range l.mode None → Some ruling ≡ lock.granted state l range there
+    → IsFounded state newcomer l there → IsReport (locks_of l.node state.locks) l.owner range l.mode None → Some ruling ≡ lock.grant state l range there
     → IsChangeReady ruling.change (seen number state name newcomer ruling)
 granted_ready number state name newcomer l range None ruling founded free is =
     let first : FirstLock = record { owner = l.owner; open_number = l.open_number; change = lock_of_bytes l.mode range } in

@@ -35,7 +35,7 @@ pub record LocksStay : Type 0 where
 never : (b : Bool) → b ≡ false → b ≡ true → ⊥
 never b unset is_set = cc
 
--- The parts of the test of an open under which a lock state stands.
+-- The parts of the test of an open to which a lock state belongs.
 
 pub record Bears (owners : List KnownOwner) (l : ByteLocks) (o : OpenState) : Type 0 where
   pub number : is_open_numbered l.open_number o ≡ true

@@ -70,7 +70,7 @@ use Rattle.nfs_share.specs.AllOpens.{OpenAt, opens_of}
 use Rattle.nfs_share.specs.Opens.{is_refused}
 use Rattle.nfs_share.specs.Share.{share_of_numbers}
 use Rattle.nfs_share.specs.declared.share.Share.{Share}
-use Rattle.nfs_tree.specs.Tree.{resolved}
+use Rattle.nfs_tree.specs.Tree.{resolution}
 use Rattle.nfs_xdr.specs.OpResult.{status_of}
 use Rattle.nfs_xdr.specs.declared.op.Op.{Op}
 use Rattle.nfs_xdr.specs.declared.op.Op.TheVariants as ops
@@ -178,8 +178,8 @@ opening_allowed : (journal : History) (state : State) (node : ℕ) (args : Open)
 opening_allowed journal state node args o is =
     let P : Type 0 = is_refused args.owner o.share (opens_of o.node state.opens) ≡ false in
     bound P (opening.name_of args.claim) _ o (λ name _.
-    bound P (opening.share_asked (share_of_numbers args.access args.deny)) _ o (λ share _.
-    bound P (opening.found_by args.how (resolved journal.nodes node name)) _ o (λ found _.
+    bound P (opening.share_or_inval (share_of_numbers args.access args.deny)) _ o (λ share _.
+    bound P (opening.found_by args.how (resolution journal.nodes node name)) _ o (λ found _.
     bound P (opening.file_at journal args.how found) _ o (λ file _.
     bound P (opening.unless_delegated journal state args.claim file) _ o (λ at _. allowed state args.owner share at o))))) is
 
@@ -322,7 +322,7 @@ ruled_ready number journal state (ops.Lock args) request d same sound is =
     sequenced_ready number journal state (requester_of_stateid journal state (stateid_of args.locker)) request (lock.own journal state args)
     (lock_ready number journal state request.op args sound same) d is
 ruled_ready number journal state (ops.Lockt args) request d same sound is =
-    test_ready number state args (lockt.file_asked journal state request.filehandle args) d is
+    test_ready number state args (lockt.lockt_file journal state request.filehandle args) d is
 ruled_ready number journal state (ops.Locku args) request d same sound is =
     sequenced_ready number journal state (requester_of_stateid journal state args.stateid) request (locku.own journal state args)
     (locku_ready number journal state request.op args sound same) d is

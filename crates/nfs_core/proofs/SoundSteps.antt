@@ -8,7 +8,7 @@ use Rattle.nfs_rules.specs.declared.decision.Decision.{Decision}
 use Rattle.nfs_state.specs.declared.owner_change.OwnerChange.{OwnerChange}
 use Rattle.nfs_state.specs.declared.owner_change.OwnerChange.TheVariants as owner_changes
 use Rattle.nfs_state.specs.Owners.{KnownOwner, has_name, is_confirmed, with_confirmation, with_kept_entry, with_record, without_owner}
-use Rattle.nfs_state.specs.Changes.{last_state_after, with_owner_change, changed}
+use Rattle.nfs_state.specs.Changes.{last_state_after, with_owner_change, with_state_change}
 use Rattle.nfs_state.specs.Changes as state_changes
 use Rattle.nfs_state.specs.State.{State}
 use Rattle.nfs_core.specs.Step.{after}
@@ -135,7 +135,7 @@ sound_owner law (owner_changes.Drops name) number old ready sound = sound_droppe
 
 -- A change of the clients' records keeps the state sound.
 
-sound_clients : OpensStay → LocksStay → (change : ClientChange) (old : State) → IsClientReady change old.clients → IsSound old → IsSound (changed (changes.Clients change) old)
+sound_clients : OpensStay → LocksStay → (change : ClientChange) (old : State) → IsClientReady change old.clients → IsSound old → IsSound (with_state_change (changes.Clients change) old)
 sound_clients law lock_law client_changes.Nothing old ready sound = record {
   live = sound.live;
   known = sound.known;
@@ -178,7 +178,7 @@ rises : (has_open : Bool) (last : ℕ) → last ≤ last_state_after has_open la
 rises true last = omega arith
 rises false last = omega arith
 
-sound_changed : OpensStay → LocksStay → (change : Change) (old : State) → IsChangeReady change old → IsSound old → IsSound (changed change old)
+sound_changed : OpensStay → LocksStay → (change : Change) (old : State) → IsChangeReady change old → IsSound old → IsSound (with_state_change change old)
 sound_changed law lock_law changes.Nothing old ready sound = sound
 sound_changed law lock_law (changes.Clients change) old ready sound = sound_clients law lock_law change old ready sound
 sound_changed law lock_law (changes.Opens node owner share) old ready sound =

@@ -37,7 +37,7 @@ HasLiveLocker state l = IsTrue (is_some (record_of l.owner.client state.clients)
 abbrev pub EachLock : (ByteLocks → Type 0) → State → Type 0
 EachLock P state = AllByRecursion (AllByRecursion P) state.locks
 
--- The lock state stands under the open: it names the open's number, and a confirmed owner of the same client has the
+-- The lock state belongs to the open: it names the open's number, and a confirmed owner of the same client has the
 -- open (section 9.1.11).
 abbrev pub bears : List KnownOwner → ByteLocks → OpenState → Bool
 bears owners l o =
@@ -45,7 +45,7 @@ bears owners l o =
     && is_of_client l.owner.client o
     && is_confirmed (open_owner o.owner) owners
 
--- the lock state of this node stands under an open of the node
+-- the lock state of this node belongs to an open of the node
 abbrev pub StandsUnderOpen : State → ℕ → ByteLocks → Type 0
 StandsUnderOpen state node l = IsTrue (list_any (bears state.owners l) (opens_of node state.opens))
 

@@ -6,7 +6,7 @@ use Rattle.nfs_state.specs.declared.entry.Entry.{Entry}
 use Rattle.nfs_state.specs.declared.entry.Entry.TheVariants as entries
 use Rattle.nfs_state.specs.declared.entry.TheConstants.{JOURNAL_LIMIT}
 use Rattle.nfs_state.specs.declared.request.Request.{Request}
-use Rattle.nfs_state.specs.Changes.{changed, with_owner_change}
+use Rattle.nfs_state.specs.Changes.{with_state_change, with_owner_change}
 use Rattle.nfs_state.specs.Entries.{IsFilehandle, entry_of, resource}
 use Rattle.nfs_rules.specs.operations.{IsRuled}
 use Rattle.nfs_state.specs.State.{State, History}
@@ -14,12 +14,14 @@ use Rattle.nfs_xdr.specs.declared.op_result.OpResult.{OpResult}
 
 -- the state after an entry with this number: first what it means for an owner, and then the operation's own change
 abbrev pub after : ℕ → Decision → State → State
-after number decision old = changed decision.change (with_owner_change decision.owner number old)
+after number decision old =
+    with_state_change decision.change (with_owner_change decision.owner number old)
 
 -- In the state old, the call may come next in the journal with this decision, and leads to the state new. Calls that
 -- are answered NFS4ERR_RESOURCE, that would exceed a limit, or whose filehandle belongs to no node are never in the
 -- journal.
-pub record IsEntered (journal : History) (old : State) (call : Call) (new : State) (decision : Decision) : Type 0 where
+pub record IsEntered (journal : History) (old : State) (call : Call) (new : State)
+    (decision : Decision) : Type 0 where
   pub below : length journal.entries < JOURNAL_LIMIT
   pub other : call.answer ≢ resource call.request.op
   pub answer : call.answer ≡ decision.answer

@@ -88,7 +88,7 @@ impl Core {
         requires node { IsFilehandle self.old.journal filehandle }
         ensures applies { Applies self.old self.new (request_of moment principal op.now filehandle)
             result.0 result.1 }
-        ensures short { length (op_result.spelling result.0) ≤ ANSWER_LIMIT }
+        ensures short { length (op_result.encoding result.0) ≤ ANSWER_LIMIT }
         ensures form { op_result.Fits result.0 }
         ensures lawful { IsLawful self.new }
     {

@@ -5,5 +5,6 @@ use Rattle.xdr.specs.Form.{Form, ◌and◌, of, flag, u64}
 
 -- struct change_info4 { bool atomic; changeid4 before; changeid4 after; };
 unfoldable pub change_info : Form ChangeInfo
-change_info = of (λ p. record { atomic = p.0; before = p.1.0; after = p.1.1 }) (λ c. (c.atomic, (c.before, c.after)))
+change_info = of (λ p. record { atomic = p.0; before = p.1.0; after = p.1.1 })
+    (λ c. (c.atomic, (c.before, c.after)))
     (λ p. refl) (λ c. refl) (flag and u64 and u64)

@@ -7,7 +7,8 @@ use Rattle.xdr.specs.Form.{Form, ◌and◌, of, u32}
 
 -- typedef uint64_t clientid4;
 unfoldable pub client_id : Form ClientId
-client_id = of (λ p. record { epoch = p.0; number = p.1 }) (λ c. (c.epoch, c.number)) (λ p. refl) (λ c. refl)
+client_id = of (λ p. record { epoch = p.0; number = p.1 }) (λ c. (c.epoch, c.number))
+    (λ p. refl) (λ c. refl)
     (u32 and u32)
 
 -- the two clientids are the same

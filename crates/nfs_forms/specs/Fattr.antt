@@ -6,5 +6,6 @@ use Rattle.xdr.specs.Form.{Form, ◌and◌, of, bytes}
 
 -- struct fattr4 { bitmap4 attrmask; attrlist4 attr_vals; };
 unfoldable pub fattr : Form Fattr
-fattr = of (λ p. record { mask = p.0; values = p.1 }) (λ f. (f.mask, f.values)) (λ p. refl) (λ f. refl)
+fattr =
+    of (λ p. record { mask = p.0; values = p.1 }) (λ f. (f.mask, f.values)) (λ p. refl) (λ f. refl)
     (bitmap and bytes)

@@ -9,7 +9,8 @@ use Rattle.xdr.specs.Form.{Form, ◌and◌, of, opaque}
 
 -- struct lock_owner4 { clientid4 clientid; opaque owner<NFS4_OPAQUE_LIMIT>; };
 unfoldable pub lock_owner : Form LockOwner
-lock_owner = of (λ p. record { client = p.0; name = p.1 }) (λ o. (o.client, o.name)) (λ p. refl) (λ o. refl)
+lock_owner =
+    of (λ p. record { client = p.0; name = p.1 }) (λ o. (o.client, o.name)) (λ p. refl) (λ o. refl)
     (client_id and opaque OWNER_NAME_LIMIT)
 
 -- the two owners are the same: one name at one client

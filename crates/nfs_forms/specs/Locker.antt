@@ -14,7 +14,12 @@ use Rattle.xdr.specs.Union.{switch}
 -- struct open_to_lock_owner4 { seqid4 open_seqid; stateid4 open_stateid; seqid4 lock_seqid; lock_owner4 lock_owner; };
 unfoldable pub new_locker : Form NewLocker
 new_locker =
-    of (λ p. record { open_seqid = p.0; open_stateid = p.1.0; lock_seqid = p.1.1.0; lock_owner = p.1.1.1 })
+    of (λ p. record {
+      open_seqid = p.0;
+      open_stateid = p.1.0;
+      lock_seqid = p.1.1.0;
+      lock_owner = p.1.1.1;
+    })
     (λ l. (l.open_seqid, (l.open_stateid, (l.lock_seqid, l.lock_owner)))) (λ p. refl) (λ l. refl)
     (u32 and stateid and u32 and lock_owner)
 

@@ -71,4 +71,5 @@ delegation_is_read d = record { is = refl; reads = λ bytes. refl }
 
 unfoldable pub open_delegation : Form OpenDelegation
 open_delegation =
-    switch delegation_type delegation_case type_of delegation_arm delegation_agrees delegation_is_read
+    switch delegation_type delegation_case type_of delegation_arm delegation_agrees
+    delegation_is_read

@@ -8,7 +8,8 @@ use Rattle.xdr.specs.Form.{Form, ◌and◌, of, u32}
 
 -- struct stateid4 { uint32_t seqid; opaque other[NFS4_OTHER_SIZE]; };
 unfoldable pub stateid : Form Stateid
-stateid = of (λ p. record { seqid = p.0; client = p.1.0; number = p.1.1 }) (λ s. (s.seqid, (s.client, s.number)))
+stateid = of (λ p. record { seqid = p.0; client = p.1.0; number = p.1.1 })
+    (λ s. (s.seqid, (s.client, s.number)))
     (λ p. refl) (λ s. refl) (u32 and client_id and u32)
 
 -- the seqid that comes after this one at the state's next change: after 2^32 - 1 comes 1 (section 9.1.4)

@@ -13,7 +13,7 @@ use Rattle.nfs_locks.specs.Report.{refuses}
 use Rattle.nfs_locks.specs.declared.first_lock.FirstLock.{FirstLock}
 use Rattle.nfs_locks.proofs.Elements.{all_always, all_both, all_weaken, pairs_filter, pairs_map, pairs_push}
 use Rattle.nfs_ranges.specs.Bytes.{IsIn, has}
-use Rattle.nfs_ranges.specs.Modes.{changed, conflicts, modes_of}
+use Rattle.nfs_ranges.specs.Modes.{with_change, conflicts, modes_of}
 use Rattle.nfs_ranges.specs.declared.mode.Mode.{Mode}
 use Rattle.nfs_ranges.specs.declared.mode.Mode.TheVariants.{Read, Write}
 use Rattle.nfs_ranges.specs.declared.piece.Piece.{Piece}
@@ -85,7 +85,7 @@ free_at owner (Some mode) range locks byte free =
 
 -- a lock state with the modes of a change, beside another one
 beside : (byte : ℕ) (owner : LockOwner) (change : Piece) (a b x : ByteLocks) → is_lock_of owner x ≡ true
-    → x.modes byte ≡ changed change a.modes byte → IsClearOf owner change.mode change.range byte b
+    → x.modes byte ≡ with_change change a.modes byte → IsClearOf owner change.mode change.range byte b
     → (is_lock_of owner b ≡ true) ⊎ (may_both (a.modes byte) (b.modes byte) ≡ true) → are_compatible byte x b ≡ true
 beside byte owner change a b x mine is clear before =
     let ok : (is_lock_of owner b ≡ true) ⊎ (may_both (x.modes byte) (b.modes byte) ≡ true) → are_compatible byte x b ≡ true =

@@ -26,9 +26,9 @@ module _ {X : Type 0} where
       ]
 
   -- a search in two lists, the first of which has nothing, or has something
-  pub find_behind : (p : X → Bool) (xs ys : List X) → AllByRecursion (λ x. p x ≡ false) xs → find p (xs ++ ys) ≡ find p ys
-  find_behind p [] ys none = refl
-  find_behind p (x ∷ xs) ys none = cond-false (p x) (Some x) (find p (xs ++ ys)) none.0 ∙ find_behind p xs ys none.1
+  pub find_beyond : (p : X → Bool) (xs ys : List X) → AllByRecursion (λ x. p x ≡ false) xs → find p (xs ++ ys) ≡ find p ys
+  find_beyond p [] ys none = refl
+  find_beyond p (x ∷ xs) ys none = cond-false (p x) (Some x) (find p (xs ++ ys)) none.0 ∙ find_beyond p xs ys none.1
 
   pub find_before : (p : X → Bool) (xs ys : List X) (x : X) → find p xs ≡ Some x → find p (xs ++ ys) ≡ Some x
   find_before p [] ys x is = absurd (cc)

@@ -12,7 +12,7 @@ use Rattle.nfs_locks.specs.Locks.{ByteLocks, is_lock_of}
 use Rattle.nfs_locks.specs.Report.{IsClear, IsMeeting, IsNotAfter, IsReportAt, Report, owner_order, refuses, refuses_for}
 use Rattle.nfs_locks.specs.ReportSeen.{comes_before, first_of}
 use Rattle.nfs_locks.proofs.Compatible.{equal_owners}
-use Rattle.nfs_locks.proofs.Elements.{all_push, all_weaken, find_before, find_behind}
+use Rattle.nfs_locks.proofs.Elements.{all_push, all_weaken, find_before, find_beyond}
 use Rattle.nfs_ranges.specs.Bytes.{IsIn}
 use Rattle.nfs_ranges.specs.declared.mode.Mode.{Mode}
 use Rattle.nfs_ranges.specs.declared.range.Range.{Range}
@@ -55,7 +55,7 @@ module _ (owner : LockOwner) (range : Range) (mode : Mode) where
     at.0,
     all_push (IsClear owner mode range.first byte) locks x clear at.1.0,
     all_push (IsNotAfter report.owner owner mode byte) locks x first at.2.0,
-    (at.3.0, find_behind (refuses_for report.owner owner mode byte) locks (x ∷ []) none ∙ at.3.1, at.3.2),
+    (at.3.0, find_beyond (refuses_for report.owner owner mode byte) locks (x ∷ []) none ∙ at.3.1, at.3.2),
   )
 
   of_others : (locks : List ByteLocks) (x : ByteLocks) (byte : ℕ) (report : Report)

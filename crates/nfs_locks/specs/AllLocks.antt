@@ -35,7 +35,8 @@ lock_count [] = 0
 lock_count (locks ∷ more) = length locks + lock_count more
 
 -- the lock states, with a change of those of one node
-abbrev pub with_locks : ℕ → (List ByteLocks → List ByteLocks) → List (List ByteLocks) → List (List ByteLocks)
+abbrev pub with_locks : ℕ → (List ByteLocks → List ByteLocks) → List (List ByteLocks)
+    → List (List ByteLocks)
 with_locks node change locks = slice_set locks node (change (locks_of node locks))
 
 -- the lock state, if there is one, as one of this node's file
@@ -57,7 +58,8 @@ holds owner locks = list_any (list_any (λ l. is_lock_of owner l && holds_bytes 
 
 -- a change of the lock state with this number would make more runs of bytes than an owner may have of a file
 abbrev pub is_full_for : ℕ → Piece → List ByteLocks → Bool
-is_full_for number change locks = list_any (λ l. is_numbered number l && would_be_full change l) locks
+is_full_for number change locks =
+    list_any (λ l. is_numbered number l && would_be_full change l) locks
 
 -- a first lock takes no memory: there is room for its state, and ranges are made for it
 abbrev pub HasLockRoom : StoredLocks → Type 0

@@ -21,7 +21,8 @@ are_compatible byte a b = is_lock_of a.owner b || may_both (a.modes byte) (b.mod
 -- no byte is held by two owners, unless both hold it for reading (RFC 7530, section 9.3)
 abbrev pub AllLocksAreCompatible : List ByteLocks → Type 0
 AllLocksAreCompatible locks =
-    (byte : ℕ) → AllByRecursion (λ a. AllByRecursion (λ b. IsTrue (are_compatible byte a b)) locks) locks
+    (byte : ℕ) → AllByRecursion (λ a. AllByRecursion (λ b. IsTrue (are_compatible byte a b)) locks)
+    locks
 
 -- The bytes are free for the owner to hold them in this mode: no lock of another owner is in the way. To hold them no
 -- longer is in nobody's way.

@@ -7,7 +7,7 @@ use Rattle.nfs_forms.specs.declared.client_id.ClientId.{ClientId}
 use Rattle.nfs_forms.specs.declared.lock_owner.LockOwner.{LockOwner}
 use Rattle.nfs_forms.specs.declared.stateid.Stateid.{Stateid}
 use Rattle.nfs_locks.specs.declared.first_lock.FirstLock.{FirstLock}
-use Rattle.nfs_ranges.specs.Modes.{changed, modes_of}
+use Rattle.nfs_ranges.specs.Modes.{with_change, modes_of}
 use Rattle.nfs_ranges.specs.Runs.{runs}
 use Rattle.nfs_ranges.specs.declared.limits.TheConstants.{RUN_LIMIT}
 use Rattle.nfs_ranges.specs.declared.mode.Mode.{Mode}
@@ -70,19 +70,19 @@ first_state first number = record {
   open_number = first.open_number;
   number = number;
   seqid = 1;
-  modes = changed first.change (modes_of []);
+  modes = with_change first.change (modes_of []);
 }
 
 -- the lock state after a LOCK or LOCKU of the bytes of a range
 abbrev pub after_change : Piece → ByteLocks → ByteLocks
 after_change change l = record l {
   seqid = next_seqid l.seqid;
-  modes = changed change l.modes;
+  modes = with_change change l.modes;
 }
 
 -- the runs of bytes would be more than an owner may have of a file
 abbrev pub would_be_full : Piece → ByteLocks → Bool
-would_be_full change l = nat_lt RUN_LIMIT (runs (changed change l.modes))
+would_be_full change l = nat_lt RUN_LIMIT (runs (with_change change l.modes))
 
 -- the lock states, with a first one of an owner
 abbrev pub with_first_lock : FirstLock → ℕ → List ByteLocks → List ByteLocks

@@ -62,7 +62,8 @@ IsReportAt locks owner range mode byte report =
 abbrev pub IsMeeting : List ByteLocks → LockOwner → Range → Mode → Option (ℕ × Report) → Type 0
 IsMeeting locks owner range mode None =
     AllByRecursion (λ l. (byte : ℕ) → IsIn range byte → refuses owner mode byte l ≡ false) locks
-IsMeeting locks owner range mode (Some meeting) = IsReportAt locks owner range mode meeting.0 meeting.1
+IsMeeting locks owner range mode (Some meeting) =
+    IsReportAt locks owner range mode meeting.0 meeting.1
 
 -- The report to the owner that wants the range in this mode; there is none if no byte of it is refused.
 abbrev pub IsReport : List ByteLocks → LockOwner → Range → Mode → Option Report → Type 0

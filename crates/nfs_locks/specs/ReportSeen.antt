@@ -21,7 +21,8 @@ comes_before a b =
     nat_lt a.0 b.0 || (a.0 == b.0 && is_lt (specs.owner_order a.1.owner b.1.owner))
 
 -- the one of two meetings that comes before, and the second where neither does
-abbrev pub first_of : Option (ℕ × specs.Report) → Option (ℕ × specs.Report) → Option (ℕ × specs.Report)
+abbrev pub first_of : Option (ℕ × specs.Report) → Option (ℕ × specs.Report)
+    → Option (ℕ × specs.Report)
 first_of None b = b
 first_of (Some a) None = Some a
 first_of (Some a) (Some b) = Some (if comes_before b a then b else a)

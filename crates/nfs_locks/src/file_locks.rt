@@ -99,7 +99,8 @@ impl FileLocks {
     /// Whether a change of the lock state with this number would make too many runs of bytes.
     pub fn is_full_for(&self, number: u32, change: Piece) -> bool
         ensures { result ≡ list_any
-            (λ l. is_numbered number (lock_seen l) && would_be_full change (lock_seen l)) self.now.states }
+            (λ l. is_numbered number (lock_seen l) && would_be_full change (lock_seen l))
+            self.now.states }
     {
         self.states
             .iter()

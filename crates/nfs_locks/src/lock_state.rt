@@ -95,7 +95,8 @@ impl LockState {
     /// Whether the lock state has this number, and the change would make too many runs of bytes.
     pub(crate) fn is_full_for(&self, number: u32, change: Piece) -> bool
         ensures { result
-            ≡ (is_numbered number (lock_seen self.now) && would_be_full change (lock_seen self.now)) }
+            ≡ (is_numbered number (lock_seen self.now)
+            && would_be_full change (lock_seen self.now)) }
     {
         self.number == number && !self.ranges.has_place_for(change)
     }

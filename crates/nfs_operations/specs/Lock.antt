@@ -15,7 +15,13 @@ use Rattle.xdr.specs.Form.{Form, ◌and◌, of, flag, nothing, u64}
 -- struct LOCK4args { nfs_lock_type4 locktype; bool reclaim; offset4 offset; length4 length; locker4 locker; };
 unfoldable pub arguments : Form Lock
 arguments =
-    of (λ p. record { locktype = p.0; reclaim = p.1.0; offset = p.1.1.0; length = p.1.1.1.0; locker = p.1.1.1.1 })
+    of (λ p. record {
+      locktype = p.0;
+      reclaim = p.1.0;
+      offset = p.1.1.0;
+      length = p.1.1.1.0;
+      locker = p.1.1.1.1;
+    })
     (λ a. (a.locktype, (a.reclaim, (a.offset, (a.length, a.locker))))) (λ p. refl) (λ a. refl)
     (lock_type and flag and u64 and u64 and locker)
 

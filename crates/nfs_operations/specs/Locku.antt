@@ -12,7 +12,13 @@ use Rattle.xdr.specs.Form.{Form, ◌and◌, of, u32, u64}
 --   { nfs_lock_type4 locktype; seqid4 seqid; stateid4 lock_stateid; offset4 offset; length4 length; };
 unfoldable pub arguments : Form Locku
 arguments =
-    of (λ p. record { locktype = p.0; seqid = p.1.0; stateid = p.1.1.0; offset = p.1.1.1.0; length = p.1.1.1.1 })
+    of (λ p. record {
+      locktype = p.0;
+      seqid = p.1.0;
+      stateid = p.1.1.0;
+      offset = p.1.1.1.0;
+      length = p.1.1.1.1;
+    })
     (λ a. (a.locktype, (a.seqid, (a.stateid, (a.offset, a.length))))) (λ p. refl) (λ a. refl)
     (lock_type and u32 and stateid and u64 and u64)
 

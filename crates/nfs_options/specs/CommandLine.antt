@@ -27,7 +27,9 @@ once =
 
 -- the program: its subcommands, no options of its own except clap's help, and no subcommand `help`
 abbrev pub program : App
-program = with_subcommand (on_top (λ s. record s { disable_help_subcommand = true }) (new_app (codes "nfs4state"))) once.top
+program = with_subcommand
+    (on_top (λ s. record s { disable_help_subcommand = true }) (new_app (codes "nfs4state")))
+    once.top
 
 -- the text of an option's value, if the option is present
 abbrev pub text_of : Option (Bor Text) → Option Text
@@ -37,7 +39,8 @@ text_of = option_map (λ s. s.now)
 
 -- n is the number that the text gives in decimal digits, with nothing else, and is within the limits
 abbrev pub SpellsWithin : ℕ → ℕ → Text → ℕ → Type 0
-SpellsWithin least most text n = IsNumeral 10 text × (digits_value 10 text ≡ n) × (least ≤ n) × (n ≤ most)
+SpellsWithin least most text n =
+    IsNumeral 10 text × (digits_value 10 text ≡ n) × (least ≤ n) × (n ≤ most)
 
 -- n is the number of an option: the one that its value gives, or the default if the option is absent
 abbrev pub IsNumber : ℕ → ℕ → ℕ → Option Text → ℕ → Type 0

@@ -25,7 +25,8 @@ pub fn options<'a, S: AsStr>(alloc: Global, words: &'a [S]) -> Result<Subcommand
     ensures limits { IfOk result IsWithinLimits }
     ensures declined { IfErr result (IsDeclined (map S.text words.now)) }
     // The program's name alone means `once` with the defaults.
-    ensures bare { (name : List ℕ) → map S.text words.now ≡ name ∷ [] → MatchResult result (AsksOnce []) (λ d. d ≡ Declined.Memory) }
+    ensures bare { (name : List ℕ) → map S.text words.now ≡ name ∷ []
+        → MatchResult result (AsksOnce []) (λ d. d ≡ Declined.Memory) }
 {
     match program_command(alloc)?.try_get_matches_from(words) {
         Ok(matches) => Subcommand::of(alloc, &matches),
@@ -36,8 +37,10 @@ pub fn options<'a, S: AsStr>(alloc: Global, words: &'a [S]) -> Result<Subcommand
 impl<'a> Subcommand<'a> {
     // No subcommand means `once` without options.
     fn of(alloc: Global, matches: &ArgMatches<'a>) -> Result<Subcommand<'a>, Declined>
-        ensures ok { IfOk result (λ s. AsksOnce (given_rows (subcommand_rows_of matches.now)) s × IsWithinLimits s) }
-        ensures err { IfErr result (IsMemoryOr (HasNoNumber (given_rows (subcommand_rows_of matches.now)))) }
+        ensures ok { IfOk result
+            (λ s. AsksOnce (given_rows (subcommand_rows_of matches.now)) s × IsWithinLimits s) }
+        ensures err { IfErr result
+            (IsMemoryOr (HasNoNumber (given_rows (subcommand_rows_of matches.now)))) }
     {
         match matches.subcommand() {
             Some((_, matches)) => Ok(Subcommand::Once(OnceOptions::of(alloc, matches)?)),

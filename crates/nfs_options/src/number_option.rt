@@ -21,8 +21,10 @@ pub(crate) struct NumberOption {
 impl NumberOption {
     /// The number that the option's value gives, or the default.
     pub(crate) fn number(&self, alloc: Global, value: Option<&str>) -> Result<u32, Declined>
-        ensures ok { IfOk result (IsNumber self.now.least self.now.most self.now.default (text_of value.entry)) }
-        ensures err { IfErr result (IsMemoryOr (IsNoNumber self.now.least self.now.most (text_of value.entry))) }
+        ensures ok { IfOk result
+            (IsNumber self.now.least self.now.most self.now.default (text_of value.entry)) }
+        ensures err { IfErr result
+            (IsMemoryOr (IsNoNumber self.now.least self.now.most (text_of value.entry))) }
     {
         let Some(text) = value else {
             return Ok(self.default);
@@ -58,7 +60,8 @@ impl NumberOption {
 
 // The number that a text gives in decimal digits, with nothing else, if it is from `least` to `most`.
 fn number_within(text: &str, least: u32, most: u32) -> Option<u32>
-    ensures { MatchOption result ((n : ℕ) → SpellsWithin least most text.now n → ⊥) (SpellsWithin least most text.now) }
+    ensures { MatchOption result ((n : ℕ) → SpellsWithin least most text.now n → ⊥)
+        (SpellsWithin least most text.now) }
 {
     let number = decimal(text)?;
     if least <= number && number <= most {
@@ -70,7 +73,8 @@ fn number_within(text: &str, least: u32, most: u32) -> Option<u32>
 
 // The number that a text gives in decimal digits, with nothing else. Unlike `parse`, it accepts no plus sign.
 fn decimal(text: &str) -> Option<u32>
-    ensures { SomeIff result (IsNumeral 10 text.now × (digits_value 10 text.now < 2 ^ 32)) (digits_value 10 text.now) }
+    ensures { SomeIff result (IsNumeral 10 text.now × (digits_value 10 text.now < 2 ^ 32))
+        (digits_value 10 text.now) }
 {
     if text.starts_with('+') {
         return None;

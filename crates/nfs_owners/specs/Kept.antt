@@ -31,7 +31,8 @@ IsAgain kept seqid request = (seqid ≡ kept.seqid) × (request ≡ kept.request
 -- The verdict on a request, given the kept one: it is the next one, or the kept one again, or neither.
 abbrev pub IsVerdict : Kept → ℕ → KeptRequest → Verdict → Type 0
 IsVerdict kept seqid request verdicts.New = seqid ≡ next_seqid kept.seqid
-IsVerdict kept seqid request (verdicts.Replay answer) = IsAgain kept seqid request × (answer.now ≡ kept.answer)
+IsVerdict kept seqid request (verdicts.Replay answer) =
+    IsAgain kept seqid request × (answer.now ≡ kept.answer)
 IsVerdict kept seqid request verdicts.Bad =
     (seqid ≢ next_seqid kept.seqid) × (IsAgain kept seqid request → ⊥)
 

@@ -9,7 +9,8 @@ Gives last number new = (number ≡ last + 1) × (new ≡ number)
 -- after `last` these numbers are given, one after the other, and then the last one is `new`
 abbrev pub GivesEach : ℕ → List ℕ → ℕ → Type 0
 GivesEach last [] new = new ≡ last
-GivesEach last (number ∷ numbers) new = (mid : ℕ) × Gives last number mid × GivesEach mid numbers new
+GivesEach last (number ∷ numbers) new =
+    (mid : ℕ) × Gives last number mid × GivesEach mid numbers new
 
 -- of numbers that are given one after the other, each is below all later ones, and all are above those before
 abbrev pub NumbersRise : Type 0

@@ -40,7 +40,8 @@ is_of_client number r = r.client.number == number
 
 -- the confirmed record with this clientid, if there is one
 abbrev pub record_of : ClientId → Registry → Option ClientRecord
-record_of client registry = find (λ r. r.confirmed && is_same_client r.client client) registry.records
+record_of client registry =
+    find (λ r. r.confirmed && is_same_client r.client client) registry.records
 
 -- the client with this number has a confirmed record
 abbrev pub is_live : ℕ → Registry → Bool

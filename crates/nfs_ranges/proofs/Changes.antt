@@ -17,8 +17,8 @@ has_in range byte above below = rw (le-leb range.first byte above, le-leb byte r
 pub hasnt_before : (range : Range) (byte : ℕ) → byte < range.first → has range byte ≡ false
 hasnt_before range byte below = rw (lt-leb range.first byte below) refl
 
-pub hasnt_behind : (range : Range) (byte : ℕ) → range.last < byte → has range byte ≡ false
-hasnt_behind range byte above = rw (lt-leb byte range.last above) (and-false (nat_le range.first byte))
+pub hasnt_beyond : (range : Range) (byte : ℕ) → range.last < byte → has range byte ≡ false
+hasnt_beyond range byte above = rw (lt-leb byte range.last above) (and-false (nat_le range.first byte))
 
 -- outside the range the modes stay
 stays : (range : Range) (mode : Option Mode) (modes : ℕ → Option Mode) (byte : ℕ) → has range byte ≡ false
@@ -39,12 +39,12 @@ starts_before range mode modes byte below =
     (stays range mode modes byte (hasnt_before range byte below))
     (stays range mode modes (byte - 1) (hasnt_before range (byte - 1) (omega (arith, below))))
 
-starts_behind : (range : Range) (mode : Option Mode) (modes : ℕ → Option Mode) (byte : ℕ) → range.last + 2 ≤ byte
+starts_beyond : (range : Range) (mode : Option Mode) (modes : ℕ → Option Mode) (byte : ℕ) → range.last + 2 ≤ byte
     → begins (with_mode range mode modes) byte ≡ begins modes byte
-starts_behind range mode modes byte above =
+starts_beyond range mode modes byte above =
     same_starts modes (with_mode range mode modes) byte
-    (stays range mode modes byte (hasnt_behind range byte (omega (arith, above))))
-    (stays range mode modes (byte - 1) (hasnt_behind range (byte - 1) (omega (arith, above))))
+    (stays range mode modes byte (hasnt_beyond range byte (omega (arith, above))))
+    (stays range mode modes (byte - 1) (hasnt_beyond range (byte - 1) (omega (arith, above))))
 
 -- the bytes of a change are a stretch of one mode
 pub change_is_stretch : (range : Range) (mode : Option Mode) (modes : ℕ → Option Mode) → range.first ≤ range.last
@@ -62,19 +62,19 @@ begin_inside range mode modes ordered =
     count_stretch_to (with_mode range mode modes) range.first range.last range.last ordered (omega arith)
     (change_is_stretch range mode modes ordered)
 
-not_behind : (behind : Bool) (many first n m : ℕ) → behind ≡ false → many ≡ (if behind then 1 else 0) + first
+not_beyond : (beyond : Bool) (many first n m : ℕ) → beyond ≡ false → many ≡ (if beyond then 1 else 0) + first
     → m ≡ first + n → n + many ≡ m
-not_behind true many first n m fails is counted = absurd cc
-not_behind false many first n m fails is counted = omega (arith, is, counted)
+not_beyond true many first n m fails is count_with = absurd cc
+not_beyond false many first n m fails is count_with = omega (arith, is, count_with)
 
 -- With whether one begins behind, these are all that begin at the reach of a change.
-pub begin_at_reach : (range : Range) (mode : Option Mode) (modes : ℕ → Option Mode) (behind : Bool) (many : ℕ)
+pub begin_at_reach : (range : Range) (mode : Option Mode) (modes : ℕ → Option Mode) (beyond : Bool) (many : ℕ)
     → range.first ≤ range.last → range.last ≤ 2 ^ 64 - 1
-    → (range.last ≡ 2 ^ 64 - 1 → behind ≡ false)
-    → (range.last < 2 ^ 64 - 1 → behind ≡ begins (with_mode range mode modes) (range.last + 1))
-    → many ≡ (if behind then 1 else 0) + (if begins (with_mode range mode modes) range.first then 1 else 0)
+    → (range.last ≡ 2 ^ 64 - 1 → beyond ≡ false)
+    → (range.last < 2 ^ 64 - 1 → beyond ≡ begins (with_mode range mode modes) (range.last + 1))
+    → many ≡ (if beyond then 1 else 0) + (if begins (with_mode range mode modes) range.first then 1 else 0)
     → BeginIn (with_mode range mode modes) range.first (reach range) many
-begin_at_reach range mode modes behind many ordered bounded at_end before is =
+begin_at_reach range mode modes beyond many ordered bounded at_end before is =
     let after : ℕ → Option Mode = with_mode range mode modes in
     let inside = begin_inside range mode modes ordered in
     elim (cases_lt range.last (2 ^ 64 - 1)) [
@@ -86,7 +86,7 @@ begin_at_reach range mode modes behind many ordered bounded at_end before is =
       | inr most ↦
           let there : suc range.last ≡ reach range = omega (arith, bounded, most) in
           subst (λ (n : ℕ). BeginIn after range.first n many) there
-          (not_behind behind many (if begins after range.first then 1 else 0) (count_below (begins after) range.first)
+          (not_beyond beyond many (if begins after range.first then 1 else 0) (count_below (begins after) range.first)
           (count_below (begins after) (suc range.last)) (at_end (omega (arith, bounded, most))) is inside)
     ]
 
@@ -102,7 +102,7 @@ runs_changed range mode modes gone come ordered bounded old new =
     count_agree (begins modes) (begins after) range.first (λ b less. starts_before range mode modes b less) in
     let above =
     count_agree_from (begins modes) (begins after) (reach range) (2 ^ 64 - reach range) (2 ^ 64) (omega arith)
-    (λ b more less. starts_behind range mode modes b (omega (arith, more, less))) in
+    (λ b more less. starts_beyond range mode modes b (omega (arith, more, less))) in
     let most = count_mono (begins modes) (reach range) (2 ^ 64) (omega arith) in
     (omega (arith, old, most), omega (arith, old, new, below, above, most))
 
@@ -115,9 +115,9 @@ one_run_at_most range mode modes free =
     (λ byte below. free_starts_none after byte
     (stays range mode modes byte (hasnt_before range byte below) ∙ free byte))
     (λ byte above. elim (cases_lt range.last byte) [
-      | inl behind ↦
+      | inl beyond ↦
           free_starts_none after byte
-          (stays range mode modes byte (hasnt_behind range byte behind) ∙ free byte)
+          (stays range mode modes byte (hasnt_beyond range byte beyond) ∙ free byte)
       | inr inside ↦
           let alike = change_is_stretch range mode modes range.ordered in
           no_start after byte (omega (arith, above))

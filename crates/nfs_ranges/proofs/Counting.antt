@@ -121,11 +121,11 @@ count_stretch_to modes byte last stop low high same =
 pub begin_next : (modes : ℕ → Option Mode) (first byte last stop next : ℕ) (start : Bool) (count many : ℕ)
     → start ≡ begins modes byte → many ≡ (if start then 1 else 0) + count → BeginIn modes first byte count
     → byte ≤ last → last ≤ stop → AreAs modes byte byte stop → next ≡ last + 1 → BeginIn modes first next many
-begin_next modes first byte last stop next start count many here is counted low high same behind =
-    let there : suc last ≡ next = omega (arith, behind) in
+begin_next modes first byte last stop next start count many here is count_with low high same beyond =
+    let there : suc last ≡ next = omega (arith, beyond) in
     let more = ap {B = ℕ} (λ t. if t then 1 else 0) here in
     subst (λ (n : ℕ). BeginIn modes first n many) there
-    (omega (arith, is, counted, more, count_stretch_to modes byte last stop low high same))
+    (omega (arith, is, count_with, more, count_stretch_to modes byte last stop low high same))
 
 counts_none : (t : Bool) (n : ℕ) → (if t then 1 else 0) + n ≡ 0 → t ≡ false
 counts_none true n none = absurd (omega (arith, none))

@@ -1,6 +1,6 @@
 -- What contracts see of the ranges that one lock owner holds.
 use Rattle.std.specs.Prelude.{◌≡◌, ℕ, ◌-◌, ◌^◌, ◌≤◌, List, Option, None}
-use Rattle.nfs_ranges.specs.Modes.{changed, modes_of}
+use Rattle.nfs_ranges.specs.Modes.{with_change, modes_of}
 use Rattle.nfs_ranges.specs.declared.mode.Mode.{Mode}
 use Rattle.nfs_ranges.specs.declared.piece.Piece.{Piece}
 
@@ -15,7 +15,7 @@ modes_in held = modes_of held.pieces
 
 -- the modes after a change
 abbrev pub modes_after : Piece → Held → ℕ → Option Mode
-modes_after change held = changed change (modes_in held)
+modes_after change held = with_change change (modes_in held)
 
 -- no byte is held
 abbrev pub IsFree : Held → Type 0

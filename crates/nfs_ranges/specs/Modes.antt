@@ -12,8 +12,8 @@ abbrev pub with_mode : Range → Option Mode → (ℕ → Option Mode) → ℕ �
 with_mode range mode modes = λ byte. if has range byte then mode else modes byte
 
 -- the modes after a change
-abbrev pub changed : Piece → (ℕ → Option Mode) → ℕ → Option Mode
-changed change modes = with_mode change.range change.mode modes
+abbrev pub with_change : Piece → (ℕ → Option Mode) → ℕ → Option Mode
+with_change change modes = with_mode change.range change.mode modes
 
 -- the mode of a byte, which was this one before the pieces came
 abbrev pub mode_from : Option Mode → List Piece → ℕ → Option Mode

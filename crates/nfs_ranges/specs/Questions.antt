@@ -33,4 +33,5 @@ IsLastSame modes byte last =
 abbrev pub IsRunAt : (ℕ → Option Mode) → ℕ → Option (Range × Mode) → Type 0
 IsRunAt modes byte None = modes byte ≡ None
 IsRunAt modes byte (Some run) =
-    (modes byte ≡ Some run.1) × IsLeastSame modes byte run.0.first × IsLastSame modes byte run.0.last
+    (modes byte ≡ Some run.1) × IsLeastSame modes byte run.0.first
+    × IsLastSame modes byte run.0.last

@@ -1,4 +1,4 @@
--- Runs: the longest stretches of bytes that are held in one mode. The limit counts them; a refused lock is told one
+-- Runs: the longest stretches of bytes that are held in one mode. The limit counts them; a refused lock is answered with one
 -- (RFC 7530, sections 16.10 and 16.11).
 use Rattle.std.specs.Prelude.{◌≡◌, ℕ, zero, suc, ◌+◌, ◌-◌, ◌^◌, ◌==◌, Bool, ◌&&◌, ◌||◌, not, Option, is_some, min, if◌then◌else◌}
 use Rattle.nfs_ranges.specs.Modes.{is_same}
@@ -24,6 +24,6 @@ abbrev pub BeginIn : (ℕ → Option Mode) → ℕ → ℕ → ℕ → Type 0
 BeginIn modes first end many =
     count_below (begins modes) first + many ≡ count_below (begins modes) end
 
--- Where runs begin depends on the mode of a range only at its bytes and the one behind. From here on it no longer does.
+-- Where runs begin depends on the mode of a range only at its bytes and the next one. From here on it no longer does.
 abbrev pub reach : Range → ℕ
 reach range = min (range.last + 2) (2 ^ 64)

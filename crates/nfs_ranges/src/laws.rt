@@ -1,6 +1,6 @@
 ghost use Rattle.std.specs.Prelude.{◌≡◌, ◌≤◌, ℕ, [], Option};
 ghost use Rattle.nfs_ranges.specs.Bytes.{IsRangeOf};
-ghost use Rattle.nfs_ranges.specs.Modes.{changed, modes_of};
+ghost use Rattle.nfs_ranges.specs.Modes.{with_change, modes_of};
 ghost use Rattle.nfs_ranges.specs.Questions.{IsFirstConflict, IsRunAt};
 ghost use Rattle.nfs_ranges.specs.Runs.{runs};
 ghost use Rattle.nfs_ranges.specs.declared.mode.Mode.{Mode};
@@ -28,5 +28,5 @@ pub fn at_most_one_run()
 
 /// After the first change of an owner that holds nothing there is one run at most.
 pub fn first_change_has_place()
-    ensures { (change : Piece) → runs (changed change (modes_of [])) ≤ 1 }
+    ensures { (change : Piece) → runs (with_change change (modes_of [])) ≤ 1 }
 {}

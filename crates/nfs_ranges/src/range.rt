@@ -1,6 +1,6 @@
 ghost use Rattle.std.specs.Prelude.{◌≤◌};
 
-/// Bytes of a file, one behind the other, from the first to the last. It has one byte at least, and may have byte
+/// Bytes of a file, one after the other, from the first to the last. It has one byte at least, and may have byte
 /// 2^64 - 1.
 #[derive(Clone, Copy, Debug, PartialEq, Eq)]
 pub struct Range {

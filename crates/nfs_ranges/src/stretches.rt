@@ -30,20 +30,20 @@ fn mode_after(piece: Piece, byte: u64, mode: Option<Mode>) -> Option<Mode>
 /// A byte up to which all have the mode of this one, in one walk over the pieces. The next byte may have it too: each
 /// piece that begins or ends counts, also where later pieces cover it.
 pub(crate) fn same_until(pieces: &[Piece], byte: u64) -> u64
-    ensures behind { byte ≤ result }
+    ensures beyond { byte ≤ result }
     ensures same { AreAs (modes_of pieces.now) byte byte result }
 {
     let mut end = u64::MAX;
     for piece in pieces.iter() {
-        end = cut_behind(piece.range, byte, end);
+        end = cut_beyond(piece.range, byte, end);
     }
     end
 }
 
 // A byte up to the end, up to which the range has all, or none, as it has this byte.
-fn cut_behind(range: Range, byte: u64, end: u64) -> u64
+fn cut_beyond(range: Range, byte: u64, end: u64) -> u64
     requires { byte ≤ end }
-    ensures behind { byte ≤ result }
+    ensures beyond { byte ≤ result }
     ensures within { result ≤ end }
     ensures same { (b : ℕ) → byte ≤ b → b ≤ result → has range b ≡ has range byte }
 {

@@ -9,6 +9,7 @@ mod reason;
 mod report;
 mod row;
 mod run;
+mod server;
 mod word;
 
 pub use file::read_rows;
@@ -17,3 +18,4 @@ pub use reason::{Reason, Refused};
 pub use report::{Summary, show_text, try_text};
 pub use row::{Connection, Row};
 pub use run::{Got, run_row};
+pub use server::Server;

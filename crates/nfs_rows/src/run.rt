@@ -1,11 +1,10 @@
 //! A row run through the server, over memory.
 
-ghost use Rattle.std.specs.Prelude.{◌≡◌, ◌<◌};
+ghost use Rattle.std.specs.Prelude.{◌<◌};
 
-use crate::{Connection, Pieces, Row};
-use nfs_core::Core;
-use nfs_server::{Counted, Fault, Lent, Service, Stopped, serve_connection};
-use nfs_tree::{DEFAULT_TREE, Tree, TreeError};
+use crate::{Connection, Pieces, Row, Server};
+use nfs_server::{Counted, Fault};
+use nfs_tree::{DEFAULT_TREE, TreeError};
 use std::alloc::{AllocError, Global};
 
 /// What came of a connection: the bytes that the server wrote, and the fault that ended it.
@@ -31,32 +30,29 @@ pub fn run_row(
 ) -> Result<Option<(usize, Got)>, AllocError>
     requires { 0 < piece_len }
 {
-    let tree = match Tree::from_toml(alloc, document(row)) {
-        Ok(tree) => tree,
-        Err(TreeError::Memory) => return Err(AllocError),
-        Err(error) => return Ok(refused_tree(alloc, row, error)),
-    };
-    let Ok(core) = Core::new(alloc, &tree, row.lease, row.epoch, tree.policy()) else {
-        return Err(AllocError);
-    };
-    let mut lent = Lent::new(core);
-    let connections = row.connections.as_slice();
-    Ok(first_wrong(alloc, &mut lent, &tree, connections, piece_len))
+    match Server::open(alloc, document(row), row.lease, row.epoch) {
+        Ok(mut server) => Ok(first_wrong(
+            alloc,
+            &mut server,
+            row.connections.as_slice(),
+            piece_len,
+        )),
+        Err(TreeError::Memory) => Err(AllocError),
+        Err(error) => Ok(refused_tree(alloc, row, error)),
+    }
 }
 
 // The first connection that doesn't get what is wanted.
 fn first_wrong(
     alloc: Global,
-    lent: &mut Lent,
-    tree: &Tree,
+    server: &mut Server,
     connections: &[Connection],
     piece_len: usize,
 ) -> Option<(usize, Got)>
-    requires pieces { 0 < piece_len }
-    requires serves { ⟦<Lent as Service>⟧.serves lent.old ≡ tree.now.nodes }
+    requires { 0 < piece_len }
 {
     for (place, connection) in connections.iter().enumerate() {
-        let got = converse(alloc, lent, tree, connection, piece_len);
+        let got = converse(alloc, server, connection, piece_len);
         if !got.is_right(connection) {
             return Some((place, got));
         }
@@ -83,21 +79,12 @@ fn refused_tree(alloc: Global, row: &Row, error: TreeError) -> Option<(usize, Go
     }
 }
 
-fn converse(
-    alloc: Global,
-    lent: &mut Lent,
-    tree: &Tree,
-    connection: &Connection,
-    piece_len: usize,
-) -> Got
-    requires pieces { 0 < piece_len }
-    requires serves { ⟦<Lent as Service>⟧.serves lent.old ≡ tree.now.nodes }
-    ensures serves { ⟦<Lent as Service>⟧.serves lent.new ≡ tree.now.nodes }
+fn converse(alloc: Global, server: &mut Server, connection: &Connection, piece_len: usize) -> Got
+    requires { 0 < piece_len }
 {
     let mut source = Counted::new(Pieces::new(connection.sent.as_slice(), piece_len));
     let mut sink = Counted::new(Vec::new(alloc));
-    let mut clock = Stopped::at(connection.moment);
-    let outcome = serve_connection(alloc, &mut source, &mut sink, lent, tree, &mut clock);
+    let outcome = server.serve(alloc, &mut source, &mut sink, connection.moment);
     Got {
         bytes: sink.into_device(),
         fault: Fault::of(outcome),

@@ -5,7 +5,7 @@ use Rattle.std.proofs.lemmas.Bool.{eqb-true, eqb-false, eq-eqb}
 use Rattle.xdr.specs.declared.wire_error.WireError.{WireError}
 use Rattle.xdr.specs.Form.{Form}
 use Rattle.xdr.specs.Reading.{Read, Begins, ◌>>=◌}
-use Rattle.xdr.specs.laws.Reads.{decided, ok_is, lacks}
+use Rattle.xdr.specs.laws.Reads.{true_or_false, ok_is, lacks}
 use Rattle.nfs_xdr.specs.declared.compound.Compound.{Compound as CompoundArgs}
 use Rattle.nfs_forms.specs.declared.principal.Principal.{Principal}
 use Rattle.nfs_forms.specs.declared.principal.Principal.TheVariants as principals
@@ -35,12 +35,12 @@ user_stands a p (Err d) flavor read e = absurd cc
 
 principal_stands : (a : OpaqueAuth) (p : Principal) → principal_of a ≡ Some p → IsOf a p
 principal_stands a p e =
-    elim (decided (eqb a.0 AUTH_NONE)) [
+    elim (true_or_false (eqb a.0 AUTH_NONE)) [
       | inl none ↦
           let some : ◌≡◌ {A = Option Principal} (Some principals.AuthNone) (Some p) = rw none at e in
           let same : principals.AuthNone ≡ p = cc in
           subst (λ (q : Principal). IsOf a q) same (eqb-true _ _ none)
-      | inr other ↦ elim (decided (eqb a.0 AUTH_SYS)) [
+      | inr other ↦ elim (true_or_false (eqb a.0 AUTH_SYS)) [
         | inl sys ↦ user_stands a p (auth_sys.at a.1) (eqb-true _ _ sys) refl (rw (other, sys) at e)
         | inr another ↦
             let clash : ◌≡◌ {A = Option Principal} None (Some p) = rw (other, another) at e in absurd cc
@@ -80,74 +80,74 @@ ProcedureRules message = HasNull message ∷ HasAnotherProcedure message ∷ Has
 abbrev ProgramRules : List ℕ → List (Call → Type 0)
 ProgramRules message = HasAnotherProgram message ∷ HasAnotherVersion message ∷ ProcedureRules message
 
--- The header of a record was read: a start and a body. `behind` are the bytes after it.
-record IsRead (message : List ℕ) (s : Start) (b : Body) (behind : List ℕ) (principal : Principal) : Type 0 where
-  read : header.at message ≡ Ok ((s, b), behind)
+-- The header of a record was read: a start and a body. `beyond` are the bytes after it.
+record IsRead (message : List ℕ) (s : Start) (b : Body) (beyond : List ℕ) (principal : Principal) : Type 0 where
+  read : header.at message ≡ Ok ((s, b), beyond)
   principal_is : IsOf b.credential principal
 
-arguments_case : OneCompoundIsEncoded → (message : List ℕ) (s : Start) (b : Body) (behind : List ℕ) (principal : Principal) → IsRead message s b behind principal
-    → (r : Result CompoundArgs WireError) → compound_at behind ≡ r → First (HasCompound message ∷ HasGarbage message ∷ []) (compound_or_garbage s.xid principal r)
-arguments_case law message s b behind principal is (Ok compound) e =
-    inl ((s, b), behind, header.reads.sound message (s, b) behind is.read, (principal, compound, is.principal_is, (law behind compound).0 e, refl))
-arguments_case law message s b behind principal is (Err error) e =
+arguments_case : OneCompoundIsEncoded → (message : List ℕ) (s : Start) (b : Body) (beyond : List ℕ) (principal : Principal) → IsRead message s b beyond principal
+    → (r : Result CompoundArgs WireError) → compound_at beyond ≡ r → First (HasCompound message ∷ HasGarbage message ∷ []) (compound_or_garbage s.xid principal r)
+arguments_case law message s b beyond principal is (Ok compound) e =
+    inl ((s, b), beyond, header.reads.sound message (s, b) beyond is.read, (principal, compound, is.principal_is, (law beyond compound).0 e, refl))
+arguments_case law message s b beyond principal is (Err error) e =
     inr (
       (λ any has.
-          let found = the_header _ message (s, b) behind is.read has in
-          let clash : ◌≡◌ {A = Result CompoundArgs WireError} (Err error) (Ok found.1) = sym e ∙ (law behind found.1).1 found.3 in cc),
-      inl ((s, b), behind, header.reads.sound message (s, b) behind is.read, refl),
+          let found = the_header _ message (s, b) beyond is.read has in
+          let clash : ◌≡◌ {A = Result CompoundArgs WireError} (Err error) (Ok found.1) = sym e ∙ (law beyond found.1).1 found.3 in cc),
+      inl ((s, b), beyond, header.reads.sound message (s, b) beyond is.read, refl),
     )
 
-procedure_case : OneCompoundIsEncoded → (message : List ℕ) (s : Start) (b : Body) (behind : List ℕ) (principal : Principal) → IsRead message s b behind principal
-    → First (ProcedureRules message) (cond (eqb b.procedure PROC_NULL) (Null s.xid) (cond (not (eqb b.procedure PROC_COMPOUND)) (Answer s.xid ProcUnavail) (compound_or_garbage s.xid principal (compound_at behind))))
-procedure_case law message s b behind principal is =
-    let found = header.reads.sound message (s, b) behind is.read in
-    elim (decided (eqb b.procedure PROC_NULL)) [
-      | inl null ↦ rw null (inl ((s, b), behind, found, (eqb-true _ _ null, refl)))
-      | inr other ↦ elim (decided (eqb b.procedure PROC_COMPOUND)) [
+procedure_case : OneCompoundIsEncoded → (message : List ℕ) (s : Start) (b : Body) (beyond : List ℕ) (principal : Principal) → IsRead message s b beyond principal
+    → First (ProcedureRules message) (cond (eqb b.procedure PROC_NULL) (Null s.xid) (cond (not (eqb b.procedure PROC_COMPOUND)) (Answer s.xid ProcUnavail) (compound_or_garbage s.xid principal (compound_at beyond))))
+procedure_case law message s b beyond principal is =
+    let found = header.reads.sound message (s, b) beyond is.read in
+    elim (true_or_false (eqb b.procedure PROC_NULL)) [
+      | inl null ↦ rw null (inl ((s, b), beyond, found, (eqb-true _ _ null, refl)))
+      | inr other ↦ elim (true_or_false (eqb b.procedure PROC_COMPOUND)) [
         | inl compound ↦ rw (other, compound) (inr (
-          (λ any has. eqb-false _ _ other (the_header _ message (s, b) behind is.read has).0),
+          (λ any has. eqb-false _ _ other (the_header _ message (s, b) beyond is.read has).0),
           inr (
-            (λ any has. (the_header _ message (s, b) behind is.read has).0 (eqb-true _ _ compound)),
-            arguments_case law message s b behind principal is (compound_at behind) refl,
+            (λ any has. (the_header _ message (s, b) beyond is.read has).0 (eqb-true _ _ compound)),
+            arguments_case law message s b beyond principal is (compound_at beyond) refl,
           ),
         ))
         | inr another ↦ rw (other, another) (inr (
-          (λ any has. eqb-false _ _ other (the_header _ message (s, b) behind is.read has).0),
-          inl ((s, b), behind, found, (eqb-false _ _ another, refl)),
+          (λ any has. eqb-false _ _ other (the_header _ message (s, b) beyond is.read has).0),
+          inl ((s, b), beyond, found, (eqb-false _ _ another, refl)),
         ))
       ]
     ]
 
-program_case : OneCompoundIsEncoded → (message : List ℕ) (s : Start) (b : Body) (behind : List ℕ) (principal : Principal) → IsRead message s b behind principal
-    → First (ProgramRules message) (procedure_call s.xid (header_of b) behind principal)
-program_case law message s b behind principal is =
-    let found = header.reads.sound message (s, b) behind is.read in
-    elim (decided (eqb b.program NFS_PROGRAM)) [
-      | inl program ↦ elim (decided (eqb b.version NFS_VERSION)) [
+program_case : OneCompoundIsEncoded → (message : List ℕ) (s : Start) (b : Body) (beyond : List ℕ) (principal : Principal) → IsRead message s b beyond principal
+    → First (ProgramRules message) (procedure_call s.xid (header_of b) beyond principal)
+program_case law message s b beyond principal is =
+    let found = header.reads.sound message (s, b) beyond is.read in
+    elim (true_or_false (eqb b.program NFS_PROGRAM)) [
+      | inl program ↦ elim (true_or_false (eqb b.version NFS_VERSION)) [
         | inl version ↦ rw (program, version) (inr (
-          (λ any has. (the_header _ message (s, b) behind is.read has).0 (eqb-true _ _ program)),
+          (λ any has. (the_header _ message (s, b) beyond is.read has).0 (eqb-true _ _ program)),
           inr (
-            (λ any has. (the_header _ message (s, b) behind is.read has).0 (eqb-true _ _ version)),
-            procedure_case law message s b behind principal is,
+            (λ any has. (the_header _ message (s, b) beyond is.read has).0 (eqb-true _ _ version)),
+            procedure_case law message s b beyond principal is,
           ),
         ))
         | inr other ↦ rw (program, other) (inr (
-          (λ any has. (the_header _ message (s, b) behind is.read has).0 (eqb-true _ _ program)),
-          inl ((s, b), behind, found, (eqb-false _ _ other, refl)),
+          (λ any has. (the_header _ message (s, b) beyond is.read has).0 (eqb-true _ _ program)),
+          inl ((s, b), beyond, found, (eqb-false _ _ other, refl)),
         ))
       ]
-      | inr other ↦ rw other (inl ((s, b), behind, found, (eqb-false _ _ other, refl)))
+      | inr other ↦ rw other (inl ((s, b), beyond, found, (eqb-false _ _ other, refl)))
     ]
 
-principal_case : OneCompoundIsEncoded → (message : List ℕ) (s : Start) (b : Body) (behind : List ℕ) → header.at message ≡ Ok ((s, b), behind) → (r : Option Principal) → principal_of b.credential ≡ r
-    → First (HasNoPrincipal message ∷ ProgramRules message) (some_or (Answer s.xid AuthError) r (procedure_call s.xid (header_of b) behind))
-principal_case law message s b behind read None e =
-    inl ((s, b), behind, header.reads.sound message (s, b) behind read, (no_principal b.credential e, refl))
-principal_case law message s b behind read (Some principal) e =
+principal_case : OneCompoundIsEncoded → (message : List ℕ) (s : Start) (b : Body) (beyond : List ℕ) → header.at message ≡ Ok ((s, b), beyond) → (r : Option Principal) → principal_of b.credential ≡ r
+    → First (HasNoPrincipal message ∷ ProgramRules message) (some_or (Answer s.xid AuthError) r (procedure_call s.xid (header_of b) beyond))
+principal_case law message s b beyond read None e =
+    inl ((s, b), beyond, header.reads.sound message (s, b) beyond read, (no_principal b.credential e, refl))
+principal_case law message s b beyond read (Some principal) e =
     let is = principal_stands b.credential principal e in
     inr (
-      (λ any has. (the_header _ message (s, b) behind read has).0 principal is),
-      program_case law message s b behind principal (record { read = read; principal_is = is }),
+      (λ any has. (the_header _ message (s, b) beyond read has).0 principal is),
+      program_case law message s b beyond principal (record { read = read; principal_is = is }),
     )
 
 body_case : OneCompoundIsEncoded → (message : List ℕ) (s : Start) (rest : List ℕ) → start.at message ≡ Ok (s, rest) → (r : Read Body) → body.at rest ≡ r
@@ -170,7 +170,7 @@ start_case law message (Err error) e =
       inl (no_header message error failed, refl),
     )
 start_case law message (Ok s) e =
-    elim (decided (eqb s.0.rpc_version RPC_VERSION)) [
+    elim (true_or_false (eqb s.0.rpc_version RPC_VERSION)) [
       | inl right ↦ rw right (inr (
         (λ any has.
             let same : s ≡ (has.0, has.1) = ok_is s (has.0, has.1) (sym e ∙ reads_there start message has.0 has.1 has.2) in

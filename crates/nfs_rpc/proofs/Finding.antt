@@ -18,12 +18,12 @@ found_none text bodies first a count = record { front = []; rest = text; whole =
 pub found_more : (text more : List ℕ) (messages : List (List ℕ)) (bodies longer : List ℕ) (first : Unfinished) (place : Place) (long : Bool) (count : ℕ)
     → ((rest : List ℕ) → IsAt rest bodies first.place → IsAt (rest ++ more) longer place) → count ≡ length more
     → AreFound text messages bodies first → AreFound (text ++ more) messages longer (record { place = place; count = first.count + count; is_too_long = long })
-found_more text more messages bodies longer first place long count behind is f = record {
+found_more text more messages bodies longer first place long count beyond is f = record {
   front = f.front;
   rest = f.rest ++ more;
   whole = ap (λ (l : List ℕ). l ++ more) f.whole ∙ append_assoc f.front f.rest more;
   records = f.records;
-  at_place = behind f.rest f.at_place;
+  at_place = beyond f.rest f.at_place;
   count = omega (arith, f.count, length-append f.rest more);
 }
 
@@ -77,25 +77,25 @@ above_at bodies (InHeader bytes len) is few above = absurd (above few)
 above_at bodies (InBody wanted last) is few above = (wanted, last, refl, omega (arith, above))
 
 -- if a header brings the record above the limit, all records are found, and the bytes after it belong to the rest
-pub all_found_long : (text behind : List ℕ) (messages : List (List ℕ)) (bodies : List ℕ) (first : Unfinished) (count : ℕ) → IsPlace first.place → length bodies ≤ RECORD_LIMIT
-    → (Fits (length bodies) first.place → ⊥) → count ≡ length behind → AreFound text messages bodies first
-    → AreAllFound (text ++ behind) messages bodies (record { place = first.place; count = first.count + count; is_too_long = true })
-all_found_long text behind messages bodies first count is few above counts f =
+pub all_found_long : (text beyond : List ℕ) (messages : List (List ℕ)) (bodies : List ℕ) (first : Unfinished) (count : ℕ) → IsPlace first.place → length bodies ≤ RECORD_LIMIT
+    → (Fits (length bodies) first.place → ⊥) → count ≡ length beyond → AreFound text messages bodies first
+    → AreAllFound (text ++ beyond) messages bodies (record { place = first.place; count = first.count + count; is_too_long = true })
+all_found_long text beyond messages bodies first count is few above counts f =
     let w = above_at bodies first.place is few above in
     let a = subst (λ (p : Place). IsAt f.rest bodies p) w.2 f.at_place in
-    let none = at_long_rest f.rest bodies behind w.0 w.1 a w.3 in (
-      f.rest ++ behind,
+    let none = at_long_rest f.rest bodies beyond w.0 w.1 a w.3 in (
+      f.rest ++ beyond,
       record {
         front = f.front;
-        whole = ap (λ (l : List ℕ). l ++ behind) f.whole ∙ append_assoc f.front f.rest behind;
+        whole = ap (λ (l : List ℕ). l ++ beyond) f.whole ∙ append_assoc f.front f.rest beyond;
         records = f.records;
         none_left = none;
       },
       record {
         none_left = none;
-        too_long = ((λ _. at_long f.rest bodies behind w.0 w.1 a w.3), (λ _. refl));
+        too_long = ((λ _. at_long f.rest bodies beyond w.0 w.1 a w.3), (λ _. refl));
         at_place = (λ no. let clash : true ≡ false = no in cc);
-        count = omega (arith, f.count, length-append f.rest behind);
+        count = omega (arith, f.count, length-append f.rest beyond);
       },
     )
 
@@ -115,7 +115,7 @@ module _ (start : List ℕ) (from : Unfinished) (piece : List ℕ) where
       → ((text : List ℕ) → IsAt text bodies first.place → IsAt (text ++ take count rest) longer place)
       → AreFoundSoFar start from piece rest messages bodies first
       → AreFoundSoFar start from piece (slice_range rest count (length rest)) messages longer (record { place = place; count = first.count + count; is_too_long = long })
-  so_far_front rest messages bodies longer first place long count within behind f =
+  so_far_front rest messages bodies longer first place long count within beyond f =
       let parts : take count rest ++ slice_range rest count (length rest) ≡ rest =
       ap (λ (l : List ℕ). take count rest ++ l) (between_to_end rest count (length rest) (omega arith)) ∙ take-append-drop count rest in
       let n : count ≡ length (take count rest) = sym (length-take-le count rest within) in (
@@ -123,7 +123,7 @@ module _ (start : List ℕ) (from : Unfinished) (piece : List ℕ) where
         f.1 ∙ ap (λ (l : List ℕ). f.0 ++ l) (sym parts) ∙ sym (append_assoc f.0 (take count rest) (slice_range rest count (length rest))),
         λ text a counts.
             subst (λ (l : List ℕ). AreFound l messages longer (record { place = place; count = first.count + count; is_too_long = long })) (append_assoc text f.0 (take count rest))
-            (found_more (text ++ f.0) (take count rest) messages bodies longer first place long count behind n (f.2 text a counts)),
+            (found_more (text ++ f.0) (take count rest) messages bodies longer first place long count beyond n (f.2 text a counts)),
       )
 
   -- no bytes are added, and what is kept changes

@@ -100,17 +100,17 @@ IsRecord-head m text r = elim (IsRecord-cases m text r) [
 ]
 
 -- If a record begins with these open fragments, the rest of the record follows them.
-pub IsRecord-behind : (bodies : List (List ℕ)) (front back m f t : List ℕ) → AreOpen bodies front → IsRecord m f → front ++ back ≡ f ++ t
+pub IsRecord-beyond : (bodies : List (List ℕ)) (front back m f t : List ℕ) → AreOpen bodies front → IsRecord m f → front ++ back ≡ f ++ t
     → (inner : List ℕ) × (g : List ℕ) × IsRecord inner g × (back ≡ g ++ t) × (m ≡ concat bodies ++ inner)
-IsRecord-behind [] front back m f t o r e = (m, f, r, ap (λ l. l ++ back) (sym o) ∙ e, refl)
-IsRecord-behind (b ∷ bs) front back m f t o r e =
+IsRecord-beyond [] front back m f t o r e = (m, f, r, ap (λ l. l ++ back) (sym o) ∙ e, refl)
+IsRecord-beyond (b ∷ bs) front back m f t o r e =
     let first : o.0 ++ (o.1 ++ back) ≡ f ++ t = sym (append_assoc o.0 o.1 back) ∙ ap (λ l. l ++ back) (sym o.2) ∙ e in
     elim (IsRecord-cases m f r) [
       | inl a ↦ let same = IsFragment-same false true b m o.0 f (o.1 ++ back) t o.3 a first in absurd (let no : false ≡ true = same.0 in cc)
       | inr w ↦
           let split : o.0 ++ (o.1 ++ back) ≡ w.1 ++ (w.3 ++ t) = first ∙ ap (λ l. l ++ t) w.4 ∙ append_assoc w.1 w.3 t in
           let same = IsFragment-same false false b w.0 o.0 w.1 (o.1 ++ back) (w.3 ++ t) o.3 w.5 split in
-          let more = IsRecord-behind bs o.1 back w.2 w.3 t o.4 w.6 same.2 in
+          let more = IsRecord-beyond bs o.1 back w.2 w.3 t o.4 w.6 same.2 in
           (more.0, more.1, more.2, more.3, w.7 ∙ ap (λ l. l ++ w.2) (sym same.1) ∙ ap (λ l. b ++ l) more.4 ∙ sym (append_assoc b (concat bs) more.0))
     ]
 
@@ -118,7 +118,7 @@ IsRecord-behind (b ∷ bs) front back m f t o r e =
 pub IsRecord-same : (m m' f f' t t' : List ℕ) → IsRecord m f → IsRecord m' f' → f ++ t ≡ f' ++ t' → (m ≡ m') × (t ≡ t')
 IsRecord-same m m' f f' t t' r s e =
     let whole : r.2 ++ (r.3 ++ t) ≡ f' ++ t' = sym (append_assoc r.2 r.3 t) ∙ ap (λ l. l ++ t) (sym r.4) ∙ e in
-    let w = IsRecord-behind r.0 r.2 (r.3 ++ t) m' f' t' r.5 s whole in
+    let w = IsRecord-beyond r.0 r.2 (r.3 ++ t) m' f' t' r.5 s whole in
     elim (IsRecord-cases w.0 w.1 w.2) [
       | inl a ↦
           let same = IsFragment-same true true r.1 w.0 r.3 w.1 t t' r.6 a w.3 in

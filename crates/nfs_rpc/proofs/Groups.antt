@@ -5,7 +5,7 @@ use Rattle.std.proofs.lemmas.List.{length-drop, drop-drop}
 use Rattle.byteorder.specs.Endian.{big_number}
 use Rattle.xdr.specs.declared.wire_error.WireError.TheVariants as errors
 use Rattle.xdr.specs.Reading.{Read, ◌>>=◌, as_value, number_at, each_at, many_at}
-use Rattle.xdr.specs.laws.Reads.{decided}
+use Rattle.xdr.specs.laws.Reads.{true_or_false}
 use Rattle.nfs_rpc.specs.declared.auth_sys.TheConstants.{GID_LIMIT}
 use Rattle.nfs_rpc.specs.AuthSys.{gids}
 
@@ -29,7 +29,7 @@ pub missing : (count : ℕ) (bytes : List ℕ) → length bytes < 4 * count → 
 unfolding each_at number_at
 missing zero bytes few = absurd (omega (arith, few))
 missing (suc count) bytes few =
-    elim (decided (ltb (length bytes) 4)) [
+    elim (true_or_false (ltb (length bytes) 4)) [
       | inl short ↦ rw short refl
       | inr long ↦ rw long (one_more (big_number 4 bytes) (each_at (number_at 4) count (drop 4 bytes))
           ∙ missing count (drop 4 bytes) (omega (arith, length-drop 4 bytes, ltb-false _ _ long, few)))

@@ -8,7 +8,7 @@ use Rattle.nfs_rpc.specs.declared.place.Place.{Place}
 use Rattle.nfs_rpc.specs.declared.place.Place.TheVariants.{InHeader, InBody}
 use Rattle.nfs_rpc.specs.Records.{IsHeader, IsFragment, AreOpen, IsRecord, IsRest, IsTooLong, IsAt}
 use Rattle.nfs_rpc.specs.Keeping.{IsIncomplete, Fits}
-use Rattle.nfs_rpc.proofs.Fragments.{append_same, IsHeader-same, IsFragment-header, length-fragment, IsRecord-head, IsRecord-behind, AreOpen-header, AreOpen-push}
+use Rattle.nfs_rpc.proofs.Fragments.{append_same, IsHeader-same, IsFragment-header, length-fragment, IsRecord-head, IsRecord-beyond, AreOpen-header, AreOpen-push}
 
 pub at_start : (bytes : List ℕ) → IsAt [] [] (InHeader bytes 0)
 at_start bytes = ([], [], refl, refl, refl, omega arith)
@@ -79,7 +79,7 @@ module _ (text front back : List ℕ) (bodies : List (List ℕ)) (whole : text �
   -- no record within the limit is at the front if none continues after the open fragments
   rest_from : ((m f t : List ℕ) → IsRecord m f → back ≡ f ++ t → length (concat bodies) + length m ≤ RECORD_LIMIT → ⊥) → IsRest text
   rest_from none m f t e r fits =
-      let w = IsRecord-behind bodies front back m f t o r (sym whole ∙ e) in
+      let w = IsRecord-beyond bodies front back m f t o r (sym whole ∙ e) in
       let long : length m ≡ length (concat bodies) + length w.0 = ap length w.4 ∙ length-append (concat bodies) w.0 in
       none w.0 w.1 t w.2 w.3 (omega arith)
 
@@ -106,49 +106,49 @@ module _ (text front back : List ℕ) (bodies : List (List ℕ)) (whole : text �
     short_within : length (concat bodies) ≤ RECORD_LIMIT → IsTooLong text → ⊥
     short_within within = not_long within (λ more middle header remainder last len o h e _.
         let long : length back ≡ length middle + length (header ++ remainder) = ap length e ∙ length-append middle (header ++ remainder) in
-        let behind = length-append header remainder in
+        let beyond = length-append header remainder in
         let four = h.four in
         omega arith)
 
   -- a header and the bytes after it follow the open fragments
-  module _ (header behind : List ℕ) (last : Bool) (len : ℕ) (here : back ≡ header ++ behind) (is : IsHeader last len header) where
+  module _ (header beyond : List ℕ) (last : Bool) (len : ℕ) (here : back ≡ header ++ beyond) (is : IsHeader last len header) where
     -- the header brings the record above the limit
     long_rest : RECORD_LIMIT < length (concat bodies) + len → IsRest text
     long_rest above = rest_from (λ m f t r e fits.
         let h = IsRecord-head m f r in
-        let split : header ++ behind ≡ h.2 ++ (h.3 ++ t) = sym here ∙ e ∙ ap (λ (l : List ℕ). l ++ t) h.4 ∙ append_assoc h.2 h.3 t in
-        let same = IsFragment-header last h.0 len header behind h.1 h.2 (h.3 ++ t) is h.5 split in
+        let split : header ++ beyond ≡ h.2 ++ (h.3 ++ t) = sym here ∙ e ∙ ap (λ (l : List ℕ). l ++ t) h.4 ∙ append_assoc h.2 h.3 t in
+        let same = IsFragment-header last h.0 len header beyond h.1 h.2 (h.3 ++ t) is h.5 split in
         let long : len ≡ length h.1 = same.1 in
         let most = h.6 in
         omega arith)
 
     -- not all bytes of the body are there
-    part_rest : length behind < len → IsRest text
+    part_rest : length beyond < len → IsRest text
     part_rest few = rest_from (λ m f t r e _.
         let h = IsRecord-head m f r in
-        let split : header ++ behind ≡ h.2 ++ (h.3 ++ t) = sym here ∙ e ∙ ap (λ (l : List ℕ). l ++ t) h.4 ∙ append_assoc h.2 h.3 t in
-        let same = IsFragment-header last h.0 len header behind h.1 h.2 (h.3 ++ t) is h.5 split in
+        let split : header ++ beyond ≡ h.2 ++ (h.3 ++ t) = sym here ∙ e ∙ ap (λ (l : List ℕ). l ++ t) h.4 ∙ append_assoc h.2 h.3 t in
+        let same = IsFragment-header last h.0 len header beyond h.1 h.2 (h.3 ++ t) is h.5 split in
         let long : len ≡ length h.1 = same.1 in
-        let sizes : length behind ≡ length h.1 + length (h.3 ++ t) = ap length same.2 ∙ length-append h.1 (h.3 ++ t) in
+        let sizes : length beyond ≡ length h.1 + length (h.3 ++ t) = ap length same.2 ∙ length-append h.1 (h.3 ++ t) in
         omega arith)
 
-    part_within : length behind < len → length (concat bodies) + len ≤ RECORD_LIMIT → IsTooLong text → ⊥
+    part_within : length beyond < len → length (concat bodies) + len ≤ RECORD_LIMIT → IsTooLong text → ⊥
     part_within few fits l = not_long (omega arith) other l
       where
         other : (more : List (List ℕ)) (middle head remainder : List ℕ) (final : Bool) (n : ℕ) → AreOpen more middle → IsHeader final n head
             → back ≡ middle ++ (head ++ remainder) → RECORD_LIMIT < length (concat bodies) + (length (concat more) + n) → ⊥
         other [] middle head remainder final n o h e above =
-            let split : header ++ behind ≡ head ++ remainder = sym here ∙ e ∙ ap (λ (l : List ℕ). l ++ (head ++ remainder)) o in
-            let parts = append_same header behind head remainder split (is.four ∙ sym h.four) in
+            let split : header ++ beyond ≡ head ++ remainder = sym here ∙ e ∙ ap (λ (l : List ℕ). l ++ (head ++ remainder)) o in
+            let parts = append_same header beyond head remainder split (is.four ∙ sym h.four) in
             let same = IsHeader-same last final len n head (subst (λ (l : List ℕ). IsHeader last len l) parts.0 is) h in
             let long : len ≡ n = same.1 in
             omega arith
         other (b ∷ bs) middle head remainder final n o h e above =
-            let split : header ++ behind ≡ o.0 ++ (o.1 ++ (head ++ remainder)) =
+            let split : header ++ beyond ≡ o.0 ++ (o.1 ++ (head ++ remainder)) =
             sym here ∙ e ∙ ap (λ (l : List ℕ). l ++ (head ++ remainder)) o.2 ∙ append_assoc o.0 o.1 (head ++ remainder) in
-            let same = IsFragment-header last false len header behind b o.0 (o.1 ++ (head ++ remainder)) is o.3 split in
+            let same = IsFragment-header last false len header beyond b o.0 (o.1 ++ (head ++ remainder)) is o.3 split in
             let long : len ≡ length b = same.1 in
-            let sizes : length behind ≡ length b + length (o.1 ++ (head ++ remainder)) = ap length same.2 ∙ length-append b (o.1 ++ (head ++ remainder)) in
+            let sizes : length beyond ≡ length b + length (o.1 ++ (head ++ remainder)) = ap length same.2 ∙ length-append b (o.1 ++ (head ++ remainder)) in
             omega arith
 
 length-body : (bodies : List (List ℕ)) (kept body : List ℕ) (wanted : ℕ) → kept ≡ concat bodies ++ body → length kept + wanted ≡ length (concat bodies) + (length body + wanted)
@@ -166,15 +166,15 @@ at_within text bodies (InBody wanted last) a more fits =
     part_within text a.1 (a.2 ++ a.3) a.0 a.4 a.5 a.2 a.3 last (length a.3 + wanted) refl a.6 (omega arith) (omega (arith, length-body a.0 bodies a.3 wanted a.7))
 
 -- Once a header brings the record above the limit, this holds whatever bytes follow.
-module _ (text bodies behind : List ℕ) (wanted : ℕ) (last : Bool) (a : IsAt text bodies (InBody wanted last)) (above : RECORD_LIMIT < length bodies + wanted) where
-  whole_there : text ++ behind ≡ a.1 ++ (a.2 ++ (a.3 ++ behind))
-  whole_there = ap (λ (l : List ℕ). l ++ behind) a.4 ∙ append_assoc a.1 (a.2 ++ a.3) behind ∙ ap (λ (l : List ℕ). a.1 ++ l) (append_assoc a.2 a.3 behind)
+module _ (text bodies beyond : List ℕ) (wanted : ℕ) (last : Bool) (a : IsAt text bodies (InBody wanted last)) (above : RECORD_LIMIT < length bodies + wanted) where
+  whole_there : text ++ beyond ≡ a.1 ++ (a.2 ++ (a.3 ++ beyond))
+  whole_there = ap (λ (l : List ℕ). l ++ beyond) a.4 ∙ append_assoc a.1 (a.2 ++ a.3) beyond ∙ ap (λ (l : List ℕ). a.1 ++ l) (append_assoc a.2 a.3 beyond)
 
   above_there : RECORD_LIMIT < length (concat a.0) + (length a.3 + wanted)
   above_there = omega (arith, length-body a.0 bodies a.3 wanted a.7)
 
-  pub at_long : IsTooLong (text ++ behind)
-  at_long = (a.0, last, length a.3 + wanted, a.1, a.2, a.3 ++ behind, whole_there, a.5, a.6, above_there)
+  pub at_long : IsTooLong (text ++ beyond)
+  at_long = (a.0, last, length a.3 + wanted, a.1, a.2, a.3 ++ beyond, whole_there, a.5, a.6, above_there)
 
-  pub at_long_rest : IsRest (text ++ behind)
-  at_long_rest = long_rest (text ++ behind) a.1 (a.2 ++ (a.3 ++ behind)) a.0 whole_there a.5 a.2 (a.3 ++ behind) last (length a.3 + wanted) refl a.6 above_there
+  pub at_long_rest : IsRest (text ++ beyond)
+  at_long_rest = long_rest (text ++ beyond) a.1 (a.2 ++ (a.3 ++ beyond)) a.0 whole_there a.5 a.2 (a.3 ++ beyond) last (length a.3 + wanted) refl a.6 above_there

@@ -20,6 +20,12 @@ gids = many GID_LIMIT u32
 unfoldable pub auth_sys : Form AuthSys
 auth_sys =
     of
-    (λ p. record { stamp = p.0; machine_name = p.1.0; uid = p.1.1.0; gid = p.1.1.1.0; gids = p.1.1.1.1 })
+    (λ p. record {
+      stamp = p.0;
+      machine_name = p.1.0;
+      uid = p.1.1.0;
+      gid = p.1.1.1.0;
+      gids = p.1.1.1.1;
+    })
     (λ a. (a.stamp, (a.machine_name, (a.uid, (a.gid, a.gids))))) (λ p. refl) (λ a. refl)
     (u32 and opaque MACHINE_NAME_LIMIT and u32 and u32 and gids)

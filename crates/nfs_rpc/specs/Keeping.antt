@@ -46,7 +46,8 @@ first_or [] last = last
 first_or (message ∷ messages) last = message
 
 -- records at the front of a text, and what is kept of the bytes after them
-pub record AreFound (text : List ℕ) (messages : List (List ℕ)) (bodies : List ℕ) (first : Unfinished) : Type 0 where
+pub record AreFound (text : List ℕ) (messages : List (List ℕ)) (bodies : List ℕ)
+    (first : Unfinished) : Type 0 where
   pub front : List ℕ
   pub rest : List ℕ
   pub whole : text ≡ front ++ rest
@@ -56,7 +57,8 @@ pub record AreFound (text : List ℕ) (messages : List (List ℕ)) (bodies : Lis
 
 -- all whole records of a text, and what is kept of the bytes after them
 abbrev pub AreAllFound : List ℕ → List (List ℕ) → List ℕ → Unfinished → Type 0
-AreAllFound text messages bodies first = (rest : List ℕ) × Splits text messages rest × IsUnfinished rest bodies first
+AreAllFound text messages bodies first =
+    (rest : List ℕ) × Splits text messages rest × IsUnfinished rest bodies first
 
 -- Whatever bytes led to the bodies and the place that are kept: these bytes and then the piece are exactly these
 -- records and a rest, of which the new bodies and the new place are kept.

@@ -16,19 +16,22 @@ pub record IsHeader (last : Bool) (len : ℕ) (bytes : List ℕ) : Type 0 where
 
 -- a header, and as many bytes as it announces
 abbrev pub IsFragment : Bool → List ℕ → List ℕ → Type 0
-IsFragment last body text = (header : List ℕ) × IsHeader last (length body) header × (text ≡ header ++ body)
+IsFragment last body text =
+    (header : List ℕ) × IsHeader last (length body) header × (text ≡ header ++ body)
 
 -- fragments with these bodies, none of them marked as the last
 abbrev pub AreOpen : List (List ℕ) → List ℕ → Type 0
 AreOpen [] text = text ≡ []
 AreOpen (body ∷ bodies) text =
-    (front : List ℕ) × (back : List ℕ) × (text ≡ front ++ back) × IsFragment false body front × AreOpen bodies back
+    (front : List ℕ) × (back : List ℕ) × (text ≡ front ++ back) × IsFragment false body front
+    × AreOpen bodies back
 
 -- A record: the bodies of its fragments, one after the other. Only the last fragment is marked as the last.
 abbrev pub IsRecord : List ℕ → List ℕ → Type 0
 IsRecord message text =
     (bodies : List (List ℕ)) × (body : List ℕ) × (front : List ℕ) × (back : List ℕ)
-    × (text ≡ front ++ back) × AreOpen bodies front × IsFragment true body back × (message ≡ concat bodies ++ body)
+    × (text ≡ front ++ back) × AreOpen bodies front × IsFragment true body back
+    × (message ≡ concat bodies ++ body)
 
 -- the text is exactly these records, none of them above the limit
 abbrev pub AreRecords : List (List ℕ) → List ℕ → Type 0
@@ -39,7 +42,9 @@ AreRecords (message ∷ messages) text =
 
 -- no record within the limit is at the front
 abbrev pub IsRest : List ℕ → Type 0
-IsRest text = (message front back : List ℕ) → text ≡ front ++ back → IsRecord message front → length message ≤ RECORD_LIMIT → ⊥
+IsRest text =
+    (message front back : List ℕ) → text ≡ front ++ back → IsRecord message front
+    → length message ≤ RECORD_LIMIT → ⊥
 
 -- The text is these records, followed by a rest at whose front there is no record.
 pub record Splits (text : List ℕ) (messages : List (List ℕ)) (rest : List ℕ) : Type 0 where
@@ -51,7 +56,8 @@ pub record Splits (text : List ℕ) (messages : List (List ℕ)) (rest : List �
 -- a header of the first record brings the record above the limit
 abbrev pub IsTooLong : List ℕ → Type 0
 IsTooLong text =
-    (bodies : List (List ℕ)) × (last : Bool) × (len : ℕ) × (front : List ℕ) × (header : List ℕ) × (back : List ℕ)
+    (bodies : List (List ℕ)) × (last : Bool) × (len : ℕ) × (front : List ℕ) × (header : List ℕ)
+    × (back : List ℕ)
     × (text ≡ front ++ (header ++ back)) × AreOpen bodies front × IsHeader last len header
     × (RECORD_LIMIT < length (concat bodies) + len)
 
@@ -59,13 +65,15 @@ IsTooLong text =
 abbrev pub OneSplit : Type 0
 OneSplit =
     (text : List ℕ) (records others : List (List ℕ)) (rest remainder : List ℕ)
-    → Splits text records rest → Splits text others remainder → (records ≡ others) × (rest ≡ remainder)
+    → Splits text records rest → Splits text others remainder
+    → (records ≡ others) × (rest ≡ remainder)
 
 -- Once a text is split, the split of the text with a piece after it continues from the rest.
 abbrev pub SplitGoesOn : Type 0
 SplitGoesOn =
     (text piece : List ℕ) (records found : List (List ℕ)) (rest remainder : List ℕ)
-    → Splits text records rest → Splits (rest ++ piece) found remainder → Splits (text ++ piece) (records ++ found) remainder
+    → Splits text records rest → Splits (rest ++ piece) found remainder
+    → Splits (text ++ piece) (records ++ found) remainder
 
 -- What is kept of bytes that are no whole record: the bodies of the fragments so far, and the place. The bytes are open
 -- fragments and then part of a header, or open fragments, a header and part of its body, of which `wanted` bytes are
@@ -76,7 +84,8 @@ IsAt text kept (InHeader bytes len) =
     × (text ≡ front ++ take len bytes) × AreOpen bodies front × (kept ≡ concat bodies) × (len < 4)
 IsAt text kept (InBody wanted last) =
     (bodies : List (List ℕ)) × (front : List ℕ) × (header : List ℕ) × (body : List ℕ)
-    × (text ≡ front ++ (header ++ body)) × AreOpen bodies front × IsHeader last (length body + wanted) header
+    × (text ≡ front ++ (header ++ body)) × AreOpen bodies front
+    × IsHeader last (length body + wanted) header
     × (kept ≡ concat bodies ++ body)
 
 -- What is kept of a rest: the bodies so far and a place, how many bytes the rest has, and whether its record is too

@@ -23,8 +23,8 @@ use Rattle.xdr.specs.Writing.{written_u32}
 --   { case SUCCESS: opaque results[0];
 --     case PROG_MISMATCH: struct { unsigned int low; unsigned int high; } mismatch_info;
 --     default: void; } reply_data; };
-abbrev pub accepted : ℕ → Form (ℕ × OpaqueAuth)
-accepted state =
+abbrev pub accepted_reply : ℕ → Form (ℕ × OpaqueAuth)
+accepted_reply state =
     of (λ p. (p.0, p.1.1.1.0)) (λ v. (v.0, (tt, (tt, (v.1, tt))))) (λ p. refl) (λ v. refl)
     (u32 and constant MESSAGE_REPLY and constant REPLY_ACCEPTED and opaque_auth and constant state)
 
@@ -32,8 +32,8 @@ accepted state =
 -- union rejected_reply switch (reject_stat stat)
 --   { case RPC_MISMATCH: struct { unsigned int low; unsigned int high; } mismatch_info;
 --     case AUTH_ERROR: auth_stat stat; };
-abbrev pub denied : ℕ → Form ℕ
-denied state =
+abbrev pub denied_reply : ℕ → Form ℕ
+denied_reply state =
     of (λ p. p.0) (λ xid. (xid, (tt, (tt, tt)))) (λ p. refl) (λ xid. refl)
     (u32 and constant MESSAGE_REPLY and constant REPLY_DENIED and constant state)
 
@@ -47,37 +47,38 @@ no_verifier = (AUTH_NONE, [])
 
 -- A reply to the call of this xid: its form, and the value that is written in it.
 abbrev pub reply_arm : ℕ → Reply → Arm Reply
-reply_arm xid Null = arm (accepted ACCEPTED_SUCCESS) (λ v. Null) (xid, no_verifier)
+reply_arm xid Null = arm (accepted_reply ACCEPTED_SUCCESS) (λ v. Null) (xid, no_verifier)
 reply_arm xid (Compound c) =
-    arm (accepted ACCEPTED_SUCCESS and compound_result)
+    arm (accepted_reply ACCEPTED_SUCCESS and compound_result)
     (λ v. Compound (record { status = v.1.0; tag = v.1.1.0; results = v.1.1.1 }))
     ((xid, no_verifier), (c.status, (c.tag, c.results)))
 reply_arm xid ProgUnavail =
-    arm (accepted ACCEPTED_PROG_UNAVAIL) (λ v. ProgUnavail) (xid, no_verifier)
+    arm (accepted_reply ACCEPTED_PROG_UNAVAIL) (λ v. ProgUnavail) (xid, no_verifier)
 reply_arm xid ProgMismatch =
-    arm (accepted ACCEPTED_PROG_MISMATCH and mismatch_info NFS_VERSION) (λ v. ProgMismatch)
+    arm (accepted_reply ACCEPTED_PROG_MISMATCH and mismatch_info NFS_VERSION) (λ v. ProgMismatch)
     ((xid, no_verifier), (tt, tt))
 reply_arm xid ProcUnavail =
-    arm (accepted ACCEPTED_PROC_UNAVAIL) (λ v. ProcUnavail) (xid, no_verifier)
+    arm (accepted_reply ACCEPTED_PROC_UNAVAIL) (λ v. ProcUnavail) (xid, no_verifier)
 reply_arm xid GarbageArgs =
-    arm (accepted ACCEPTED_GARBAGE_ARGS) (λ v. GarbageArgs) (xid, no_verifier)
-reply_arm xid SystemError = arm (accepted ACCEPTED_SYSTEM_ERR) (λ v. SystemError) (xid, no_verifier)
+    arm (accepted_reply ACCEPTED_GARBAGE_ARGS) (λ v. GarbageArgs) (xid, no_verifier)
+reply_arm xid SystemError =
+    arm (accepted_reply ACCEPTED_SYSTEM_ERR) (λ v. SystemError) (xid, no_verifier)
 reply_arm xid RpcMismatch =
-    arm (denied DENIED_RPC_MISMATCH and mismatch_info RPC_VERSION) (λ v. RpcMismatch)
+    arm (denied_reply DENIED_RPC_MISMATCH and mismatch_info RPC_VERSION) (λ v. RpcMismatch)
     (xid, (tt, tt))
 reply_arm xid AuthError =
-    arm (denied DENIED_AUTH_ERROR and constant AUTH_BADCRED) (λ v. AuthError) (xid, tt)
+    arm (denied_reply DENIED_AUTH_ERROR and constant AUTH_BADCRED) (λ v. AuthError) (xid, tt)
 
 -- the bytes of an accepted reply up to the data that depends on its state
 abbrev pub written_accepted : ℕ → ℕ → List ℕ
-written_accepted xid state = (accepted state).spelling (xid, no_verifier)
+written_accepted xid state = (accepted_reply state).encoding (xid, no_verifier)
 
 abbrev pub written_compound_reply : CompoundReply → List ℕ
-written_compound_reply c = compound_result.spelling (c.status, (c.tag, c.results))
+written_compound_reply c = compound_result.encoding (c.status, (c.tag, c.results))
 
--- the one spelling of a reply to the call of this xid
+-- the one encoding of a reply to the call of this xid
 abbrev pub written_reply : ℕ → Reply → List ℕ
-written_reply xid reply = (reply_arm xid reply).spelling
+written_reply xid reply = (reply_arm xid reply).encoding
 
 -- the lengths in a reply are within what its form can express
 abbrev pub IsWritable : ℕ → Reply → Type 0

@@ -47,7 +47,7 @@ fn header_at(text: &[u8]) -> Header
 fn after_part(bytes: [u8; HEADER_LEN], len: usize, part: &[u8]) -> Place
     requires { len + length part.now ≤ 4 }
     ensures place { IsPlace result }
-    ensures behind { (text bodies : List ℕ) → IsAt text bodies (Place.InHeader bytes len)
+    ensures at_text { (text bodies : List ℕ) → IsAt text bodies (Place.InHeader bytes len)
         → IsAt (text ++ part.now) bodies result }
 {
     let end = len + part.len();
@@ -78,7 +78,7 @@ pub(crate) fn take_front(
     requires more { IsIncomplete place }
     ensures place { IfOk result (λ r. IsPlace r.0) }
     ensures count { IfOk result (λ r. (0 < r.1) × (r.1 ≤ length piece.now)) }
-    ensures behind { IfOk result (λ r. (text : List ℕ) → IsAt text bodies.old.items place
+    ensures at_text { IfOk result (λ r. (text : List ℕ) → IsAt text bodies.old.items place
         → IsAt (text ++ take r.1 piece.now) bodies.new.items r.0) }
     ensures within { IfOk result (λ r.
         Fits (length bodies.old.items) place → length bodies.new.items ≤ RECORD_LIMIT) }

@@ -81,13 +81,16 @@ impl Records {
     /// call, which changes nothing.
     pub fn feed(&mut self, piece: &[u8]) -> Result<(), RecordError>
         requires { self.old.fed + length piece.now ≤ 2 ^ 40 }
-        ensures ok { OnOk result (TakesPiece self.old self.new piece.now × (self.new.is_too_long ≡ false)) }
+        ensures ok { OnOk result
+            (TakesPiece self.old self.new piece.now × (self.new.is_too_long ≡ false)) }
 
         // At the first header of a record that is too long, the piece is still taken,
         // and the records before it are kept.
         ensures too_long { IsErrOf result RecordError.TooLong → IsTrue self.new.is_too_long }
-        ensures first { IsErrOf result RecordError.TooLong → self.old.is_too_long ≡ false → TakesPiece self.old self.new piece.now }
-        ensures again { IsTrue self.old.is_too_long → IsErrOf result RecordError.TooLong × (self.new ≡ self.old) }
+        ensures first { IsErrOf result RecordError.TooLong → self.old.is_too_long ≡ false
+            → TakesPiece self.old self.new piece.now }
+        ensures again { IsTrue self.old.is_too_long
+            → IsErrOf result RecordError.TooLong × (self.new ≡ self.old) }
 
         ensures memory { IsErrOf result RecordError.Memory → self.new ≡ self.old }
         ensures sound { IsStream self.new }

@@ -1,5 +1,5 @@
 ghost use Rattle.std.specs.Prelude.{[]};
-ghost use Rattle.nfs_rpc.specs.Reply.{IsWritable, accepted, denied, no_verifier, written_accepted, written_reply};
+ghost use Rattle.nfs_rpc.specs.Reply.{IsWritable, accepted_reply, denied_reply, no_verifier, written_accepted, written_reply};
 ghost use Rattle.nfs_xdr.specs.Compound.{compound_result};
 ghost use Rattle.xdr.specs.Form.{◌and◌};
 ghost use Rattle.xdr.specs.Writing.{Writes};
@@ -138,8 +138,8 @@ fn write_denied<A: Wire>(
     reason: &A,
 ) -> Result<(), WireError>
     ensures { Writes out.old out.new result
-        ((denied state and A.form).spelling (xid, reason.now))
-        ((denied state and A.form).Fits (xid, reason.now)) }
+        ((denied_reply state and A.form).encoding (xid, reason.now))
+        ((denied_reply state and A.form).Fits (xid, reason.now)) }
 {
     let start = out.len();
     write_four(out, &xid, &MESSAGE_REPLY, &REPLY_DENIED, &state)?;
@@ -156,7 +156,7 @@ fn write_denied<A: Wire>(
 #[tactic(auto, unfolding(xdr::specs::Writing::written_opaque, xdr::specs::Writing::written_number))]
 fn write_accepted(out: &mut Vec<u8>, xid: u32, state: u32) -> Result<(), WireError>
     ensures { Writes out.old out.new result
-        (written_accepted xid state) ((accepted state).Fits (xid, no_verifier)) }
+        (written_accepted xid state) ((accepted_reply state).Fits (xid, no_verifier)) }
 {
     write_five(
         out,

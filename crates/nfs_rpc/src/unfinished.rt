@@ -81,11 +81,13 @@ fn take_all(
     requires goes { from.is_too_long ≡ false }
     requires room { from.count + length piece.now ≤ 2 ^ 40 }
     ensures ok { IfOk result (λ first.
-        Finds bodies.old.items from piece.now (messages_of found.new.items) bodies.new.items first) }
+        Finds bodies.old.items from piece.now
+        (messages_of found.new.items) bodies.new.items first) }
     ensures at_place { IfOk result (λ first.
         first.is_too_long ≡ false → TakesMore bodies.new.items first.place) }
     ensures few { IfOk result (λ first. length bodies.new.items ≤ RECORD_LIMIT) }
-    ensures begins { Begins bodies.old.items (first_or (messages_of found.new.items) bodies.new.items) }
+    ensures begins { Begins bodies.old.items
+        (first_or (messages_of found.new.items) bodies.new.items) }
 {
     let mut first = from;
     let mut rest = piece;

@@ -10,8 +10,8 @@ use Rattle.nfs_rules.specs.declared.opening.Opening.{Opening}
 use Rattle.nfs_rules.specs.declared.ruling.Ruling.{Ruling}
 use Rattle.nfs_locks.specs.AllLocks.{LockAt, lock_named_in}
 use Rattle.nfs_rules.specs.Refusing.{◌>>=◌}
-use Rattle.nfs_rules.specs.operations.Open.{answer_of, file_at, found_by, has_open_place, has_owner_place, name_of, opening, refusal_of_target, ruling_of, share_asked, stateid_after, unless_delegated, unless_denied}
-use Rattle.nfs_rules.specs.operations.OpenGrant.{granted, granted_stateid}
+use Rattle.nfs_rules.specs.operations.Open.{answer_of, file_at, found_by, has_open_place, has_owner_place, name_of, opening, refusal_of_target, ruling_of, share_or_inval, stateid_after, unless_delegated, unless_denied}
+use Rattle.nfs_rules.specs.operations.OpenGrant.{ok_answer, granted_stateid}
 use Rattle.nfs_state.specs.Entries.{resource}
 use Rattle.nfs_state.specs.Places as places
 use Rattle.nfs_state.specs.declared.tables.Tables.{Tables}
@@ -37,7 +37,7 @@ use Rattle.nfs_share.specs.declared.open_state.OpenState.{OpenState}
 use Rattle.nfs_share.specs.declared.share.Share.{Share}
 use Rattle.nfs_share.specs.Opens.{is_of, is_refused, open_of, without}
 use Rattle.nfs_share.specs.Share.{share_of_numbers}
-use Rattle.nfs_tree.specs.Tree.{found_or, resolved}
+use Rattle.nfs_tree.specs.Tree.{found_or, resolution}
 use Rattle.nfs_forms.specs.declared.claim.Claim.{Claim}
 use Rattle.nfs_forms.specs.declared.claim.Claim.TheVariants as claims
 use Rattle.nfs_forms.specs.declared.answer.Answer.TheVariants.{Done, Refused}
@@ -99,8 +99,8 @@ without_same : (journal : History) (state : State) (directory : ℕ) (args : Ope
 without_same journal state directory args =
     let left = changes.without args.owner state in
     and_so (name_of args.claim) _ _ λ name.
-    and_so (share_asked (share_of_numbers args.access args.deny)) _ _ λ share.
-    and_so (found_by args.how (resolved journal.nodes directory name)) _ _ λ found.
+    and_so (share_or_inval (share_of_numbers args.access args.deny)) _ _ λ share.
+    and_so (found_by args.how (resolution journal.nodes directory name)) _ _ λ found.
     and_so (file_at journal args.how found) _ _ λ file.
     ap (λ r. r >>= λ node. unless_denied left args.owner share node) (delegated_same journal state args.owner args.claim file)
     ∙ and_so (unless_delegated journal state args.claim file) _ _ (denied_same state args.owner share)
@@ -136,7 +136,7 @@ name_never : (claim : Claim) → name_of claim ≡ Err refusals.Resource → ⊥
 name_never (claims.Null name) is = absurd cc
 name_never claim is = absurd cc
 
-share_never : (share : Option Share) → share_asked share ≡ Err refusals.Resource → ⊥
+share_never : (share : Option Share) → share_or_inval share ≡ Err refusals.Resource → ⊥
 share_never None is = absurd cc
 share_never (Some share) is = absurd cc
 
@@ -180,8 +180,8 @@ denied_never false opened is = absurd cc
 opening_never : (journal : History) (state : State) (directory : ℕ) (args : Open) → opening journal state directory args ≡ Err refusals.Resource → ⊥
 opening_never journal state directory args =
     and_never (name_of args.claim) _ (name_never args.claim) λ name.
-    and_never (share_asked (share_of_numbers args.access args.deny)) _ (share_never (share_of_numbers args.access args.deny)) λ share.
-    and_never (found_by args.how (resolved journal.nodes directory name)) _ (found_never args.how (resolved journal.nodes directory name) (resolved_never _ _ _ _)) λ found.
+    and_never (share_or_inval (share_of_numbers args.access args.deny)) _ (share_never (share_of_numbers args.access args.deny)) λ share.
+    and_never (found_by args.how (resolution journal.nodes directory name)) _ (found_never args.how (resolution journal.nodes directory name) (resolved_never _ _ _ _)) λ found.
     and_never (file_at journal args.how found) _ (file_never _ _ found) λ file.
     and_never (unless_delegated journal state args.claim file) _ (delegated_never journal state args.claim file) λ node.
     denied_never _ _
@@ -194,10 +194,10 @@ not_resource journal state directory args refusal answer refuses is same =
     opening_never journal state directory args (refuses ∙ ap Err (refused_is refusal refusals.Resource (sym is ∙ same)))
 
 -- what the rule gives for an OPEN without a refusal
-pub ruled_by : (passage : Passage) (state : State) (owner : OpenOwner) (o : Opening) → option_map {U = Ruling} (λ id. record { answer = granted passage id; change = Opens o.node owner o.share }) (granted_stateid passage state owner o.node) ≡ ruling_of state passage owner (Ok o)
+pub ruled_by : (passage : Passage) (state : State) (owner : OpenOwner) (o : Opening) → option_map {U = Ruling} (λ id. record { answer = ok_answer passage id; change = Opens o.node owner o.share }) (granted_stateid passage state owner o.node) ≡ ruling_of state passage owner (Ok o)
 ruled_by passage state owner o = by (has_owner_place passage state && has_open_place state owner o.node)
   where
-    by : (b : Bool) → option_map {U = Ruling} (λ id. record { answer = granted passage id; change = Opens o.node owner o.share }) (if b then Some (stateid_after state owner (open_of owner (opens_of o.node state.opens))) else None)
+    by : (b : Bool) → option_map {U = Ruling} (λ id. record { answer = ok_answer passage id; change = Opens o.node owner o.share }) (if b then Some (stateid_after state owner (open_of owner (opens_of o.node state.opens))) else None)
         ≡ (if b then Some (record { answer = results.Open (Done (answer_of state passage owner o.node)); change = Opens o.node owner o.share }) else None)
     by true = refl
     by false = refl

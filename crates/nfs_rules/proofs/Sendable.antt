@@ -8,8 +8,8 @@ use Rattle.nfs_rules.specs.declared.demand.Demand.{Demand}
 use Rattle.nfs_state.specs.State.{State, History}
 use Rattle.nfs_rules.specs.Refusing.{◌>>=◌, refused_if}
 use Rattle.nfs_rules.specs.Stateids.{Target, Refused, ALock, AnOpen, NoState, by_seqid, is_special, lock_at, lock_verdict, open_at, target_in, target_of, verdict}
-use Rattle.nfs_rules.specs.operations.Lock.{introduced, locking_of}
-use Rattle.nfs_rules.specs.operations.Lockt.{file_asked, place_of}
+use Rattle.nfs_rules.specs.operations.Lock.{introduction, locking_of}
+use Rattle.nfs_rules.specs.operations.Lockt.{lockt_file, place_of}
 use Rattle.nfs_forms.specs.ClientId.{is_same_client}
 use Rattle.nfs_forms.specs.LockDenied.{lock_denied}
 use Rattle.nfs_forms.specs.declared.lock_denied.LockDenied.{LockDenied}
@@ -106,7 +106,7 @@ then_other : {A B : Type 0} (r : Result A Refusal) (next : A → Result B Refusa
 then_other (Err refusal) next other others = other
 then_other (Ok a) next other others = others a
 
-introduced_other : (journal : History) (state : State) (args : Lock) (locker : NewLocker) (at : OpenAt) → IsOther (introduced journal state args locker at)
+introduced_other : (journal : History) (state : State) (args : Lock) (locker : NewLocker) (at : OpenAt) → IsOther (introduction journal state args locker at)
 introduced_other journal state args locker at =
     then_other (refused_if args.reclaim refusals.NoGrace at) _ (refused_if_other args.reclaim refusals.NoGrace at (λ e. cc)) λ at.
     then_other (refused_if (not (is_same_client locker.lock_owner.client at.state.owner.client)) refusals.Inval at) _
@@ -134,7 +134,7 @@ file_place_other : (filehandle : Option ℕ) → IsOther (place_of filehandle)
 file_place_other None = λ e. cc
 file_place_other (Some node) = tt
 
-pub asked_refusal : (journal : History) (state : State) (filehandle : Option ℕ) (args : Lockt) (refusal : Refusal) → Err refusal ≡ file_asked journal state filehandle args → refusal ≢ refusals.Resource
+pub asked_refusal : (journal : History) (state : State) (filehandle : Option ℕ) (args : Lockt) (refusal : Refusal) → Err refusal ≡ lockt_file journal state filehandle args → refusal ≢ refusals.Resource
 asked_refusal journal state filehandle args refusal same =
     subst IsOther (sym same)
     (then_other (place_of filehandle) _ (file_place_other filehandle) λ node.
@@ -194,7 +194,7 @@ test_refused args refusal other = record {
   short = omega arith;
 }
 
-pub denied_sendable : (args : Lock) (denied : LockDenied) → lock_denied.Fits denied → length (lock_denied.spelling denied) ≤ 1056 → IsSendable (ops.Lock args) (results.Lock (answers.Denied denied))
+pub denied_sendable : (args : Lock) (denied : LockDenied) → lock_denied.Fits denied → length (lock_denied.encoding denied) ≤ 1056 → IsSendable (ops.Lock args) (results.Lock (answers.Denied denied))
 unfolding op_result opnum answer status written_number
 denied_sendable args denied fits short = record {
   not_resource = λ same. absurd cc;

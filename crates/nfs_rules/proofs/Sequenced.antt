@@ -23,7 +23,7 @@ use Rattle.nfs_rules.specs.Newcomers.{Newcomer, Nobody, Known, Unknown, has_turn
 use Rattle.nfs_rules.specs.Refusing.{◌>>=◌, refused_if}
 use Rattle.nfs_rules.specs.Stateids.{verdict}
 use Rattle.nfs_rules.specs.operations.Lock as lock
-use Rattle.nfs_rules.specs.operations.Lock.{IsAllowed, IsLock, Locking, allows, granted, introduced, locking_of, unless_denied}
+use Rattle.nfs_rules.specs.operations.Lock.{IsAllowed, IsLock, Locking, allows, grant, introduction, locking_of, unless_denied}
 use Rattle.nfs_share.specs.AllOpens.{OpenAt, opens_of}
 use Rattle.nfs_share.specs.Opens.{open_with_number}
 use Rattle.nfs_state.specs.Places.{has_owner_place, has_state_place}
@@ -76,7 +76,7 @@ no_handle_other (ops.Access v) = λ same. cc
 no_handle_other op = λ same. cc
 
 -- without a current filehandle the operation is refused
-pub without_filehandle : (own : Own) (journal : History) (state : State) (requester : Requester) (request : Request) (filehandle : Option ℕ) (answer : OpResult) (decision : Decision) → ((node : ℕ) → filehandle ≡ Some node → ⊥) → answer ≡ refusal_of (opnum_of request.op) refusals.NoFileHandle → op_result.Fits answer → length (op_result.spelling answer) ≤ 12 → decision ≡ record { answer = answer; change = changes.Nothing; owner = Nothing } → Decides (IsSequencedUnder journal state requester own filehandle request) state request.op (Ok decision)
+pub without_filehandle : (own : Own) (journal : History) (state : State) (requester : Requester) (request : Request) (filehandle : Option ℕ) (answer : OpResult) (decision : Decision) → ((node : ℕ) → filehandle ≡ Some node → ⊥) → answer ≡ refusal_of (opnum_of request.op) refusals.NoFileHandle → op_result.Fits answer → length (op_result.encoding answer) ≤ 12 → decision ≡ record { answer = answer; change = changes.Nothing; owner = Nothing } → Decides (IsSequencedUnder journal state requester own filehandle request) state request.op (Ok decision)
 without_filehandle own journal state requester request (Some node) answer decision none is fits short made = absurd (none node refl)
 without_filehandle own journal state requester request None answer decision none is fits short made =
     let P : Decision → Type 0 = λ d. Decides (IsSequencedUnder journal state requester own None request) state request.op (Ok d) in
@@ -204,7 +204,7 @@ let_in : {A : Type 0} (test : Bool) (refusal : Refusal) (a b : A) → refused_if
 let_in true refusal a b is = absurd cc
 let_in false refusal a b is = search is
 
-introduced_is : (journal : History) (state : State) (args : Lock) (locker : NewLocker) (at : OpenAt) (locking : Locking) → introduced journal state args locker at ≡ Ok locking
+introduced_is : (journal : History) (state : State) (args : Lock) (locker : NewLocker) (at : OpenAt) (locking : Locking) → introduction journal state args locker at ≡ Ok locking
     → (locking.owner ≡ locker.lock_owner) × (locking.state ≡ None)
 introduced_is journal state args locker at locking is =
     let first = next_ok (refused_if args.reclaim refusals.NoGrace at) _ locking is in
@@ -214,7 +214,7 @@ introduced_is journal state args locker at locking is =
     (ap (λ (l : Locking). l.owner) (sym equal), ap (λ (l : Locking). l.state) (sym equal))
 
 verdict_then : (journal : History) (state : State) (args : Lock) (locker : NewLocker) (found : Result OpenAt Refusal) (locking : Locking)
-    → (found >>= λ at. introduced journal state args locker at) ≡ Ok locking → (locking.owner ≡ locker.lock_owner) × (locking.state ≡ None)
+    → (found >>= λ at. introduction journal state args locker at) ≡ Ok locking → (locking.owner ≡ locker.lock_owner) × (locking.state ≡ None)
 verdict_then journal state args locker (Err refusal) locking is = absurd cc
 verdict_then journal state args locker (Ok at) locking is = introduced_is journal state args locker at locking is
 
@@ -242,7 +242,7 @@ allowed_place true state locking range ruling new is ok = by is.0 is.2
     by (Some report) same = absurd (denied_not_ok (can_be_written report) (results.Lock (Denied (denied_by report))) ruling refl same ok)
     by None same =
         begins_place (has_owner_place (lock_owner locking.owner) state) (has_state_place state) _ ruling
-        (same ∙ ap (granted state locking range) new)
+        (same ∙ ap (grant state locking range) new)
 
 ranged_place : (state : State) (locking : Locking) (range : Option Range) (ruling : Ruling) → locking.state ≡ None → lock.IsOfRange state locking range (Some ruling)
     → is_ok_status (status_of ruling.answer) ≡ true → has_owner_place (lock_owner locking.owner) state ≡ true

@@ -89,7 +89,7 @@ refused_once : (op : Op) (r s : Refusal) → refusal_of (opnum_of op) r ≡ refu
 refused_once (ops.Open args) r s same = cc
 refused_once op r s same = cc
 
-pub refusal_sendable : (op : Op) (refusal : Refusal) (answer : OpResult) → refusal ≢ refusals.Resource → answer ≡ refusal_of (opnum_of op) refusal → op_result.Fits answer → length (op_result.spelling answer) ≤ 12 → IsSendable op answer
+pub refusal_sendable : (op : Op) (refusal : Refusal) (answer : OpResult) → refusal ≢ refusals.Resource → answer ≡ refusal_of (opnum_of op) refusal → op_result.Fits answer → length (op_result.encoding answer) ≤ 12 → IsSendable op answer
 refusal_sendable op refusal answer other is form short = record {
   not_resource = λ same. other (refused_once op refusal refusals.Resource (sym is ∙ same));
   form = form;

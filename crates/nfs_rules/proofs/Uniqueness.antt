@@ -10,7 +10,7 @@ use Rattle.nfs_rules.specs.operations.Close as close
 use Rattle.nfs_rules.specs.operations.Lock as lock
 use Rattle.nfs_rules.specs.operations.Lock.{IsAllowed, IsLock, Locking, allows, locking_of, unless_denied}
 use Rattle.nfs_rules.specs.operations.Lockt as lockt
-use Rattle.nfs_rules.specs.operations.Lockt.{IsTest, answer_of, file_asked}
+use Rattle.nfs_rules.specs.operations.Lockt.{IsTest, answer_of, lockt_file}
 use Rattle.nfs_rules.specs.operations.Locku as locku
 use Rattle.nfs_rules.specs.operations.Locku.{IsUnlock, unlocking}
 use Rattle.nfs_rules.specs.operations.Open as opening
@@ -199,5 +199,5 @@ ruled_once laws (ops.Lock args) journal state request d e a b =
 ruled_once laws (ops.Locku args) journal state request d e a b =
     sequenced_once journal state (requester_of_stateid journal state args.stateid) (locku.own journal state args) (unlocks_once laws journal state args) request.filehandle request d e a b
 ruled_once laws (ops.Lockt args) journal state request d e a b =
-    asked_once laws state args (file_asked journal state request.filehandle args) d e a b
+    asked_once laws state args (lockt_file journal state request.filehandle args) d e a b
 ruled_once laws op journal state request d e a b = a ∙ sym b

@@ -62,14 +62,16 @@ IsReplayOf journal (Some o) request =
 
 abbrev pub IsReplay : History → State → Requester → Request → Type 0
 IsReplay journal state (Refused refusal) request = ⊥
-IsReplay journal state (Owner name) request = IsReplayOf journal (owner_of name state.owners) request
+IsReplay journal state (Owner name) request =
+    IsReplayOf journal (owner_of name state.owners) request
 
 -- The request isn't refused before its own rule: there is a filehandle, and it is the last one again, or it goes on.
 abbrev pub IsAdmitted : History → State → Requester → Request → Type 0
 IsAdmitted journal state requester request =
     IsTrue (is_some request.filehandle)
     × (IsReplay journal state requester request
-    ⊎ ((passage : Passage) × (name : StateOwner) × IsSequence journal state requester request (GoesOn passage name)))
+    ⊎ ((passage : Passage) × (name : StateOwner)
+    × IsSequence journal state requester request (GoesOn passage name)))
 
 -- A request without an owner isn't refused with NFS4ERR_RESOURCE, which would have no entry in the journal.
 abbrev pub HasOtherRefusal : Requester → Type 0

@@ -44,7 +44,8 @@ newcomer_by journal state locker =
 abbrev pub newcomer_in : History → State → ClientId → Locker → Newcomer
 newcomer_in journal state client (lockers.Known locker) = Nobody
 newcomer_in journal state client (lockers.New locker) =
-    if is_same_client locker.lock_owner.client client then newcomer_by journal state locker else Nobody
+    if is_same_client locker.lock_owner.client client then newcomer_by journal state locker
+    else Nobody
 
 -- the newcomer of a request of an owner of this client
 abbrev pub newcomer_of : History → State → ClientId → Op → Newcomer

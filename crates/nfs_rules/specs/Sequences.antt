@@ -83,7 +83,8 @@ pub data Requester : Type 0 where
 -- The owner in an OPEN's arguments: NFS4ERR_STALE_CLIENTID unless the clientid is that of a known client.
 abbrev pub requester_of_open : State → OpenOwner → Requester
 requester_of_open state owner =
-    if is_some (record_of owner.client state.clients) then Owner (open_owner owner) else Refused refusals.StaleClientId
+    if is_some (record_of owner.client state.clients) then Owner (open_owner owner)
+    else Refused refusals.StaleClientId
 
 -- what is kept for the owner closed the state that the stateid names
 abbrev pub has_closed : Stateid → Option Kept → Bool
@@ -104,7 +105,8 @@ requester_of_target journal state id stateids.NoState =
     owner_or_bad (find (λ o. has_closed id (kept_for journal o)) state.owners)
 
 abbrev pub requester_of_stateid : History → State → Stateid → Requester
-requester_of_stateid journal state id = requester_of_target journal state id (target_of journal.epoch state id)
+requester_of_stateid journal state id =
+    requester_of_target journal state id (target_of journal.epoch state id)
 
 -- The stateid in a LOCK: that of an open with a new lock owner, or that of a lock state.
 abbrev pub stateid_of : Locker → Stateid
@@ -135,7 +137,8 @@ IsJudged kept name request sequence =
 -- its sequence id.
 abbrev pub IsRestart : Kept → StateOwner → Request → Sequence → Type 0
 IsRestart kept name request (Answered answer) =
-    IsAgain kept (seqid_of request.op) (request_of request.op request.filehandle) × (answer ≡ kept.answer)
+    IsAgain kept (seqid_of request.op) (request_of request.op request.filehandle)
+    × (answer ≡ kept.answer)
 IsRestart kept name request (GoesOn passage owner) =
     (IsAgain kept (seqid_of request.op) (request_of request.op request.filehandle) → ⊥)
     × (passage ≡ passages.Restarts) × (owner ≡ name)
@@ -160,7 +163,8 @@ IsOfOwner journal (Some o) name request sequence =
     × IsOfKnown (is_open request.op && not o.confirmed) kept name request sequence
 
 abbrev pub IsSequence : History → State → Requester → Request → Sequence → Type 0
-IsSequence journal state (Refused refusal) request sequence = sequence ≡ refusal_to request.op refusal
+IsSequence journal state (Refused refusal) request sequence =
+    sequence ≡ refusal_to request.op refusal
 IsSequence journal state (Owner name) request sequence =
     IsOfOwner journal (owner_of name state.owners) name request sequence
 
@@ -198,7 +202,8 @@ abbrev pub only : OpResult → Decision
 only answer = record { answer = answer; change = changes.Nothing; owner = Nothing }
 
 -- by the lock owner that a request of each client introduces, and the own rule under its filehandle
-abbrev pub IsDecided : Sequence → (ClientId → Newcomer) → (Passage → Option Ruling → Type 0) → Option Decision → Type 0
+abbrev pub IsDecided : Sequence → (ClientId → Newcomer) → (Passage → Option Ruling → Type 0)
+    → Option Decision → Type 0
 IsDecided (Answered answer) newcomer own decision = decision ≡ Some (only answer)
 IsDecided (GoesOn passage name) newcomer own decision =
     (ruling : Option Ruling) × own passage ruling
@@ -217,7 +222,8 @@ IsSequenced journal state requester own request decision =
     (λ node.
     (sequence : Sequence)
     × IsSequence journal state requester request sequence
-    × IsDecided sequence (λ client. newcomer_of journal state client request.op) (own node) decision)
+    × IsDecided sequence (λ client. newcomer_of journal state client request.op) (own node)
+    decision)
     decision
 
 -- the state that an OPEN's own rule sees: without the owner that it starts anew

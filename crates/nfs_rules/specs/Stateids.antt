@@ -14,7 +14,8 @@ use Rattle.nfs_share.specs.AllOpens.{OpenAt, named_in}
 -- each of the four words of the stateid is this number
 abbrev pub is_all : ℕ → Stateid → Bool
 is_all word id =
-    (id.seqid == word) && (id.client.epoch == word) && (id.client.number == word) && (id.number == word)
+    (id.seqid == word) && (id.client.epoch == word) && (id.client.number == word)
+    && (id.number == word)
 
 -- A special stateid: all bits are zero, or all are one (section 9.1.4.3). It names no state.
 abbrev pub is_special : Stateid → Bool

@@ -53,7 +53,7 @@ pub(crate) fn unlock_of_bytes(range: Range) -> Piece
 pub(crate) fn denied_by(report: Report<'_>) -> Result<LockDenied, Shortage>
     ensures denied { IfOk result (λ d. d ≡ denied_by (report_seen report.entry)) }
     ensures fits { IfOk result (λ d. lock_denied.Fits d) }
-    ensures short { IfOk result (λ d. length (lock_denied.spelling d) ≤ 1056) }
+    ensures short { IfOk result (λ d. length (lock_denied.encoding d) ≤ 1056) }
     ensures within { OnOk result (IsTrue (can_be_written (report_seen report.entry))) }
     ensures limit { IsErrOf result Shortage.Limit
         → IsFalse (can_be_written (report_seen report.entry)) }

@@ -10,7 +10,7 @@ use Rattle.std.proofs.Math.ListN.{drop_of_length-le}
 use Rattle.nfs_tree.specs.Effect.{Effect}
 use Rattle.nfs_tree.specs.Filehandles.{handles_after}
 use Rattle.nfs_server.specs.Answering.{Dispatch, Known, Ask, dispatch, is_ok, outcome_of}
-use Rattle.nfs_server.specs.Folding.{Asker, Place, HasEffect, IsAnswered, IsDetermined, behind}
+use Rattle.nfs_server.specs.Folding.{Asker, Place, HasEffect, IsAnswered, IsDetermined, place_after}
 use Rattle.nfs_xdr.specs.declared.arg_op.ArgOp.{ArgOp}
 use Rattle.nfs_xdr.specs.declared.op_result.OpResult.{OpResult}
 use Rattle.nfs_xdr.specs.OpResult.{op_result, status_of}
@@ -30,7 +30,7 @@ determined_by : {S : Type 0} (asker : Asker S) (old : Place S) (op : ArgOp) (ops
     (effect : Effect) (results : List OpResult) (service new : S) (ok : Bool) (how : Dispatch)
     → dispatch asker.tree old.handles old.size op ≡ how → is_ok (status_of effect.answer) ≡ ok
     → HasEffect asker old how effect service
-    → Follows asker (behind old effect service) ok ops results new
+    → Follows asker (place_after old effect service) ok ops results new
     → IsDetermined asker old (op ∷ ops) (effect.answer ∷ results) new
 unfolding outcome_of
 determined_by asker old op ops effect results service new true (Known told) by goes is rest =
@@ -72,7 +72,7 @@ completes : {S : Type 0} (asker : Asker S) (first now : Place S) (ops : List Arg
     (results : List OpResult) (new : S) (ok : Bool)
     → i < length ops → op ≡ get_or ops i op → IsAnswered asker now op effect service
     → is_ok (status_of effect.answer) ≡ ok → Completes asker first ops now (drop i ops) so_far
-    → Follows asker (behind now effect service) ok (drop (suc i) ops) results new
+    → Follows asker (place_after now effect service) ok (drop (suc i) ops) results new
     → IsDetermined asker first ops (so_far ++ effect.answer ∷ results) new
 completes asker first now ops so_far i op effect service results new ok lt is has goes more rest =
     let here = ap (λ (o : ArgOp). o ∷ drop (suc i) ops) (sym is) in
@@ -89,7 +89,7 @@ pub completes_more : {S : Type 0} (asker : Asker S) (first now : Place S) (ops :
     (so_far : List OpResult) (i : ℕ) (op : ArgOp) (effect : Effect) (service : S)
     → i < length ops → op ≡ get_or ops i op → IsAnswered asker now op effect service
     → is_ok (status_of effect.answer) ≡ true → Completes asker first ops now (drop i ops) so_far
-    → Completes asker first ops (behind now effect service) (drop (i + 1) ops)
+    → Completes asker first ops (place_after now effect service) (drop (i + 1) ops)
     (so_far ++ effect.answer ∷ [])
 completes_more asker first now ops so_far i op effect service lt is has goes more results new rest =
     let next : i + 1 ≡ suc i = omega arith in
@@ -122,14 +122,14 @@ completes_none asker first now ops so_far i le more =
 
 -- the bytes of results
 abbrev bytes_of : List OpResult → List ℕ
-bytes_of results = flat_map op_result.spelling results
+bytes_of results = flat_map op_result.encoding results
 
 -- the length of results with one more at the end
 pub length_with : (results : List OpResult) (answer : OpResult)
-    → length (flat_map op_result.spelling (results ++ answer ∷ []))
-    ≡ length (flat_map op_result.spelling results) + length (op_result.spelling answer)
+    → length (flat_map op_result.encoding (results ++ answer ∷ []))
+    ≡ length (flat_map op_result.encoding results) + length (op_result.encoding answer)
 length_with results answer =
-    ap length (flat_map-append op_result.spelling results (answer ∷ []))
+    ap length (flat_map-append op_result.encoding results (answer ∷ []))
     ∙ length-append (bytes_of results) (bytes_of (answer ∷ []))
     ∙ ap (λ (x : List ℕ). length (bytes_of results) + length x)
-    (flat_map-cons op_result.spelling answer [] ∙ append-nil (op_result.spelling answer))
+    (flat_map-cons op_result.encoding answer [] ∙ append-nil (op_result.encoding answer))

@@ -16,12 +16,12 @@ use Rattle.nfs_rpc.specs.declared.records.TheConstants.{RECORD_LIMIT}
 use Rattle.xdr.specs.Writing.{written_number, written_u32}
 
 -- every result takes at least one byte, since it begins with a number
-some_byte : (answer : OpResult) → 1 ≤ length (op_result.spelling answer)
+some_byte : (answer : OpResult) → 1 ≤ length (op_result.encoding answer)
 unfolding op_result opnum written_number
 some_byte answer =
-    omega (arith, length-append (written_u32 (number_of (opnum_of answer))) (result_arm answer).spelling, length-bytes_high_first 4 (number_of (opnum_of answer)))
+    omega (arith, length-append (written_u32 (number_of (opnum_of answer))) (result_arm answer).encoding, length-bytes_high_first 4 (number_of (opnum_of answer)))
 
-count_within : (all : List OpResult) → length all ≤ length (flat_map op_result.spelling all)
+count_within : (all : List OpResult) → length all ≤ length (flat_map op_result.encoding all)
 count_within [] = omega arith
 count_within (answer ∷ all) =
     rw (flat_map-cons, length-append) (omega (arith, some_byte answer, count_within all))
@@ -33,6 +33,6 @@ status_fits (statuses.Refused r) = omega arith
 status_fits statuses.Ok = omega arith
 status_fits s = omega arith
 
-pub reply_has_form : (s : Status) (tag : List ℕ) (all : List OpResult) → length tag ≤ RECORD_LIMIT → length (flat_map op_result.spelling all) < 2 ^ 31 → All op_result.Fits all → compound_result.Fits (s, (tag, all))
+pub reply_has_form : (s : Status) (tag : List ℕ) (all : List OpResult) → length tag ≤ RECORD_LIMIT → length (flat_map op_result.encoding all) < 2 ^ 31 → All op_result.Fits all → compound_result.Fits (s, (tag, all))
 reply_has_form s tag all short few fit =
     (status_fits s, ((omega (arith, short), omega (arith, short)), (omega (arith, few, count_within all), omega (arith, few, count_within all), fit)))

@@ -19,12 +19,12 @@ unfolding written_opaque written_number
 length_accepted xid state = refl
 
 abbrev result_of : CompoundReply → List ℕ
-result_of reply = compound_result.spelling (reply.status, (reply.tag, reply.results))
+result_of reply = compound_result.encoding (reply.status, (reply.tag, reply.results))
 
 -- the length of the reply's record is that of its head and the results
-pub reply_len : (reply : CompoundReply) → ACCEPTED_LEN + length (result_of reply) ≡ head_size reply.tag + length (flat_map op_result.spelling reply.results)
+pub reply_len : (reply : CompoundReply) → ACCEPTED_LEN + length (result_of reply) ≡ head_size reply.tag + length (flat_map op_result.encoding reply.results)
 unfolding status written_number
-reply_len reply = omega (arith, length-append (written_opaque reply.tag) (written_u32 (length reply.results) ++ flat_map op_result.spelling reply.results))
+reply_len reply = omega (arith, length-append (written_opaque reply.tag) (written_u32 (length reply.results) ++ flat_map op_result.encoding reply.results))
 
 -- the reply to a COMPOUND is within the limit of a record
 pub reply_fits : (xid : ℕ) (reply : CompoundReply) → ACCEPTED_LEN + length (result_of reply) ≤ RECORD_LIMIT → length (written_reply xid (replies.Compound reply)) ≤ RECORD_LIMIT

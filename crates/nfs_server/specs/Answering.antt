@@ -80,15 +80,15 @@ dispatch tree handles size (Run op) =
     else by_effect (effect_of tree handles op) (record { op = op; filehandle = handles.current })
 
 -- The filehandles after the service's answer: with NFS4_OK they follow the operation.
-abbrev pub followed : Files → Filehandles → Op → OpResult → Filehandles
-followed tree handles op answer =
+abbrev pub handles_after_answer : Files → Filehandles → Op → OpResult → Filehandles
+handles_after_answer tree handles op answer =
     if is_ok (status_of answer) then handles_after tree handles op else handles
 
 -- The questions and the results of the operations, whose results follow the first `size` bytes of the reply's record.
 unfoldable pub outcome_of : Files → Filehandles → ℕ → List ArgOp → List OpResult → Outcome
 outcome_of tree handles size [] answers = record { asked = []; results = [] }
 outcome_of tree handles size (op ∷ ops) answers =
-    let size_with : OpResult → ℕ = λ answer. size + length (op_result.spelling answer) in
+    let size_with : OpResult → ℕ = λ answer. size + length (op_result.encoding answer) in
     elim (dispatch tree handles size op) [
       | Known effect ↦
           continues effect.answer
@@ -96,7 +96,8 @@ outcome_of tree handles size (op ∷ ops) answers =
       | Ask question ↦
           asks question answers
           (λ answer others.
-          outcome_of tree (followed tree handles question.op answer) (size_with answer) ops others)
+          outcome_of tree (handles_after_answer tree handles question.op answer) (size_with answer)
+          ops others)
     ]
 
 -- the reply's status is that of the last result, or NFS4_OK if there are no results

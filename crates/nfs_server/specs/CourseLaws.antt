@@ -37,27 +37,35 @@ IsWrittenBy tree course (Err errors.Write) written =
 IsWrittenBy tree course result written = written ≡ written_for_all tree (all_exchanges course)
 
 -- The bytes of a device are known: those that reads will give, and those that were written.
-pub record TellsBytes {D : Type 0} (device : Device D) (remaining contents : D → Option (List ℕ)) : Type 0 where
+pub record TellsBytes {D : Type 0} (device : Device D)
+    (remaining contents : D → Option (List ℕ)) : Type 0 where
   pub gives : (a b : D) (piece : List ℕ) → device.gives a piece b
-      → Consumes (remaining a) (remaining b) piece × (piece ≡ [] → IsAtEnd (remaining b)) × (contents b ≡ contents a)
-  pub fails_to_read : (a b : D) → device.fails_to_read a b → Keeps (remaining a) (remaining b) × (contents b ≡ contents a)
-  pub takes : (a b : D) (part : List ℕ) → device.takes a part b → Appends (contents a) (contents b) part × (remaining b ≡ remaining a)
-  pub fails_to_write : (a b : D) → device.fails_to_write a b → Keeps (contents a) (contents b) × (remaining b ≡ remaining a)
+      → Consumes (remaining a) (remaining b) piece × (piece ≡ [] → IsAtEnd (remaining b))
+      × (contents b ≡ contents a)
+  pub fails_to_read : (a b : D) → device.fails_to_read a b
+      → Keeps (remaining a) (remaining b) × (contents b ≡ contents a)
+  pub takes : (a b : D) (part : List ℕ) → device.takes a part b
+      → Appends (contents a) (contents b) part × (remaining b ≡ remaining a)
+  pub fails_to_write : (a b : D) → device.fails_to_write a b
+      → Keeps (contents a) (contents b) × (remaining b ≡ remaining a)
 
 -- What is read in a course is taken from the front of the bytes that the device had, up to their end if the course ends
 -- without an error, and what is written is added after the bytes that were written before.
-abbrev pub HasBytes : {D S C : Type 0} → Device D → Rules S C → (remaining contents : D → Option (List ℕ)) → Type 0
+abbrev pub HasBytes : {D S C : Type 0} → Device D → Rules S C
+    → (remaining contents : D → Option (List ℕ)) → Type 0
 HasBytes {D = D} {S = S} {C = C} device rules remaining contents =
     (before after : Scene D S C) (course : Course) (result : Result ℕ ServeError)
     → IsCourse device rules before course result after
-    → Consumes (remaining before.device) (remaining after.device) (text_of course.turns ++ course.last.piece)
+    → Consumes (remaining before.device) (remaining after.device)
+    (text_of course.turns ++ course.last.piece)
     × OnOk result (IsAtEnd (remaining after.device))
     × ((written : List ℕ) × IsWrittenBy rules.tree course result written
     × Appends (contents before.device) (contents after.device) written)
 
 -- If the service is a core, its journal gains an entry for each question of a course that wasn't answered
 -- NFS4ERR_RESOURCE, in order, and no others.
-abbrev pub GainsEntries : {D C : Type 0} → Device D → Files → (Lent → Question → OpResult → Lent → Type 0) → (C → ℕ → C → Type 0) → Type 0
+abbrev pub GainsEntries : {D C : Type 0} → Device D → Files
+    → (Lent → Question → OpResult → Lent → Type 0) → (C → ℕ → C → Type 0) → Type 0
 GainsEntries {D = D} {C = C} device tree gives tells =
     (before after : Scene D Lent C) (course : Course) (result : Result ℕ ServeError)
     → IsCourse device (rules tree gives tells) before course result after
@@ -65,4 +73,6 @@ GainsEntries {D = D} {C = C} device tree gives tells =
     × AreEntries (flat_map (questions_of tree) (all_exchanges course))
     (flat_map (λ e. e.answers) (all_exchanges course)) entries
     × (after.service.core.journal
-    ≡ record before.service.core.journal { entries = before.service.core.journal.entries ++ entries })
+    ≡ record before.service.core.journal {
+      entries = before.service.core.journal.entries ++ entries;
+    })

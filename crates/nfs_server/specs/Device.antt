@@ -19,7 +19,8 @@ AreTaken {D = D} device old (part ∷ parts) new =
 -- exactly these bytes were written
 abbrev pub IsWritten : {D : Type 0} → Device D → D → List ℕ → D → Type 0
 IsWritten device old bytes new =
-    (parts : List (List ℕ)) × (bytes ≡ flat_map (λ part. part) parts) × AreTaken device old parts new
+    (parts : List (List ℕ)) × (bytes ≡ flat_map (λ part. part) parts)
+    × AreTaken device old parts new
 
 -- a beginning of the bytes was written, but not all of them, because a write failed
 abbrev pub IsCut : {D : Type 0} → Device D → D → List ℕ → D → Type 0

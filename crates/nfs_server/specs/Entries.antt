@@ -22,7 +22,8 @@ AreEntries (question ∷ questions) [] entries = ⊥
 abbrev pub QuestionsAreEntries : Type 0
 QuestionsAreEntries =
     (old new : Lent) (questions : List Question) (answers : List OpResult)
-    → Asks (λ (before : Lent) question answer (after : Lent). GivenByCore before.core question answer after.core) old questions answers new
+    → Asks (λ (before : Lent) question answer (after : Lent).
+    GivenByCore before.core question answer after.core) old questions answers new
     → (entries : List Entry)
     × AreEntries questions answers entries
     × (new.core.journal ≡ record old.core.journal { entries = old.core.journal.entries ++ entries })

@@ -25,7 +25,8 @@ pub record Rules (S C : Type 0) : Type 1 where
   pub gives : S → Question → OpResult → S → Type 0
   pub tells : C → ℕ → C → Type 0
 
-abbrev pub rules : {S C : Type 0} → Files → (S → Question → OpResult → S → Type 0) → (C → ℕ → C → Type 0) → Rules S C
+abbrev pub rules : {S C : Type 0} → Files → (S → Question → OpResult → S → Type 0)
+    → (C → ℕ → C → Type 0) → Rules S C
 rules tree gives tells = record { tree = tree; gives = gives; tells = tells }
 
 abbrev pub principal_of : Call → Principal
@@ -61,7 +62,8 @@ IsExchanged rules service clock e service' clock' =
 abbrev pub AreExchanged : {S C : Type 0} → Rules S C → S → C → List Exchange → S → C → Type 0
 AreExchanged rules service clock [] service' clock' = (service' ≡ service) × (clock' ≡ clock)
 AreExchanged {S = S} {C = C} rules service clock (e ∷ es) service' clock' =
-    (s : S) × (c : C) × IsExchanged rules service clock e s c × AreExchanged rules s c es service' clock'
+    (s : S) × (c : C) × IsExchanged rules service clock e s c
+    × AreExchanged rules s c es service' clock'
 
 abbrev pub messages_of : List Exchange → List (List ℕ)
 messages_of es = map (λ e. e.message) es

@@ -4,7 +4,7 @@ use Rattle.nfs_tree.specs.Effect.{Effect}
 use Rattle.nfs_tree.specs.declared.filehandles.Filehandles.{Filehandles}
 use Rattle.nfs_tree.specs.Filehandles.{no_filehandles}
 use Rattle.nfs_tree.specs.Tree.{Files}
-use Rattle.nfs_server.specs.Answering.{Asked, Dispatch, Known, Ask, Outcome, dispatch, followed, outcome_of}
+use Rattle.nfs_server.specs.Answering.{Asked, Dispatch, Known, Ask, Outcome, dispatch, handles_after_answer, outcome_of}
 use Rattle.nfs_server.specs.Asking.{Asks, Question, question_of}
 use Rattle.nfs_server.specs.declared.compound.Context.{Context}
 use Rattle.nfs_xdr.specs.declared.arg_op.ArgOp.{ArgOp}
@@ -39,19 +39,19 @@ abbrev pub start : {S : Type 0} → S → ℕ → Place S
 start service size = record { service = service; handles = no_filehandles; size = size }
 
 -- after an answer with this effect, which leaves the service in this state
-abbrev pub behind : {S : Type 0} → Place S → Effect → S → Place S
-behind old effect service = record {
+abbrev pub place_after : {S : Type 0} → Place S → Effect → S → Place S
+place_after old effect service = record {
   service = service;
   handles = effect.after;
-  size = old.size + length (op_result.spelling effect.answer);
+  size = old.size + length (op_result.encoding effect.answer);
 }
 
 -- An operation that is dispatched in this way has this effect, and leaves the service in this state.
 abbrev pub HasEffect : {S : Type 0} → Asker S → Place S → Dispatch → Effect → S → Type 0
-HasEffect asker old (Known told) effect service = (effect ≡ told) × (service ≡ old.service)
+HasEffect asker old (Known known) effect service = (effect ≡ known) × (service ≡ old.service)
 HasEffect asker old (Ask asked) effect service =
     asker.gives old.service (question_of asker.moment asker.principal asked) effect.answer service
-    × (effect.after ≡ followed asker.tree old.handles asked.op effect.answer)
+    × (effect.after ≡ handles_after_answer asker.tree old.handles asked.op effect.answer)
 
 -- At this place the operation has this effect, and leaves the service in this state.
 abbrev pub IsAnswered : {S : Type 0} → Asker S → Place S → ArgOp → Effect → S → Type 0

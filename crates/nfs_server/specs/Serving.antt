@@ -12,11 +12,14 @@ GoesOut device (Err errors.Write) = IsCut device
 GoesOut device result = IsWritten device
 
 -- Records were answered in their order, and all of them if there was no error.
-pub record IsServed {D S C T : Type 0} (device : Device D) (rules : Rules S C) (before : Scene D S C) (messages : List (List ℕ)) (result : Result T ServeError) (after : Scene D S C) : Type 0 where
+pub record IsServed {D S C T : Type 0} (device : Device D) (rules : Rules S C)
+    (before : Scene D S C) (messages : List (List ℕ)) (result : Result T ServeError)
+    (after : Scene D S C) : Type 0 where
   pub exchanges : List Exchange
   pub left : List (List ℕ)
   pub served : messages ≡ messages_of exchanges ++ left
   pub exchanged : AreExchanged rules before.service before.clock exchanges after.service after.clock
   pub none_left : OnOk result (left ≡ [])
   pub some_left : IsErrOf result errors.Memory → left ≢ []
-  pub written : GoesOut device result before.device (written_for_all rules.tree exchanges) after.device
+  pub written : GoesOut device result before.device (written_for_all rules.tree exchanges)
+      after.device

@@ -7,7 +7,8 @@ pub record Sides (R W : Type 0) : Type 0 where
   pub sink : W
 
 -- A read doesn't change the sink, and a write doesn't change the source.
-abbrev pub device_of : {R W : Type 0} → (R → List ℕ → R → Type 0) → (R → R → Type 0) → (W → List ℕ → W → Type 0) → (W → W → Type 0) → Device (Sides R W)
+abbrev pub device_of : {R W : Type 0} → (R → List ℕ → R → Type 0) → (R → R → Type 0)
+    → (W → List ℕ → W → Type 0) → (W → W → Type 0) → Device (Sides R W)
 device_of gives fails_to_read takes fails_to_write = record {
   gives = λ old piece new. gives old.source piece new.source × (new.sink ≡ old.sink);
   fails_to_read = λ old new. fails_to_read old.source new.source × (new.sink ≡ old.sink);

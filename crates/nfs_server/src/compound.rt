@@ -44,7 +44,7 @@ pub fn run_compound<S: Service>(
     ensures serves { S.serves service.new ≡ tree.now.nodes }
     // The reply isn't too long for a record.
     ensures fits { ACCEPTED_LEN
-        + length (compound_result.spelling (result.status, (result.tag, result.results)))
+        + length (compound_result.encoding (result.status, (result.tag, result.results)))
         ≤ RECORD_LIMIT }
     // The reply fits its form, and so do all of its results.
     ensures form { compound_result.Fits (result.status, (result.tag, result.results)) }
@@ -136,7 +136,7 @@ fn answer_operations<S: Service>(
     ensures answers { IsDetermined (asker_of S.gives context.now) (start service.old head) ops.now
         results.new.items service.new }
     ensures serves { S.serves service.new ≡ context.now.tree.now.nodes }
-    ensures fits { head + length (flat_map op_result.spelling results.new.items)
+    ensures fits { head + length (flat_map op_result.encoding results.new.items)
         ≤ max (head + 12) RECORD_LIMIT }
     ensures form { All op_result.Fits results.new.items }
 {
@@ -180,9 +180,9 @@ fn answer_one<S: Service>(
     ensures nodes { AreNodes context.now.tree.now handles.new }
     ensures form { op_result.Fits result }
     ensures last { is_ok (status_of result) ≡ false
-        → size + length (op_result.spelling result) ≤ max (size + 12) (RECORD_LIMIT - 12) }
+        → size + length (op_result.encoding result) ≤ max (size + 12) (RECORD_LIMIT - 12) }
     ensures continues { is_ok (status_of result) ≡ true
-        → size + length (op_result.spelling result) ≤ RECORD_LIMIT - 12 }
+        → size + length (op_result.encoding result) ≤ RECORD_LIMIT - 12 }
 {
     let op = match op {
         ArgOp::Run(op) => op,

@@ -37,11 +37,14 @@ pub fn serve_connection<R: Source, W: Sink, S: Service, C: Clock>(
     requires writes { W.failures sink.old < 2 ^ 64 - 1 }
     requires serves { S.serves service.old ≡ tree.now.nodes }
     ensures serves { S.serves service.new ≡ tree.now.nodes }
-    ensures course { HasCourse (device_of R.gives R.fails W.takes W.fails) (rules tree.now S.gives C.tells)
+    ensures course { HasCourse (device_of R.gives R.fails W.takes W.fails)
+        (rules tree.now S.gives C.tells)
         (scene (sides source.old sink.old) service.old clock.old) result
         (scene (sides source.new sink.new) service.new clock.new) }
-    ensures read_failed { IsErrOf result ServeError.Read ↔ R.failures source.old < R.failures source.new }
-    ensures write_failed { IsErrOf result ServeError.Write ↔ W.failures sink.old < W.failures sink.new }
+    ensures read_failed { IsErrOf result ServeError.Read
+        ↔ R.failures source.old < R.failures source.new }
+    ensures write_failed { IsErrOf result ServeError.Write
+        ↔ W.failures sink.old < W.failures sink.new }
 {
     let mut pair = Pair { source, sink };
     serve_duplex(alloc, &mut pair, service, tree, clock)
@@ -141,7 +144,8 @@ fn serve_ready<D: Duplex, S: Service, C: Clock>(
     ensures ok { OnOk result (D.write_failures device.new ≡ D.write_failures device.old) }
     ensures write_failed { IsErrOf result ServeError.Write
         ↔ D.write_failures device.old < D.write_failures device.new }
-    ensures errors { OnErr result (IsErrOf result ServeError.Write ⊎ IsErrOf result ServeError.Memory) }
+    ensures errors { OnErr result
+        (IsErrOf result ServeError.Write ⊎ IsErrOf result ServeError.Memory) }
 {
     while let Some(message) = records.next() {
         match replies.answer(message.as_slice(), service, tree, clock) {
@@ -186,8 +190,8 @@ fn write_all<D: Duplex>(device: &mut D, bytes: &[u8]) -> Result<(), DeviceFailed
     let mut rest = bytes;
     while !rest.is_empty() {
         let taken = device.write(rest)?;
-        let (_, behind) = rest.split_at(taken);
-        rest = behind;
+        let (_, beyond) = rest.split_at(taken);
+        rest = beyond;
     }
     Ok(())
 }

@@ -83,7 +83,8 @@ impl<D> Counted<D> {
 
 impl<R: Read> Source for Counted<R> {
     // If the device's bytes are known, a read takes the bytes that it gives from their front.
-    ghost gives = { λ old piece new. Consumes (R.remaining old.device) (R.remaining new.device) piece
+    ghost gives = { λ old piece new.
+        Consumes (R.remaining old.device) (R.remaining new.device) piece
         × (piece ≡ [] → IsAtEnd (R.remaining new.device)) };
 
     ghost fails = { λ old new. Keeps (R.remaining old.device) (R.remaining new.device) };

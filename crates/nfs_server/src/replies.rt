@@ -63,7 +63,8 @@ impl Replies {
         requires limit { length message.now ≤ RECORD_LIMIT }
         requires serves { S.serves service.old ≡ tree.now.nodes }
         ensures ok { OnOk result ((e : Exchange) × (e.message ≡ message.now)
-            × IsExchanged (rules tree.now S.gives C.tells) service.old clock.old e service.new clock.new
+            × IsExchanged (rules tree.now S.gives C.tells) service.old clock.old e service.new
+            clock.new
             × (self.new.gathered.items ≡ self.old.gathered.items ++ written_for tree.now e)) }
         ensures err { OnErr result ((service.new ≡ service.old) × (clock.new ≡ clock.old)
             × (self.new.gathered.items ≡ self.old.gathered.items)) }
@@ -89,8 +90,10 @@ impl Replies {
         requires short { length (written_reply xid (Reply.Compound reply)) < 2 ^ 31 }
         requires fits { IsWritable xid (Reply.Compound reply) }
         ensures ok { OnOk result (self.new.gathered.items
-            ≡ self.old.gathered.items ++ written_record (written_reply xid (Reply.Compound reply))) }
-        ensures room { length self.old.gathered.items + (4 + length (written_reply xid (Reply.Compound reply)))
+            ≡ self.old.gathered.items
+            ++ written_record (written_reply xid (Reply.Compound reply))) }
+        ensures room { length self.old.gathered.items
+            + (4 + length (written_reply xid (Reply.Compound reply)))
             ≤ vec_capacity self.old.gathered → IsOk result }
     {
         let reply = Reply::Compound(reply);
@@ -110,7 +113,8 @@ fn put_record(out: &mut Vec<u8>, xid: u32, reply: &Reply) -> Result<(), AllocErr
     requires fits { IsWritable xid reply.now }
     ensures ok { OnOk result
         (out.new.items ≡ out.old.items ++ written_record (written_reply xid reply.now)) }
-    ensures room { length out.old.items + (4 + length (written_reply xid reply.now)) ≤ vec_capacity out.old
+    ensures room { length out.old.items + (4 + length (written_reply xid reply.now))
+        ≤ vec_capacity out.old
         → IsOk result }
 {
     let start = out.len();

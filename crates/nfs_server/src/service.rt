@@ -29,9 +29,10 @@ pub trait Service {
     ) -> OpResult
         requires entry { IsTrue (has_entry op.now) }
         requires node { IfSome filehandle (λ node. node < node_count (serves self.old)) }
-        ensures gives { gives self.old (request_of moment principal op.now filehandle) result self.new }
+        ensures gives { gives self.old (request_of moment principal op.now filehandle) result
+            self.new }
         ensures serves { serves self.new ≡ serves self.old }
-        ensures fits { length (op_result.spelling result) ≤ ANSWER_LIMIT }
+        ensures fits { length (op_result.encoding result) ≤ ANSWER_LIMIT }
         ensures form { op_result.Fits result };
 }
 

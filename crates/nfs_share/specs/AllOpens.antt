@@ -28,7 +28,8 @@ open_count [] = 0
 open_count (opens ∷ more) = length opens + open_count more
 
 -- the opens, with a change of those of one node
-abbrev pub with_opens : ℕ → (List OpenState → List OpenState) → List (List OpenState) → List (List OpenState)
+abbrev pub with_opens : ℕ → (List OpenState → List OpenState) → List (List OpenState)
+    → List (List OpenState)
 with_opens node change opens = slice_set opens node (change (opens_of node opens))
 
 -- the open, if there is one, as one of this node's file

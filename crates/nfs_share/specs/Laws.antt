@@ -11,4 +11,5 @@ are_compatible a b = is_of a.owner b || not (conflicts_with (share_of a) (share_
 
 -- each two opens are compatible
 abbrev pub AllAreCompatible : List OpenState → Type 0
-AllAreCompatible opens = AllByRecursion (λ a. AllByRecursion (λ b. IsTrue (are_compatible a b)) opens) opens
+AllAreCompatible opens =
+    AllByRecursion (λ a. AllByRecursion (λ b. IsTrue (are_compatible a b)) opens) opens

@@ -88,7 +88,8 @@ after_downgrade share o =
     record o { shares = filter (contains share) o.shares; seqid = next_seqid o.seqid }
 
 -- the opens, with a change of each that passes the test
-abbrev pub with_each : (OpenState → Bool) → (OpenState → OpenState) → List OpenState → List OpenState
+abbrev pub with_each : (OpenState → Bool) → (OpenState → OpenState) → List OpenState
+    → List OpenState
 with_each test change opens = map (λ o. if test o then change o else o) opens
 
 -- the opens without those that pass the test

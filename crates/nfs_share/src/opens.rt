@@ -74,7 +74,7 @@ impl Opens {
     }
 
     /// The open of the node's file whose stateid has this number, if there is one.
-    pub fn numbered(&self, node: u32, number: u32) -> Option<&OpenState>
+    pub fn open_numbered(&self, node: u32, number: u32) -> Option<&OpenState>
         ensures { option_copied result
             ≡ open_with_number number (opens_of node (opens_in self.now)) }
     {
@@ -154,7 +154,8 @@ impl Opens {
     /// shares that this share contains.
     pub fn keep_within(&mut self, node: u32, number: u32, share: Share)
         ensures { opens_in self.new
-            ≡ with_opens node (with_each (is_numbered number) (after_downgrade share)) (opens_in self.old) }
+            ≡ with_opens node (with_each (is_numbered number) (after_downgrade share))
+            (opens_in self.old) }
     {
         let node = node as usize;
         if node < self.files.len() {

@@ -63,35 +63,35 @@ abbrev pub last_state_after : Bool → ℕ → ℕ
 last_state_after has_open last = if has_open then last else last + 1
 
 -- the state after an operation's own change
-abbrev pub changed : Change → State → State
-changed changes.Nothing old = old
-changed (changes.Clients change) old =
+abbrev pub with_state_change : Change → State → State
+with_state_change changes.Nothing old = old
+with_state_change (changes.Clients change) old =
     let left = left_by change old in
     record left { clients = with_change change old.clients }
-changed (changes.Opens node owner share) old = record old {
+with_state_change (changes.Opens node owner share) old = record old {
   opens = with_opens node (with_opening owner share (old.last_state + 1)) old.opens;
   last_state = last_state_after (is_some (open_of owner (opens_of node old.opens))) old.last_state;
 }
-changed (changes.Confirms node number owner) old = record old {
+with_state_change (changes.Confirms node number owner) old = record old {
   owners = with_confirmation (open_owner owner) old.owners;
   opens = with_opens node (with_each (is_numbered number) with_next_seqid) old.opens;
 }
-changed (changes.Downgrades node number share) old = record old {
+with_state_change (changes.Downgrades node number share) old = record old {
   opens = with_opens node (with_each (is_numbered number) (after_downgrade share)) old.opens;
 }
 -- all lock states under an open are of the open's file
-changed (changes.Closes node number) old = record old {
+with_state_change (changes.Closes node number) old = record old {
   opens = with_opens node (opens.without (is_numbered number)) old.opens;
   locks = with_locks node (locks.without (locks.is_under number)) old.locks;
 }
-changed (changes.Begins node first) old = record old {
+with_state_change (changes.Begins node first) old = record old {
   locks = with_locks node (with_first_lock first (old.last_state + 1)) old.locks;
   last_state = old.last_state + 1;
 }
-changed (changes.Locks node number change) old = record old {
+with_state_change (changes.Locks node number change) old = record old {
   locks = with_locks node (with_lock_change number change) old.locks;
 }
-changed (changes.Releases owner) old = record old {
+with_state_change (changes.Releases owner) old = record old {
   owners = without_owner (lock_owner owner) old.owners;
   locks = map (locks.without (locks.is_lock_of owner)) old.locks;
 }

@@ -41,4 +41,4 @@ with_entry entry journal = record journal { entries = journal.entries ++ entry �
 pub record IsSendable (op : Op) (answer : OpResult) : Type 0 where
   pub not_resource : answer ≢ resource op
   pub form : op_result.Fits answer
-  pub short : length (op_result.spelling answer) ≤ ANSWER_LIMIT
+  pub short : length (op_result.encoding answer) ≤ ANSWER_LIMIT

@@ -78,8 +78,10 @@ keeping owner kept = record { owner = owner; kept = kept owner.kind }
 abbrev pub update_of : OwnerChange → (OwnerKind → Kept) → OwnerUpdate
 update_of changes.Nothing kept = updates.Nothing
 update_of (changes.Keeps owner) kept = updates.Keeps (keeping owner kept)
-update_of (changes.KeepsBoth owner newcomer) kept = updates.KeepsBoth (keeping owner kept) (keeping newcomer kept)
-update_of (changes.Introduces owner newcomer) kept = updates.KeepsBoth (keeping owner kept) (keeping newcomer kept)
+update_of (changes.KeepsBoth owner newcomer) kept =
+    updates.KeepsBoth (keeping owner kept) (keeping newcomer kept)
+update_of (changes.Introduces owner newcomer) kept =
+    updates.KeepsBoth (keeping owner kept) (keeping newcomer kept)
 update_of (changes.Records owner) kept = updates.Keeps (keeping (open_owner owner) kept)
 update_of (changes.Restarts owner) kept = updates.Restarts owner (kept kinds.Open)
 update_of (changes.Drops owner) kept = updates.Drops owner

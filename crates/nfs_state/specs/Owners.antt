@@ -30,7 +30,12 @@ is_confirmed name owners = confirmed_if_known (owner_of name owners)
 -- the entry with this number records an owner, whose name nobody has: it is unconfirmed
 abbrev pub with_record : ℕ → StateOwner → List KnownOwner → List KnownOwner
 with_record number name owners =
-    owners ++ record { name = name; confirmed = false; recording_entry = number; kept_entry = number } ∷ []
+    owners ++ record {
+      name = name;
+      confirmed = false;
+      recording_entry = number;
+      kept_entry = number;
+    } ∷ []
 
 -- the entry with this number is kept for the owner with this name
 abbrev pub with_kept_entry : ℕ → StateOwner → List KnownOwner → List KnownOwner

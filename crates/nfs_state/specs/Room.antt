@@ -66,7 +66,8 @@ abbrev pub HasUpdateRoom : OwnerUpdate → Tables → Type 0
 HasUpdateRoom updates.Nothing tables = ⊤
 HasUpdateRoom (updates.Keeps keeping) tables = CanKeep keeping.owner tables.owners
 HasUpdateRoom (updates.KeepsBoth keeping newcomer) tables =
-    IsTrue (owners.is_known keeping.owner tables.owners.owners) × CanKeep newcomer.owner tables.owners
+    IsTrue (owners.is_known keeping.owner tables.owners.owners)
+    × CanKeep newcomer.owner tables.owners
 HasUpdateRoom (updates.Restarts name kept) tables =
     IsTrue (has_place (open_owner name) tables.owners.owners) × (0 < tables.owners.room)
 HasUpdateRoom (updates.Drops name) tables = ⊤

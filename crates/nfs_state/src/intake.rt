@@ -1,5 +1,5 @@
 ghost use Rattle.std.specs.Prelude.{◌≡◌, ◌<◌, IfErr, IfOk, OnErr, OnOk, length};
-ghost use Rattle.nfs_state.specs.Changes.{changed, with_owner_change};
+ghost use Rattle.nfs_state.specs.Changes.{with_state_change, with_owner_change};
 ghost use Rattle.nfs_state.specs.Entries.{IsSendable, with_entry};
 ghost use Rattle.nfs_state.specs.Kept.{Agrees, kept_of, owners_after, update_of};
 ghost use Rattle.nfs_state.specs.Room.{IsWithinLimits, HasOwnerPlace, state_of, stored_of};
@@ -32,7 +32,8 @@ pub fn take_in(
     ensures number { IfOk result (λ n. n ≡ length journal.old.entries) }
     ensures entry { OnOk result (journal.new ≡ with_entry (Entry.Call call) journal.old) }
     ensures state { OnOk result (state_of tables.new
-        ≡ changed change (with_owner_change owner (length journal.old.entries) (state_of tables.old))) }
+        ≡ with_state_change change
+        (with_owner_change owner (length journal.old.entries) (state_of tables.old))) }
     ensures kept { OnOk result (Agrees journal.new tables.new.owners.owners) }
     ensures memory { IfErr result (λ e. e ≡ Shortage.Memory) }
     ensures same { OnErr result
@@ -56,9 +57,10 @@ fn make_changes(
     requires numbers { IsWithinLimits change (state_of tables.old) }
     requires place { HasOwnerPlace owner (state_of tables.old) }
     ensures state { OnOk result (state_of tables.new
-        ≡ changed change (with_owner_change owner number (state_of tables.old))) }
+        ≡ with_state_change change (with_owner_change owner number (state_of tables.old))) }
     ensures kept { OnOk result ((journal : History) → Agrees journal (owners_after
-        (update_of owner (λ kind. kept_of kind (Entry.Call call.now))) number tables.old.owners.owners)
+        (update_of owner (λ kind. kept_of kind (Entry.Call call.now))) number
+        tables.old.owners.owners)
         → Agrees journal tables.new.owners.owners) }
     ensures memory { IfErr result (λ e. e ≡ Shortage.Memory) }
     ensures same { OnErr result (stored_of tables.new ≡ stored_of tables.old) }

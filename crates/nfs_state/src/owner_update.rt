@@ -31,7 +31,8 @@ pub(crate) struct Keeping {
 impl OwnerUpdate {
     /// What the call means for the owners.
     pub(crate) fn of(change: OwnerChange, call: &Call) -> Result<OwnerUpdate, AllocError>
-        ensures { IfOk result (λ u. u ≡ update_of change (λ kind. kept_of kind (Entry.Call call.now))) }
+        ensures { IfOk result (λ u.
+            u ≡ update_of change (λ kind. kept_of kind (Entry.Call call.now))) }
     {
         Ok(match change {
             OwnerChange::Nothing => OwnerUpdate::Nothing,
@@ -56,7 +57,8 @@ impl Keeping {
 
     // The owner with what it keeps of the call.
     fn of(owner: StateOwner, call: &Call) -> Result<Keeping, AllocError>
-        ensures { IfOk result (λ k. k ≡ keeping owner (λ kind. kept_of kind (Entry.Call call.now))) }
+        ensures { IfOk result (λ k.
+            k ≡ keeping owner (λ kind. kept_of kind (Entry.Call call.now))) }
     {
         let kept = call.kept(owner.kind)?;
         Ok(Keeping { owner, kept })

@@ -29,7 +29,7 @@ impl Tables {
     ghost use Rattle.std.specs.Option.{option_copied};
     ghost use Rattle.nfs_state.specs.State.{change_of, file_of, has_state, record_has_state, size_of, History};
     ghost use Rattle.nfs_state.specs.Kept.{Agrees, kept_by, owners_after, update_of};
-    ghost use Rattle.nfs_state.specs.Changes.{with_owner_change, changed, left_by};
+    ghost use Rattle.nfs_state.specs.Changes.{with_owner_change, with_state_change, left_by};
     ghost use Rattle.nfs_state.specs.Changes as changed_state;
     ghost use Rattle.nfs_state.specs.Room.{IsWithinLimits, HasOwnerPlace, HasOwnerRoom, HasRoom, HasUpdateRoom, CanKeep, state_of, stored_of};
     ghost use Rattle.nfs_state.specs.declared.owner_change.OwnerChange.{OwnerChange};
@@ -116,7 +116,8 @@ impl Tables {
         requires place { HasOwnerPlace owner.now (state_of self.old) }
         ensures same { stored_of self.new ≡ stored_of self.old }
         ensures room { OnOk result (HasRoom change.now self.new × HasOwnerRoom owner.now self.new) }
-        ensures ready { HasRoom change.now self.old → HasOwnerRoom owner.now self.old → IsOk result }
+        ensures ready { HasRoom change.now self.old → HasOwnerRoom owner.now self.old
+            → IsOk result }
         ensures memory { IfErr result (λ e. e ≡ Shortage.Memory) }
     {
         self.make_owner_room(owner)?;
@@ -158,10 +159,12 @@ impl Tables {
     /// Makes what the entry with this number means for an owner, for which there has to be room. It takes no memory.
     pub(crate) fn commit_owner(&mut self, update: OwnerUpdate, number: u32)
         requires room { HasUpdateRoom update self.old }
-        ensures state { (change : OwnerChange) (kept : OwnerKind → Kept) → update ≡ update_of change kept
+        ensures state { (change : OwnerChange) (kept : OwnerKind → Kept)
+            → update ≡ update_of change kept
             → HasOwnerPlace change (state_of self.old)
             → state_of self.new ≡ with_owner_change change number (state_of self.old) }
-        ensures owners { self.new.owners.owners ≡ owners_after update number self.old.owners.owners }
+        ensures owners { self.new.owners.owners
+            ≡ owners_after update number self.old.owners.owners }
         ensures room { (change : Change) → HasRoom change self.old → HasRoom change self.new }
     {
         match update {
@@ -186,7 +189,8 @@ impl Tables {
           owners = kept_by keeping number self.old.owners.owners;
         } }
         ensures room { (change : Change) → HasRoom change self.old → HasRoom change self.new }
-        ensures known { (other : StateOwner) → IsTrue (is_known keeping.owner self.old.owners.owners)
+        ensures known { (other : StateOwner)
+            → IsTrue (is_known keeping.owner self.old.owners.owners)
             → CanKeep other self.old.owners → CanKeep other self.new.owners }
     {
         self.owners.keep(keeping.owner, number, keeping.kept);
@@ -200,7 +204,8 @@ impl Tables {
         } }
         ensures room { (change : Change) → HasRoom change self.old → HasRoom change self.new }
         ensures owner_room { self.old.owners.room ≤ self.new.owners.room }
-        ensures owner_places { (other : StateOwner) → IsTrue (has_place other self.old.owners.owners)
+        ensures owner_places { (other : StateOwner)
+            → IsTrue (has_place other self.old.owners.owners)
             → IsTrue (has_place other self.new.owners.owners) }
     {
         self.owners.remove(OwnerRef::of_open(name));
@@ -211,7 +216,7 @@ impl Tables {
     pub(crate) fn commit(&mut self, change: Change)
         requires room { HasRoom change self.old }
         requires numbers { IsWithinLimits change (state_of self.old) }
-        ensures state { state_of self.new ≡ changed change (state_of self.old) }
+        ensures state { state_of self.new ≡ with_state_change change (state_of self.old) }
         ensures kept { (journal : History)
             → Agrees journal self.old.owners.owners → Agrees journal self.new.owners.owners }
     {
@@ -253,7 +258,8 @@ impl Tables {
     fn commit_open(&mut self, node: u32, owner: OpenOwner, share: Share)
         requires room { HasRoomAt node self.old.opens }
         requires numbers { self.old.numbers < 2 ^ 32 - 1 }
-        ensures state { state_of self.new ≡ changed (changes.Opens node owner share) (state_of self.old) }
+        ensures state { state_of self.new
+            ≡ with_state_change (changes.Opens node owner share) (state_of self.old) }
         ensures owners { self.new.owners ≡ self.old.owners }
     {
         let number = self.numbers.upcoming();
@@ -267,7 +273,8 @@ impl Tables {
     fn commit_first_lock(&mut self, node: u32, first: FirstLock)
         requires room { HasLockRoomAt node self.old.locks }
         requires numbers { self.old.numbers < 2 ^ 32 - 1 }
-        ensures state { state_of self.new ≡ changed (changes.Begins node first) (state_of self.old) }
+        ensures state { state_of self.new
+            ≡ with_state_change (changes.Begins node first) (state_of self.old) }
         ensures owners { self.new.owners ≡ self.old.owners }
     {
         let number = self.numbers.upcoming();
@@ -279,7 +286,8 @@ impl Tables {
     fn commit_clients(&mut self, change: ClientChange)
         requires room { HasRoomFor change self.old.clients }
         requires numbers { HasNumbersFor change self.old.clients.registry }
-        ensures state { state_of self.new ≡ changed (changes.Clients change) (state_of self.old) }
+        ensures state { state_of self.new
+            ≡ with_state_change (changes.Clients change) (state_of self.old) }
         ensures kept { (journal : History)
             → Agrees journal self.old.owners.owners → Agrees journal self.new.owners.owners }
     {

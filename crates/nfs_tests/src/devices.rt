@@ -1,7 +1,10 @@
 //! Devices that give or take a byte at a time, and fail.
 
-use crate::messages::{call, reply, serve};
-use nfs_server::{Counted, ServeError};
+ghost use Rattle.std.specs.Prelude.{◌-◌, ◌^◌, ◌<◌};
+
+use crate::messages::{call, open_server, reply};
+use nfs_core::Moment;
+use nfs_server::{Counted, ServeError, Sink, Source};
 use std::alloc::{AllocError, Global};
 use std::io;
 use std::io::{ErrorKind, Read, Write};
@@ -70,6 +73,19 @@ const KINDS: [ErrorKind; 4] = [
     ErrorKind::ConnectionReset,
     ErrorKind::Other,
 ];
+
+/// Serves a connection by a server of its own, at moment 0, and gives how it ended.
+fn serve<R: Source, W: Sink>(
+    alloc: Global,
+    source: &mut R,
+    sink: &mut W,
+) -> Result<Result<usize, ServeError>, Fail>
+    requires reads { R.failures source.old < 2 ^ 64 - 1 }
+    requires writes { W.failures sink.old < 2 ^ 64 - 1 }
+{
+    let mut server = open_server(alloc)?;
+    Ok(server.serve(alloc, source, sink, Moment::new(0).unwrap()))
+}
 
 /// Two calls of NULL.
 fn two_calls(alloc: Global) -> Result<Vec<u8>, AllocError> {

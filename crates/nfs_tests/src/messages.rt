@@ -1,12 +1,8 @@
 //! Messages in words of four bytes, and a server over memory to send them to.
 
-ghost use Rattle.std.specs.Prelude.{◌≡◌, ◌-◌, ◌<◌, ◌^◌, IfSome};
-
-use nfs_core::{Core, Moment};
-use nfs_server::{Lent, ServeError, Sink, Source, Stopped, serve_connection};
-use nfs_tree::{DEFAULT_TREE, Tree};
+use nfs_rows::Server;
+use nfs_tree::{DEFAULT_TREE, TreeError};
 use std::alloc::{AllocError, Global};
-use std::test::Fail;
 use test_words::bytes_of;
 
 /// A record of one fragment: a call of this procedure under AUTH_NONE, with these words as its arguments.
@@ -34,27 +30,7 @@ pub fn record(alloc: Global, head: &[u32], body: &[u32]) -> Result<Vec<u8>, Allo
     Ok(bytes)
 }
 
-/// A new server with lease 90 and epoch 1, on the tree that it has without a file of its own.
-pub fn open_server(alloc: Global) -> Option<(Tree, Core)>
-    ensures { IfSome result (λ r. r.1.journal.nodes ≡ r.0.nodes) }
-{
-    let tree = Tree::from_toml(alloc, DEFAULT_TREE).ok()?;
-    let core = Core::new(alloc, &tree, 90, 1, tree.policy()).ok()?;
-    Some((tree, core))
-}
-
-/// Serves a connection by a fresh server, at moment 0, and gives how it ended.
-pub fn serve<R: Source, W: Sink>(
-    alloc: Global,
-    source: &mut R,
-    sink: &mut W,
-) -> Result<Result<usize, ServeError>, Fail>
-    requires reads { R.failures source.old < 2 ^ 64 - 1 }
-    requires writes { W.failures sink.old < 2 ^ 64 - 1 }
-{
-    let (tree, core) = open_server(alloc).ok_or("no server")?;
-    let mut lent = Lent::new(core);
-    let mut clock = Stopped::at(Moment::new(0).unwrap());
-    let outcome = serve_connection(alloc, source, sink, &mut lent, &tree, &mut clock);
-    Ok(outcome)
+/// A new server with lease 90 and epoch 1, on the tree that the program has without a file of its own.
+pub fn open_server(alloc: Global) -> Result<Server, TreeError> {
+    Server::open(alloc, DEFAULT_TREE, 90, 1)
 }

@@ -2,29 +2,22 @@
 //! connection ended and another one to the same server was begun. `tools/refuse_growths` runs this with each of its
 //! growths refused in turn; what a refusal says is compared there with runs of the program.
 
-ghost use Rattle.std.specs.Prelude.{◌≡◌};
-
 use crate::messages::{call, open_server, reply};
 use nfs_core::Moment;
-use nfs_server::{Counted, Lent, Service, Stopped, serve_connection};
-use nfs_tree::Tree;
+use nfs_rows::Server;
+use nfs_server::Counted;
 use std::alloc::{AllocError, Global};
 
 /// Whether the call gets its answer on a connection of its own.
 fn is_answered_at_once(
     alloc: Global,
-    lent: &mut Lent,
-    tree: &Tree,
+    server: &mut Server,
     call: &[u8],
     answer: &[u8],
-) -> Result<bool, AllocError>
-    requires { ⟦<Lent as Service>⟧.serves lent.old ≡ tree.now.nodes }
-    ensures { ⟦<Lent as Service>⟧.serves lent.new ≡ tree.now.nodes }
-{
+) -> Result<bool, AllocError> {
     let mut source = Counted::new(call);
     let mut sink = Counted::new(Vec::with_capacity(alloc, 1024)?);
-    let mut clock = Stopped::at(Moment::new(0).unwrap());
-    let outcome = serve_connection(alloc, &mut source, &mut sink, lent, tree, &mut clock);
+    let outcome = server.serve(alloc, &mut source, &mut sink, Moment::new(0).unwrap());
     Ok(outcome == Ok(0) && sink.into_device().as_slice() == answer)
 }
 
@@ -32,20 +25,16 @@ fn is_answered_at_once(
 /// another connection.
 fn is_answered(
     alloc: Global,
-    lent: &mut Lent,
-    tree: &Tree,
+    server: &mut Server,
     arguments: &[u32],
     results: &[u32],
-) -> Result<bool, AllocError>
-    requires { ⟦<Lent as Service>⟧.serves lent.old ≡ tree.now.nodes }
-    ensures { ⟦<Lent as Service>⟧.serves lent.new ≡ tree.now.nodes }
-{
+) -> Result<bool, AllocError> {
     let call = call(alloc, 1, 1, arguments)?;
     let answer = reply(alloc, 1, results)?;
-    if is_answered_at_once(alloc, lent, tree, call.as_slice(), answer.as_slice())? {
-        return Ok(true);
-    }
-    is_answered_at_once(alloc, lent, tree, call.as_slice(), answer.as_slice())
+    Ok(
+        is_answered_at_once(alloc, server, call.as_slice(), answer.as_slice())?
+            || is_answered_at_once(alloc, server, call.as_slice(), answer.as_slice())?,
+    )
 }
 
 /// SETCLIENTID: verifier 01 to 08, id `c1`, program 0x40000000, `tcp`, `127.0.0.1.8.1`, ident 1.
@@ -71,13 +60,12 @@ const SET_CLIENT_ID: [u32; 17] = [
 
 /// Whether a client id is given and confirmed; None where memory is refused for the test itself.
 fn is_registered(alloc: Global) -> Option<bool> {
-    let (tree, core) = open_server(alloc)?;
-    let mut lent = Lent::new(core);
+    let mut server = open_server(alloc).ok()?;
     let given = [0, 0, 1, 35, 0, 1, 1, 0, 1];
-    let is_given = is_answered(alloc, &mut lent, &tree, &SET_CLIENT_ID, &given).ok()?;
+    let is_given = is_answered(alloc, &mut server, &SET_CLIENT_ID, &given).ok()?;
     let confirmation = [0, 0, 1, 36, 1, 1, 0, 1];
     let done = [0, 0, 1, 36, 0];
-    let is_confirmed = is_answered(alloc, &mut lent, &tree, &confirmation, &done).ok()?;
+    let is_confirmed = is_answered(alloc, &mut server, &confirmation, &done).ok()?;
     Some(is_given && is_confirmed)
 }
 

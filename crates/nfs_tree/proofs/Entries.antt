@@ -22,7 +22,7 @@ use Rattle.nfs_tree.specs.Tree.{Files, is_name, is_directory, is_directory_kind,
 use Rattle.nfs_tree.proofs.Growing.{IsFresh, kind_of_next, or_parts, tree_grows, way_fresh, way_names}
 use Rattle.nfs_tree.proofs.Nodes.{decided, parents_of, ParentsWithin, directory_within}
 use Rattle.nfs_tree.proofs.Paths.{names_are_names, path_complete, path_sound}
-use Rattle.nfs_tree.proofs.Ways.{leads_stay, leads_on, chain_leads, way_leads, way_of, slice_get-behind, text_cases, text_before, chain_kinds, is_kind, kind_stays, one_way, not_both_kinds}
+use Rattle.nfs_tree.proofs.Ways.{leads_stay, leads_on, chain_leads, way_leads, way_of, slice_get-beyond, text_cases, text_before, chain_kinds, is_kind, kind_stays, one_way, not_both_kinds}
 
 -- What is found in a tree when an entry is added, and which nodes the tree has after that.
 record Comes (nodes : List Node) (entry : Entry) (new : List Node) : Type 0 where
@@ -114,7 +114,7 @@ comes_kinds : (nodes new : List Node) (entry : Entry) (c : Comes nodes entry new
 comes_kinds nodes new entry c count some =
     let more = chain c.end (length nodes + 1) c.missing entry.kind in
     let at = chain_kinds c.end (length nodes + 1) c.missing entry.kind count some in
-    (at.0, ap (λ ns. slice_get ns (length nodes + count)) c.is ∙ slice_get-behind nodes more count ∙ at.1, at.2)
+    (at.0, ap (λ ns. slice_get ns (length nodes + count)) c.is ∙ slice_get-beyond nodes more count ∙ at.1, at.2)
 
 chain_length : (parent number : ℕ) (names : List (List ℕ)) (kind : NodeKind) → length (chain parent number names kind) ≡ length names
 chain_length parent number [] kind = refl
@@ -152,7 +152,7 @@ comes_whole nodes new entry c count none =
     ∙ ap (λ names. c.found ++ names) (take_all (suc count) c.missing none)
     ∙ c.parts
 
-last_kind : (behind : List (List ℕ)) (kind : NodeKind) (text : List ℕ) → text_of_kind (kind_before behind kind) ≡ Some text → (behind ≡ []) × (kind ≡ File text)
+last_kind : (beyond : List (List ℕ)) (kind : NodeKind) (text : List ℕ) → text_of_kind (kind_before beyond kind) ≡ Some text → (beyond ≡ []) × (kind ≡ File text)
 last_kind [] Directory text is = cc
 last_kind [] (File own) text is = (refl, cc)
 last_kind (name ∷ names) kind text is =
@@ -207,7 +207,7 @@ comes_there nodes new entry c tree =
           let left = comes_kinds nodes new entry c count within in
           let number : length nodes + count + 1 ≡ length nodes + suc count = omega arith in
           let leads : Leads new 0 c.names (length nodes + suc count) = subst (λ (names : List (List ℕ)). Leads new 0 names (length nodes + suc count)) (comes_whole nodes new entry c count none) (comes_leads nodes new entry c count tree within) in
-          let kind : IsOfKind new (length nodes + suc count) entry.kind = subst (λ (n : ℕ). IsOfKind new n entry.kind) number (is_kind new (length nodes + count) entry.kind left.0 left.1 (left.2 ∙ ap (λ behind. kind_before behind entry.kind) none)) in
+          let kind : IsOfKind new (length nodes + suc count) entry.kind = subst (λ (n : ℕ). IsOfKind new n entry.kind) number (is_kind new (length nodes + count) entry.kind left.0 left.1 (left.2 ∙ ap (λ beyond. kind_before beyond entry.kind) none)) in
           (length nodes + suc count, leads_to new entry c.names (length nodes + suc count) c.are_names leads, kind)
     ]
 

@@ -122,11 +122,11 @@ slice_get-stays [] ys i within = absurd (omega arith)
 slice_get-stays (x ∷ xs) ys zero within = refl
 slice_get-stays (x ∷ xs) ys (suc i) within = slice_get-stays xs ys i (omega arith)
 
-pub slice_get-behind : {A : Type 0} (xs ys : List A) (i : ℕ) → slice_get (xs ++ ys) (length xs + i) ≡ slice_get ys i
-slice_get-behind [] ys i = ap (slice_get ys) (omega arith)
-slice_get-behind (x ∷ xs) ys i =
+pub slice_get-beyond : {A : Type 0} (xs ys : List A) (i : ℕ) → slice_get (xs ++ ys) (length xs + i) ≡ slice_get ys i
+slice_get-beyond [] ys i = ap (slice_get ys) (omega arith)
+slice_get-beyond (x ∷ xs) ys i =
     let next : length (x ∷ xs) + i ≡ suc (length xs + i) = omega arith in
-    ap (slice_get (x ∷ xs ++ ys)) next ∙ slice_get-behind xs ys i
+    ap (slice_get (x ∷ xs ++ ys)) next ∙ slice_get-beyond xs ys i
 
 pub text_at : (nodes : List Node) (n : ℕ) → text_of nodes (n + 1) ≡ option_and_then (λ node. text_of_kind node.kind) (slice_get nodes n)
 text_at nodes n =

@@ -27,8 +27,10 @@ number_of attributes.Fileid = 20
 -- all supported attributes, in increasing order of their numbers
 abbrev pub all_attributes : List Attribute
 all_attributes =
-    attributes.SupportedAttrs ∷ attributes.Type ∷ attributes.FhExpireType ∷ attributes.Change ∷ attributes.Size
-    ∷ attributes.LinkSupport ∷ attributes.SymlinkSupport ∷ attributes.NamedAttr ∷ attributes.Fsid ∷ attributes.UniqueHandles
+    attributes.SupportedAttrs ∷ attributes.Type ∷ attributes.FhExpireType ∷ attributes.Change
+    ∷ attributes.Size
+    ∷ attributes.LinkSupport ∷ attributes.SymlinkSupport ∷ attributes.NamedAttr ∷ attributes.Fsid
+    ∷ attributes.UniqueHandles
     ∷ attributes.LeaseTime ∷ attributes.RdattrError ∷ attributes.Filehandle ∷ attributes.Fileid ∷ []
 
 -- the word with the bits of these attributes
@@ -36,12 +38,12 @@ abbrev pub word_of : List Attribute → ℕ
 word_of [] = 0
 word_of (attribute ∷ more) = 2 ^ number_of attribute + word_of more
 
-abbrev pub supported : ℕ
-supported = word_of all_attributes
+abbrev pub supported_bits : ℕ
+supported_bits = word_of all_attributes
 
 -- the bytes of an attribute's value
 abbrev pub value_of : Subject → Attribute → List ℕ
-value_of s attributes.SupportedAttrs = written_u32 1 ++ written_u32 supported
+value_of s attributes.SupportedAttrs = written_u32 1 ++ written_u32 supported_bits
 value_of s attributes.Type = written_u32 (if s.is_directory then 2 else 1)
 value_of s attributes.FhExpireType = written_u32 0
 value_of s attributes.Change = written_u64 (if s.is_directory then 0 else s.change)
@@ -69,9 +71,9 @@ values_of s word [] = []
 values_of s word (attribute ∷ more) = value_requested s word attribute ++ values_of s word more
 
 -- the supported attributes among those that a bitmap asks for, as a word: the first word of a bitmap has their bits
-abbrev pub requested : List ℕ → ℕ
-requested [] = 0
-requested (word ∷ words) = bit_and word supported
+abbrev pub requested_bits : List ℕ → ℕ
+requested_bits [] = 0
+requested_bits (word ∷ words) = bit_and word supported_bits
 
 -- a bitmap of this one word, or an empty bitmap if the word is 0
 abbrev pub mask_of : ℕ → List ℕ
@@ -79,4 +81,7 @@ mask_of word = if word == 0 then [] else word ∷ []
 
 -- the supported attributes among those that a bitmap asks for, with their values
 abbrev pub attributes_of : Subject → List ℕ → Fattr
-attributes_of s mask = record { mask = mask_of (requested mask); values = values_of s (requested mask) all_attributes }
+attributes_of s mask = record {
+  mask = mask_of (requested_bits mask);
+  values = values_of s (requested_bits mask) all_attributes;
+}

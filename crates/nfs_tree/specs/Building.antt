@@ -45,12 +45,15 @@ pieces (b ∷ bytes) = if b == slash then [] ∷ pieces bytes else longer_first 
 
 -- the names of a path, if it consists of valid names
 abbrev pub names_of : List ℕ → Option (List (List ℕ))
-names_of path = if nat_le (length (pieces path)) PATH_LIMIT && list_all is_name (pieces path) then Some (pieces path) else None
+names_of path = if nat_le (length (pieces path)) PATH_LIMIT && list_all is_name (pieces path)
+    then Some (pieces path) else None
 
 -- The names of a path are exactly those that give the path when they are joined by slashes.
 pub record PathsAreJoinedNames : Type 0 where
-  pub sound : (path : List ℕ) (names : List (List ℕ)) → names_of path ≡ Some names → IsPath names path
-  pub complete : (path : List ℕ) (names : List (List ℕ)) → IsPath names path → names_of path ≡ Some names
+  pub sound : (path : List ℕ) (names : List (List ℕ)) → names_of path ≡ Some names
+      → IsPath names path
+  pub complete : (path : List ℕ) (names : List (List ℕ)) → IsPath names path
+      → names_of path ≡ Some names
 
 -- How far names lead from a node, to `end`. The missing names are the others: the first of them isn't in `end`.
 pub record Way : Type 0 where
@@ -63,7 +66,8 @@ next_on (Some node) stop go = go node
 
 abbrev pub way : List Node → ℕ → List (List ℕ) → Way
 way nodes from [] = record { end = from; missing = [] }
-way nodes from (name ∷ names) = next_on (child nodes from name) (record { end = from; missing = name ∷ names }) (λ node. way nodes node names)
+way nodes from (name ∷ names) = next_on (child nodes from name)
+    (record { end = from; missing = name ∷ names }) (λ node. way nodes node names)
 
 -- How many directories have to be added for an entry: one for each missing name, except the last one if the entry is a
 -- file.
@@ -74,14 +78,17 @@ new_directories (File text) missing = missing - 1
 -- a file's text is too long, or there is no room for another file
 abbrev pub is_file_too_many : List Node → NodeKind → Bool
 is_file_too_many nodes Directory = false
-is_file_too_many nodes (File text) = nat_lt TEXT_LIMIT (length text) || nat_le FILE_LIMIT (files nodes)
+is_file_too_many nodes (File text) =
+    nat_lt TEXT_LIMIT (length text) || nat_le FILE_LIMIT (files nodes)
 
 abbrev pub is_too_many : List Node → NodeKind → ℕ → Bool
-is_too_many nodes kind missing = is_file_too_many nodes kind || nat_lt DIRECTORY_LIMIT (directories nodes + new_directories kind missing)
+is_too_many nodes kind missing = is_file_too_many nodes kind
+    || nat_lt DIRECTORY_LIMIT (directories nodes + new_directories kind missing)
 
 -- The way ends at a file, or the entry is a file and its whole path is already there.
 abbrev pub is_taken : List Node → NodeKind → Way → Bool
-is_taken nodes kind w = not (is_directory nodes w.end) || ((length w.missing == 0) && not (is_directory_kind kind))
+is_taken nodes kind w =
+    not (is_directory nodes w.end) || ((length w.missing == 0) && not (is_directory_kind kind))
 
 -- A node for each of the names, the first in this parent and each other in the one before it, numbered from `number`
 -- on. All are directories, except that the last has the given kind.
@@ -91,7 +98,8 @@ kind_before names kind = if length names == 0 then kind else Directory
 abbrev pub chain : ℕ → ℕ → List (List ℕ) → NodeKind → List Node
 chain parent number [] kind = []
 chain parent number (name ∷ names) kind =
-    record { parent = parent; name = name; kind = kind_before names kind } ∷ chain number (number + 1) names kind
+    record { parent = parent; name = name; kind = kind_before names kind }
+    ∷ chain number (number + 1) names kind
 
 -- the tree with an entry added whose way is this, or why it can't be added
 abbrev pub add_on : Files → NodeKind → Way → Result Files TreeError
@@ -109,7 +117,8 @@ add_entry old entry = add_named old entry.kind (names_of entry.path)
 
 -- the tree with all entries added, or why the first one that can't be added is refused
 infixl 10 ◌>>=◌
-abbrev pub ◌>>=◌ : {A B : Type 0} → Result A TreeError → (A → Result B TreeError) → Result B TreeError
+abbrev pub ◌>>=◌ : {A B : Type 0} → Result A TreeError → (A → Result B TreeError)
+    → Result B TreeError
 (Ok x) >>= f = f x
 (Err e) >>= f = Err e
 

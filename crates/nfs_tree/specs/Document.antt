@@ -39,7 +39,8 @@ has_only keys (member key value more) = list_any (bytes_eq key) keys && has_only
 
 -- the members of a table that has no keys other than these
 abbrev pub table_of : List (List ℕ) → Data → Option Members
-table_of keys value = as_table value >>= λ members. if has_only keys members then Some members else None
+table_of keys value =
+    as_table value >>= λ members. if has_only keys members then Some members else None
 
 -- the entry that a table in an array describes: a directory, with a path, or a file, with a path and an optional text
 abbrev pub entry_of : Listing → Data → Option Entry
@@ -55,7 +56,9 @@ entry_of listings.Files value =
 
 abbrev pub entries_of : Listing → Items → Option (List Entry)
 entries_of listing no_items = Some []
-entries_of listing (item value more) = entry_of listing value >>= λ entry. entries_of listing more >>= λ entries. Some (entry ∷ entries)
+entries_of listing (item value more) =
+    entry_of listing value >>= λ entry.
+    entries_of listing more >>= λ entries. Some (entry ∷ entries)
 
 abbrev pub entries_in : Listing → Data → Option (List Entry)
 entries_in listing value = as_array value >>= entries_of listing
@@ -80,7 +83,8 @@ default_policy = record { delegations = delegations.All; callbacks = callbacks.P
 abbrev pub policy_of : Data → Option Policy
 policy_of value =
     table_of (codes "delegations" ∷ codes "callbacks" ∷ []) value >>= λ table.
-    or_absent delegations.All delegations_of (get_member (codes "delegations") table) >>= λ delegations.
+    or_absent delegations.All delegations_of (get_member (codes "delegations") table)
+    >>= λ delegations.
     or_absent callbacks.Probe callbacks_of (get_member (codes "callbacks") table) >>= λ callbacks.
     Some (record { delegations = delegations; callbacks = callbacks })
 
@@ -88,8 +92,10 @@ policy_of value =
 -- files.
 abbrev pub document_of : Members → Option Document
 document_of members =
-    (if has_only (codes "directory" ∷ codes "file" ∷ codes "policy" ∷ []) members then Some members else None) >>= λ members.
-    or_absent [] (entries_in listings.Directories) (get_member (codes "directory") members) >>= λ directories.
+    (if has_only (codes "directory" ∷ codes "file" ∷ codes "policy" ∷ []) members
+    then Some members else None) >>= λ members.
+    or_absent [] (entries_in listings.Directories) (get_member (codes "directory") members)
+    >>= λ directories.
     or_absent [] (entries_in listings.Files) (get_member (codes "file") members) >>= λ files.
     or_absent default_policy policy_of (get_member (codes "policy") members) >>= λ policy.
     Some (record { entries = directories ++ files; policy = policy })

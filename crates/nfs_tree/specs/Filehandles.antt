@@ -4,7 +4,7 @@ use Rattle.std.specs.Result.{result_ok}
 use Rattle.nfs_forms.specs.declared.claim.Claim.{Claim}
 use Rattle.nfs_forms.specs.declared.claim.Claim.TheVariants as claims
 use Rattle.nfs_tree.specs.declared.filehandles.Filehandles.{Filehandles}
-use Rattle.nfs_tree.specs.Tree.{Files, node_count, resolved}
+use Rattle.nfs_tree.specs.Tree.{Files, node_count, resolution}
 use Rattle.nfs_xdr.specs.declared.op.Op.{Op}
 use Rattle.nfs_xdr.specs.declared.op.Op.TheVariants as ops
 
@@ -30,7 +30,8 @@ claimed_name (claims.DelegatePrev name) = Some name
 -- the object that the name, if there is one, names in the node of this filehandle, if it is set
 abbrev pub object_named : Files → Option ℕ → Option (List ℕ) → Option ℕ
 object_named tree handle name =
-    option_and_then (λ node. option_and_then (λ n. result_ok (resolved tree.nodes node n)) name) handle
+    option_and_then (λ node. option_and_then (λ n. result_ok (resolution tree.nodes node n)) name)
+    handle
 
 -- this node, if there is one, becomes the current one
 abbrev pub with_current : Option ℕ → Filehandles → Filehandles

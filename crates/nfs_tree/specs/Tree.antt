@@ -74,8 +74,8 @@ abbrev pub found_or : Refusal → Option ℕ → Result ℕ Refusal
 found_or refusal None = Err refusal
 found_or refusal (Some node) = Ok node
 
-abbrev pub resolved : List Node → ℕ → List ℕ → Result ℕ Refusal
-resolved nodes node name =
+abbrev pub resolution : List Node → ℕ → List ℕ → Result ℕ Refusal
+resolution nodes node name =
     if not (is_directory nodes node) then Err refusals.NotDir
     else if length name == 0 then Err refusals.Inval
     else if nat_lt NAME_LIMIT (length name) then Err refusals.NameTooLong
@@ -116,7 +116,9 @@ handle_of n = codes "nfh1" ++ written_u32 n
 
 -- the node of a filehandle, if it is the filehandle of one of these nodes
 abbrev pub node_numbered : List Node → List ℕ → ℕ → Option ℕ
-node_numbered nodes handle n = if nat_lt n (node_count nodes) && bytes_eq handle (handle_of n) then Some n else None
+node_numbered nodes handle n =
+    if nat_lt n (node_count nodes) && bytes_eq handle (handle_of n) then Some n else None
 
 abbrev pub node_of : List Node → List ℕ → Option ℕ
-node_of nodes handle = if length handle == HANDLE_LEN then node_numbered nodes handle (big_number 4 (drop 4 handle)) else None
+node_of nodes handle = if length handle == HANDLE_LEN
+    then node_numbered nodes handle (big_number 4 (drop 4 handle)) else None

@@ -1,5 +1,5 @@
 ghost use Rattle.std.specs.Prelude.{◌≡◌, ◌<◌, ◌^◌, ◌++◌, IfOk, OnOk, if◌then◌else◌};
-ghost use Rattle.nfs_tree.specs.Attributes.{requested, attributes_of, mask_of, number_of, supported, value_requested, value_of, values_of};
+ghost use Rattle.nfs_tree.specs.Attributes.{requested_bits, attributes_of, mask_of, number_of, supported_bits, value_requested, value_of, values_of};
 ghost use Rattle.nfs_tree.specs.Tree.{is_directory};
 ghost use Rattle.xdr.specs.Writing.{written_u32, written_u64};
 
@@ -106,7 +106,7 @@ impl Tree {
             size,
             lease,
         };
-        let word = requested(mask);
+        let word = requested_bits(mask);
         Ok(Fattr {
             mask: mask_of(alloc, word)?,
             values: Bytes::new(values_of(alloc, subject, word, &ATTRIBUTES)?),
@@ -115,8 +115,8 @@ impl Tree {
 }
 
 // The supported attributes among those that a bitmap asks for, as a word.
-fn requested(mask: &[u32]) -> u32
-    ensures { result ≡ requested mask.now }
+fn requested_bits(mask: &[u32]) -> u32
+    ensures { result ≡ requested_bits mask.now }
 {
     match mask.first() {
         Some(word) => *word & SUPPORTED,
@@ -159,7 +159,8 @@ fn write_if_requested(
     word: u32,
     attribute: Attribute,
 ) -> Result<(), WireError>
-    ensures { OnOk result (out.new.items ≡ out.old.items ++ value_requested subject word attribute) }
+    ensures { OnOk result (out.new.items
+        ≡ out.old.items ++ value_requested subject word attribute) }
 {
     if word & attribute.bit() == 0 {
         return Ok(());
@@ -197,7 +198,8 @@ fn write_value(out: &mut Vec<u8>, subject: Subject, attribute: Attribute) -> Res
 
 // Writes the supported attributes, as a bitmap.
 fn write_supported(out: &mut Vec<u8>) -> Result<(), WireError>
-    ensures { OnOk result (out.new.items ≡ out.old.items ++ (written_u32 1 ++ written_u32 supported)) }
+    ensures { OnOk result (out.new.items
+        ≡ out.old.items ++ (written_u32 1 ++ written_u32 supported_bits)) }
 {
     write_u32(out, 1)?;
     write_u32(out, SUPPORTED)
@@ -205,7 +207,8 @@ fn write_supported(out: &mut Vec<u8>) -> Result<(), WireError>
 
 // Writes a number that belongs to a file, or 0 for a directory.
 fn write_of_file(out: &mut Vec<u8>, subject: Subject, number: u64) -> Result<(), WireError>
-    ensures { OnOk result (out.new.items ≡ out.old.items ++ written_u64 (if subject.is_directory then 0 else number)) }
+    ensures { OnOk result (out.new.items
+        ≡ out.old.items ++ written_u64 (if subject.is_directory then 0 else number)) }
 {
     write_u64(out, if subject.is_directory { 0 } else { number })
 }

@@ -65,7 +65,8 @@ impl Tree {
 
     // How far these names lead from the root, and which of them are missing.
     fn way<'a>(&self, names: &'a [Bytes]) -> (u32, &'a [Bytes])
-        ensures way { way self.now.nodes 0 names.now ≡ record { end = result.0; missing = result.1.now } }
+        ensures way { way self.now.nodes 0 names.now
+            ≡ record { end = result.0; missing = result.1.now } }
         ensures few { length result.1.now ≤ length names.now }
     {
         let mut end = 0;

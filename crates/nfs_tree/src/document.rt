@@ -62,7 +62,8 @@ fn read_listing(
     listing: Listing,
     value: Option<&Value>,
 ) -> Result<Sequence<Entry>, TreeError>
-    ensures { Reads result (or_absent [] (entries_in listing) (option_map (λ v. view v.now) value.entry)) }
+    ensures { Reads result (or_absent [] (entries_in listing)
+        (option_map (λ v. view v.now) value.entry)) }
 {
     let Some(value) = value else {
         return Ok(Sequence::new(Vec::new(alloc)));
@@ -181,7 +182,8 @@ fn read_bytes(alloc: Global, value: Option<&Value>) -> Result<Bytes, TreeError>
 
 // The table that a value is, if it has no keys other than these.
 fn table_of<'a>(value: &'a Value, keys: &[&str]) -> Option<&'a Table>
-    ensures { option_map (λ t. table_view t.now) result ≡ table_of (map (λ k. k.now) keys.now) (view value.now) }
+    ensures { option_map (λ t. table_view t.now) result
+        ≡ table_of (map (λ k. k.now) keys.now) (view value.now) }
 {
     match value.as_table() {
         Some(table) if has_only(table, keys) => Some(table),

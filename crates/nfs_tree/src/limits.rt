@@ -13,5 +13,6 @@ pub fn limits_of_trees()
     ensures names { (NAME_LIMIT ≡ 255) × (PATH_LIMIT ≡ 8) }
     ensures nodes { (FILE_LIMIT ≡ 64) × (DIRECTORY_LIMIT ≡ 64) × (TEXT_LIMIT ≡ 65536) }
     ensures handles { (ROOT ≡ 0) × (HANDLE_LEN ≡ 8) × (TREE_ANSWER_LIMIT ≡ 20) }
-    ensures access { (ACCESS_READ ≡ 1) × (ACCESS_LOOKUP ≡ 2) × (ACCESS_MODIFY ≡ 4) × (ACCESS_EXTEND ≡ 8) × (ACCESS_DELETE ≡ 16) × (ACCESS_EXECUTE ≡ 32) }
+    ensures access { (ACCESS_READ ≡ 1) × (ACCESS_LOOKUP ≡ 2) × (ACCESS_MODIFY ≡ 4)
+        × (ACCESS_EXTEND ≡ 8) × (ACCESS_DELETE ≡ 16) × (ACCESS_EXECUTE ≡ 32) }
 {}

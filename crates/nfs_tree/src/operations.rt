@@ -28,7 +28,7 @@ impl Filehandles {
         requires nodes { AreNodes tree.now self.old }
         ensures effect { effect_of tree.now self.old op.now
             ≡ Some (record { answer = result; after = self.new }) }
-        ensures short { length (op_result.spelling result) ≤ TREE_ANSWER_LIMIT }
+        ensures short { length (op_result.encoding result) ≤ TREE_ANSWER_LIMIT }
         ensures form { op_result.Fits result }
         ensures nodes { AreNodes tree.now self.new }
     {

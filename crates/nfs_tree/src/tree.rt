@@ -1,6 +1,6 @@
 ghost use Rattle.std.specs.Prelude.{◌≡◌, ◌<◌, ◌≤◌, ◌+◌, ℕ, true, Some, IfOk, IfSome, OnSome, option_map, position};
 ghost use Rattle.std.specs.Option.{option_copied};
-ghost use Rattle.nfs_tree.specs.Tree.{child, handle_of, is_child, is_directory, node_at, node_count, node_of, resolved, text_of};
+ghost use Rattle.nfs_tree.specs.Tree.{child, handle_of, is_child, is_directory, node_at, node_count, node_of, resolution, text_of};
 
 use crate::{NAME_LIMIT, Node, NodeKind, Policy};
 use byteorder::{BigEndian, ByteOrder};
@@ -114,7 +114,7 @@ impl Tree {
     /// The object that a name names in a node. Fails if the node isn't a directory, or if the name is empty, too long
     /// or not found.
     pub fn resolve(&self, node: u32, name: &[u8]) -> Result<u32, Refusal>
-        ensures object { result ≡ resolved self.now.nodes node name.now }
+        ensures object { result ≡ resolution self.now.nodes node name.now }
         ensures within { IfOk result (λ n. n < node_count self.now.nodes) }
     {
         if !self.is_directory(node) {
@@ -143,8 +143,10 @@ impl Tree {
     #[tactic(auto, unfolding(xdr::specs::Writing::written_number))]
     pub fn node_of(&self, handle: &[u8]) -> Option<u32>
         ensures value { result ≡ node_of self.now.nodes handle.now }
-        ensures found { IfSome result (λ n. (n < node_count self.now.nodes) × (handle.now ≡ handle_of n)) }
-        ensures each { (n : ℕ) → n < node_count self.now.nodes → handle.now ≡ handle_of n → result ≡ Some n }
+        ensures found { IfSome result
+            (λ n. (n < node_count self.now.nodes) × (handle.now ≡ handle_of n)) }
+        ensures each { (n : ℕ) → n < node_count self.now.nodes → handle.now ≡ handle_of n
+            → result ≡ Some n }
     {
         if handle.len() != HANDLE_LEN {
             return None;

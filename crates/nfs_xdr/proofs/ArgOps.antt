@@ -20,7 +20,7 @@ use Rattle.xdr.specs.Layout.{U32}
 use Rattle.xdr.specs.Reading.{Read, Begins, number_at, value_at}
 use Rattle.xdr.specs.Switch.{case_at}
 use Rattle.xdr.specs.laws.Enumerations.{passes}
-use Rattle.xdr.specs.laws.Reads.{decided, lacks, reads_number}
+use Rattle.xdr.specs.laws.Reads.{true_or_false, lacks, reads_number}
 
 -- an operation that this server implements
 abbrev IsRuled : Opnum → Type 0
@@ -60,7 +60,7 @@ found_stands bytes rest number (Some o) e read begins =
 too_short : (bytes : List ℕ) (e : WireError) → number_at 4 bytes ≡ Err e → length bytes < 4
 unfolding number_at
 too_short bytes e failed =
-    elim (decided (ltb (length bytes) 4)) [
+    elim (true_or_false (ltb (length bytes) 4)) [
       | inl short ↦ ltb-true _ _ short
       | inr long ↦ let clash : ◌≡◌ {A = Read ℕ} (Ok (big_number 4 bytes, drop 4 bytes)) (Err e) = rw long at failed in absurd cc
     ]

@@ -13,7 +13,7 @@ use Rattle.nfs_xdr.specs.ArgOp.{arg_op_at, ends_list}
 use Rattle.nfs_xdr.specs.Compound.{HoldOperations, IsRequest, IsCompound, OneCompoundIsEncoded, or_more, operations_at, request_at, head, compound_at}
 use Rattle.xdr.specs.Layout.{NO_LIMIT}
 use Rattle.xdr.specs.Reading.{Read, Gives, ◌>>=◌, ◌then◌, number_at, opaque_at}
-use Rattle.xdr.specs.laws.Reads.{NeverMemory, decided, bind_ok, ok_is, number_never_memory, opaque_never_memory, then_never_memory}
+use Rattle.xdr.specs.laws.Reads.{NeverMemory, true_or_false, bind_ok, ok_is, number_never_memory, opaque_never_memory, then_never_memory}
 use Rattle.nfs_xdr.proofs.ArgOps.{arg_op_stands, arg_op_complete}
 
 holds_more : (count : ℕ) (bytes : List ℕ) (b : Bool) → ends_list (arg_op_at bytes).0 ≡ b → HoldOperations count (arg_op_at bytes).1 (operations_at count (arg_op_at bytes).1) → HoldOperations (suc count) bytes (or_more (arg_op_at bytes) (operations_at count))
@@ -27,8 +27,8 @@ operations_held (suc count) bytes = holds_more count bytes (ends_list (arg_op_at
 
 request_held : (minor count : ℕ) (bytes : List ℕ) → IsRequest minor count bytes (request_at minor count bytes)
 request_held minor count bytes =
-    elim (decided (eqb minor 0)) [
-      | inl zeroth ↦ elim (decided (leb count OPERATION_LIMIT)) [
+    elim (true_or_false (eqb minor 0)) [
+      | inl zeroth ↦ elim (true_or_false (leb count OPERATION_LIMIT)) [
         | inl few ↦ rw (zeroth, few) (eqb-true _ _ zeroth, leb-true _ _ few, operations_held count bytes)
         | inr many ↦ rw (zeroth, many) (eqb-true _ _ zeroth, refl, many)
       ]

@@ -9,7 +9,7 @@ use Rattle.nfs_xdr.specs.declared.opnum.Unsupported.TheVariants as without
 use Rattle.nfs_xdr.specs.declared.opnum.TheConstants.{OPNUMS}
 use Rattle.nfs_xdr.specs.Opnum.{known, number_of, opnum_of}
 use Rattle.nfs_xdr.proofs.ArgOps.{numbered}
-use Rattle.xdr.specs.laws.Reads.{decided}
+use Rattle.xdr.specs.laws.Reads.{true_or_false}
 
 -- the operation at the position that belongs to a number
 abbrev pub at_place : ℕ → Opnum
@@ -30,7 +30,7 @@ if_found number (Some o) e =
     let same : eqb (number_of (at_place number)) number ≡ true = eq-eqb (number_of (at_place number)) number (ap number_of at ∙ is) in
     rw (same, at) refl
 if_found number None e =
-    elim (decided (eqb (number_of (at_place number)) number)) [
+    elim (true_or_false (eqb (number_of (at_place number)) number)) [
       | inl here ↦
           let is : number_of (at_place number) ≡ number = eqb-true (number_of (at_place number)) number here in
           let found : Some (at_place number) ≡ None = sym (known (at_place number)) ∙ ap opnum_of is ∙ e in

@@ -19,7 +19,7 @@ unfolding op_result opnum
 unsupported_fits unsupported.Setattr = (omega arith, (omega arith, omega arith))
 unsupported_fits o = (omega arith, (omega arith, tt))
 
-pub unsupported_len : (o : Unsupported) → length (op_result.spelling (results.Unsupported o)) ≤ 12
+pub unsupported_len : (o : Unsupported) → length (op_result.encoding (results.Unsupported o)) ≤ 12
 unfolding op_result opnum written_number
 unsupported_len unsupported.Setattr = omega arith
 unsupported_len o = omega arith

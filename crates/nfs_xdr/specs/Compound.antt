@@ -25,20 +25,24 @@ abbrev pub HoldOperations : ℕ → List ℕ → List ArgOp → Type 0
 HoldOperations zero bytes ops = ops ≡ []
 HoldOperations (suc count) bytes [] = ⊥
 HoldOperations (suc count) bytes (op ∷ ops) =
-    (rest : List ℕ) × IsEncodedAt bytes op rest × MatchBool (ends_list op) (ops ≡ []) (HoldOperations count rest ops)
+    (rest : List ℕ) × IsEncodedAt bytes op rest
+    × MatchBool (ends_list op) (ops ≡ []) (HoldOperations count rest ops)
 
 -- What a minor version and a count of operations ask for. Only version 0 is served, and no more operations than the
 -- limit.
 abbrev pub IsRequest : ℕ → ℕ → List ℕ → Request → Type 0
 IsRequest minor count bytes (MinorVersion other) = (minor ≡ other) × IsFalse (minor == 0)
-IsRequest minor count bytes (TooMany many) = (minor ≡ 0) × (count ≡ many) × IsFalse (nat_le count OPERATION_LIMIT)
-IsRequest minor count bytes (Operations ops) = (minor ≡ 0) × (count ≤ OPERATION_LIMIT) × HoldOperations count bytes ops
+IsRequest minor count bytes (TooMany many) =
+    (minor ≡ 0) × (count ≡ many) × IsFalse (nat_le count OPERATION_LIMIT)
+IsRequest minor count bytes (Operations ops) =
+    (minor ≡ 0) × (count ≤ OPERATION_LIMIT) × HoldOperations count bytes ops
 
 -- struct COMPOUND4args { utf8str_cs tag; uint32_t minorversion; nfs_argop4 argarray<>; };
 abbrev pub IsCompound : Compound → List ℕ → Type 0
 IsCompound compound bytes =
     (minor : ℕ) × (count : ℕ) × (rest : List ℕ)
-    × Begins (head.layout (compound.tag, (minor, count))) bytes rest × IsRequest minor count rest compound.request
+    × Begins (head.layout (compound.tag, (minor, count))) bytes rest
+    × IsRequest minor count rest compound.request
 
 -- How the operations are read: one, followed by the others unless it ends the list.
 abbrev pub or_more : ArgOp × List ℕ → (List ℕ → List ArgOp) → List ArgOp
@@ -50,7 +54,9 @@ operations_at (suc count) bytes = or_more (arg_op_at bytes) (operations_at count
 
 abbrev pub request_at : ℕ → ℕ → List ℕ → Request
 request_at minor count bytes =
-    if minor == 0 then (if nat_le count OPERATION_LIMIT then Operations (operations_at count bytes) else TooMany count)
+    if minor == 0 then
+    (if nat_le count OPERATION_LIMIT then Operations (operations_at count bytes)
+    else TooMany count)
     else MinorVersion minor
 
 unfoldable pub compound_at : List ℕ → Result Compound WireError
@@ -63,7 +69,11 @@ compound_result = status and opaque_bytes and many NO_LIMIT op_result
 
 -- A COMPOUND is read exactly if the bytes encode it, so no bytes encode two requests.
 abbrev pub OneCompoundIsEncoded : Type 0
-OneCompoundIsEncoded = (bytes : List ℕ) (compound : Compound) → (compound_at bytes ≡ Ok compound) ↔ IsCompound compound bytes
+OneCompoundIsEncoded =
+    (bytes : List ℕ) (compound : Compound) → (compound_at bytes ≡ Ok compound)
+    ↔ IsCompound compound bytes
 
 abbrev pub OneOperationIsEncoded : Type 0
-OneOperationIsEncoded = (bytes : List ℕ) (op : ArgOp) (rest : List ℕ) → (arg_op_at bytes ≡ (op, rest)) ↔ IsEncodedAt bytes op rest
+OneOperationIsEncoded =
+    (bytes : List ℕ) (op : ArgOp) (rest : List ℕ) → (arg_op_at bytes ≡ (op, rest))
+    ↔ IsEncodedAt bytes op rest

@@ -37,7 +37,8 @@ pub fn read_compound(alloc: Global, bytes: &[u8]) -> Result<Compound, WireError>
     // What is read matches the layout. On an error no COMPOUND matches it, or memory ran out.
     ensures encoded { IfOk result (λ compound. IsCompound compound bytes.now) }
     ensures none { OnErr result
-        ((result ≡ Err WireError.Memory) ⊎ ((compound : Compound) → IsCompound compound bytes.now → ⊥)) }
+        ((result ≡ Err WireError.Memory)
+        ⊎ ((compound : Compound) → IsCompound compound bytes.now → ⊥)) }
     ensures reads { Gives (λ compound. compound) result (compound_at bytes.now) }
     // Memory is reported only if the tag, the minor version and the count are there.
     ensures memory { IsErrOf result WireError.Memory → IsOk (head.at bytes.now) }
@@ -87,13 +88,13 @@ fn read_operations(alloc: Global, count: u32, bytes: &[u8]) -> Result<Sequence<A
     let mut ops = Vec::with_capacity(alloc, most)?;
     let mut rest = bytes;
     for _ in 0..count {
-        let (op, behind) = read_op(alloc, rest)?;
+        let (op, beyond) = read_op(alloc, rest)?;
         let is_last = op.ends_list();
         ops.push(op)?;
         if is_last {
             return Ok(Sequence::new(ops));
         }
-        rest = behind;
+        rest = beyond;
     }
     Ok(Sequence::new(ops))
 }
@@ -106,7 +107,7 @@ pub fn write_results(
     results: &Sequence<OpResult>,
 ) -> Result<(), WireError>
     ensures { Writes out.old out.new result
-        (compound_result.spelling (status, (tag.now, results.now)))
+        (compound_result.encoding (status, (tag.now, results.now)))
         (compound_result.Fits (status, (tag.now, results.now))) }
 {
     write_three(out, &status, tag, results)

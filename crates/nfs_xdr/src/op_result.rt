@@ -172,7 +172,7 @@ impl Opnum {
     pub fn refusal(self, refusal: Refusal) -> OpResult
         ensures value { result ≡ refusal_of self refusal }
         ensures form { results.op_result.Fits result }
-        ensures short { length (results.op_result.spelling result) ≤ 12 }
+        ensures short { length (results.op_result.encoding result) ≤ 12 }
     {
         each_operation!(refusal_of_opnum self, refusal)
     }
@@ -211,7 +211,7 @@ impl Wire for OpResult {
 
 fn write_unsupported(out: &mut Vec<u8>, op: Unsupported) -> Result<(), WireError>
     ensures { Writes out.old out.new result
-        ((opnum and unsupported_answer op).spelling (opnums.Unsupported op, (tt, tt)))
+        ((opnum and unsupported_answer op).encoding (opnums.Unsupported op, (tt, tt)))
         ((opnum and unsupported_answer op).Fits (opnums.Unsupported op, (tt, tt))) }
 {
     match op {

@@ -77,7 +77,7 @@ fn answer_to(kind: OwnerKind) -> OpResult {
 }
 
 /// SAVEFH of node 3 with this sequence id, as it is kept for an owner of this kind.
-fn kept(kind: OwnerKind, seqid: u32) -> Kept {
+fn kept_request(kind: OwnerKind, seqid: u32) -> Kept {
     let request = KeptRequest {
         op: Op::Savefh,
         filehandle: Some(3),
@@ -93,7 +93,7 @@ fn kept(kind: OwnerKind, seqid: u32) -> Kept {
 fn keep(owners: &mut Owners, owner: OwnerRef<'_>, seqid: u32) -> Result<(), Fail> {
     let name = copy_of(owner)?;
     make_room(owners, owner)?;
-    owners.keep(name, 5, kept(owner.kind, seqid));
+    owners.keep(name, 5, kept_request(owner.kind, seqid));
     Ok(())
 }
 

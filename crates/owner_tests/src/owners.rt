@@ -26,7 +26,7 @@ fn kept_answer() -> OpResult {
 }
 
 /// The kept request, SAVEFH of node 3 with this sequence id.
-fn kept(seqid: u32) -> Kept {
+fn kept_request(seqid: u32) -> Kept {
     let request = KeptRequest {
         op: Op::Savefh,
         filehandle: Some(3),
@@ -43,7 +43,7 @@ fn with_owner(alloc: Global, seqid: u32) -> Result<Owners, Fail> {
     let name = owner_at(alloc, 1)?;
     let mut owners = Owners::new(alloc);
     owners.reserve(name.as_ref())?;
-    owners.keep(name, 5, kept(seqid));
+    owners.keep(name, 5, kept_request(seqid));
     Ok(owners)
 }
 
@@ -75,7 +75,7 @@ fn another_client_has_another_owner_of_the_name(rt: HostRuntime) -> Result<(), F
             .is_none()
     );
     owners.reserve(name.as_ref())?;
-    owners.keep(name, 6, kept(1));
+    owners.keep(name, 6, kept_request(1));
     owners.remove_client(ClientId {
         epoch: 7,
         number: 1,

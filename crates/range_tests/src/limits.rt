@@ -12,7 +12,7 @@ fn span(first: u64, last: u64) -> Range
     Range { first, last }
 }
 
-/// 1,024 runs, each of so many bytes and with one byte free behind it.
+/// 1,024 runs, each of so many bytes and with one byte free after it.
 fn full(alloc: Global, size: u64) -> Result<Ranges, RangesError>
     requires { (0 < size) × (size ≤ 3) }
 {
@@ -86,7 +86,7 @@ fn the_last_place_is_for_one_run(rt: HostRuntime) -> Result<(), Fail> {
 }
 
 #[test]
-fn a_place_is_told_before_the_change(rt: HostRuntime) -> Result<(), Fail> {
+fn a_place_is_known_before_the_change(rt: HostRuntime) -> Result<(), Fail> {
     let mut ranges = full(rt.alloc(), 1)?;
     let more = Piece {
         range: span(2048, 2048),

@@ -15,7 +15,7 @@ fn span(first: u64, last: u64) -> Range
 }
 
 /// Ranges that hold these bytes in this mode, and no others.
-fn held(alloc: Global, range: Range, mode: Mode) -> Result<Ranges, RangesError> {
+fn ranges_with(alloc: Global, range: Range, mode: Mode) -> Result<Ranges, RangesError> {
     let mut ranges = Ranges::new(alloc);
     ranges.lock(range, mode)?;
     Ok(ranges)
@@ -23,7 +23,7 @@ fn held(alloc: Global, range: Range, mode: Mode) -> Result<Ranges, RangesError> 
 
 #[test]
 fn an_unlock_in_the_middle_leaves_both_sides(rt: HostRuntime) -> Result<(), Fail> {
-    let mut ranges = held(rt.alloc(), span(0, 99), Mode::Write)?;
+    let mut ranges = ranges_with(rt.alloc(), span(0, 99), Mode::Write)?;
     ranges.unlock(span(40, 59))?;
     assert!(rt; ranges.first_conflict(span(45, 54), Mode::Write).is_none());
     assert!(rt; ranges.first_conflict(span(30, 69), Mode::Write) == Some(30));
@@ -35,7 +35,7 @@ fn an_unlock_in_the_middle_leaves_both_sides(rt: HostRuntime) -> Result<(), Fail
 
 #[test]
 fn all_bytes_but_the_last(rt: HostRuntime) -> Result<(), Fail> {
-    let mut ranges = held(rt.alloc(), span(0, LAST), Mode::Write)?;
+    let mut ranges = ranges_with(rt.alloc(), span(0, LAST), Mode::Write)?;
     ranges.unlock(span(LAST, LAST))?;
     assert!(rt; ranges.run_at(7) == Some((span(0, LAST - 1), Mode::Write)));
     assert!(rt; ranges.run_at(LAST).is_none());
@@ -44,7 +44,7 @@ fn all_bytes_but_the_last(rt: HostRuntime) -> Result<(), Fail> {
 
 #[test]
 fn the_last_byte_alone(rt: HostRuntime) -> Result<(), Fail> {
-    let mut ranges = held(rt.alloc(), span(LAST, LAST), Mode::Read)?;
+    let mut ranges = ranges_with(rt.alloc(), span(LAST, LAST), Mode::Read)?;
     assert!(rt; ranges.first_conflict(span(0, LAST), Mode::Write) == Some(LAST));
     assert!(rt; ranges.run_at(LAST) == Some((span(LAST, LAST), Mode::Read)));
     ranges.unlock(span(0, LAST))?;
@@ -54,7 +54,7 @@ fn the_last_byte_alone(rt: HostRuntime) -> Result<(), Fail> {
 
 #[test]
 fn the_last_change_of_a_byte_counts(rt: HostRuntime) -> Result<(), Fail> {
-    let mut ranges = held(rt.alloc(), span(0, 9), Mode::Read)?;
+    let mut ranges = ranges_with(rt.alloc(), span(0, 9), Mode::Read)?;
     ranges.lock(span(5, 14), Mode::Write)?;
     ranges.lock(span(10, 19), Mode::Read)?;
     assert!(rt; ranges.run_at(12) == Some((span(10, 19), Mode::Read)));
@@ -69,7 +69,7 @@ fn a_change_inside_a_run_makes_three(rt: HostRuntime) -> Result<(), Fail> {
     let alloc = rt.alloc();
     let table = [(Mode::Read, Mode::Write), (Mode::Write, Mode::Read)];
     for (outer, inner) in &table {
-        let mut ranges = held(alloc, span(10, 99), *outer)?;
+        let mut ranges = ranges_with(alloc, span(10, 99), *outer)?;
         ranges.lock(span(40, 59), *inner)?;
         assert!(rt; ranges.run_at(39) == Some((span(10, 39), *outer)));
         assert!(rt; ranges.run_at(40) == Some((span(40, 59), *inner)));
@@ -81,7 +81,7 @@ fn a_change_inside_a_run_makes_three(rt: HostRuntime) -> Result<(), Fail> {
 
 #[test]
 fn neighbours_of_different_modes_stay_apart(rt: HostRuntime) -> Result<(), Fail> {
-    let mut ranges = held(rt.alloc(), span(0, 9), Mode::Read)?;
+    let mut ranges = ranges_with(rt.alloc(), span(0, 9), Mode::Read)?;
     ranges.lock(span(10, 19), Mode::Write)?;
     assert!(rt; ranges.run_at(9) == Some((span(0, 9), Mode::Read)));
     assert!(rt; ranges.run_at(10) == Some((span(10, 19), Mode::Write)));
@@ -91,7 +91,7 @@ fn neighbours_of_different_modes_stay_apart(rt: HostRuntime) -> Result<(), Fail>
 
 #[test]
 fn readers_share_bytes(rt: HostRuntime) -> Result<(), Fail> {
-    let ranges = held(rt.alloc(), span(0, 9), Mode::Read)?;
+    let ranges = ranges_with(rt.alloc(), span(0, 9), Mode::Read)?;
     assert!(rt; ranges.first_conflict(span(3, 22), Mode::Read).is_none());
     assert!(rt; ranges.first_conflict(span(3, 22), Mode::Write) == Some(3));
     assert!(rt; ranges.first_conflict(span(10, 22), Mode::Write).is_none());

@@ -20,13 +20,13 @@ one_more : {A : Type 0} (front : List A) (value : A) (r : Read (List A)) → and
 one_more {A = A} front value (Ok x) = ap (λ (values : List A). Ok (values, x.1)) (append_assoc front (value ∷ []) x.0)
 one_more front value (Err e) = refl
 
-pub goes_on : {A : Type 0} (f : List ℕ → Read A) (front : List A) (count i : ℕ) (bytes : List ℕ) (value : A) (behind : List ℕ) (total : Read (List A)) → i < count → f bytes ≡ Ok (value, behind)
-    → and_then front (each_at f (count - i) bytes) ≡ total → and_then (front ++ value ∷ []) (each_at f (count - (i + 1)) behind) ≡ total
+pub goes_on : {A : Type 0} (f : List ℕ → Read A) (front : List A) (count i : ℕ) (bytes : List ℕ) (value : A) (beyond : List ℕ) (total : Read (List A)) → i < count → f bytes ≡ Ok (value, beyond)
+    → and_then front (each_at f (count - i) bytes) ≡ total → and_then (front ++ value ∷ []) (each_at f (count - (i + 1)) beyond) ≡ total
 unfolding each_at
-goes_on f front count i bytes value behind total lt read so_far =
+goes_on f front count i bytes value beyond total lt read so_far =
     let k : count - i ≡ suc (count - (i + 1)) = omega arith in
-    let one : each_at f (count - i) bytes ≡ joined (one_and value (each_at f (count - (i + 1)) behind)) = rw (k, read) refl in
-    one_more front value (each_at f (count - (i + 1)) behind) ∙ ap (and_then front) (sym one) ∙ so_far
+    let one : each_at f (count - i) bytes ≡ joined (one_and value (each_at f (count - (i + 1)) beyond)) = rw (k, read) refl in
+    one_more front value (each_at f (count - (i + 1)) beyond) ∙ ap (and_then front) (sym one) ∙ so_far
 
 tells : {A : Type 0} (e : WireError) (r : Read A) → r ≡ Err e → Fails e r
 tells errors.Memory r is = tt

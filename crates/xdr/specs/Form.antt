@@ -16,20 +16,20 @@ pub record Form (A : Type 0) : Type 1 where
   -- the value at the front of the bytes, and the bytes after it
   pub at : List ℕ → Read A
   -- the bytes that are written for a value, with zero padding
-  pub spelling : A → List ℕ
+  pub encoding : A → List ℕ
   -- the value can be written: its numbers and lengths are within what the form can express
   pub Fits : A → Type 0
   -- what is read matches the layout, and whatever matches the layout is read, no matter which bytes follow
   pub reads : Reads layout at
   -- what is written matches the layout
-  pub encodes : (value : A) → Fits value → layout value (spelling value)
+  pub encodes : (value : A) → Fits value → layout value (encoding value)
 
 -- void
 abbrev pub nothing : Form (Unit {0})
 nothing = record {
   layout = λ v. Nothing;
   at = λ bytes. Ok (tt, bytes);
-  spelling = λ v. [];
+  encoding = λ v. [];
   Fits = λ v. Unit {0};
   reads = reads_nothing;
   encodes = nothing_is_encoded;
@@ -40,7 +40,7 @@ abbrev pub number : ℕ → Form ℕ
 number count = record {
   layout = Number count;
   at = number_at count;
-  spelling = written_number count;
+  encoding = written_number count;
   Fits = λ n. n < 256 ^ count;
   reads = reads_number count;
   encodes = number_is_encoded count;
@@ -59,18 +59,18 @@ abbrev pub flag : Form Bool
 flag = record {
   layout = Flag;
   at = flag_at;
-  spelling = written_flag;
+  encoding = written_flag;
   Fits = λ b. Unit {0};
   reads = reads_flag;
   encodes = λ b fits. flag_is_encoded b;
 }
 
 -- opaque value[count], where count is a multiple of four, so that no padding follows
-abbrev pub fixed : ℕ → Form (List ℕ)
-fixed count = record {
+abbrev pub fixed_opaque : ℕ → Form (List ℕ)
+fixed_opaque count = record {
   layout = Fixed count;
   at = fixed_at count;
-  spelling = λ bytes. bytes;
+  encoding = λ bytes. bytes;
   Fits = λ bytes. length bytes ≡ count;
   reads = reads_fixed count;
   encodes = fixed_is_encoded count;
@@ -81,7 +81,7 @@ abbrev pub opaque : ℕ → Form (List ℕ)
 opaque limit = record {
   layout = Opaque limit;
   at = opaque_at limit;
-  spelling = written_opaque;
+  encoding = written_opaque;
   Fits = λ bytes. (length bytes ≤ limit) × (length bytes < 2 ^ 32);
   reads = reads_opaque limit;
   encodes = λ bytes fits. opaque_is_encoded limit bytes fits.0 fits.1;
@@ -96,10 +96,11 @@ abbrev pub many : {A : Type 0} → ℕ → Form A → Form (List A)
 many limit f = record {
   layout = Many limit f.layout;
   at = many_at limit f.at;
-  spelling = written_many f.spelling;
+  encoding = written_many f.encoding;
   Fits = λ values. (length values ≤ limit) × (length values < 2 ^ 32) × All f.Fits values;
   reads = reads_many limit f.layout f.at f.reads;
-  encodes = λ values fits. many_are_encoded limit f.layout f.spelling f.Fits f.encodes values fits.0 fits.1 fits.2;
+  encodes = λ values fits. many_are_encoded limit f.layout f.encoding f.Fits f.encodes values fits.0
+      fits.1 fits.2;
 }
 
 -- a value of the first form, and then one of the second
@@ -108,29 +109,32 @@ abbrev pub ◌and◌ : {A B : Type 0} → Form A → Form B → Form (A × B)
 f and g = record {
   layout = λ p. f.layout p.0 ⨾ g.layout p.1;
   at = f.at then g.at;
-  spelling = λ p. f.spelling p.0 ++ g.spelling p.1;
+  encoding = λ p. f.encoding p.0 ++ g.encoding p.1;
   Fits = λ p. f.Fits p.0 × g.Fits p.1;
   reads = reads_then f.layout g.layout f.at g.at f.reads g.reads;
-  encodes = both_are_encoded f.layout g.layout f.spelling g.spelling f.Fits g.Fits f.encodes g.encodes;
+  encodes =
+      both_are_encoded f.layout g.layout f.encoding g.encoding f.Fits g.Fits f.encodes g.encodes;
 }
 
 -- a record whose fields have this form: `make` and `fields` are each other's inverse
-abbrev pub of : {A B : Type 0} → (make : A → B) (fields : B → A) → ((a : A) → fields (make a) ≡ a) → ((b : B) → make (fields b) ≡ b) → Form A → Form B
+abbrev pub of : {A B : Type 0} → (make : A → B) (fields : B → A) → ((a : A) → fields (make a) ≡ a)
+    → ((b : B) → make (fields b) ≡ b) → Form A → Form B
 of make fields back again f = record {
   layout = λ b. f.layout (fields b);
   at = as_value make f.at;
-  spelling = λ b. f.spelling (fields b);
+  encoding = λ b. f.encoding (fields b);
   Fits = λ b. f.Fits (fields b);
   reads = reads_as f.layout f.at make fields back again f.reads;
   encodes = λ b fits. f.encodes (fields b) fits;
 }
 
 -- enum: these values, each of which is found by its number
-abbrev pub enumeration : {A : Type 0} → (number_of : A → ℕ) (values : List A) → ((value : A) → find (λ v. number_of v == number_of value) values ≡ Some value) → Form A
+abbrev pub enumeration : {A : Type 0} → (number_of : A → ℕ) (values : List A)
+    → ((value : A) → find (λ v. number_of v == number_of value) values ≡ Some value) → Form A
 enumeration number_of values known = record {
   layout = λ value. U32 (number_of value);
   at = value_at number_of values;
-  spelling = λ value. written_u32 (number_of value);
+  encoding = λ value. written_u32 (number_of value);
   Fits = λ value. number_of value < 2 ^ 32;
   reads = reads_value number_of values known;
   encodes = λ value fits. number_is_encoded 4 (number_of value) fits;
@@ -141,7 +145,7 @@ abbrev pub constant : ℕ → Form (Unit {0})
 constant n = record {
   layout = λ v. U32 n;
   at = constant_at n;
-  spelling = λ v. written_u32 n;
+  encoding = λ v. written_u32 n;
   Fits = λ v. n < 2 ^ 32;
   reads = reads_constant n;
   encodes = λ v fits. number_is_encoded 4 n fits;

@@ -43,7 +43,9 @@ NO_LIMIT = 2 ^ 32 - 1
 
 -- a length of at most the limit, that many bytes, and padding of any bytes
 abbrev pub Opaque : ℕ → List ℕ → List ℕ → Type 0
-Opaque limit value = λ bytes. (length value ≤ limit) × (U32 (length value) ⨾ Fixed (length value) value ⨾ Any (padding_of (length value))) bytes
+Opaque limit value =
+    λ bytes. (length value ≤ limit)
+    × (U32 (length value) ⨾ Fixed (length value) value ⨾ Any (padding_of (length value))) bytes
 
 -- values, one after the other
 abbrev pub Each : {A : Type 0} → (A → List ℕ → Type 0) → List A → List ℕ → Type 0

@@ -11,7 +11,8 @@ abbrev pub Read : Type 0 → Type 0
 Read A = Result (A × List ℕ) WireError
 
 infixl 10 ◌>>=◌
-abbrev pub ◌>>=◌ : {A B : Type 0} → Result A WireError → (A → Result B WireError) → Result B WireError
+abbrev pub ◌>>=◌ : {A B : Type 0} → Result A WireError → (A → Result B WireError)
+    → Result B WireError
 (Ok x) >>= f = f x
 (Err e) >>= f = Err e
 
@@ -32,16 +33,19 @@ Answers view (Ok x) read = read ≡ Ok (view x)
 Answers view (Err e) read = read ≡ Err e
 
 unfoldable pub number_at : ℕ → List ℕ → Read ℕ
-number_at count bytes = if nat_lt (length bytes) count then Err errors.Short else Ok (big_number count bytes, drop count bytes)
+number_at count bytes = if nat_lt (length bytes) count then Err errors.Short
+    else Ok (big_number count bytes, drop count bytes)
 
 abbrev pub flag_of : ℕ → List ℕ → Read Bool
-flag_of n rest = if n == 0 then Ok (false, rest) else if n == 1 then Ok (true, rest) else Err errors.Short
+flag_of n rest =
+    if n == 0 then Ok (false, rest) else if n == 1 then Ok (true, rest) else Err errors.Short
 
 unfoldable pub flag_at : List ℕ → Read Bool
 flag_at bytes = number_at 4 bytes >>= λ n. flag_of n.0 n.1
 
 unfoldable pub fixed_at : ℕ → List ℕ → Read (List ℕ)
-fixed_at count bytes = if nat_lt (length bytes) count then Err errors.Short else Ok (take count bytes, drop count bytes)
+fixed_at count bytes = if nat_lt (length bytes) count then Err errors.Short
+    else Ok (take count bytes, drop count bytes)
 
 -- `count` bytes, with their padding read as well
 abbrev pub padded_at : ℕ → List ℕ → Read (List ℕ)
@@ -50,7 +54,8 @@ padded_at count bytes =
     else Ok (take count bytes, drop (count + padding_of count) bytes)
 
 unfoldable pub opaque_at : ℕ → List ℕ → Read (List ℕ)
-opaque_at limit bytes = number_at 4 bytes >>= λ n. if nat_lt limit n.0 then Err errors.TooLong else padded_at n.0 n.1
+opaque_at limit bytes =
+    number_at 4 bytes >>= λ n. if nat_lt limit n.0 then Err errors.TooLong else padded_at n.0 n.1
 
 -- a value of the first kind, and then one of the second
 infixr 5 ◌then◌
@@ -68,7 +73,8 @@ or_short (Some value) rest = Ok (value, rest)
 
 -- the value in the list whose number is at the front
 unfoldable pub value_at : {A : Type 0} → (A → ℕ) → List A → List ℕ → Read A
-value_at number_of values bytes = number_at 4 bytes >>= λ n. or_short (find (λ v. number_of v == n.0) values) n.1
+value_at number_of values bytes =
+    number_at 4 bytes >>= λ n. or_short (find (λ v. number_of v == n.0) values) n.1
 
 -- nothing is read but this number, which has to be at the front
 unfoldable pub constant_at : ℕ → List ℕ → Read (Unit {0})
@@ -81,7 +87,8 @@ each_at f (suc count) bytes = as_value (λ p. p.0 ∷ p.1) (f then each_at f cou
 
 -- a count of at most the limit, and that many values
 unfoldable pub many_at : {A : Type 0} → ℕ → (List ℕ → Read A) → List ℕ → Read (List A)
-many_at limit f bytes = number_at 4 bytes >>= λ n. if nat_lt limit n.0 then Err errors.TooLong else each_at f n.0 n.1
+many_at limit f bytes =
+    number_at 4 bytes >>= λ n. if nat_lt limit n.0 then Err errors.TooLong else each_at f n.0 n.1
 
 -- the bytes begin with some that match the layout, and `rest` follows
 abbrev pub Begins : (List ℕ → Type 0) → List ℕ → List ℕ → Type 0
@@ -90,5 +97,7 @@ Begins layout bytes rest = (front : List ℕ) × (bytes ≡ front ++ rest) × la
 -- A reading function reads a layout: what it reads matches the layout, and what matches the layout is read, whatever
 -- follows.
 pub record Reads {A : Type 0} (layout : A → List ℕ → Type 0) (read : List ℕ → Read A) : Type 0 where
-  pub sound : (bytes : List ℕ) (value : A) (rest : List ℕ) → read bytes ≡ Ok (value, rest) → Begins (layout value) bytes rest
-  pub complete : (value : A) (front rest : List ℕ) → layout value front → read (front ++ rest) ≡ Ok (value, rest)
+  pub sound : (bytes : List ℕ) (value : A) (rest : List ℕ) → read bytes ≡ Ok (value, rest)
+      → Begins (layout value) bytes rest
+  pub complete : (value : A) (front rest : List ℕ) → layout value front
+      → read (front ++ rest) ≡ Ok (value, rest)

@@ -21,17 +21,17 @@ pub record Arm (V : Type 0) : Type 1 where
   pub value : V
   pub layout : List ℕ → Type 0
   pub at : List ℕ → Read V
-  pub spelling : List ℕ
+  pub encoding : List ℕ
   pub Fits : Type 0
   pub complete : (front rest : List ℕ) → layout front → at (front ++ rest) ≡ Ok (value, rest)
-  pub encodes : Fits → layout spelling
+  pub encodes : Fits → layout encoding
 
 abbrev pub arm : {A V : Type 0} → Form A → (A → V) → A → Arm V
 arm form make content = record {
   value = make content;
   layout = form.layout content;
   at = as_value make form.at;
-  spelling = form.spelling content;
+  encoding = form.encoding content;
   Fits = form.Fits content;
   complete = λ front rest h. rw (form.reads.complete content front rest h) refl;
   encodes = form.encodes content;
@@ -53,6 +53,7 @@ Agrees tag_of arm_of tag (case {Content = A} form make) =
 Agrees tag_of arm_of tag no_case = Unit {1}
 
 -- A value is read by the case of its own tag.
-pub record IsRead {K V : Type 0} (cases : K → Case V) (tag_of : V → K) (arm_of : V → Arm V) (value : V) : Type 0 where
+pub record IsRead {K V : Type 0} (cases : K → Case V) (tag_of : V → K) (arm_of : V → Arm V)
+    (value : V) : Type 0 where
   pub is : (arm_of value).value ≡ value
   pub reads : (bytes : List ℕ) → case_at (cases (tag_of value)) bytes ≡ (arm_of value).at bytes

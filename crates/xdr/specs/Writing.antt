@@ -1,4 +1,4 @@
--- The one spelling of a value, in which all padding is zero.
+-- The one encoding of a value, in which all padding is zero.
 use Rattle.std.specs.Prelude.{◌≡◌, ℕ, ◌+◌, ◌<◌, ◌≤◌, List, [], ◌∷◌, ◌++◌, Bool, length, take, if◌then◌else◌, Result, vec_len, vec_capacity, OnOk, OnErr, IsErrOf}
 use Rattle.std.specs.Global.{Vec}
 use Rattle.std.specs.List.{flat_map}
@@ -30,14 +30,14 @@ written_opaque bytes = written_u32 (length bytes) ++ (bytes ++ zeros (padding_of
 abbrev pub written_many : {A : Type 0} → (A → List ℕ) → List A → List ℕ
 written_many f values = written_u32 (length values) ++ flat_map f values
 
--- What a writer did to the bytes written so far. At Ok the spelling follows them, and the value fits its form. TooLong
--- is returned only if the value doesn't fit, and Memory only if there was no room for the spelling. After an error the
+-- What a writer did to the bytes written so far. At Ok the encoding follows them, and the value fits its form. TooLong
+-- is returned only if the value doesn't fit, and Memory only if there was no room for the encoding. After an error the
 -- bytes are as before.
 abbrev pub Writes : {T : Type 0} → Vec ℕ → Vec ℕ → Result T WireError → List ℕ → Type 0 → Type 0
-Writes old new result spelling Fits =
-    OnOk result ((new.items ≡ old.items ++ spelling) × Fits)
+Writes old new result encoding Fits =
+    OnOk result ((new.items ≡ old.items ++ encoding) × Fits)
     × OnErr result (new.items ≡ old.items)
     × (IsErrOf result errors.TooLong → ¬ Fits)
-    × (IsErrOf result errors.Memory → vec_capacity old < vec_len old + length spelling)
+    × (IsErrOf result errors.Memory → vec_capacity old < vec_len old + length encoding)
     × (IsErrOf result errors.Short → ⊥)
     × (vec_capacity old ≤ vec_capacity new)

@@ -9,7 +9,7 @@ use crate::{Wire, WireError};
 /// Writes two values at the end, or nothing.
 pub fn write_two<A: Wire, B: Wire>(out: &mut Vec<u8>, a: &A, b: &B) -> Result<(), WireError>
     ensures { Writes out.old out.new result
-        ((A.form and B.form).spelling (a.now, b.now)) ((A.form and B.form).Fits (a.now, b.now)) }
+        ((A.form and B.form).encoding (a.now, b.now)) ((A.form and B.form).Fits (a.now, b.now)) }
 {
     let start = out.len();
     a.write(out)?;
@@ -30,7 +30,7 @@ pub fn write_three<A: Wire, B: Wire, C: Wire>(
     c: &C,
 ) -> Result<(), WireError>
     ensures { Writes out.old out.new result
-        ((A.form and B.form and C.form).spelling (a.now, (b.now, c.now)))
+        ((A.form and B.form and C.form).encoding (a.now, (b.now, c.now)))
         ((A.form and B.form and C.form).Fits (a.now, (b.now, c.now))) }
 {
     let start = out.len();
@@ -53,7 +53,7 @@ pub fn write_four<A: Wire, B: Wire, C: Wire, D: Wire>(
     d: &D,
 ) -> Result<(), WireError>
     ensures { Writes out.old out.new result
-        ((A.form and B.form and C.form and D.form).spelling (a.now, (b.now, (c.now, d.now))))
+        ((A.form and B.form and C.form and D.form).encoding (a.now, (b.now, (c.now, d.now))))
         ((A.form and B.form and C.form and D.form).Fits (a.now, (b.now, (c.now, d.now)))) }
 {
     let start = out.len();
@@ -77,8 +77,10 @@ pub fn write_five<A: Wire, B: Wire, C: Wire, D: Wire, E: Wire>(
     e: &E,
 ) -> Result<(), WireError>
     ensures { Writes out.old out.new result
-        ((A.form and B.form and C.form and D.form and E.form).spelling (a.now, (b.now, (c.now, (d.now, e.now)))))
-        ((A.form and B.form and C.form and D.form and E.form).Fits (a.now, (b.now, (c.now, (d.now, e.now))))) }
+        ((A.form and B.form and C.form and D.form and E.form).encoding
+        (a.now, (b.now, (c.now, (d.now, e.now)))))
+        ((A.form and B.form and C.form and D.form and E.form).Fits
+        (a.now, (b.now, (c.now, (d.now, e.now))))) }
 {
     let start = out.len();
     a.write(out)?;

@@ -9,7 +9,7 @@ use crate::Wire;
 /// these bytes encode, so no bytes encode two values.
 pub fn written_is_read_again<T: Wire>()
     ensures again { (value : T) (rest : List ℕ) → T.form.Fits value
-        → T.form.at (T.form.spelling value ++ rest) ≡ Ok (value, rest) }
+        → T.form.at (T.form.encoding value ++ rest) ≡ Ok (value, rest) }
     ensures one { (value : T) (bytes rest : List ℕ)
         → (T.form.at bytes ≡ Ok (value, rest)) ↔ Begins (T.form.layout value) bytes rest }
 {}

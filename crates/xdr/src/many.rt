@@ -38,9 +38,9 @@ fn read_each<T: Wire>(
     let mut values = Vec::new(alloc);
     let mut rest = bytes;
     for _ in 0..count {
-        let (value, behind) = T::read(alloc, rest)?;
+        let (value, beyond) = T::read(alloc, rest)?;
         match values.push(value) {
-            Ok(()) => rest = behind,
+            Ok(()) => rest = beyond,
             Err(_) => return Err(WireError::Memory),
         }
     }
@@ -51,7 +51,8 @@ fn read_each<T: Wire>(
 /// its form.
 pub fn write_many<T: Wire>(out: &mut Vec<u8>, values: &[T], limit: u32) -> Result<(), WireError>
     ensures { Writes out.old out.new result
-        ((forms.many limit T.form).spelling values.now) ((forms.many limit T.form).Fits values.now) }
+        ((forms.many limit T.form).encoding values.now)
+        ((forms.many limit T.form).Fits values.now) }
 {
     let Ok(count) = u32::try_from(values.len()) else {
         return Err(WireError::TooLong);
@@ -72,7 +73,8 @@ pub fn write_many<T: Wire>(out: &mut Vec<u8>, values: &[T], limit: u32) -> Resul
 
 // Writes the values one after the other.
 fn write_each<T: Wire>(out: &mut Vec<u8>, values: &[T]) -> Result<(), WireError>
-    ensures { Writes out.old out.new result (flat_map T.form.spelling values.now) (All T.form.Fits values.now) }
+    ensures { Writes out.old out.new result (flat_map T.form.encoding values.now)
+        (All T.form.Fits values.now) }
 {
     let start = out.len();
     for value in values {

@@ -8,8 +8,8 @@ use crate::{Opaque, Wire};
 pub trait Measure: Wire {
     /// How many bytes the value takes when it is written.
     fn written_len(&self) -> usize
-        requires { length (Self.form.spelling self.now) ≤ 2 ^ 32 }
-        ensures { result ≡ length (Self.form.spelling self.now) };
+        requires { length (Self.form.encoding self.now) ≤ 2 ^ 32 }
+        ensures { result ≡ length (Self.form.encoding self.now) };
 }
 
 impl Measure for () {

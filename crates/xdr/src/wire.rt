@@ -25,7 +25,7 @@ pub trait Wire: Drop {
 
     /// Writes the value at the end. TooLong if it doesn't fit its form. After an error the bytes are as before.
     fn write(&self, out: &mut Vec<u8>) -> Result<(), WireError>
-        ensures { Writes out.old out.new result (form.spelling self.now) (form.Fits self.now) };
+        ensures { Writes out.old out.new result (form.encoding self.now) (form.Fits self.now) };
 }
 
 impl Wire for () {
@@ -85,7 +85,7 @@ impl Wire for bool {
 }
 
 impl<const N: usize> Wire for [u8; N] {
-    ghost form = { forms.fixed N };
+    ghost form = { forms.fixed_opaque N };
 
     fn read(alloc: Global, bytes: &[u8]) -> Result<([u8; N], &[u8]), WireError> {
         read_fixed::<N>(bytes)

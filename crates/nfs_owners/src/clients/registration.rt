@@ -31,7 +31,7 @@ impl Clients {
             ↔ registration epoch has_state self.now.registry principal args.now ≡ None }
         ensures numbers { IfOk result (λ r. HasNumbersFor r.1 self.now.registry) }
         ensures form { IfOk result (λ r. setclientid.result.Fits r.0) }
-        ensures short { IfOk result (λ r. length (setclientid.result.spelling r.0) ≤ 300) }
+        ensures short { IfOk result (λ r. length (setclientid.result.encoding r.0) ≤ 300) }
     {
         match self.confirmed_of(args.id.as_slice()) {
             Some(record) if record.principal.is(principal) => {
@@ -64,7 +64,7 @@ impl Clients {
             client.epoch self.now.registry principal args.now ≡ None }
         ensures numbers { IfOk result (λ r. HasNumbersFor r.1 self.now.registry) }
         ensures form { IfOk result (λ r. setclientid.result.Fits r.0) }
-        ensures short { IfOk result (λ r. length (setclientid.result.spelling r.0) ≤ 300) }
+        ensures short { IfOk result (λ r. length (setclientid.result.encoding r.0) ≤ 300) }
     {
         let confirm = self.last_confirm + 1;
         let answer = SetclientidConfirm { client, confirm };
@@ -87,7 +87,7 @@ impl Clients {
             ↔ registration_by Arrival epoch self.now.registry principal args.now ≡ None }
         ensures numbers { IfOk result (λ r. HasNumbersFor r.1 self.now.registry) }
         ensures form { IfOk result (λ r. setclientid.result.Fits r.0) }
-        ensures short { IfOk result (λ r. length (setclientid.result.spelling r.0) ≤ 300) }
+        ensures short { IfOk result (λ r. length (setclientid.result.encoding r.0) ≤ 300) }
     {
         if self.last_number >= CLIENT_LIMIT {
             return Err(OwnersError::Full);
@@ -109,7 +109,7 @@ fn clid_in_use(address: &Address) -> Result<Outcome, AllocError>
     requires { is_within_limit address.now ≡ true }
     ensures ok { IfOk result (λ r. r ≡ ClidInUse address.now) }
     ensures form { IfOk result (λ r. setclientid.result.Fits r) }
-    ensures short { IfOk result (λ r. length (setclientid.result.spelling r) ≤ 300) }
+    ensures short { IfOk result (λ r. length (setclientid.result.encoding r) ≤ 300) }
 {
     Ok(Outcome::ClidInUse(address.clone()?))
 }

@@ -46,11 +46,13 @@ pub record Locking : Type 0 where
 
 -- A new lock owner under an open: NFS4ERR_INVAL for one of another client than the open's; NFS4ERR_BAD_SEQID for one
 -- that has a lock state of the file already, and for one that is known and whose next id isn't lock_seqid.
-abbrev pub introduced : History → State → Lock → NewLocker → OpenAt → Result Locking Refusal
-introduced journal state args locker at =
+abbrev pub introduction : History → State → Lock → NewLocker → OpenAt → Result Locking Refusal
+introduction journal state args locker at =
     refused_if args.reclaim refusals.NoGrace at >>= λ at.
-    refused_if (not (is_same_client locker.lock_owner.client at.state.owner.client)) refusals.Inval at >>= λ at.
-    refused_if (is_some (lock_of locker.lock_owner (locks_of at.node state.locks))) refusals.BadSeqId at >>= λ at.
+    refused_if (not (is_same_client locker.lock_owner.client at.state.owner.client))
+    refusals.Inval at >>= λ at.
+    refused_if (is_some (lock_of locker.lock_owner (locks_of at.node state.locks)))
+    refusals.BadSeqId at >>= λ at.
     refused_if (not (has_turn journal state locker)) refusals.BadSeqId (record {
       node = at.node;
       owner = locker.lock_owner;
@@ -60,8 +62,8 @@ introduced journal state args locker at =
     })
 
 -- a lock state that is there, which has its open
-abbrev pub locking_found : Lock → LockAt → Result Locking Refusal
-locking_found args at = refused_if args.reclaim refusals.NoGrace (record {
+abbrev pub locking_of_state : Lock → LockAt → Result Locking Refusal
+locking_of_state args at = refused_if args.reclaim refusals.NoGrace (record {
   node = at.node;
   owner = at.state.owner;
   mode = mode_of args.locktype;
@@ -74,11 +76,12 @@ locking_found args at = refused_if args.reclaim refusals.NoGrace (record {
 -- run to the next: NFS4ERR_NO_GRACE.
 abbrev pub locking_of : History → State → ℕ → Lock → Locker → Result Locking Refusal
 locking_of journal state node args (lockers.New locker) =
-    verdict (record { node = node; also_unconfirmed = false }) journal.epoch state locker.open_stateid >>= λ at.
-    introduced journal state args locker at
+    verdict (record { node = node; also_unconfirmed = false }) journal.epoch state
+    locker.open_stateid >>= λ at.
+    introduction journal state args locker at
 locking_of journal state node args (lockers.Known locker) =
     lock_verdict node journal.epoch state locker.lock_stateid >>= λ at.
-    locking_found args at
+    locking_of_state args at
 
 -- the open, as it is now, may do what a lock in the mode is for
 abbrev pub allows : Mode → Option OpenState → Bool
@@ -88,7 +91,8 @@ allows modes.Write (Some o) = (share_of o).access.write
 
 -- the stateid of the owner's first lock of a file
 abbrev pub first_stateid : State → LockOwner → Stateid
-first_stateid state owner = record { seqid = 1; client = owner.client; number = state.last_state + 1 }
+first_stateid state owner =
+    record { seqid = 1; client = owner.client; number = state.last_state + 1 }
 
 -- a lock state begins, unless the owners or the states would be too many
 abbrev pub beginning : State → Locking → Range → Option Ruling
@@ -114,13 +118,13 @@ addition state locking range l =
       change = Locks locking.node l.number change;
     })
 
-abbrev pub granted : State → Locking → Range → Option ByteLocks → Option Ruling
-granted state locking range None = beginning state locking range
-granted state locking range (Some l) = addition state locking range l
+abbrev pub grant : State → Locking → Range → Option ByteLocks → Option Ruling
+grant state locking range None = beginning state locking range
+grant state locking range (Some l) = addition state locking range l
 
 -- NFS4ERR_DENIED, with a report, if another owner's lock is in the way; no ruling if the report can't be written
 abbrev pub unless_denied : State → Locking → Range → Option Report → Option Ruling
-unless_denied state locking range None = granted state locking range locking.state
+unless_denied state locking range None = grant state locking range locking.state
 unless_denied state locking range (Some report) =
     if can_be_written report
     then Some (record { answer = results.Lock (Denied (denied_by report)); change = Nothing })
@@ -138,13 +142,15 @@ IsAllowed true state locking range ruling =
 abbrev pub IsOfRange : State → Locking → Option Range → Option Ruling → Type 0
 IsOfRange state locking None ruling = ruling ≡ Some (refusal_of refusals.Inval)
 IsOfRange state locking (Some range) ruling =
-    IsAllowed (allows locking.mode (open_with_number locking.open_number (opens_of locking.node state.opens)))
+    IsAllowed (allows locking.mode
+    (open_with_number locking.open_number (opens_of locking.node state.opens)))
     state locking range ruling
 
 abbrev pub IsLock : State → Lock → Result Locking Refusal → Option Ruling → Type 0
 IsLock state args (Err refusal) ruling = ruling ≡ Some (refusal_of refusal)
 IsLock state args (Ok locking) ruling =
-    (range : Option Range) × IsRangeOf args.offset args.length range × IsOfRange state locking range ruling
+    (range : Option Range) × IsRangeOf args.offset args.length range
+    × IsOfRange state locking range ruling
 
 -- the rule of LOCK under the current filehandle; no ruling if a limit would be exceeded
 abbrev pub own : History → State → Lock → Own

@@ -22,7 +22,8 @@ use Rattle.nfs_xdr.specs.declared.op_result.OpResult.TheVariants as results
 
 -- an answer, which changes nothing
 abbrev pub only : Answer (Unit {0}) LockDenied (Unit {0}) → Decision
-only answer = record { answer = results.Lockt answer; change = changes.Nothing; owner = no_owner.Nothing }
+only answer =
+    record { answer = results.Lockt answer; change = changes.Nothing; owner = no_owner.Nothing }
 
 abbrev pub place_of : Option ℕ → Result ℕ Refusal
 place_of None = Err refusals.NoFileHandle
@@ -30,10 +31,11 @@ place_of (Some node) = Ok node
 
 -- The file that is asked about, or the first refusal: NFS4ERR_NOFILEHANDLE, NFS4ERR_STALE_CLIENTID for an owner whose
 -- client isn't known, NFS4ERR_ISDIR for a directory.
-abbrev pub file_asked : History → State → Option ℕ → Lockt → Result ℕ Refusal
-file_asked journal state filehandle args =
+abbrev pub lockt_file : History → State → Option ℕ → Lockt → Result ℕ Refusal
+lockt_file journal state filehandle args =
     place_of filehandle >>= λ node.
-    refused_if (not (is_some (record_of args.owner.client state.clients))) refusals.StaleClientId node >>= λ node.
+    refused_if (not (is_some (record_of args.owner.client state.clients)))
+    refusals.StaleClientId node >>= λ node.
     refused_if (is_directory journal.nodes node) refusals.IsDir node
 
 -- NFS4_OK, or NFS4ERR_DENIED with a report of the lock that is in the way; none if the report can't be written
@@ -52,9 +54,10 @@ IsOfRange state args node (Some range) decision =
 abbrev pub IsTest : State → Lockt → Result ℕ Refusal → Option Decision → Type 0
 IsTest state args (Err refusal) decision = decision ≡ Some (only (Refused refusal))
 IsTest state args (Ok node) decision =
-    (range : Option Range) × IsRangeOf args.offset args.length range × IsOfRange state args node range decision
+    (range : Option Range) × IsRangeOf args.offset args.length range
+    × IsOfRange state args node range decision
 
 -- the rule of LOCKT
 abbrev pub IsRuled : History → State → Option ℕ → Lockt → Option Decision → Type 0
 IsRuled journal state filehandle args decision =
-    IsTest state args (file_asked journal state filehandle args) decision
+    IsTest state args (lockt_file journal state filehandle args) decision

@@ -33,7 +33,8 @@ unlocking state at (Some range) =
 abbrev pub IsUnlock : State → Locku → Result LockAt Refusal → Option Ruling → Type 0
 IsUnlock state args (Err refusal) ruling = ruling ≡ Some (refusal_of refusal)
 IsUnlock state args (Ok at) ruling =
-    (range : Option Range) × IsRangeOf args.offset args.length range × (ruling ≡ unlocking state at range)
+    (range : Option Range) × IsRangeOf args.offset args.length range
+    × (ruling ≡ unlocking state at range)
 
 -- The rule of LOCKU under the current filehandle: the stateid has to name a lock state there. The type of the lock isn't
 -- used.

@@ -17,7 +17,7 @@ use Rattle.nfs_share.specs.declared.share.Share.{Share}
 use Rattle.nfs_share.specs.AllOpens.{opens_of}
 use Rattle.nfs_share.specs.Opens.{is_refused, next_stateid_of, open_of}
 use Rattle.nfs_share.specs.Share.{share_of_numbers}
-use Rattle.nfs_tree.specs.Tree.{is_directory, resolved}
+use Rattle.nfs_tree.specs.Tree.{is_directory, resolution}
 use Rattle.nfs_forms.specs.declared.answer.Answer.TheVariants.{Done, Refused}
 use Rattle.nfs_forms.specs.declared.claim.Claim.{Claim}
 use Rattle.nfs_forms.specs.declared.claim.Claim.TheVariants as claims
@@ -42,9 +42,9 @@ name_of (claims.DelegateCur id name) = Ok name
 name_of (claims.DelegatePrev name) = Err refusals.NotSupp
 
 -- NFS4ERR_INVAL for numbers that are no access or no denial
-abbrev pub share_asked : Option Share → Result Share Refusal
-share_asked None = Err refusals.Inval
-share_asked (Some share) = Ok share
+abbrev pub share_or_inval : Option Share → Result Share Refusal
+share_or_inval None = Err refusals.Inval
+share_or_inval (Some share) = Ok share
 
 -- No file can be created: where there is none with the name, OPEN4_CREATE is NFS4ERR_ACCESS.
 abbrev pub found_by : OpenHow → Result ℕ Refusal → Result ℕ Refusal
@@ -84,8 +84,8 @@ unless_denied state owner share node =
 abbrev pub opening : History → State → ℕ → Open → Result Opening Refusal
 opening journal state directory args =
     name_of args.claim >>= λ name.
-    share_asked (share_of_numbers args.access args.deny) >>= λ share.
-    found_by args.how (resolved journal.nodes directory name) >>= λ found.
+    share_or_inval (share_of_numbers args.access args.deny) >>= λ share.
+    found_by args.how (resolution journal.nodes directory name) >>= λ found.
     file_at journal args.how found >>= λ file.
     unless_delegated journal state args.claim file >>= λ node.
     unless_denied state args.owner share node

@@ -42,4 +42,5 @@ IsFound (Ok at) args ruling = IsDowngrade at (share_of_numbers args.access args.
 abbrev pub own : History → State → OpenDowngrade → Own
 own journal state args node passage None = ⊥
 own journal state args node passage (Some ruling) =
-    IsFound (verdict (record { node = node; also_unconfirmed = false }) journal.epoch state args.stateid) args ruling
+    IsFound (verdict (record { node = node; also_unconfirmed = false }) journal.epoch state
+    args.stateid) args ruling

@@ -27,8 +27,8 @@ granted_stateid passage state owner node =
     else None
 
 -- the answer to an OPEN that is granted with this stateid
-abbrev pub granted : Passage → Stateid → OpResult
-granted passage id = results.Open (Done (record {
+abbrev pub ok_answer : Passage → Stateid → OpResult
+ok_answer passage id = results.Open (Done (record {
   stateid = id;
   change = record { atomic = true; before = 0; after = 0 };
   rflags = rflags_of passage;

@@ -23,7 +23,8 @@ refusal_of refusal = record {
 -- Otherwise the owner is forgotten with its lock states; one that isn't known is forgotten already.
 abbrev pub decision_of : State → ReleaseLockowner → Decision
 decision_of state args =
-    if not (is_some (record_of args.owner.client state.clients)) then refusal_of refusals.StaleClientId
+    if not (is_some (record_of args.owner.client state.clients))
+    then refusal_of refusals.StaleClientId
     else if holds args.owner state.locks then refusal_of refusals.LocksHeld
     else record {
       answer = results.ReleaseLockowner (Done tt);

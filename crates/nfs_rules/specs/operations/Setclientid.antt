@@ -13,7 +13,11 @@ use Rattle.nfs_operations.specs.declared.setclientid.Setclientid.{Setclientid}
 
 -- the answer and the change of the clients' records, as a decision
 abbrev pub decision_of : Outcome × ClientChange → Decision
-decision_of outcome = record { answer = results.Setclientid outcome.0; change = Clients outcome.1; owner = no_owner.Nothing }
+decision_of outcome = record {
+  answer = results.Setclientid outcome.0;
+  change = Clients outcome.1;
+  owner = no_owner.Nothing;
+}
 
 -- The rule of SETCLIENTID. It depends on whether the client of the confirmed record with the id has state.
 abbrev pub rule : History → State → Request → Setclientid → Option Decision

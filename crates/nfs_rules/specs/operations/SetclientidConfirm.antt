@@ -22,7 +22,11 @@ path_of Assume = Up
 
 -- the answer and the change of the clients' records, as a decision
 abbrev pub decision_of : Outcome × ClientChange → Decision
-decision_of outcome = record { answer = results.SetclientidConfirm outcome.0; change = Clients outcome.1; owner = no_owner.Nothing }
+decision_of outcome = record {
+  answer = results.SetclientidConfirm outcome.0;
+  change = Clients outcome.1;
+  owner = no_owner.Nothing;
+}
 
 -- The rule of SETCLIENTID_CONFIRM. It depends on whether the client that would be replaced has state.
 abbrev pub rule : History → State → Request → SetclientidConfirm → Option Decision

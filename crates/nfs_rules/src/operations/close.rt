@@ -31,7 +31,7 @@ pub(super) fn rule(tables: &Tables, journal: &Journal, node: u32, args: &Close) 
             change: Change::Nothing,
         },
         Ok(found) => Ruling {
-            answer: freed(&found.state),
+            answer: ok_answer(&found.state),
             change: Change::Closes {
                 node: found.node,
                 number: found.state.number,
@@ -42,10 +42,10 @@ pub(super) fn rule(tables: &Tables, journal: &Journal, node: u32, args: &Close) 
 
 // The answer to a CLOSE that frees the open: its stateid with the next seqid.
 #[tactic(auto, unfolding(nfs_xdr::specs::OpResult::op_result, nfs_xdr::specs::Opnum::opnum, nfs_forms::specs::Status::status, xdr::specs::Writing::written_number, nfs_forms::specs::Answer::answer, nfs_forms::specs::Stateid::stateid, nfs_forms::specs::ClientId::client_id))]
-fn freed(state: &OpenState) -> OpResult
+fn ok_answer(state: &OpenState) -> OpResult
     ensures value { result ≡ OpResult.Close (Answer.Done (next_stateid_of state.now)) }
     ensures form { op_result.Fits result }
-    ensures short { length (op_result.spelling result) ≤ ANSWER_LIMIT }
+    ensures short { length (op_result.encoding result) ≤ ANSWER_LIMIT }
 {
     OpResult::Close(Answer::Done(state.next_stateid()))
 }

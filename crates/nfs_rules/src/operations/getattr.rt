@@ -21,7 +21,8 @@ pub(super) fn decide(
     mask: &Bitmap,
 ) -> Result<Decision, Shortage>
     requires node { IsFilehandle journal.now request.now.filehandle }
-    ensures { Decides (λ d. d ≡ rule journal.now (state_of tables.now) request.now.filehandle mask.now)
+    ensures { Decides (λ d.
+        d ≡ rule journal.now (state_of tables.now) request.now.filehandle mask.now)
         (state_of tables.now) (Op.Getattr mask.now) result }
 {
     let answer = attributes(alloc, tables, journal, mask, request.filehandle)?;
@@ -43,7 +44,7 @@ fn attributes(
     requires node { IsFilehandle journal.now filehandle }
     ensures attributes { IfOk result (λ r.
         r ≡ attributes journal.now (state_of tables.now) filehandle mask.now) }
-    ensures short { IfOk result (λ r. length (getattr.result.spelling r) ≤ ANSWER_LIMIT - 4) }
+    ensures short { IfOk result (λ r. length (getattr.result.encoding r) ≤ ANSWER_LIMIT - 4) }
     ensures form { IfOk result (λ r. getattr.result.Fits r) }
 {
     let Some(node) = filehandle else {

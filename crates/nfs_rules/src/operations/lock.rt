@@ -6,7 +6,7 @@ ghost use Rattle.nfs_operations.specs.declared.lock.Lock.{Lock};
 ghost use Rattle.nfs_rules.specs.Deciding.{Rules};
 ghost use Rattle.nfs_rules.specs.Finding.{locking_or_refusal_seen, locking_seen};
 ghost use Rattle.nfs_rules.specs.declared.passage.Passage.{Passage};
-ghost use Rattle.nfs_rules.specs.operations.Lock.{IsAllowed, addition, allows, beginning, first_stateid, granted, introduced, locking_found, locking_of, own, refusal_of};
+ghost use Rattle.nfs_rules.specs.operations.Lock.{IsAllowed, addition, allows, beginning, first_stateid, grant, introduction, locking_of_state, locking_of, own, refusal_of};
 ghost use Rattle.nfs_owners.specs.StateOwner.{lock_owner};
 ghost use Rattle.nfs_share.specs.OpenFound.{open_seen};
 ghost use Rattle.nfs_state.specs.Places.{has_owner_place, has_state_place};
@@ -55,15 +55,17 @@ pub(super) fn rule(
 {
     at_most_one_range();
     let locking = match locking_of(tables, journal, node, args) {
-        Err(refusal) => return Ok(refused(refusal)),
+        Err(refusal) => return Ok(refusal_ruling(refusal)),
         Ok(locking) => locking,
     };
     let Some(range) = range_of(args.offset, args.length) else {
-        return Ok(refused(Refusal::Inval));
+        return Ok(refusal_ruling(Refusal::Inval));
     };
-    let open = tables.opens.numbered(locking.node, locking.open_number);
+    let open = tables
+        .opens
+        .open_numbered(locking.node, locking.open_number);
     if !allows(locking.mode, open) {
-        return Ok(refused(Refusal::OpenMode));
+        return Ok(refusal_ruling(Refusal::OpenMode));
     }
     lock(tables, locking, range)
 }
@@ -90,7 +92,7 @@ fn locking_of<'a>(
         }
         Locker::Known(locker) => {
             let found = lock_verdict(tables, node, journal.epoch(), locker.lock_stateid)?;
-            locking_found(args, found)
+            locking_of_state(args, found)
         }
     }
 }
@@ -104,7 +106,7 @@ fn introduce<'a>(
 ) -> Result<Locking<'a>, Refusal>
     ensures { (journal : History) → Agrees journal tables.now.owners.owners
         → locking_or_refusal_seen result
-        ≡ introduced journal (state_of tables.now) args.now locker.now (open_seen found.entry) }
+        ≡ introduction journal (state_of tables.now) args.now locker.now (open_seen found.entry) }
 {
     let owner = &locker.lock_owner;
     if args.reclaim {
@@ -127,9 +129,9 @@ fn introduce<'a>(
 }
 
 // A lock state that is there, which has its open.
-fn locking_found<'a>(args: &Lock, found: LockFound<'a>) -> Result<Locking<'a>, Refusal>
+fn locking_of_state<'a>(args: &Lock, found: LockFound<'a>) -> Result<Locking<'a>, Refusal>
     ensures { locking_or_refusal_seen result
-        ≡ locking_found args.now (lock_found_seen found.entry) }
+        ≡ locking_of_state args.now (lock_found_seen found.entry) }
 {
     if args.reclaim {
         return Err(Refusal::NoGrace);
@@ -185,7 +187,7 @@ fn lock(tables: &Tables, locking: Locking<'_>, range: Range) -> Result<Ruling, S
 fn grant(tables: &Tables, locking: Locking<'_>, range: Range) -> Result<Ruling, Shortage>
     requires { tables.now.numbers < 2 ^ 32 - 1 }
     ensures { (args : Lock) → let l = locking_seen locking.entry in
-        Rules (λ ruling. ruling ≡ granted (state_of tables.now) l range l.state)
+        Rules (λ ruling. ruling ≡ grant (state_of tables.now) l range l.state)
         (state_of tables.now) (Op.Lock args) result }
 {
     match locking.state {
@@ -210,7 +212,7 @@ fn begin(tables: &Tables, locking: Locking<'_>, range: Range) -> Result<Ruling, 
         change: lock_of_bytes(locking.mode, range),
     };
     Ok(Ruling {
-        answer: locked(first_stateid(tables, locking.owner)),
+        answer: ok_answer(first_stateid(tables, locking.owner)),
         change: Change::Begins {
             node: locking.node,
             first,
@@ -243,7 +245,7 @@ fn add(
         return Err(Shortage::Limit);
     }
     Ok(Ruling {
-        answer: locked(state.next_stateid()),
+        answer: ok_answer(state.next_stateid()),
         change: Change::Locks {
             node,
             number: state.number,
@@ -265,10 +267,10 @@ fn first_stateid(tables: &Tables, owner: &LockOwner) -> Stateid
 }
 
 #[tactic(auto, unfolding(nfs_xdr::specs::OpResult::op_result, nfs_xdr::specs::Opnum::opnum, nfs_forms::specs::Status::status, xdr::specs::Writing::written_number, nfs_forms::specs::Answer::answer))]
-fn refused(refusal: Refusal) -> Ruling
+fn refusal_ruling(refusal: Refusal) -> Ruling
     ensures value { result ≡ refusal_of refusal }
     ensures form { op_result.Fits result.answer }
-    ensures short { length (op_result.spelling result.answer) ≤ ANSWER_LIMIT }
+    ensures short { length (op_result.encoding result.answer) ≤ ANSWER_LIMIT }
 {
     Ruling {
         answer: OpResult::Lock(Answer::Refused(refusal)),
@@ -278,10 +280,10 @@ fn refused(refusal: Refusal) -> Ruling
 
 // The answer to a LOCK that is granted.
 #[tactic(auto, unfolding(nfs_xdr::specs::OpResult::op_result, nfs_xdr::specs::Opnum::opnum, nfs_forms::specs::Status::status, xdr::specs::Writing::written_number, nfs_forms::specs::Answer::answer, nfs_forms::specs::Stateid::stateid, nfs_forms::specs::ClientId::client_id))]
-fn locked(stateid: Stateid) -> OpResult
+fn ok_answer(stateid: Stateid) -> OpResult
     ensures value { result ≡ OpResult.Lock (Answer.Done stateid) }
     ensures form { op_result.Fits result }
-    ensures short { length (op_result.spelling result) ≤ ANSWER_LIMIT }
+    ensures short { length (op_result.encoding result) ≤ ANSWER_LIMIT }
 {
     OpResult::Lock(Answer::Done(stateid))
 }

@@ -1,7 +1,7 @@
 ghost use Rattle.std.specs.Prelude.{◌≡◌, ◌≤◌, IfOk, IsErrOf, Ok, Some, None, length};
 ghost use Rattle.nfs_operations.specs.Lockt as lockt;
 ghost use Rattle.nfs_rules.specs.Deciding.{Decides};
-ghost use Rattle.nfs_rules.specs.operations.Lockt.{IsRuled, IsTest, file_asked, only};
+ghost use Rattle.nfs_rules.specs.operations.Lockt.{IsRuled, IsTest, lockt_file, only};
 ghost use Rattle.nfs_state.specs.Room.{state_of};
 
 use crate::decision::Decision;
@@ -24,7 +24,7 @@ pub(super) fn decide(
     ensures { Decides (IsRuled journal.now (state_of tables.now) request.now.filehandle args.now)
         (state_of tables.now) (Op.Lockt args.now) result }
 {
-    let answer = match file_asked(tables, journal, request.filehandle, args) {
+    let answer = match lockt_file(tables, journal, request.filehandle, args) {
         Ok(node) => test(tables, node, args)?,
         Err(refusal) => Answer::Refused(refusal),
     };
@@ -36,14 +36,14 @@ pub(super) fn decide(
 }
 
 // The node of the file that is asked about, or the first refusal.
-fn file_asked(
+fn lockt_file(
     tables: &Tables,
     journal: &Journal,
     filehandle: Option<u32>,
     args: &Lockt,
 ) -> Result<u32, Refusal>
     ensures { result
-        ≡ file_asked journal.now (state_of tables.now) filehandle args.now }
+        ≡ lockt_file journal.now (state_of tables.now) filehandle args.now }
 {
     let node = filehandle.ok_or(Refusal::NoFileHandle)?;
     if tables.clients.of(args.owner.client).is_none() {
@@ -61,7 +61,7 @@ fn test(tables: &Tables, node: u32, args: &Lockt) -> Result<Answer<(), LockDenie
     ensures answer { IfOk result (λ a.
         IsTest (state_of tables.now) args.now (Ok node) (Some (only a))) }
     ensures form { IfOk result (λ a. lockt.result.Fits a) }
-    ensures short { IfOk result (λ a. length (lockt.result.spelling a) ≤ 1060) }
+    ensures short { IfOk result (λ a. length (lockt.result.encoding a) ≤ 1060) }
     ensures limit { IsErrOf result Shortage.Limit
         → IsTest (state_of tables.now) args.now (Ok node) None }
     ensures memory { IsErrOf result Shortage.Memory

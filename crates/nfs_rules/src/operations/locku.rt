@@ -31,9 +31,9 @@ pub(super) fn rule(
 {
     at_most_one_range();
     match lock_verdict(tables, node, journal.epoch(), args.stateid) {
-        Err(refusal) => Ok(refused(refusal)),
+        Err(refusal) => Ok(refusal_ruling(refusal)),
         Ok(found) => match range_of(args.offset, args.length) {
-            None => Ok(refused(Refusal::Inval)),
+            None => Ok(refusal_ruling(Refusal::Inval)),
             Some(range) => unlock(tables, found, range),
         },
     }
@@ -51,7 +51,7 @@ fn unlock(tables: &Tables, found: LockFound<'_>, range: Range) -> Result<Ruling,
         return Err(Shortage::Limit);
     }
     Ok(Ruling {
-        answer: unlocked(state),
+        answer: ok_answer(state),
         change: Change::Locks {
             node,
             number: state.number,
@@ -61,10 +61,10 @@ fn unlock(tables: &Tables, found: LockFound<'_>, range: Range) -> Result<Ruling,
 }
 
 #[tactic(auto, unfolding(nfs_xdr::specs::OpResult::op_result, nfs_xdr::specs::Opnum::opnum, nfs_forms::specs::Status::status, xdr::specs::Writing::written_number, nfs_forms::specs::Answer::answer))]
-fn refused(refusal: Refusal) -> Ruling
+fn refusal_ruling(refusal: Refusal) -> Ruling
     ensures value { result ≡ refusal_of refusal }
     ensures form { op_result.Fits result.answer }
-    ensures short { length (op_result.spelling result.answer) ≤ ANSWER_LIMIT }
+    ensures short { length (op_result.encoding result.answer) ≤ ANSWER_LIMIT }
 {
     Ruling {
         answer: OpResult::Locku(Answer::Refused(refusal)),
@@ -74,10 +74,10 @@ fn refused(refusal: Refusal) -> Ruling
 
 // The answer to a LOCKU that is granted: the lock state's stateid with the next seqid.
 #[tactic(auto, unfolding(nfs_xdr::specs::OpResult::op_result, nfs_xdr::specs::Opnum::opnum, nfs_forms::specs::Status::status, xdr::specs::Writing::written_number, nfs_forms::specs::Answer::answer, nfs_forms::specs::Stateid::stateid, nfs_forms::specs::ClientId::client_id))]
-fn unlocked(state: &LockState) -> OpResult
+fn ok_answer(state: &LockState) -> OpResult
     ensures value { result ≡ OpResult.Locku (Answer.Done (next_stateid_of (lock_seen state.now))) }
     ensures form { op_result.Fits result }
-    ensures short { length (op_result.spelling result) ≤ ANSWER_LIMIT }
+    ensures short { length (op_result.encoding result) ≤ ANSWER_LIMIT }
 {
     OpResult::Locku(Answer::Done(state.next_stateid()))
 }

@@ -7,7 +7,7 @@ ghost use Rattle.nfs_rules.specs.Finding.{target_seen};
 ghost use Rattle.nfs_state.specs.Room.{state_of};
 ghost use Rattle.nfs_rules.specs.Sequences.{before_own};
 ghost use Rattle.nfs_rules.specs.operations.Open.{file_at, found_by, has_owner_place, name_of, opening, own, refusal_of_target, rflags_of, ruling_of, unless_delegated, unless_denied, wants_new};
-ghost use Rattle.nfs_rules.specs.operations.OpenGrant.{granted, granted_stateid, new_stateid};
+ghost use Rattle.nfs_rules.specs.operations.OpenGrant.{ok_answer, granted_stateid, new_stateid};
 ghost use Rattle.nfs_share.specs.AllOpens.{opens_of};
 ghost use Rattle.nfs_state.specs.Places.{has_state_place};
 ghost use Rattle.nfs_share.specs.Opens.{open_of};
@@ -46,7 +46,7 @@ pub(super) fn rule(
     match find_opening(tables, journal, directory, args) {
         Ok(opening) => grant(alloc, tables, passage, args, opening),
         Err(refusal) => Ok(Ruling {
-            answer: refused(refusal),
+            answer: refusal_answer(refusal),
             change: Change::Nothing,
         }),
     }
@@ -174,7 +174,7 @@ fn grant(
         return Err(Shortage::Limit);
     };
     Ok(Ruling {
-        answer: granted(alloc, passage, stateid),
+        answer: ok_answer(alloc, passage, stateid),
         change: Change::Opens {
             node: opening.node,
             owner: args.owner.clone()?,
@@ -251,10 +251,10 @@ fn has_state_place(tables: &Tables, passage: Passage, owner: &OpenOwner) -> bool
 
 // The answer to an OPEN that is granted.
 #[tactic(auto, unfolding(nfs_xdr::specs::OpResult::op_result, nfs_xdr::specs::Opnum::opnum, nfs_forms::specs::Status::status, xdr::specs::Writing::written_number, nfs_forms::specs::Answer::answer, nfs_operations::specs::Open::open_ok, nfs_forms::specs::Stateid::stateid, nfs_forms::specs::ClientId::client_id, nfs_forms::specs::ChangeInfo::change_info, nfs_forms::specs::DelegationType::delegation_type, nfs_forms::specs::OpenDelegation::open_delegation))]
-fn granted(alloc: Global, passage: Passage, stateid: Stateid) -> OpResult
-    ensures value { result ≡ granted passage stateid }
+fn ok_answer(alloc: Global, passage: Passage, stateid: Stateid) -> OpResult
+    ensures value { result ≡ ok_answer passage stateid }
     ensures form { op_result.Fits result }
-    ensures short { length (op_result.spelling result) ≤ ANSWER_LIMIT }
+    ensures short { length (op_result.encoding result) ≤ ANSWER_LIMIT }
 {
     OpResult::Open(Answer::Done(OpenOk {
         stateid,
@@ -271,10 +271,10 @@ fn granted(alloc: Global, passage: Passage, stateid: Stateid) -> OpResult
 
 // The answer to an OPEN that is refused.
 #[tactic(auto, unfolding(nfs_xdr::specs::OpResult::op_result, nfs_xdr::specs::Opnum::opnum, nfs_forms::specs::Status::status, xdr::specs::Writing::written_number, nfs_forms::specs::Answer::answer))]
-fn refused(refusal: Refusal) -> OpResult
+fn refusal_answer(refusal: Refusal) -> OpResult
     ensures value { result ≡ OpResult.Open (Answer.Refused refusal) }
     ensures form { op_result.Fits result }
-    ensures short { length (op_result.spelling result) ≤ ANSWER_LIMIT }
+    ensures short { length (op_result.encoding result) ≤ ANSWER_LIMIT }
 {
     OpResult::Open(Answer::Refused(refusal))
 }

@@ -37,14 +37,14 @@ pub(super) fn rule(
         also_unconfirmed: true,
     };
     let found = match verdict(tables, demand, journal.epoch(), args.stateid) {
-        Err(refusal) => return Ok(refused(refusal)),
+        Err(refusal) => return Ok(refusal_ruling(refusal)),
         Ok(found) => found,
     };
     if is_confirmed(tables, &found.state.owner) {
-        return Ok(refused(Refusal::BadStateId));
+        return Ok(refusal_ruling(Refusal::BadStateId));
     }
     Ok(Ruling {
-        answer: confirmed(&found.state),
+        answer: ok_answer(&found.state),
         change: Change::Confirms {
             node: found.node,
             number: found.state.number,
@@ -54,10 +54,10 @@ pub(super) fn rule(
 }
 
 #[tactic(auto, unfolding(nfs_xdr::specs::OpResult::op_result, nfs_xdr::specs::Opnum::opnum, nfs_forms::specs::Status::status, xdr::specs::Writing::written_number, nfs_forms::specs::Answer::answer))]
-fn refused(refusal: Refusal) -> Ruling
+fn refusal_ruling(refusal: Refusal) -> Ruling
     ensures value { result ≡ refusal_of refusal }
     ensures form { op_result.Fits result.answer }
-    ensures short { length (op_result.spelling result.answer) ≤ ANSWER_LIMIT }
+    ensures short { length (op_result.encoding result.answer) ≤ ANSWER_LIMIT }
 {
     Ruling {
         answer: OpResult::OpenConfirm(Answer::Refused(refusal)),
@@ -67,10 +67,10 @@ fn refused(refusal: Refusal) -> Ruling
 
 // The answer to an OPEN_CONFIRM that is granted: the open's stateid with the next seqid.
 #[tactic(auto, unfolding(nfs_xdr::specs::OpResult::op_result, nfs_xdr::specs::Opnum::opnum, nfs_forms::specs::Status::status, xdr::specs::Writing::written_number, nfs_forms::specs::Answer::answer, nfs_forms::specs::Stateid::stateid, nfs_forms::specs::ClientId::client_id))]
-fn confirmed(state: &OpenState) -> OpResult
+fn ok_answer(state: &OpenState) -> OpResult
     ensures value { result ≡ OpResult.OpenConfirm (Answer.Done (next_stateid_of state.now)) }
     ensures form { op_result.Fits result }
-    ensures short { length (op_result.spelling result) ≤ ANSWER_LIMIT }
+    ensures short { length (op_result.encoding result) ≤ ANSWER_LIMIT }
 {
     OpResult::OpenConfirm(Answer::Done(state.next_stateid()))
 }

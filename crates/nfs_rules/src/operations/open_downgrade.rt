@@ -26,27 +26,27 @@ pub(super) fn rule(tables: &Tables, journal: &Journal, node: u32, args: &OpenDow
         also_unconfirmed: false,
     };
     let found = match verdict(tables, demand, journal.epoch(), args.stateid) {
-        Err(refusal) => return refused(refusal),
+        Err(refusal) => return refusal_ruling(refusal),
         Ok(found) => found,
     };
     match Share::from_numbers(args.access, args.deny) {
         Some(share) if found.state.shares.can_downgrade_to(share) => Ruling {
-            answer: downgraded(&found.state),
+            answer: ok_answer(&found.state),
             change: Change::Downgrades {
                 node: found.node,
                 number: found.state.number,
                 share,
             },
         },
-        _ => refused(Refusal::Inval),
+        _ => refusal_ruling(Refusal::Inval),
     }
 }
 
 #[tactic(auto, unfolding(nfs_xdr::specs::OpResult::op_result, nfs_xdr::specs::Opnum::opnum, nfs_forms::specs::Status::status, xdr::specs::Writing::written_number, nfs_forms::specs::Answer::answer))]
-fn refused(refusal: Refusal) -> Ruling
+fn refusal_ruling(refusal: Refusal) -> Ruling
     ensures value { result ≡ refusal_of refusal }
     ensures form { op_result.Fits result.answer }
-    ensures short { length (op_result.spelling result.answer) ≤ ANSWER_LIMIT }
+    ensures short { length (op_result.encoding result.answer) ≤ ANSWER_LIMIT }
 {
     Ruling {
         answer: OpResult::OpenDowngrade(Answer::Refused(refusal)),
@@ -56,10 +56,10 @@ fn refused(refusal: Refusal) -> Ruling
 
 // The answer to an OPEN_DOWNGRADE that is granted: the open's stateid with the next seqid.
 #[tactic(auto, unfolding(nfs_xdr::specs::OpResult::op_result, nfs_xdr::specs::Opnum::opnum, nfs_forms::specs::Status::status, xdr::specs::Writing::written_number, nfs_forms::specs::Answer::answer, nfs_forms::specs::Stateid::stateid, nfs_forms::specs::ClientId::client_id))]
-fn downgraded(state: &OpenState) -> OpResult
+fn ok_answer(state: &OpenState) -> OpResult
     ensures value { result ≡ OpResult.OpenDowngrade (Answer.Done (next_stateid_of state.now)) }
     ensures form { op_result.Fits result }
-    ensures short { length (op_result.spelling result) ≤ ANSWER_LIMIT }
+    ensures short { length (op_result.encoding result) ≤ ANSWER_LIMIT }
 {
     OpResult::OpenDowngrade(Answer::Done(state.next_stateid()))
 }

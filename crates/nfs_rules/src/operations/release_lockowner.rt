@@ -15,10 +15,10 @@ pub(super) fn decide(tables: &Tables, args: &ReleaseLockowner) -> Result<Decisio
         (Op.ReleaseLockowner args.now) result }
 {
     if tables.clients.of(args.owner.client).is_none() {
-        return Ok(refused(Refusal::StaleClientId));
+        return Ok(refusal_decision(Refusal::StaleClientId));
     }
     if tables.locks.holds(&args.owner) {
-        return Ok(refused(Refusal::LocksHeld));
+        return Ok(refusal_decision(Refusal::LocksHeld));
     }
     Ok(Decision {
         answer: OpResult::ReleaseLockowner(Answer::Done(())),
@@ -29,7 +29,7 @@ pub(super) fn decide(tables: &Tables, args: &ReleaseLockowner) -> Result<Decisio
     })
 }
 
-fn refused(refusal: Refusal) -> Decision
+fn refusal_decision(refusal: Refusal) -> Decision
     ensures { result ≡ refusal_of refusal }
 {
     Decision {

@@ -47,10 +47,10 @@ pub(super) fn decide(
     at_most_one_range();
     at_most_one_report();
     let Some(node) = request.filehandle else {
-        return Ok(unsequenced(request.op.opnum().refusal(Refusal::NoFileHandle)));
+        return Ok(answer_alone(request.op.opnum().refusal(Refusal::NoFileHandle)));
     };
     match sequence_of(tables, journal, request, requester)? {
-        Sequence::Answered(answer) => Ok(unsequenced(answer)),
+        Sequence::Answered(answer) => Ok(answer_alone(answer)),
         Sequence::GoesOn(passage, name) => {
             let ruling = rule(alloc, tables, journal, node, passage, &request.op)?;
             let newcomer = newcomer_of(tables, name.client, &request.op);
@@ -60,7 +60,7 @@ pub(super) fn decide(
 }
 
 // An answer without the operation's own rule. It changes nothing.
-fn unsequenced(answer: OpResult) -> Decision
+fn answer_alone(answer: OpResult) -> Decision
     ensures { result
         ≡ record { answer = answer; change = changes.Nothing; owner = owner_changes.Nothing } }
 {

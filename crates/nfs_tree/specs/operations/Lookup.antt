@@ -3,7 +3,7 @@
 use Rattle.std.specs.Prelude.{ℕ, List, Option, Some, None, Result, Ok, Err}
 use Rattle.nfs_tree.specs.declared.filehandles.Filehandles.{Filehandles}
 use Rattle.nfs_tree.specs.Effect.{Effect, stays, moves_to}
-use Rattle.nfs_tree.specs.Tree.{Files, resolved}
+use Rattle.nfs_tree.specs.Tree.{Files, resolution}
 use Rattle.nfs_forms.specs.declared.answer.Answer.TheVariants.{Done, Refused}
 use Rattle.nfs_xdr.specs.declared.op_result.OpResult.TheVariants as results
 use Rattle.nfs_forms.specs.declared.status.Refusal.{Refusal}
@@ -16,7 +16,7 @@ lookup_found old (Ok node) = moves_to old node (results.Lookup (Done tt))
 -- NFS4ERR_NOFILEHANDLE if there is no current filehandle
 abbrev pub lookup_at : Files → Filehandles → Option ℕ → List ℕ → Effect
 lookup_at tree old None name = stays old (results.Lookup (Refused refusals.NoFileHandle))
-lookup_at tree old (Some node) name = lookup_found old (resolved tree.nodes node name)
+lookup_at tree old (Some node) name = lookup_found old (resolution tree.nodes node name)
 
 abbrev pub lookup : Files → Filehandles → List ℕ → Effect
 lookup tree old name = lookup_at tree old old.current name

@@ -56,7 +56,7 @@ impl Filehandles {
     pub(crate) fn access(&self, tree: &Tree, requested: u32) -> OpResult
         ensures effect { record { answer = result; after = self.now }
             ≡ access tree.now self.now requested }
-        ensures short { length (op_result.spelling result) ≤ TREE_ANSWER_LIMIT }
+        ensures short { length (op_result.encoding result) ≤ TREE_ANSWER_LIMIT }
         ensures form { op_result.Fits result }
     {
         match self.current {

@@ -11,7 +11,7 @@ impl Filehandles {
     #[tactic(auto, unfolding(nfs_xdr::specs::OpResult::op_result, nfs_xdr::specs::Opnum::opnum, nfs_forms::specs::Answer::answer, nfs_forms::specs::Status::status, xdr::specs::Writing::written_opaque, xdr::specs::Writing::written_number))]
     pub(crate) fn getfh(&self) -> OpResult
         ensures effect { record { answer = result; after = self.now } ≡ getfh self.now }
-        ensures short { length (op_result.spelling result) ≤ TREE_ANSWER_LIMIT }
+        ensures short { length (op_result.encoding result) ≤ TREE_ANSWER_LIMIT }
         ensures form { op_result.Fits result }
     {
         match self.current {

@@ -14,7 +14,7 @@ impl Filehandles {
         requires nodes { AreNodes tree.now self.old }
         ensures effect { record { answer = result; after = self.new }
             ≡ putfh tree.now self.old handle.now }
-        ensures short { length (op_result.spelling result) ≤ TREE_ANSWER_LIMIT }
+        ensures short { length (op_result.encoding result) ≤ TREE_ANSWER_LIMIT }
         ensures form { op_result.Fits result }
         ensures nodes { AreNodes tree.now self.new }
     {

@@ -13,7 +13,7 @@ impl Filehandles {
     pub(crate) fn savefh(&mut self, tree: &Tree) -> OpResult
         requires nodes { AreNodes tree.now self.old }
         ensures effect { record { answer = result; after = self.new } ≡ savefh self.old }
-        ensures short { length (op_result.spelling result) ≤ TREE_ANSWER_LIMIT }
+        ensures short { length (op_result.encoding result) ≤ TREE_ANSWER_LIMIT }
         ensures form { op_result.Fits result }
         ensures nodes { AreNodes tree.now self.new }
     {

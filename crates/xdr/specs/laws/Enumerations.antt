@@ -4,23 +4,26 @@ use Rattle.std.proofs.lemmas.Bool.{eqb-true}
 use Rattle.std.specs.List.{find}
 use Rattle.xdr.specs.Layout.{U32}
 use Rattle.xdr.specs.Reading.{Reads, number_at, or_short, value_at}
-use Rattle.xdr.specs.laws.Reads.{decided, bind_ok, ok_is, reads_number}
+use Rattle.xdr.specs.laws.Reads.{true_or_false, bind_ok, ok_is, reads_number}
 
 -- whatever `find` finds passes the test
-pub passes : {A : Type 0} (p : A → Bool) (values : List A) (found : A) → find p values ≡ Some found → p found ≡ true
+pub passes : {A : Type 0} (p : A → Bool) (values : List A) (found : A) → find p values ≡ Some found
+    → p found ≡ true
 passes p [] found e = absurd cc
 passes {A = A} p (value ∷ values) found e =
-    elim (decided (p value)) [
+    elim (true_or_false (p value)) [
       | inl here ↦ let same : ◌≡◌ {A = Option A} (Some value) (Some found) = rw here at e in let is : value ≡ found = cc in rw (← is) here
       | inr other ↦ passes p values found (rw other at e)
     ]
 
-or_short_ok : {A : Type 0} (found : Option A) (rest : List ℕ) (y : A × List ℕ) → or_short found rest ≡ Ok y → (found ≡ Some y.0) × (rest ≡ y.1)
+or_short_ok : {A : Type 0} (found : Option A) (rest : List ℕ) (y : A × List ℕ)
+    → or_short found rest ≡ Ok y → (found ≡ Some y.0) × (rest ≡ y.1)
 or_short_ok None rest y e = absurd cc
 or_short_ok {A = A} (Some value) rest y e =
     let same = ok_is (value, rest) y e in (ap (λ (x : A × List ℕ). Some x.0) same, ap (λ (x : A × List ℕ). x.1) same)
 
-pub reads_value : {A : Type 0} (number_of : A → ℕ) (values : List A) → ((value : A) → find (λ v. eqb (number_of v) (number_of value)) values ≡ Some value)
+pub reads_value : {A : Type 0} (number_of : A → ℕ) (values : List A)
+    → ((value : A) → find (λ v. eqb (number_of v) (number_of value)) values ≡ Some value)
     → Reads (λ (value : A). U32 (number_of value)) (value_at number_of values)
 unfolding value_at
 reads_value number_of values known = record {

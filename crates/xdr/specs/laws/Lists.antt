@@ -1,4 +1,4 @@
--- Values one after the other: the laws of reading and spelling them.
+-- Values one after the other: the laws of reading and encoding them.
 use Rattle.std.proofs.Common.{◌≡◌, ℕ, zero, suc, ◌<◌, ◌≤◌, ◌^◌, false, ltb, cond, List, [], ◌∷◌, ◌++◌, length, Ok, Err, refl, ap, subst, ◌∙◌, append_assoc, arith}
 use Rattle.std.proofs.lemmas.Bool.{ltb-false, le-ltb}
 use Rattle.std.specs.List.{All, flat_map}
@@ -13,14 +13,19 @@ use Rattle.xdr.specs.laws.Spells.{number_is_encoded}
 abbrev HoldEach : {A : Type 0} → (A → List ℕ → Type 0) → ℕ → List A → List ℕ → Type 0
 HoldEach P count values = λ bytes. (length values ≡ count) × Each P values bytes
 
-more_sound : {A : Type 0} (P : A → List ℕ → Type 0) (f : List ℕ → Read A) → Reads P f → (count : ℕ) → Reads (HoldEach P count) (each_at f count) → (bytes : List ℕ) (y : List A × List ℕ) → each_at f (suc count) bytes ≡ Ok y → Begins (HoldEach P (suc count) y.0) bytes y.1
+more_sound : {A : Type 0} (P : A → List ℕ → Type 0) (f : List ℕ → Read A) → Reads P f → (count : ℕ)
+    → Reads (HoldEach P count) (each_at f count) → (bytes : List ℕ) (y : List A × List ℕ)
+    → each_at f (suc count) bytes ≡ Ok y → Begins (HoldEach P (suc count) y.0) bytes y.1
 unfolding each_at
 more_sound {A = A} P f law count more bytes y e =
     let both = reads_then P (HoldEach P count) f (each_at f count) law more in
     as_value_gives (f then each_at f count) (λ (p : A × List A). p.0 ∷ p.1) (λ (y : List A × List ℕ). Begins (HoldEach P (suc count) y.0) bytes y.1) bytes
     (λ x g. let b = both.sound bytes x.0 x.1 g in (b.0, b.1, (ap suc b.2.4.0, (b.2.0, b.2.1, b.2.2, b.2.3, b.2.4.1)))) y e
 
-more_complete : {A : Type 0} (P : A → List ℕ → Type 0) (f : List ℕ → Read A) → Reads P f → (count : ℕ) → Reads (HoldEach P count) (each_at f count) → (values : List A) (front rest : List ℕ) → HoldEach P (suc count) values front → each_at f (suc count) (front ++ rest) ≡ Ok (values, rest)
+more_complete : {A : Type 0} (P : A → List ℕ → Type 0) (f : List ℕ → Read A) → Reads P f
+    → (count : ℕ) → Reads (HoldEach P count) (each_at f count)
+    → (values : List A) (front rest : List ℕ) → HoldEach P (suc count) values front
+    → each_at f (suc count) (front ++ rest) ≡ Ok (values, rest)
 unfolding each_at
 more_complete P f law count more [] front rest h = absurd (omega (arith, h.0))
 more_complete P f law count more (value ∷ values) front rest h =
@@ -37,14 +42,16 @@ unfolding each_at
 none_complete P f [] front rest h = rw h.1 refl
 none_complete P f (value ∷ values) front rest h = absurd (omega (arith, h.0))
 
-pub reads_each : {A : Type 0} (P : A → List ℕ → Type 0) (f : List ℕ → Read A) → Reads P f → (count : ℕ) → Reads (HoldEach P count) (each_at f count)
+pub reads_each : {A : Type 0} (P : A → List ℕ → Type 0) (f : List ℕ → Read A) → Reads P f
+    → (count : ℕ) → Reads (HoldEach P count) (each_at f count)
 reads_each P f law zero = record { sound = λ bytes values rest e. none_sound P f bytes (values, rest) e; complete = none_complete P f }
 reads_each P f law (suc count) = record {
   sound = λ bytes values rest e. more_sound P f law count (reads_each P f law count) bytes (values, rest) e;
   complete = more_complete P f law count (reads_each P f law count);
 }
 
-pub reads_many : {A : Type 0} (limit : ℕ) (P : A → List ℕ → Type 0) (f : List ℕ → Read A) → Reads P f → Reads (Many limit P) (many_at limit f)
+pub reads_many : {A : Type 0} (limit : ℕ) (P : A → List ℕ → Type 0) (f : List ℕ → Read A)
+    → Reads P f → Reads (Many limit P) (many_at limit f)
 unfolding many_at
 reads_many limit P f law = record {
   sound = λ bytes values rest e.
@@ -64,11 +71,16 @@ reads_many limit P f law = record {
       rw (number, within, (reads_each P f law (length values)).complete values tail rest (refl, h.1.4)) refl;
 }
 
-each_stand : {A : Type 0} (P : A → List ℕ → Type 0) (f : A → List ℕ) (Fits : A → Type 0) → ((value : A) → Fits value → P value (f value)) → (values : List A) → All Fits values → Each P values (flat_map f values)
+each_stand : {A : Type 0} (P : A → List ℕ → Type 0) (f : A → List ℕ) (Fits : A → Type 0)
+    → ((value : A) → Fits value → P value (f value)) → (values : List A) → All Fits values
+    → Each P values (flat_map f values)
 each_stand P f Fits law [] fits = refl
 each_stand P f Fits law (value ∷ values) fits =
     (f value, flat_map f values, refl, law value (fits 0 value (omega arith)), each_stand P f Fits law values (λ k d lt. fits (suc k) d (omega (arith, lt))))
 
-pub many_are_encoded : {A : Type 0} (limit : ℕ) (P : A → List ℕ → Type 0) (f : A → List ℕ) (Fits : A → Type 0) → ((value : A) → Fits value → P value (f value)) → (values : List A) → length values ≤ limit → length values < 2 ^ 32 → All Fits values → Many limit P values (written_many f values)
+pub many_are_encoded :
+    {A : Type 0} (limit : ℕ) (P : A → List ℕ → Type 0) (f : A → List ℕ) (Fits : A → Type 0)
+    → ((value : A) → Fits value → P value (f value)) → (values : List A) → length values ≤ limit
+    → length values < 2 ^ 32 → All Fits values → Many limit P values (written_many f values)
 many_are_encoded limit P f Fits law values within fits all =
     (within, (written_u32 (length values), flat_map f values, refl, number_is_encoded 4 (length values) fits, each_stand P f Fits law values all))

@@ -10,12 +10,13 @@ use Rattle.xdr.specs.Layout.{◌⨾◌, Nothing, Number, U32, Flag, Fixed, Opaqu
 use Rattle.xdr.specs.Reading.{Read, Reads, Begins, ◌>>=◌, ◌then◌, as_value, number_at, flag_of, flag_at, fixed_at, padded_at, opaque_at, constant_at}
 
 -- a boolean is true or false
-pub decided : (b : Bool) → (b ≡ true) ⊎ (b ≡ false)
-decided true = inl refl
-decided false = inr refl
+pub true_or_false : (b : Bool) → (b ≡ true) ⊎ (b ≡ false)
+true_or_false true = inl refl
+true_or_false false = inr refl
 
 -- if two steps in a row succeed, the first one gave a value with which the second one succeeded
-pub bind_ok : {A B : Type 0} (r : Result A WireError) (f : A → Result B WireError) (y : B) → (r >>= f) ≡ Ok y → (x : A) × (r ≡ Ok x) × (f x ≡ Ok y)
+pub bind_ok : {A B : Type 0} (r : Result A WireError) (f : A → Result B WireError) (y : B)
+    → (r >>= f) ≡ Ok y → (x : A) × (r ≡ Ok x) × (f x ≡ Ok y)
 bind_ok (Ok x) f y e = (x, refl, e)
 bind_ok (Err d) f y e = absurd cc
 
@@ -26,16 +27,19 @@ pub ok_is : {A : Type 0} (x y : A) → done x ≡ done y → x ≡ y
 ok_is x y e = cc
 
 -- if `cond b (Err d) r` succeeds, the test `b` was false and `r` succeeded
-pub guard_ok : {A : Type 0} (b : Bool) (d : WireError) (r : Result A WireError) (y : A) → cond b (Err d) r ≡ Ok y → (b ≡ false) × (r ≡ Ok y)
+pub guard_ok : {A : Type 0} (b : Bool) (d : WireError) (r : Result A WireError) (y : A)
+    → cond b (Err d) r ≡ Ok y → (b ≡ false) × (r ≡ Ok y)
 guard_ok true d r y e = absurd cc
 guard_ok false d r y e = (refl, e)
 
 -- if `cond b r (Err d)` succeeds, the test `b` was true and `r` succeeded
-pub wanted_ok : {A : Type 0} (b : Bool) (d : WireError) (r : Result A WireError) (y : A) → cond b r (Err d) ≡ Ok y → (b ≡ true) × (r ≡ Ok y)
+pub wanted_ok : {A : Type 0} (b : Bool) (d : WireError) (r : Result A WireError) (y : A)
+    → cond b r (Err d) ≡ Ok y → (b ≡ true) × (r ≡ Ok y)
 wanted_ok true d r y e = (refl, e)
 wanted_ok false d r y e = absurd cc
 
-pub Begins-then : (P Q : List ℕ → Type 0) (bytes mid rest : List ℕ) → Begins P bytes mid → Begins Q mid rest → Begins (P ⨾ Q) bytes rest
+pub Begins-then : (P Q : List ℕ → Type 0) (bytes mid rest : List ℕ) → Begins P bytes mid
+    → Begins Q mid rest → Begins (P ⨾ Q) bytes rest
 Begins-then P Q bytes mid rest p q =
     (p.0 ++ q.0, p.1 ∙ ap (λ (x : List ℕ). p.0 ++ x) q.1 ∙ sym (append_assoc p.0 q.0 rest), (p.0, q.0, refl, p.2, q.2))
 
@@ -52,25 +56,35 @@ reads_then {A = A} {B = B} P Q f g p q = record {
 }
 
 -- of two layouts in a row the first is read, and the second is left
-pub reads_first : {A : Type 0} (P : A → List ℕ → Type 0) (f : List ℕ → Read A) → Reads P f → (value : A) (Q : List ℕ → Type 0) (bytes rest : List ℕ) (h : (P value ⨾ Q) bytes) → f (bytes ++ rest) ≡ Ok (value, h.1 ++ rest)
+pub reads_first : {A : Type 0} (P : A → List ℕ → Type 0) (f : List ℕ → Read A) → Reads P f
+    → (value : A) (Q : List ℕ → Type 0) (bytes rest : List ℕ) (h : (P value ⨾ Q) bytes)
+    → f (bytes ++ rest) ≡ Ok (value, h.1 ++ rest)
 reads_first P f p value Q bytes rest h =
     ap f (ap (λ (x : List ℕ). x ++ rest) h.2 ∙ append_assoc h.0 h.1 rest) ∙ p.complete value h.0 (h.1 ++ rest) h.3
 
 -- a property of each value that is read, once it is made into another, also holds for what `as_value` gives
-pub as_value_gives : {A B : Type 0} (f : List ℕ → Read A) (make : A → B) (M : B × List ℕ → Type 0) (bytes : List ℕ) → ((x : A × List ℕ) → f bytes ≡ Ok x → M (make x.0, x.1)) → (y : B × List ℕ) → as_value make f bytes ≡ Ok y → M y
+pub as_value_gives :
+    {A B : Type 0} (f : List ℕ → Read A) (make : A → B) (M : B × List ℕ → Type 0) (bytes : List ℕ)
+    → ((x : A × List ℕ) → f bytes ≡ Ok x → M (make x.0, x.1)) → (y : B × List ℕ)
+    → as_value make f bytes ≡ Ok y → M y
 as_value_gives f make M bytes each y e =
     let a = bind_ok (f bytes) (λ a. Ok (make a.0, a.1)) y e in
     subst M (ok_is (make a.0.0, a.0.1) y a.2) (each a.0 a.1)
 
 -- if reading fails, no beginning of the bytes matches the layout
-pub lacks : {A : Type 0} (layout : A → List ℕ → Type 0) (read : List ℕ → Read A) → Reads layout read → (bytes : List ℕ) (e : WireError) → read bytes ≡ Err e → (value : A) (rest : List ℕ) → Begins (layout value) bytes rest → ⊥
+pub lacks : {A : Type 0} (layout : A → List ℕ → Type 0) (read : List ℕ → Read A) → Reads layout read
+    → (bytes : List ℕ) (e : WireError) → read bytes ≡ Err e → (value : A) (rest : List ℕ)
+    → Begins (layout value) bytes rest → ⊥
 lacks {A = A} layout read reads bytes e failed value rest found =
     let given : read bytes ≡ Ok (value, rest) = ap read found.1 ∙ reads.complete value found.0 rest found.2 in
     let clash : ◌≡◌ {A = Read A} (Err e) (Ok (value, rest)) = sym failed ∙ given in
     cc
 
 -- the layout of a record is that of its fields, if `make` and `fields` are each other's inverse
-pub reads_as : {A B : Type 0} (P : A → List ℕ → Type 0) (f : List ℕ → Read A) (make : A → B) (fields : B → A) → ((a : A) → fields (make a) ≡ a) → ((b : B) → make (fields b) ≡ b) → Reads P f → Reads (λ (b : B). P (fields b)) (as_value make f)
+pub reads_as :
+    {A B : Type 0} (P : A → List ℕ → Type 0) (f : List ℕ → Read A) (make : A → B) (fields : B → A)
+    → ((a : A) → fields (make a) ≡ a) → ((b : B) → make (fields b) ≡ b) → Reads P f
+    → Reads (λ (b : B). P (fields b)) (as_value make f)
 reads_as {A = A} {B = B} P f make fields back again p = record {
   sound = λ bytes value rest e.
       let a = bind_ok (f bytes) (λ a. Ok (make a.0, a.1)) (value, rest) e in
@@ -140,8 +154,8 @@ reads_opaque limit = record {
       let long : count + padding_of count ≤ length n.0.1 = ltb-false _ _ k.0 in
       let len : length (take count n.0.1) ≡ count = omega (arith, length-take count n.0.1) in
       let header = (reads_number 4).sound bytes count n.0.1 n.1 in
-      let behind = padded_begins count n.0.1 long in
-      let all = Begins-then (U32 count) (Fixed count (take count n.0.1) ⨾ Any (padding_of count)) bytes n.0.1 (drop (count + padding_of count) n.0.1) header behind in
+      let beyond = padded_begins count n.0.1 long in
+      let all = Begins-then (U32 count) (Fixed count (take count n.0.1) ⨾ Any (padding_of count)) bytes n.0.1 (drop (count + padding_of count) n.0.1) header beyond in
       let encodes : Begins (Opaque limit (take count n.0.1)) bytes (drop (count + padding_of count) n.0.1) =
       (all.0, all.1, (omega arith, subst (λ (c : ℕ). (U32 c ⨾ Fixed c (take count n.0.1) ⨾ Any (padding_of c)) all.0) (sym len) all.2)) in
       subst (λ (x : List ℕ × List ℕ). Begins (Opaque limit x.0) bytes x.1) (ok_is (take count n.0.1, drop (count + padding_of count) n.0.1) (value, rest) k.1) encodes;
@@ -175,9 +189,10 @@ reads_constant n = record {
   complete = λ value front rest h. rw ((reads_number 4).complete n front rest h, eq-eqb n n refl) refl;
 }
 
-flag_is_encoded : (n : ℕ) (front mid : List ℕ) (y : Bool × List ℕ) → U32 n front → flag_of n mid ≡ Ok y → Flag y.0 front × (mid ≡ y.1)
+flag_is_encoded : (n : ℕ) (front mid : List ℕ) (y : Bool × List ℕ) → U32 n front
+    → flag_of n mid ≡ Ok y → Flag y.0 front × (mid ≡ y.1)
 flag_is_encoded n front mid y number e =
-    elim (decided (eqb n 0)) [
+    elim (true_or_false (eqb n 0)) [
       | inl zeroth ↦
           let same : (false, mid) ≡ y = ok_is (false, mid) y (rw zeroth at e) in
           subst (λ (x : Bool × List ℕ). Flag x.0 front × (mid ≡ x.1)) same (subst (λ (k : ℕ). U32 k front) (eqb-true n 0 zeroth) number, refl)
@@ -187,7 +202,8 @@ flag_is_encoded n front mid y number e =
           subst (λ (x : Bool × List ℕ). Flag x.0 front × (mid ≡ x.1)) same (subst (λ (k : ℕ). U32 k front) (eqb-true n 1 one.0) number, refl)
     ]
 
-flag_complete : (b : Bool) (front rest : List ℕ) → Flag b front → flag_at (front ++ rest) ≡ Ok (b, rest)
+flag_complete : (b : Bool) (front rest : List ℕ) → Flag b front
+    → flag_at (front ++ rest) ≡ Ok (b, rest)
 unfolding flag_at
 flag_complete true front rest h = rw ((reads_number 4).complete 1 front rest h) refl
 flag_complete false front rest h = rw ((reads_number 4).complete 0 front rest h) refl
@@ -210,14 +226,14 @@ NeverMemory f = (bytes : List ℕ) → f bytes ≡ Err errors.Memory → ⊥
 pub number_never_memory : (count : ℕ) → NeverMemory (number_at count)
 unfolding number_at
 number_never_memory count bytes e =
-    elim (decided (ltb (length bytes) count)) [
+    elim (true_or_false (ltb (length bytes) count)) [
       | inl short ↦ let clash : ◌≡◌ {A = Read ℕ} (Err errors.Short) (Err errors.Memory) = rw short at e in cc
       | inr long ↦ let clash : ◌≡◌ {A = Read ℕ} (Ok (big_number count bytes, drop count bytes)) (Err errors.Memory) = rw long at e in cc
     ]
 
 padded_never_memory : (count : ℕ) (bytes : List ℕ) → padded_at count bytes ≡ Err errors.Memory → ⊥
 padded_never_memory count bytes e =
-    elim (decided (ltb (length bytes) (count + padding_of count))) [
+    elim (true_or_false (ltb (length bytes) (count + padding_of count))) [
       | inl short ↦ let clash : ◌≡◌ {A = Read (List ℕ)} (Err errors.Short) (Err errors.Memory) = rw short at e in cc
       | inr long ↦ let clash : ◌≡◌ {A = Read (List ℕ)} (Ok (take count bytes, drop (count + padding_of count) bytes)) (Err errors.Memory) = rw long at e in cc
     ]
@@ -226,9 +242,9 @@ padded_never_memory count bytes e =
 pub opaque_never_memory : (limit : ℕ) → NeverMemory (opaque_at limit)
 unfolding opaque_at number_at
 opaque_never_memory limit bytes e =
-    elim (decided (ltb (length bytes) 4)) [
+    elim (true_or_false (ltb (length bytes) 4)) [
       | inl short ↦ let clash : ◌≡◌ {A = Read (List ℕ)} (Err errors.Short) (Err errors.Memory) = rw short at e in cc
-      | inr long ↦ elim (decided (ltb limit (big_number 4 bytes))) [
+      | inr long ↦ elim (true_or_false (ltb limit (big_number 4 bytes))) [
         | inl above ↦ let clash : ◌≡◌ {A = Read (List ℕ)} (Err errors.TooLong) (Err errors.Memory) = rw (long, above) at e in cc
         | inr within ↦
             let padded : padded_at (big_number 4 bytes) (drop 4 bytes) ≡ Err errors.Memory = rw (long, within) at e in
@@ -239,16 +255,21 @@ opaque_never_memory limit bytes e =
 abbrev paired : {A B : Type 0} → A → B × List ℕ → Read (A × B)
 paired a b = Ok ((a, b.0), b.1)
 
-pair_of : {A B : Type 0} (a : A) (r : Read B) → (r ≡ Err errors.Memory → ⊥) → (r >>= paired a) ≡ Err errors.Memory → ⊥
+pair_of : {A B : Type 0} (a : A) (r : Read B) → (r ≡ Err errors.Memory → ⊥)
+    → (r >>= paired a) ≡ Err errors.Memory → ⊥
 pair_of a (Ok b) never e = cc
 pair_of a (Err d) never e = let same : d ≡ errors.Memory = cc in never (rw same refl)
 
-then_of : {A B : Type 0} (g : List ℕ → Read B) (r : Read A) → (r ≡ Err errors.Memory → ⊥) → NeverMemory g → (r >>= λ a. g a.1 >>= paired a.0) ≡ Err errors.Memory → ⊥
+then_of : {A B : Type 0} (g : List ℕ → Read B) (r : Read A) → (r ≡ Err errors.Memory → ⊥)
+    → NeverMemory g → (r >>= λ a. g a.1 >>= paired a.0) ≡ Err errors.Memory → ⊥
 then_of g (Err d) first second e = let same : d ≡ errors.Memory = cc in first (rw same refl)
 then_of g (Ok a) first second e = pair_of a.0 (g a.1) (second a.1) e
 
-pub then_never_memory : {A B : Type 0} (f : List ℕ → Read A) (g : List ℕ → Read B) → NeverMemory f → NeverMemory g → NeverMemory (f then g)
+pub then_never_memory : {A B : Type 0} (f : List ℕ → Read A) (g : List ℕ → Read B) → NeverMemory f
+    → NeverMemory g → NeverMemory (f then g)
 then_never_memory f g first second bytes e = then_of g (f bytes) (first bytes) second e
 
-pub opaque_tells : {X : Type 0} (limit : ℕ) (bytes : List ℕ) (r : Result X WireError) (e : WireError) → r ≡ Err e → opaque_at limit bytes ≡ Err e → r ≡ Err errors.Memory → ⊥
+pub opaque_tells :
+    {X : Type 0} (limit : ℕ) (bytes : List ℕ) (r : Result X WireError) (e : WireError) → r ≡ Err e
+    → opaque_at limit bytes ≡ Err e → r ≡ Err errors.Memory → ⊥
 opaque_tells limit bytes r e is told memory = let same : e ≡ errors.Memory = cc in opaque_never_memory limit bytes (rw same at told)

@@ -1,4 +1,4 @@
--- The one spelling of a value matches its layout.
+-- The one encoding of a value matches its layout.
 use Rattle.std.proofs.Common.{◌≡◌, ℕ, ◌^◌, ◌<◌, ◌≤◌, Bool, true, false, List, [], ◌∷◌, ◌++◌, length, refl, sym, ap, ◌∙◌, arith}
 use Rattle.std.proofs.lemmas.List.{append-nil, length-take}
 use Rattle.byteorder.specs.Endian.{big_number, big_bytes}
@@ -24,7 +24,8 @@ fixed_is_encoded count bytes fits = (fits, refl)
 length-zeros : (n : ℕ) → n < 4 → length (zeros n) ≡ n
 length-zeros n few = omega (arith, length-take {A = ℕ} n (0 ∷ 0 ∷ 0 ∷ 0 ∷ []))
 
-pub opaque_is_encoded : (limit : ℕ) (bytes : List ℕ) → length bytes ≤ limit → length bytes < 2 ^ 32 → Opaque limit bytes (written_opaque bytes)
+pub opaque_is_encoded : (limit : ℕ) (bytes : List ℕ) → length bytes ≤ limit → length bytes < 2 ^ 32
+    → Opaque limit bytes (written_opaque bytes)
 unfolding written_opaque
 opaque_is_encoded limit bytes within fits =
     let pad = padding_of (length bytes) in

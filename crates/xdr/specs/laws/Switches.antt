@@ -10,14 +10,19 @@ use Rattle.xdr.specs.laws.Reads.{bind_ok, Begins-then, as_value_gives}
 abbrev Found : {K V : Type 0} → (V → K) → (V → Arm V) → K → List ℕ → V × List ℕ → Type 0
 Found tag_of arm_of tag bytes y = (tag_of y.0 ≡ tag) × Begins (arm_of y.0).layout bytes y.1
 
-case_sound : {K V : Type 0} (tag_of : V → K) (arm_of : V → Arm V) (tag : K) (found : Case V) → Agrees tag_of arm_of tag found → (bytes : List ℕ) (y : V × List ℕ) → case_at found bytes ≡ Ok y → Found tag_of arm_of tag bytes y
+case_sound : {K V : Type 0} (tag_of : V → K) (arm_of : V → Arm V) (tag : K) (found : Case V)
+    → Agrees tag_of arm_of tag found → (bytes : List ℕ) (y : V × List ℕ)
+    → case_at found bytes ≡ Ok y → Found tag_of arm_of tag bytes y
 case_sound {V = V} tag_of arm_of tag (case form make) agrees bytes y e =
     as_value_gives form.at make (Found tag_of arm_of tag bytes) bytes
     (λ x f. let a = agrees x.0 in
     (a.0, subst (λ (arm : Arm V). Begins arm.layout bytes x.1) (sym a.1) (form.reads.sound bytes x.0 x.1 f))) y e
 case_sound tag_of arm_of tag no_case agrees bytes y e = absurd cc
 
-pub reads_switch : {K V : Type 0} (tag : Form K) (cases : K → Case V) (tag_of : V → K) (arm_of : V → Arm V) → ((k : K) → Agrees tag_of arm_of k (cases k)) → ((value : V) → IsRead cases tag_of arm_of value)
+pub reads_switch :
+    {K V : Type 0} (tag : Form K) (cases : K → Case V) (tag_of : V → K) (arm_of : V → Arm V)
+    → ((k : K) → Agrees tag_of arm_of k (cases k))
+    → ((value : V) → IsRead cases tag_of arm_of value)
     → Reads (λ (value : V). tag.layout (tag_of value) ⨾ (arm_of value).layout) (λ bytes. tag.at bytes >>= λ k. case_at (cases k.0) k.1)
 reads_switch {K = K} {V = V} tag cases tag_of arm_of agree is_read = record {
   sound = λ bytes value rest e.
@@ -32,6 +37,6 @@ reads_switch {K = K} {V = V} tag cases tag_of arm_of agree is_read = record {
       rw head (here ∙ ap (λ (v : V). Ok (v, rest)) (is_read value).is);
 }
 
-pub switch_is_encoded : {K V : Type 0} (tag : Form K) (tag_of : V → K) (arm_of : V → Arm V) (value : V) → tag.Fits (tag_of value) → (arm_of value).Fits → (tag.layout (tag_of value) ⨾ (arm_of value).layout) (tag.spelling (tag_of value) ++ (arm_of value).spelling)
+pub switch_is_encoded : {K V : Type 0} (tag : Form K) (tag_of : V → K) (arm_of : V → Arm V) (value : V) → tag.Fits (tag_of value) → (arm_of value).Fits → (tag.layout (tag_of value) ⨾ (arm_of value).layout) (tag.encoding (tag_of value) ++ (arm_of value).encoding)
 switch_is_encoded tag tag_of arm_of value small fits =
-    (tag.spelling (tag_of value), (arm_of value).spelling, refl, tag.encodes (tag_of value) small, (arm_of value).encodes fits)
+    (tag.encoding (tag_of value), (arm_of value).encoding, refl, tag.encodes (tag_of value) small, (arm_of value).encodes fits)

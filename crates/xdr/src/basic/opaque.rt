@@ -51,7 +51,8 @@ pub fn read_opaque_bytes<const LIMIT: u32>(
 /// Writes the length, the bytes, and zeros up to a multiple of 4 at the end. TooLong above `limit` bytes.
 #[tactic(auto, unfolding(crate::specs::Writing::written_opaque, crate::specs::Writing::written_number))]
 pub fn write_opaque(out: &mut Vec<u8>, bytes: &[u8], limit: u32) -> Result<(), WireError>
-    ensures writes { Writes out.old out.new result (written_opaque bytes.now) (length bytes.now ≤ limit) }
+    ensures writes { Writes out.old out.new result (written_opaque bytes.now)
+        (length bytes.now ≤ limit) }
     ensures too_long { limit < length bytes.now → result ≡ Err WireError.TooLong }
 {
     let Ok(len) = u32::try_from(bytes.len()) else {

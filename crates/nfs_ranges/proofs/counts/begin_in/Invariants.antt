@@ -8,7 +8,7 @@ abbrev pub invariant-walk : goal.invariant-walk
 invariant-walk l = record {
   from : l.first ≤ l.byte;
   to : l.byte ≤ l.last;
-  counted : BeginIn (modes_of l.pieces) l.first l.byte l.count;
+  count_with : BeginIn (modes_of l.pieces) l.first l.byte l.count;
 }
 
 abbrev pub decreases-walk : goal.decreases-walk

@@ -6,6 +6,6 @@ use Rattle.nfs_ranges.proofs.stretches.same_until.Given as goal
 -- by the pieces visited so far, all bytes up to the end have the mode of this one
 abbrev pub invariant-loop-piece : goal.invariant-loop-piece
 invariant-loop-piece l = record {
-  behind : l.byte ≤ l.end;
+  beyond : l.byte ≤ l.end;
   same : AreAs (modes_of (take l.piece-index l.pieces)) l.byte l.byte l.end;
 }

@@ -6,7 +6,7 @@ use Rattle.nfs_ranges.proofs.walks.last_same.Given as goal
 -- all bytes up to the last so far have the mode of this one
 abbrev pub invariant-walk : goal.invariant-walk
 invariant-walk l = record {
-  behind : l.byte ≤ l.last;
+  beyond : l.byte ≤ l.last;
   same : AreAs (modes_of l.pieces) l.byte l.byte l.last;
 }
 

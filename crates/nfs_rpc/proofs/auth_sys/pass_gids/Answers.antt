@@ -11,7 +11,7 @@ returns-then-rest-len c =
 pub returns : goal.returns
 returns c =
     let rest = c.in_ok-count.rest.now in
-    let behind = drop (4 * c.in_ok-count.count) rest in
+    let beyond = drop (4 * c.in_ok-count.count) rest in
     gids_are c.args.bytes.now c.in_ok-count.count rest c.in_ok-count.ensures (omega (arith, c.if-count-gt-GID_LIMIT.false))
     ∙ there c.in_ok-count.count rest (omega (arith, c.if-rest-len.false))
-    ∙ ap (λ (x : List ℕ). Ok (tt, x)) (sym (take_all (length rest - 4 * c.in_ok-count.count) behind (omega (arith, length-drop (4 * c.in_ok-count.count) rest))))
+    ∙ ap (λ (x : List ℕ). Ok (tt, x)) (sym (take_all (length rest - 4 * c.in_ok-count.count) beyond (omega (arith, length-drop (4 * c.in_ok-count.count) rest))))

@@ -3,8 +3,8 @@ use Rattle.std.proofs.lemmas.Slice.{take-put_mid}
 use Rattle.nfs_rpc.proofs.Standing.{at_header_end}
 use Rattle.nfs_rpc.proofs.place.after_part.Goals as goal
 
-pub returns-clause-behind : goal.returns-clause-behind
-returns-clause-behind c = λ text bodies a.
+pub returns-clause-at_text : goal.returns-clause-at_text
+returns-clause-at_text c = λ text bodies a.
     let part : c.copy_from_slice.new.self ≡ c.args.part.now = c.copy_from_slice.ensures.after in
     let len : length c.copy_from_slice.new.self ≡ length c.args.part.now = ap length part in
     at_header_end text bodies c.args.bytes _ c.args.part.now c.args.len (c.args.len + length c.args.part.now) _ _

@@ -27,7 +27,7 @@ returns-then-not-fits-clause-ok c =
     (record { place = c.in_ok-place.place; count = c.loop-rest.first.count + c.in_ok-place.taken; is_too_long = false }) _ c.in_ok-place.ensures.place few
     (λ fits. above fits) refl
     (so_far_front c.args.bodies.now.items c.args.from c.args.piece.now c.loop-rest.rest.now (messages_of c.loop-rest.found.items) c.loop-rest.bodies.items c.take_front.new.bodies.items c.loop-rest.first c.in_ok-place.place false c.in_ok-place.taken
-    c.in_ok-place.ensures.count.1 c.in_ok-place.ensures.behind c.loop-rest.invariant.found)
+    c.in_ok-place.ensures.count.1 c.in_ok-place.ensures.at_text c.loop-rest.invariant.found)
 
 pub returns-in_err-first-clause-begins : goal.returns-in_err-first-clause-begins
 returns-in_err-first-clause-begins c =
@@ -44,7 +44,7 @@ loop-rest-preserved c =
       begins = subst (λ (l : List ℕ). Begins c.args.bodies.now.items l) (sym c.end_fragment.ensures.begins) b;
       found = so_far_same c.args.bodies.now.items c.args.from c.args.piece.now (slice_range c.loop-rest.rest.now c.in_ok-place.taken (length c.loop-rest.rest.now)) _ _ _ _ _ _ c.in_ok-first.ensures.found
           (so_far_front c.args.bodies.now.items c.args.from c.args.piece.now c.loop-rest.rest.now (messages_of c.loop-rest.found.items) c.loop-rest.bodies.items c.take_front.new.bodies.items c.loop-rest.first c.in_ok-place.place c.loop-rest.first.is_too_long c.in_ok-place.taken
-          c.in_ok-place.ensures.count.1 c.in_ok-place.ensures.behind c.loop-rest.invariant.found);
+          c.in_ok-place.ensures.count.1 c.in_ok-place.ensures.at_text c.loop-rest.invariant.found);
     }
 
 pub returns-clause-ok : goal.returns-clause-ok

@@ -13,7 +13,7 @@ invariant-loop-op g l = record {
   completes : Completes (asker_of g.S.Service.gives l.context) (start l.fn.service l.head) l.ops (record { service = l.service; handles = l.handles; size = l.size }) (drop l.op-index l.ops) l.results.items;
   count : vec_len l.results ≡ l.op-index;
   room : vec_capacity l.results ≡ vec_capacity l.fn.results;
-  size : l.size ≡ l.head + length (flat_map op_result.spelling l.results.items);
+  size : l.size ≡ l.head + length (flat_map op_result.encoding l.results.items);
   within : l.size ≤ max l.head (RECORD_LIMIT - 12);
   form : All op_result.Fits l.results.items;
   serves : g.S.Service.serves l.service ≡ l.context.tree.now.nodes;

@@ -6,12 +6,12 @@ use Rattle.nfs_xdr.proofs.compound.read_operations.Goals as goal
 pub returns-then-is_last : goal.returns-then-is_last
 returns-then-is_last c =
     c.new.ensures ∙ c.in_ok-push.ensures.items
-    ∙ ends_here c.loop.ops.items c.args.count c.loop.counter c.loop.rest.now c.in_ok-op.op c.in_ok-op.behind.now (operations_at c.args.count c.args.bytes.now) c.loop-test.true c.in_ok-op.ensures.reads
+    ∙ ends_here c.loop.ops.items c.args.count c.loop.counter c.loop.rest.now c.in_ok-op.op c.in_ok-op.beyond.now (operations_at c.args.count c.args.bytes.now) c.loop-test.true c.in_ok-op.ensures.reads
     (sym c.if-is_last.ensures) c.loop.invariant
 
 pub loop-preserved : goal.loop-preserved
 loop-preserved c =
-    rw c.in_ok-push.ensures.items (goes_on c.loop.ops.items c.args.count c.loop.counter c.loop.rest.now c.in_ok-op.op c.in_ok-op.behind.now (operations_at c.args.count c.args.bytes.now) c.loop-test.true c.in_ok-op.ensures.reads
+    rw c.in_ok-push.ensures.items (goes_on c.loop.ops.items c.args.count c.loop.counter c.loop.rest.now c.in_ok-op.op c.in_ok-op.beyond.now (operations_at c.args.count c.args.bytes.now) c.loop-test.true c.in_ok-op.ensures.reads
     (sym c.if-is_last.ensures) c.loop.invariant)
 
 pub returns : goal.returns

@@ -12,7 +12,7 @@ returns-in_err-value g c =
 pub loop-preserved : goal.loop-preserved
 loop-preserved g c =
     let f = g.T.Wire.form.at in
-    rw c.in-Ok.ensures.items (goes_on f c.loop.values.items c.args.count c.loop.counter c.loop.rest.now c.in_ok-value.value c.in_ok-value.behind.now (each_at f c.args.count c.args.bytes.now) c.loop-test.true c.in_ok-value.ensures c.loop.invariant)
+    rw c.in-Ok.ensures.items (goes_on f c.loop.values.items c.args.count c.loop.counter c.loop.rest.now c.in_ok-value.value c.in_ok-value.beyond.now (each_at f c.args.count c.args.bytes.now) c.loop-test.true c.in_ok-value.ensures c.loop.invariant)
 
 pub returns : goal.returns
 returns g c =

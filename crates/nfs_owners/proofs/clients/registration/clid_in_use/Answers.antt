@@ -14,7 +14,7 @@ use Rattle.nfs_owners.proofs.clients.registration.clid_in_use.Goals as goal
 pad_len : (n : ℕ) → length (zeros (padding_of n)) ≤ 4
 pad_len n = omega (arith, length-take {A = ℕ} (padding_of n) (0 ∷ 0 ∷ 0 ∷ 0 ∷ []))
 
-told_len : (a : Address) → length a.netid ≤ 128 → length a.addr ≤ 128 → length (setclientid.result.spelling (ClidInUse a)) ≤ 300
+told_len : (a : Address) → length a.netid ≤ 128 → length a.addr ≤ 128 → length (setclientid.result.encoding (ClidInUse a)) ≤ 300
 unfolding answer status address written_number written_opaque
 told_len a netid addr = simp length-append (omega (arith, netid, addr, pad_len (length a.netid), pad_len (length a.addr)))
 

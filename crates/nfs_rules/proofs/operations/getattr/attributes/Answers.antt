@@ -16,7 +16,7 @@ use Rattle.xdr.specs.Writing.{written_number, written_opaque, written_u32, zeros
 use Rattle.nfs_tree.specs.declared.attribute.Attribute.{Attribute}
 use Rattle.nfs_tree.specs.declared.attribute.Attribute.TheVariants as attributes
 use Rattle.nfs_tree.specs.declared.attribute.Subject.{Subject}
-use Rattle.nfs_tree.specs.Attributes.{all_attributes, requested, attributes_of, has, mask_of, supported, value_requested, value_of, values_of}
+use Rattle.nfs_tree.specs.Attributes.{all_attributes, requested_bits, attributes_of, has, mask_of, supported_bits, value_requested, value_of, values_of}
 use Rattle.nfs_rules.proofs.operations.getattr.attributes.Goals as goal
 
 value_len : (s : Subject) (a : Attribute) → length (value_of s a) ≤ 16
@@ -52,7 +52,7 @@ either_mask : (b : Bool) (word : ℕ) → length (if b then [] else word ∷ [])
 either_mask true word = omega arith
 either_mask false word = omega arith
 
-mask_len : (words : List ℕ) → length (mask_of (requested words)) ≤ 1
+mask_len : (words : List ℕ) → length (mask_of (requested_bits words)) ≤ 1
 mask_len words = either_mask _ _
 
 mask_written : (words : List ℕ) → length words ≤ 1 → length (flat_map written_u32 words) ≤ 4
@@ -61,15 +61,15 @@ mask_written [] few = omega arith
 mask_written (word ∷ []) few = omega arith
 mask_written (word ∷ next ∷ words) few = omega (arith, few)
 
-told_len : (f : Fattr) → length f.mask ≤ 1 → length f.values ≤ 224 → length (getattr.result.spelling (Done f)) ≤ 2032
+told_len : (f : Fattr) → length f.mask ≤ 1 → length f.values ≤ 224 → length (getattr.result.encoding (Done f)) ≤ 2032
 unfolding answer fattr status written_number written_opaque
 told_len f mask values =
     let pad : length (zeros (padding_of (length f.values))) ≤ 4 = omega (arith, length-take {A = ℕ} (padding_of (length f.values)) (0 ∷ 0 ∷ 0 ∷ 0 ∷ [])) in
     simp length-append (omega (arith, mask_written f.mask mask, values, pad))
 
 -- the result of GETATTR has at most 2032 bytes
-attributes_len : (f : Fattr) (s : Subject) (words : List ℕ) → f ≡ attributes_of s words → length (getattr.result.spelling (Done f)) ≤ 2032
-attributes_len f s words is = rw is (told_len (attributes_of s words) (mask_len words) (all_len s (requested words)))
+attributes_len : (f : Fattr) (s : Subject) (words : List ℕ) → f ≡ attributes_of s words → length (getattr.result.encoding (Done f)) ≤ 2032
+attributes_len f s words is = rw is (told_len (attributes_of s words) (mask_len words) (all_len s (requested_bits words)))
 
 -- The attributes in an answer fit their form: the mask is a word of four bytes, and the values are few.
 one_word : (word : ℕ) → word < 2 ^ 32 → All (λ w. w < 2 ^ 32) (word ∷ [])
@@ -80,14 +80,14 @@ mask_fits : (b : Bool) (word : ℕ) → word < 2 ^ 32 → All (λ w. w < 2 ^ 32)
 mask_fits true word small = All-nil (λ w. w < 2 ^ 32)
 mask_fits false word small = one_word word small
 
-asked_fits : (words : List ℕ) → requested words < 2 ^ 32
+asked_fits : (words : List ℕ) → requested_bits words < 2 ^ 32
 asked_fits [] = omega arith
-asked_fits (word ∷ words) = omega (arith, and_le_r word supported)
+asked_fits (word ∷ words) = omega (arith, and_le_r word supported_bits)
 
 attributes_fit : (f : Fattr) (s : Subject) (words : List ℕ) → f ≡ attributes_of s words → getattr.result.Fits (Done f)
 unfolding answer fattr status
 attributes_fit f s words is =
-    rw is (omega arith, ((omega (arith, mask_len words), omega (arith, mask_len words), mask_fits (requested words == 0) (requested words) (asked_fits words)), (omega (arith, all_len s (requested words)), omega (arith, all_len s (requested words)))))
+    rw is (omega arith, ((omega (arith, mask_len words), omega (arith, mask_len words), mask_fits (requested_bits words == 0) (requested_bits words) (asked_fits words)), (omega (arith, all_len s (requested_bits words)), omega (arith, all_len s (requested_bits words)))))
 
 pub returns-clause-short : goal.returns-clause-short
 returns-clause-short c = attributes_len c.in_ok-found.found _ _ c.in_ok-found.ensures

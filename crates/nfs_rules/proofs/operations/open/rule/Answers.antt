@@ -28,11 +28,11 @@ returns-in-Err-clause-rules c =
     let seen = before_own c.args.passage args.owner state in
     let same : Err c.in-Err.refusal ≡ opening journal seen c.args.directory args =
     sym c.in-Err.is ∙ c.find_opening.ensures ∙ sym (opening_same c.args.passage journal state c.args.directory args) in (
-      ap (λ a. Some (record { answer = a; change = Nothing })) c.refused.ensures.value ∙ ap (ruling_of seen c.args.passage args.owner) same,
+      ap (λ a. Some (record { answer = a; change = Nothing })) c.refusal_answer.ensures.value ∙ ap (ruling_of seen c.args.passage args.owner) same,
       record {
-        not_resource = not_resource journal seen c.args.directory args c.in-Err.refusal c.refused.result (sym same) c.refused.ensures.value;
-        form = c.refused.ensures.form;
-        short = c.refused.ensures.short;
+        not_resource = not_resource journal seen c.args.directory args c.in-Err.refusal c.refusal_answer.result (sym same) c.refusal_answer.ensures.value;
+        form = c.refusal_answer.ensures.form;
+        short = c.refusal_answer.ensures.short;
       },
       tt,
     )

@@ -17,7 +17,7 @@ returns-in_default-clause-decides c =
     let journal = c.args.journal.now in
     let state = state_of c.args.tables.now in
     let refused : Opnum → OpResult = λ o. refusal_of o NoFileHandle in
-    without_filehandle (own_of request.op journal state) journal state (requester_seen c.args.requester) request request.filehandle c.refusal.result c.unsequenced.result c.in_default.not-Some (c.refusal.ensures.value ∙ ap refused c.opnum.ensures) c.refusal.ensures.form c.refusal.ensures.short c.unsequenced.ensures
+    without_filehandle (own_of request.op journal state) journal state (requester_seen c.args.requester) request request.filehandle c.refusal.result c.answer_alone.result c.in_default.not-Some (c.refusal.ensures.value ∙ ap refused c.opnum.ensures) c.refusal.ensures.form c.refusal.ensures.short c.answer_alone.ensures
 
 pub returns-in_err-answer-clause-decides : goal.returns-in_err-answer-clause-decides
 returns-in_err-answer-clause-decides c =
@@ -45,7 +45,7 @@ returns-in-Answered-clause-decides c =
     let journal = c.args.journal.now in
     let state = state_of c.args.tables.now in
     let found = c.in_ok-answer in
-    answered (own_of request.op journal state) journal state (requester_seen c.args.requester) request request.filehandle c.in-Some.node (sequence_seen found.field-0) c.in-Answered.answer c.unsequenced-in-Answered.result c.in-Some.is (ap sequence_seen c.in-Answered.is) found.ensures.sequence found.ensures.sendable c.unsequenced-in-Answered.ensures
+    answered (own_of request.op journal state) journal state (requester_seen c.args.requester) request request.filehandle c.in-Some.node (sequence_seen found.field-0) c.in-Answered.answer c.answer_alone-in-Answered.result c.in-Some.is (ap sequence_seen c.in-Answered.is) found.ensures.sequence found.ensures.sendable c.answer_alone-in-Answered.ensures
 
 pub returns-in_ok-decision_of-in-GoesOn-clause-decides : goal.returns-in_ok-decision_of-in-GoesOn-clause-decides
 returns-in_ok-decision_of-in-GoesOn-clause-decides c =

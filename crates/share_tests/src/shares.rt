@@ -1,7 +1,7 @@
 //! The opens of a file: which shares are refused, what an open has after OPEN and OPEN_DOWNGRADE, and its stateids.
 
+use nfs_forms::{ClientId, OpenOwner, Stateid};
 use nfs_share::{FileShare, Modes, OpenState, Share, ShareError};
-use nfs_xdr::{ClientId, OpenOwner, Stateid};
 use std::alloc::{AllocError, Global};
 use std::test::Fail;
 use xdr::Opaque;
