@@ -44,7 +44,7 @@ def opening(owner, seqid, file, client=1, number=None, flags=4, state_seqid=1, s
 
 
 def confirming(seqid, number):
-    """Behind the OPEN that gave the state."""
+    """After the OPEN that gave the state."""
     return [(u32(Opnum.OPEN_CONFIRM, 1, 1, 1, number, seqid), result(Opnum.OPEN_CONFIRM, rest=u32(2, 1, 1, number)))]
 
 

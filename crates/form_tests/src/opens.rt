@@ -1,9 +1,8 @@
 //! The arguments and results of OPEN and of the operations on opens, with their bytes worked out by hand.
 
-use crate::encoding::{CLIENT, STATEID, is_encoded_as, is_unreadable};
 use nfs_forms::{
-    Bitmap, ChangeInfo, Claim, CreateHow, DelegationType, Fattr, OpenDelegation, OpenHow,
-    OpenOwner, Verifier,
+    Bitmap, ChangeInfo, Claim, ClientId, CreateHow, DelegationType, Fattr, OpenDelegation, OpenHow,
+    OpenOwner, Stateid, Verifier,
 };
 use nfs_operations::close::Close;
 use nfs_operations::open::{Open, OpenOk};
@@ -11,7 +10,19 @@ use nfs_operations::open_confirm::OpenConfirm;
 use nfs_operations::open_downgrade::OpenDowngrade;
 use std::alloc::Global;
 use std::test::Fail;
+use test_words::{is_encoded_as, is_unreadable};
 use xdr::{Bytes, Opaque};
+
+const CLIENT: ClientId = ClientId {
+    epoch: 1,
+    number: 2,
+};
+
+const STATEID: Stateid = Stateid {
+    seqid: 5,
+    client: CLIENT,
+    number: 7,
+};
 
 fn name_of(alloc: Global, name: &[u8]) -> Result<Bytes, Fail> {
     Ok(Bytes::copy_of(alloc, name)?)

@@ -1,6 +1,6 @@
 //! What lock states there are after locks, unlocks and removals, and what each holds.
 
-use crate::steps::{
+use lock_steps::{
     CLIENT, FILE, OPEN, OTHER_CLIENT, OTHER_FILE, begin, change, hold, locker, no_locks, place_of,
     read, run_of, unlock, write,
 };

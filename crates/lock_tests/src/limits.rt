@@ -1,6 +1,6 @@
 //! A lock state with as many runs of bytes as an owner may have of a file.
 
-use crate::steps::{CLIENT, FILE, change, hold, locker, no_locks, place_of, read, run_of, unlock};
+use lock_steps::{CLIENT, FILE, change, hold, locker, no_locks, place_of, read, run_of, unlock};
 use nfs_locks::Locks;
 use std::alloc::{AllocError, Global};
 use std::test::Fail;

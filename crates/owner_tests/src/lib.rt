@@ -2,6 +2,4 @@
 #![tactic(auto)]
 
 #[cfg(test)]
-mod kinds;
-#[cfg(test)]
 mod owners;

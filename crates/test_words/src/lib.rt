@@ -1,7 +1,14 @@
-//! Words of four bytes, in which the tests write what they expect.
+//! What the crates of tests share: words of four bytes, values with their words, messages in words, and texts.
 #![tactic(auto)]
 
+mod encoding;
+mod messages;
+
+pub use encoding::{is_encoded_as, is_unreadable};
+pub use messages::{call, reply};
 use std::alloc::{AllocError, Global};
+use std::fmt::Display;
+use std::test::Fail;
 
 /// The words, big-endian.
 pub fn bytes_of(alloc: Global, words: &[u32]) -> Result<Vec<u8>, AllocError> {
@@ -10,4 +17,9 @@ pub fn bytes_of(alloc: Global, words: &[u32]) -> Result<Vec<u8>, AllocError> {
         bytes.extend_from_slice(&word.to_be_bytes())?;
     }
     Ok(bytes)
+}
+
+/// Whether the value is displayed as this text.
+pub fn is_displayed_as<T: Display>(alloc: Global, value: &T, text: &str) -> Result<bool, Fail> {
+    Ok(value.to_string(alloc)?.as_str() == text)
 }
