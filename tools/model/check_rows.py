@@ -32,24 +32,12 @@ def run(row):
     return [server.converse(connection.sent) for connection in row.connections], server.unknown
 
 
-def words(data):
-    return [data[at:at + 4].hex() for at in range(0, len(data), 4)]
-
-
 def report(row, connection, got):
     print(f"{row.file}:{row.line}: {row.name}")
     replies, fault = got
     if fault != connection.fault:
         print(f"    ends: wanted {connection.fault}, the model {fault}")
-    wanted, mine = words(connection.wanted), words(replies)
-    count = max(len(wanted), len(mine))
-    wanted, mine = wanted + [""] * (count - len(wanted)), mine + [""] * (count - len(mine))
-    places = [place for place in range(count) if wanted[place] != mine[place]]
-    if places:
-        print("      word  wanted    model")
-        for place in range(max(0, places[0] - 12), min(count, places[0] + 12)):
-            mark = "" if wanted[place] == mine[place] else "  <--"
-            print(f"    {place:>6}  {wanted[place]:<8}  {mine[place]:<8}{mark}")
+    rows.show_difference(connection.wanted, replies, "model")
 
 
 def main(files):

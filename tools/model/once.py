@@ -1,23 +1,45 @@
 #!/usr/bin/env python3
-"""once.py [once] [--tree FILE]: the model in place of `nfs4state once`: records from standard input, replies to standard
-output. So the other scripts can be tried without a built program."""
+"""The model in place of `nfs4state once`, with the same options: records from standard input to its end, replies to
+standard output. So the other scripts can be tried without a built program."""
+import argparse
 import sys
 
 sys.dont_write_bytecode = True
 
 from model import Server
-from tree import DEFAULT, Tree
+from tree import DEFAULT, Refused, Tree
 
 
-def main(words):
+def options(description):
+    """What `once.py` and `serve.py` have in common."""
+    parser = argparse.ArgumentParser(description=description)
+    parser.add_argument("--tree", metavar="FILE", help="the files to serve, as a TOML document")
+    parser.add_argument("--lease", metavar="SECONDS", type=int, default=90)
+    parser.add_argument("--epoch", metavar="NUMBER", type=int, default=1, help="the upper half of each clientid")
+    return parser
+
+
+def server_of(given):
+    """A new server with these options; or the end of the program where the tree is refused."""
     document = DEFAULT
-    if "--tree" in words:
-        with open(words[words.index("--tree") + 1], encoding="utf-8") as source:
+    if given.tree is not None:
+        with open(given.tree, encoding="utf-8") as source:
             document = source.read()
-    replies, fault = Server(Tree(document)).converse(sys.stdin.buffer.read())
+    try:
+        return Server(Tree(document), given.lease, given.epoch)
+    except Refused as refused:
+        sys.exit(f"fault: tree refused ({refused.args[0]})")
+
+
+def main():
+    parser = options(__doc__)
+    parser.add_argument("command", nargs="?", choices=["once"], help="may be left out")
+    replies, fault = server_of(parser.parse_args()).converse(sys.stdin.buffer.read())
     sys.stdout.buffer.write(replies)
-    return 1 if fault else 0
+    sys.stdout.flush()
+    if fault:
+        sys.exit(f"fault: {fault}")
 
 
 if __name__ == "__main__":
-    sys.exit(main(sys.argv[1:]))
+    main()

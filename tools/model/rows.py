@@ -173,3 +173,20 @@ class File:
             row.connections[-1].fault = rest
         else:
             setattr(row, keyword, int(rest))
+
+
+def words(data):
+    return [data[at:at + 4].hex() for at in range(0, len(data), 4)]
+
+
+def show_difference(wanted, got, whose):
+    """Prints the words round the first difference, where there is one. Word 0 is the header of the first fragment."""
+    left, right = words(wanted), words(got)
+    count = max(len(left), len(right))
+    left, right = left + [""] * (count - len(left)), right + [""] * (count - len(right))
+    places = [place for place in range(count) if left[place] != right[place]]
+    if places:
+        print(f"      word  wanted    {whose}")
+        for place in range(max(0, places[0] - 12), min(count, places[0] + 12)):
+            mark = "" if left[place] == right[place] else "  <--"
+            print(f"    {place:>6}  {left[place]:<8}  {right[place]:<8}{mark}")
