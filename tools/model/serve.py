@@ -1,6 +1,6 @@
 #!/usr/bin/env python3
-"""The model as a server on TCP: one server for all connections, until it is interrupted. It prints the port when it
-listens; port 0 is any that is free."""
+"""The model as a server on TCP, until it is interrupted: one server for all connections, or with --each a new one for
+each connection. It prints the port when it listens; port 0 is any that is free."""
 import socketserver
 import sys
 import threading
@@ -30,9 +30,10 @@ def records(source):
 
 class Connection(socketserver.StreamRequestHandler):
     def handle(self):
+        model = self.server.model or server_of(self.server.given)
         for record in records(self.rfile):
             with self.server.turn:
-                reply = self.server.model.reply(record)
+                reply = model.reply(record)
             if reply is not None:
                 self.wfile.write(wire.record(reply))
 
@@ -45,11 +46,12 @@ class Listener(socketserver.ThreadingTCPServer):
 def main():
     parser = options(__doc__)
     parser.add_argument("--host", default="127.0.0.1")
+    parser.add_argument("--each", action="store_true", help="a new server for each connection")
     parser.add_argument("port", metavar="PORT", type=int)
     given = parser.parse_args()
     model = server_of(given)
     with Listener((given.host, given.port), Connection) as listener:
-        listener.model, listener.turn = model, threading.Lock()
+        listener.given, listener.model, listener.turn = given, None if given.each else model, threading.Lock()
         print(f"listens on {given.host} port {listener.server_address[1]}", flush=True)
         try:
             listener.serve_forever()
