@@ -30,6 +30,13 @@ pub const OTHER_FILE: u32 = 2;
 /// The number of the open that most locks come under.
 pub const OPEN: u32 = 5;
 
+/// An open of a node's file, by its number.
+#[derive(Clone, Copy, Debug)]
+pub struct FileOpen {
+    pub node: u32,
+    pub number: u32,
+}
+
 /// A lock of these bytes to read them.
 pub fn read(first: u64, last: u64) -> Piece
     requires { first ≤ last }
@@ -98,23 +105,22 @@ fn make_room_for_change(locks: &mut Locks, number: u32) -> Result<(), AllocError
     }
 }
 
-/// The owner's first lock of the node's file, which makes the lock state with this number under that open.
+/// The owner's first lock under the open, which makes the lock state with this number.
 pub fn begin(
     alloc: Global,
     locks: &mut Locks,
-    node: u32,
+    open: FileOpen,
     owner: &LockOwner,
-    open_number: u32,
     number: u32,
     change: Piece,
 ) -> Result<(), AllocError> {
     let first = FirstLock {
         owner: locker(alloc, owner.client, owner.name.as_slice())?,
-        open_number,
+        open_number: open.number,
         change,
     };
-    make_room(alloc, locks, node)?;
-    locks.begin(node, first, number);
+    make_room(alloc, locks, open.node)?;
+    locks.begin(open.node, first, number);
     Ok(())
 }
 
@@ -126,7 +132,11 @@ pub fn hold(
     number: u32,
     change: Piece,
 ) -> Result<(), AllocError> {
-    begin(alloc, locks, FILE, owner, OPEN, number, change)
+    let open = FileOpen {
+        node: FILE,
+        number: OPEN,
+    };
+    begin(alloc, locks, open, owner, number, change)
 }
 
 /// Makes the change of the lock state of `FILE` with this number, if it doesn't make too many runs of bytes, and tells

@@ -1,8 +1,8 @@
 //! What lock states there are after locks, unlocks and removals, and what each holds.
 
 use lock_steps::{
-    CLIENT, FILE, OPEN, OTHER_CLIENT, OTHER_FILE, begin, change, hold, locker, no_locks, place_of,
-    read, run_of, unlock, write,
+    CLIENT, FILE, FileOpen, OPEN, OTHER_CLIENT, OTHER_FILE, begin, change, hold, locker, no_locks,
+    place_of, read, run_of, unlock, write,
 };
 use nfs_forms::LockOwner;
 use nfs_locks::{LockState, Locks};
@@ -91,15 +91,11 @@ fn four_locks(alloc: Global) -> Result<Locks, AllocError> {
     ];
     for (node, client, name, open_number, number) in &table {
         let owner = locker(alloc, *client, name.as_bytes())?;
-        begin(
-            alloc,
-            &mut locks,
-            *node,
-            &owner,
-            *open_number,
-            *number,
-            read(3, 3),
-        )?;
+        let open = FileOpen {
+            node: *node,
+            number: *open_number,
+        };
+        begin(alloc, &mut locks, open, &owner, *number, read(3, 3))?;
     }
     Ok(locks)
 }
