@@ -87,36 +87,36 @@ fn lock_of_a_known_owner(rt: HostRuntime) -> Result<(), Fail> {
 #[test]
 fn arguments_of_the_other_operations(rt: HostRuntime) -> Result<(), Fail> {
     let alloc = rt.alloc();
-    let asked = Lockt {
+    let lockt = Lockt {
         locktype: LockType::ReadWait,
         offset: 4,
         length: 5,
         owner: lock_owner(alloc)?,
     };
-    assert!(rt; is_encoded_as(alloc, &asked, &[3, 0, 4, 0, 5, 1, 2, 2, 0x6c31_0000])?);
-    let unlocked = Locku {
+    assert!(rt; is_encoded_as(alloc, &lockt, &[3, 0, 4, 0, 5, 1, 2, 2, 0x6c31_0000])?);
+    let locku = Locku {
         locktype: LockType::Write,
         seqid: 9,
         stateid: STATEID,
         offset: 4,
         length: 6,
     };
-    assert!(rt; is_encoded_as(alloc, &unlocked, &[2, 9, 5, 1, 2, 7, 0, 4, 0, 6])?);
+    assert!(rt; is_encoded_as(alloc, &locku, &[2, 9, 5, 1, 2, 7, 0, 4, 0, 6])?);
     let owner = lock_owner(alloc)?;
-    let released = ReleaseLockowner { owner };
-    assert!(rt; is_encoded_as(alloc, &released, &[1, 2, 2, 0x6c31_0000])?);
+    let release = ReleaseLockowner { owner };
+    assert!(rt; is_encoded_as(alloc, &release, &[1, 2, 2, 0x6c31_0000])?);
     Ok(())
 }
 
 #[test]
 fn results_with_a_stateid(rt: HostRuntime) -> Result<(), Fail> {
     let alloc = rt.alloc();
-    let locked: lock::Outcome = Answer::Done(STATEID);
-    assert!(rt; is_encoded_as(alloc, &locked, &[0, 5, 1, 2, 7])?);
-    let unlocked: locku::Outcome = Answer::Done(STATEID);
-    assert!(rt; is_encoded_as(alloc, &unlocked, &[0, 5, 1, 2, 7])?);
-    let free: lockt::Outcome = Answer::Done(());
-    assert!(rt; is_encoded_as(alloc, &free, &[0])?);
+    let of_lock: lock::Outcome = Answer::Done(STATEID);
+    assert!(rt; is_encoded_as(alloc, &of_lock, &[0, 5, 1, 2, 7])?);
+    let of_locku: locku::Outcome = Answer::Done(STATEID);
+    assert!(rt; is_encoded_as(alloc, &of_locku, &[0, 5, 1, 2, 7])?);
+    let of_lockt: lockt::Outcome = Answer::Done(());
+    assert!(rt; is_encoded_as(alloc, &of_lockt, &[0])?);
     Ok(())
 }
 
@@ -135,20 +135,20 @@ fn results_that_are_denied(rt: HostRuntime) -> Result<(), Fail> {
         2,
         0x6c31_0000,
     ];
-    let locked: lock::Outcome = Answer::Denied(denied_lock(alloc)?);
-    assert!(rt; is_encoded_as(alloc, &locked, &words)?);
-    let asked: lockt::Outcome = Answer::Denied(denied_lock(alloc)?);
-    assert!(rt; is_encoded_as(alloc, &asked, &words)?);
+    let of_lock: lock::Outcome = Answer::Denied(denied_lock(alloc)?);
+    assert!(rt; is_encoded_as(alloc, &of_lock, &words)?);
+    let of_lockt: lockt::Outcome = Answer::Denied(denied_lock(alloc)?);
+    assert!(rt; is_encoded_as(alloc, &of_lockt, &words)?);
     Ok(())
 }
 
 #[test]
 fn results_that_are_refused(rt: HostRuntime) -> Result<(), Fail> {
     let alloc = rt.alloc();
-    let locked: lock::Outcome = Answer::Refused(Refusal::OpenMode);
-    assert!(rt; is_encoded_as(alloc, &locked, &[10038])?);
-    let released: Answer<()> = Answer::Refused(Refusal::LocksHeld);
-    assert!(rt; is_encoded_as(alloc, &released, &[10037])?);
+    let of_lock: lock::Outcome = Answer::Refused(Refusal::OpenMode);
+    assert!(rt; is_encoded_as(alloc, &of_lock, &[10038])?);
+    let of_release: Answer<()> = Answer::Refused(Refusal::LocksHeld);
+    assert!(rt; is_encoded_as(alloc, &of_release, &[10037])?);
     Ok(())
 }
 
