@@ -1,7 +1,7 @@
 use Rattle.std.proofs.Common.{◌≡◌, Ok, Err, Some, sym, ap, ◌∙◌, subst}
 use Rattle.std.specs.Prelude.{Option}
 use Rattle.nfs_rules.specs.Deciding.{Rules}
-use Rattle.nfs_state.specs.Room.{state_of}
+use Rattle.nfs_state.specs.Room.{IsWithinLimits, state_of}
 use Rattle.nfs_rules.specs.Sequences.{before_own}
 use Rattle.nfs_rules.specs.declared.ruling.Ruling.{Ruling}
 use Rattle.nfs_rules.specs.operations.Open.{opening, ruling_of}
@@ -33,5 +33,5 @@ returns-in-Err-clause-rules c =
         form = c.refusal.ensures.form;
         short = c.refusal.ensures.short;
       },
-      tt,
+      subst (λ r. IsWithinLimits r.change state) (sym c.refusal.ensures.value) tt,
     )
