@@ -12,7 +12,7 @@ use crate::stateids::verdict;
 use nfs_operations::close::Close;
 use nfs_share::OpenState;
 use nfs_state::{ANSWER_LIMIT, Change, Journal, Tables};
-use nfs_xdr::{Answer, Op, OpResult};
+use nfs_xdr::{Answer, Op, OpResult, Opnum};
 
 /// The own rule of CLOSE, under the current filehandle `node`.
 pub(super) fn rule(tables: &Tables, journal: &Journal, node: u32, args: &Close) -> Ruling
@@ -26,10 +26,7 @@ pub(super) fn rule(tables: &Tables, journal: &Journal, node: u32, args: &Close) 
         also_unconfirmed: false,
     };
     match verdict(tables, demand, journal.epoch(), args.stateid) {
-        Err(refusal) => Ruling {
-            answer: OpResult::Close(Answer::Refused(refusal)),
-            change: Change::Nothing,
-        },
+        Err(refusal) => Ruling::refusal(Opnum::Close, refusal),
         Ok(found) => Ruling {
             answer: ok_answer(&found.state),
             change: Change::Closes {

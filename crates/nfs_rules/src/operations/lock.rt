@@ -6,7 +6,7 @@ ghost use Rattle.nfs_operations.specs.declared.lock.Lock.{Lock};
 ghost use Rattle.nfs_rules.specs.Deciding.{Rules};
 ghost use Rattle.nfs_rules.specs.Finding.{locking_or_refusal_seen, locking_seen};
 ghost use Rattle.nfs_rules.specs.declared.passage.Passage.{Passage};
-ghost use Rattle.nfs_rules.specs.operations.Lock.{IsAllowed, addition, allows, beginning, first_stateid, grant, introduction, locking_of_state, locking_of, own, refusal_of};
+ghost use Rattle.nfs_rules.specs.operations.Lock.{IsAllowed, addition, allows, beginning, first_stateid, grant, introduction, locking_of_state, locking_of, own};
 ghost use Rattle.nfs_owners.specs.StateOwner.{lock_owner};
 ghost use Rattle.nfs_share.specs.OpenFound.{open_seen};
 ghost use Rattle.nfs_state.specs.Places.{has_owner_place, has_state_place};
@@ -27,7 +27,7 @@ use nfs_owners::OwnerRef;
 use nfs_ranges::{Mode, Range, at_most_one_range, range_of};
 use nfs_share::{OpenFound, OpenState};
 use nfs_state::{ANSWER_LIMIT, Change, Journal, Shortage, Tables};
-use nfs_xdr::{Answer, Op, OpResult, Refusal};
+use nfs_xdr::{Answer, Op, OpResult, Opnum, Refusal};
 
 /// For whom bytes of a node's file are to be held and in which mode, under which open, and the lock state that they are
 /// added to, if there is one.
@@ -55,17 +55,17 @@ pub(super) fn rule(
 {
     at_most_one_range();
     let locking = match locking_of(tables, journal, node, args) {
-        Err(refusal) => return Ok(refusal_ruling(refusal)),
+        Err(refusal) => return Ok(Ruling::refusal(Opnum::Lock, refusal)),
         Ok(locking) => locking,
     };
     let Some(range) = range_of(args.offset, args.length) else {
-        return Ok(refusal_ruling(Refusal::Inval));
+        return Ok(Ruling::refusal(Opnum::Lock, Refusal::Inval));
     };
     let open = tables
         .opens
         .open_numbered(locking.node, locking.open_number);
     if !allows(locking.mode, open) {
-        return Ok(refusal_ruling(Refusal::OpenMode));
+        return Ok(Ruling::refusal(Opnum::Lock, Refusal::OpenMode));
     }
     lock(tables, locking, range)
 }
@@ -263,18 +263,6 @@ fn first_stateid(tables: &Tables, owner: &LockOwner) -> Stateid
         seqid: 1,
         client: owner.client,
         number: tables.numbers.upcoming(),
-    }
-}
-
-#[tactic(auto, unfolding(nfs_xdr::specs::OpResult::op_result, nfs_xdr::specs::Opnum::opnum, nfs_forms::specs::Status::status, xdr::specs::Writing::written_number, nfs_forms::specs::Answer::answer))]
-fn refusal_ruling(refusal: Refusal) -> Ruling
-    ensures value { result ≡ refusal_of refusal }
-    ensures form { op_result.Fits result.answer }
-    ensures short { length (op_result.encoding result.answer) ≤ ANSWER_LIMIT }
-{
-    Ruling {
-        answer: OpResult::Lock(Answer::Refused(refusal)),
-        change: Change::Nothing,
     }
 }
 

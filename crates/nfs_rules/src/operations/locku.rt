@@ -5,7 +5,7 @@ ghost use Rattle.nfs_locks.specs.StoredLocks.{lock_seen};
 ghost use Rattle.nfs_operations.specs.declared.locku.Locku.{Locku};
 ghost use Rattle.nfs_rules.specs.Deciding.{Rules};
 ghost use Rattle.nfs_rules.specs.declared.passage.Passage.{Passage};
-ghost use Rattle.nfs_rules.specs.operations.Locku.{own, refusal_of, unlocking};
+ghost use Rattle.nfs_rules.specs.operations.Locku.{own, unlocking};
 ghost use Rattle.nfs_state.specs.Room.{state_of};
 ghost use Rattle.nfs_xdr.specs.OpResult.{op_result};
 
@@ -16,7 +16,7 @@ use nfs_locks::{LockFound, LockState};
 use nfs_operations::locku::Locku;
 use nfs_ranges::{Range, at_most_one_range, range_of};
 use nfs_state::{ANSWER_LIMIT, Change, Journal, Shortage, Tables};
-use nfs_xdr::{Answer, Op, OpResult, Refusal};
+use nfs_xdr::{Answer, Op, OpResult, Opnum, Refusal};
 
 /// The own rule of LOCKU, under the current filehandle `node`.
 pub(super) fn rule(
@@ -31,9 +31,9 @@ pub(super) fn rule(
 {
     at_most_one_range();
     match lock_verdict(tables, node, journal.epoch(), args.stateid) {
-        Err(refusal) => Ok(refusal_ruling(refusal)),
+        Err(refusal) => Ok(Ruling::refusal(Opnum::Locku, refusal)),
         Ok(found) => match range_of(args.offset, args.length) {
-            None => Ok(refusal_ruling(Refusal::Inval)),
+            None => Ok(Ruling::refusal(Opnum::Locku, Refusal::Inval)),
             Some(range) => unlock(tables, found, range),
         },
     }
@@ -58,18 +58,6 @@ fn unlock(tables: &Tables, found: LockFound<'_>, range: Range) -> Result<Ruling,
             change,
         },
     })
-}
-
-#[tactic(auto, unfolding(nfs_xdr::specs::OpResult::op_result, nfs_xdr::specs::Opnum::opnum, nfs_forms::specs::Status::status, xdr::specs::Writing::written_number, nfs_forms::specs::Answer::answer))]
-fn refusal_ruling(refusal: Refusal) -> Ruling
-    ensures value { result ≡ refusal_of refusal }
-    ensures form { op_result.Fits result.answer }
-    ensures short { length (op_result.encoding result.answer) ≤ ANSWER_LIMIT }
-{
-    Ruling {
-        answer: OpResult::Locku(Answer::Refused(refusal)),
-        change: Change::Nothing,
-    }
 }
 
 // The answer to a LOCKU that is granted: the lock state's stateid with the next seqid.

@@ -23,7 +23,7 @@ use nfs_share::{OpenState, Share};
 use nfs_state::{ANSWER_LIMIT, Change, Journal, Shortage, Tables};
 use nfs_xdr::{
     Answer, Bitmap, ChangeInfo, Claim, CreateHow, Op, OpResult, OpenDelegation, OpenHow, OpenOwner,
-    Refusal, Stateid,
+    Opnum, Refusal, Stateid,
 };
 use std::alloc::Global;
 
@@ -45,10 +45,7 @@ pub(super) fn rule(
 {
     match find_opening(tables, journal, directory, args) {
         Ok(opening) => grant(alloc, tables, passage, args, opening),
-        Err(refusal) => Ok(Ruling {
-            answer: refusal_answer(refusal),
-            change: Change::Nothing,
-        }),
+        Err(refusal) => Ok(Ruling::refusal(Opnum::Open, refusal)),
     }
 }
 
@@ -267,16 +264,6 @@ fn ok_answer(alloc: Global, passage: Passage, stateid: Stateid) -> OpResult
         attrset: Bitmap::new(Vec::new(alloc)),
         delegation: OpenDelegation::None,
     }))
-}
-
-// The answer to an OPEN that is refused.
-#[tactic(auto, unfolding(nfs_xdr::specs::OpResult::op_result, nfs_xdr::specs::Opnum::opnum, nfs_forms::specs::Status::status, xdr::specs::Writing::written_number, nfs_forms::specs::Answer::answer))]
-fn refusal_answer(refusal: Refusal) -> OpResult
-    ensures value { result ≡ OpResult.Open (Answer.Refused refusal) }
-    ensures form { op_result.Fits result }
-    ensures short { length (op_result.encoding result) ≤ ANSWER_LIMIT }
-{
-    OpResult::Open(Answer::Refused(refusal))
 }
 
 // OPEN4_RESULT_LOCKTYPE_POSIX, and OPEN4_RESULT_CONFIRM for an owner that isn't confirmed: one that begins, or that

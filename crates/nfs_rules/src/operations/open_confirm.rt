@@ -4,7 +4,7 @@ ghost use Rattle.nfs_xdr.specs.OpResult.{op_result};
 ghost use Rattle.nfs_state.specs.Entries.{IsSendable};
 ghost use Rattle.nfs_state.specs.Room.{IsWithinLimits, state_of};
 ghost use Rattle.nfs_rules.specs.declared.passage.Passage.{Passage};
-ghost use Rattle.nfs_rules.specs.operations.OpenConfirm.{own, refusal_of};
+ghost use Rattle.nfs_rules.specs.operations.OpenConfirm.{own};
 ghost use Rattle.nfs_rules.specs.Deciding.{IsConfirmable};
 ghost use Rattle.nfs_rules.specs.Stateids as stateids;
 
@@ -14,7 +14,7 @@ use crate::stateids::{is_confirmed, verdict};
 use nfs_operations::open_confirm::OpenConfirm;
 use nfs_share::OpenState;
 use nfs_state::{ANSWER_LIMIT, Change, Journal, Tables};
-use nfs_xdr::{Answer, Op, OpResult, Refusal};
+use nfs_xdr::{Answer, Op, OpResult, Opnum, Refusal};
 use std::alloc::AllocError;
 
 /// The own rule of OPEN_CONFIRM, under the current filehandle `node`.
@@ -37,11 +37,11 @@ pub(super) fn rule(
         also_unconfirmed: true,
     };
     let found = match verdict(tables, demand, journal.epoch(), args.stateid) {
-        Err(refusal) => return Ok(refusal_ruling(refusal)),
+        Err(refusal) => return Ok(Ruling::refusal(Opnum::OpenConfirm, refusal)),
         Ok(found) => found,
     };
     if is_confirmed(tables, &found.state.owner) {
-        return Ok(refusal_ruling(Refusal::BadStateId));
+        return Ok(Ruling::refusal(Opnum::OpenConfirm, Refusal::BadStateId));
     }
     Ok(Ruling {
         answer: ok_answer(&found.state),
@@ -51,18 +51,6 @@ pub(super) fn rule(
             owner: found.state.owner.clone()?,
         },
     })
-}
-
-#[tactic(auto, unfolding(nfs_xdr::specs::OpResult::op_result, nfs_xdr::specs::Opnum::opnum, nfs_forms::specs::Status::status, xdr::specs::Writing::written_number, nfs_forms::specs::Answer::answer))]
-fn refusal_ruling(refusal: Refusal) -> Ruling
-    ensures value { result ≡ refusal_of refusal }
-    ensures form { op_result.Fits result.answer }
-    ensures short { length (op_result.encoding result.answer) ≤ ANSWER_LIMIT }
-{
-    Ruling {
-        answer: OpResult::OpenConfirm(Answer::Refused(refusal)),
-        change: Change::Nothing,
-    }
 }
 
 // The answer to an OPEN_CONFIRM that is granted: the open's stateid with the next seqid.

@@ -4,7 +4,7 @@ ghost use Rattle.nfs_xdr.specs.OpResult.{op_result};
 ghost use Rattle.nfs_state.specs.Entries.{IsSendable};
 ghost use Rattle.nfs_state.specs.Room.{IsWithinLimits, state_of};
 ghost use Rattle.nfs_rules.specs.declared.passage.Passage.{Passage};
-ghost use Rattle.nfs_rules.specs.operations.OpenDowngrade.{own, refusal_of};
+ghost use Rattle.nfs_rules.specs.operations.OpenDowngrade.{own};
 
 use crate::demand::Demand;
 use crate::ruling::Ruling;
@@ -12,7 +12,7 @@ use crate::stateids::verdict;
 use nfs_operations::open_downgrade::OpenDowngrade;
 use nfs_share::{OpenState, Share};
 use nfs_state::{ANSWER_LIMIT, Change, Journal, Tables};
-use nfs_xdr::{Answer, Op, OpResult, Refusal};
+use nfs_xdr::{Answer, Op, OpResult, Opnum, Refusal};
 
 /// The own rule of OPEN_DOWNGRADE, under the current filehandle `node`.
 pub(super) fn rule(tables: &Tables, journal: &Journal, node: u32, args: &OpenDowngrade) -> Ruling
@@ -26,7 +26,7 @@ pub(super) fn rule(tables: &Tables, journal: &Journal, node: u32, args: &OpenDow
         also_unconfirmed: false,
     };
     let found = match verdict(tables, demand, journal.epoch(), args.stateid) {
-        Err(refusal) => return refusal_ruling(refusal),
+        Err(refusal) => return Ruling::refusal(Opnum::OpenDowngrade, refusal),
         Ok(found) => found,
     };
     match Share::from_numbers(args.access, args.deny) {
@@ -38,19 +38,7 @@ pub(super) fn rule(tables: &Tables, journal: &Journal, node: u32, args: &OpenDow
                 share,
             },
         },
-        _ => refusal_ruling(Refusal::Inval),
-    }
-}
-
-#[tactic(auto, unfolding(nfs_xdr::specs::OpResult::op_result, nfs_xdr::specs::Opnum::opnum, nfs_forms::specs::Status::status, xdr::specs::Writing::written_number, nfs_forms::specs::Answer::answer))]
-fn refusal_ruling(refusal: Refusal) -> Ruling
-    ensures value { result ≡ refusal_of refusal }
-    ensures form { op_result.Fits result.answer }
-    ensures short { length (op_result.encoding result.answer) ≤ ANSWER_LIMIT }
-{
-    Ruling {
-        answer: OpResult::OpenDowngrade(Answer::Refused(refusal)),
-        change: Change::Nothing,
+        _ => Ruling::refusal(Opnum::OpenDowngrade, Refusal::Inval),
     }
 }
 

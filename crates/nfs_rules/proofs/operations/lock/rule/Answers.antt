@@ -22,7 +22,7 @@ returns-in-Err c = λ passage.
     let found : Result Locking Refusal = locking_of c.args.journal.now state c.args.node args args.locker in
     let P : Ruling → Type 0 = λ ruling. IsLock state args found (Some ruling) × IsSendable (ops.Lock args) ruling.answer × IsWithinLimits ruling.change state in
     let Q : Result Locking Refusal → Type 0 = λ v. IsLock state args v (Some (refusal_of c.in-Err.refusal)) in
-    subst P (sym c.refusal_ruling.ensures.value) (
+    subst P (sym c.refusal.ensures.value) (
       subst Q c.in-Err.ensures refl,
       lock_refused args c.in-Err.refusal (locking_refusal c.args.journal.now state c.args.node args c.in-Err.refusal c.in-Err.ensures),
       tt,

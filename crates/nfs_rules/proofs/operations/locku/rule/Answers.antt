@@ -21,7 +21,7 @@ returns-in-Err c = λ passage.
     let is : Err c.in-Err.refusal ≡ verdict_of = c.in-Err.ensures ∙ ap (λ e. lock_verdict c.args.node e state args.stateid) c.epoch.ensures in
     let P : Ruling → Type 0 = λ ruling. IsUnlock state args verdict_of (Some ruling) × IsSendable (ops.Locku args) ruling.answer × IsWithinLimits ruling.change state in
     let Q : Result LockAt Refusal → Type 0 = λ v. IsUnlock state args v (Some (refusal_of c.in-Err.refusal)) in
-    subst P (sym c.refusal_ruling.ensures.value) (
+    subst P (sym c.refusal.ensures.value) (
       subst Q is refl,
       unlock_refused args c.in-Err.refusal (lock_verdict_other c.args.node c.epoch.result state args.stateid c.in-Err.refusal c.in-Err.ensures),
       tt,

@@ -1,9 +1,8 @@
 use Rattle.std.proofs.Common.{◌≡◌, Ok, Err, Some, sym, ap, ◌∙◌, subst}
 use Rattle.std.specs.Prelude.{Option}
 use Rattle.nfs_rules.specs.Deciding.{Rules}
-use Rattle.nfs_state.specs.Room.{state_of}
+use Rattle.nfs_state.specs.Room.{IsWithinLimits, state_of}
 use Rattle.nfs_rules.specs.Sequences.{before_own}
-use Rattle.nfs_state.specs.declared.change.Change.TheVariants.{Nothing}
 use Rattle.nfs_rules.specs.declared.ruling.Ruling.{Ruling}
 use Rattle.nfs_rules.specs.operations.Open.{opening, ruling_of}
 use Rattle.nfs_rules.proofs.OpeningLaws.{not_resource, opening_same}
@@ -28,11 +27,11 @@ returns-in-Err-clause-rules c =
     let seen = before_own c.args.passage args.owner state in
     let same : Err c.in-Err.refusal ≡ opening journal seen c.args.directory args =
     sym c.in-Err.is ∙ c.find_opening.ensures ∙ sym (opening_same c.args.passage journal state c.args.directory args) in (
-      ap (λ a. Some (record { answer = a; change = Nothing })) c.refusal_answer.ensures.value ∙ ap (ruling_of seen c.args.passage args.owner) same,
+      ap (λ r. Some r) c.refusal.ensures.value ∙ ap (ruling_of seen c.args.passage args.owner) same,
       record {
-        not_resource = not_resource journal seen c.args.directory args c.in-Err.refusal c.refusal_answer.result (sym same) c.refusal_answer.ensures.value;
-        form = c.refusal_answer.ensures.form;
-        short = c.refusal_answer.ensures.short;
+        not_resource = not_resource journal seen c.args.directory args c.in-Err.refusal c.refusal.result.answer (sym same) (ap (λ r. r.answer) c.refusal.ensures.value);
+        form = c.refusal.ensures.form;
+        short = c.refusal.ensures.short;
       },
-      tt,
+      subst (λ r. IsWithinLimits r.change state) (sym c.refusal.ensures.value) tt,
     )
