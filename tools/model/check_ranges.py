@@ -70,8 +70,8 @@ def compare(held, lists, owner, asked, mode):
     pairs.append((ranges.first_conflict(first, last, mode), conflict[0] if conflict else None))
     others = {other: held[other] for other in held if other != owner}
     found = denial(others.items(), first, last, mode)
-    told = None if found is None else (found.owner, tuple(found.run))
-    pairs.append((told, report({other: lists[other] for other in others}, places, mode)))
+    reported = None if found is None else (found.owner, tuple(found.run))
+    pairs.append((reported, report({other: lists[other] for other in others}, places, mode)))
     return all(one == other for one, other in pairs)
 
 

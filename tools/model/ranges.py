@@ -14,7 +14,7 @@ READ_MODE, WRITE_MODE = 1, 2
 
 # A run is the longest stretch of bytes of one mode: its first and its last byte, and the mode.
 Run = namedtuple("Run", "first last mode")
-# Of a conflict is told the owner, and its run.
+# Of a conflict the owner is reported, and its run.
 Denial = namedtuple("Denial", "owner run")
 
 
@@ -30,7 +30,7 @@ def range_of(offset, length):
 
 
 def length_of(first, last):
-    """The length that is told of these bytes: all ones where the last byte is among them."""
+    """The length that is reported of these bytes: all ones where the last byte is among them."""
     return ALL_ONES if last == LAST_BYTE else last - first + 1
 
 
@@ -85,7 +85,7 @@ class Ranges:
 
 
 def denial(others, first, last, mode):
-    """What is told where a lock is denied, or None: of the owners in conflict at the least byte that any of them has a
+    """What is reported where a lock is denied, or None: of the owners in conflict at the least byte that any of them has a
     conflict at, the least one, and its run there. `others` are pairs of owner and ranges; owners are compared by
     clientid, and then by their bytes."""
     conflicts = [(ranges.first_conflict(first, last, mode), owner, ranges) for owner, ranges in others]
