@@ -1,5 +1,5 @@
 #!/usr/bin/env python3
-"""check_rows.py FILE.rows..: runs rows through the model, and compares its replies with those that the rows want.
+"""check_rows.py FOLDER|FILE.rows..: runs rows through the model, and compares its replies with those that the rows want.
 
 Rows are left out where the model can't judge them: those that use an operation that gets a rule later. The status is 1
 where a row differs or a file can't be read."""
@@ -43,7 +43,7 @@ def report(row, connection, got):
 def main(files):
     expect_numbers()
     agreed = differ = left_out = unread = 0
-    for file in files:
+    for file in (file for path in files for file in rows.files_of(path)):
         try:
             found = rows.File(file).rows
         except (OSError, UnicodeDecodeError, rows.Bad) as error:

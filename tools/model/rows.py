@@ -175,6 +175,13 @@ class File:
             setattr(row, keyword, int(rest))
 
 
+def files_of(path):
+    """The file, or those of a folder that end with .rows."""
+    if not os.path.isdir(path):
+        return [path]
+    return sorted(os.path.join(path, name) for name in os.listdir(path) if name.endswith(".rows"))
+
+
 def words(data):
     return [data[at:at + 4].hex() for at in range(0, len(data), 4)]
 
