@@ -2,6 +2,7 @@
 #![tactic(auto)]
 
 mod file;
+mod got;
 mod message;
 mod names;
 mod pieces;
@@ -13,9 +14,10 @@ mod server;
 mod word;
 
 pub use file::read_rows;
+pub use got::Got;
 pub use pieces::Pieces;
 pub use reason::{Reason, Refused};
 pub use report::{Summary, show_text, try_text};
 pub use row::{Connection, Row};
-pub use run::{Got, run_row};
+pub use run::run_row;
 pub use server::Server;

@@ -2,24 +2,10 @@
 
 ghost use Rattle.std.specs.Prelude.{◌<◌};
 
-use crate::{Connection, Pieces, Row, Server};
-use nfs_server::{Counted, Fault};
+use crate::{Connection, Got, Row, Server};
+use nfs_server::Fault;
 use nfs_tree::{DEFAULT_TREE, TreeError};
 use std::alloc::{AllocError, Global};
-
-/// What came of a connection: the bytes that the server wrote, and the fault that ended it.
-#[derive(Debug, Drop)]
-pub struct Got {
-    pub bytes: Vec<u8>,
-    pub fault: Option<Fault>,
-}
-
-impl Got {
-    // Whether it is what is wanted.
-    fn is_right(&self, connection: &Connection) -> bool {
-        self.bytes.as_slice() == connection.wanted.as_slice() && self.fault == connection.fault
-    }
-}
 
 /// Runs the row on a server of its own, whose input comes in pieces of at most `piece_len` bytes. It gives the first
 /// connection, counted from 0, that doesn't get what is wanted, with what it gets.
@@ -52,7 +38,7 @@ fn first_wrong(
     requires { 0 < piece_len }
 {
     for (place, connection) in connections.iter().enumerate() {
-        let got = converse(alloc, server, connection, piece_len);
+        let got = server.converse(alloc, connection, piece_len, Vec::new(alloc));
         if !got.is_right(connection) {
             return Some((place, got));
         }
@@ -76,17 +62,5 @@ fn refused_tree(alloc: Global, row: &Row, error: TreeError) -> Option<(usize, Go
     match row.connections.first() {
         Some(connection) if got.is_right(connection) => None,
         _ => Some((0, got)),
-    }
-}
-
-fn converse(alloc: Global, server: &mut Server, connection: &Connection, piece_len: usize) -> Got
-    requires { 0 < piece_len }
-{
-    let mut source = Counted::new(Pieces::new(connection.sent.as_slice(), piece_len));
-    let mut sink = Counted::new(Vec::new(alloc));
-    let outcome = server.serve(alloc, &mut source, &mut sink, connection.moment);
-    Got {
-        bytes: sink.into_device(),
-        fault: Fault::of(outcome),
     }
 }

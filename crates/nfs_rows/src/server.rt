@@ -1,10 +1,11 @@
 //! A server over memory.
 
-ghost use Rattle.std.specs.Prelude.{◌≡◌, ◌-◌, ◌^◌, ◌<◌, ◌≤◌};
+ghost use Rattle.std.specs.Prelude.{◌≡◌, ◌<◌, ◌≤◌};
 ghost use Rattle.nfs_state.specs.declared.journal.TheConstants.{LEASE_MAX, LEASE_MIN};
 
-use nfs_core::{Core, Moment};
-use nfs_server::{Lent, ServeError, Sink, Source, Stopped, serve_connection};
+use crate::{Connection, Got, Pieces};
+use nfs_core::Core;
+use nfs_server::{Counted, Fault, Lent, Stopped, serve_connection};
 use nfs_tree::{Tree, TreeError};
 use std::alloc::Global;
 
@@ -31,18 +32,31 @@ impl Server {
         }
     }
 
-    /// Serves a connection at this moment, and returns how many bytes came after its last whole record.
-    pub fn serve<R: Source, W: Sink>(
+    /// Serves what the connection sends, which comes in pieces of at most `piece_len` bytes. The replies are appended to
+    /// `out`.
+    pub fn converse(
         &mut self,
         alloc: Global,
-        source: &mut R,
-        sink: &mut W,
-        moment: Moment,
-    ) -> Result<usize, ServeError>
-        requires reads { R.failures source.old < 2 ^ 64 - 1 }
-        requires writes { W.failures sink.old < 2 ^ 64 - 1 }
+        connection: &Connection,
+        piece_len: usize,
+        out: Vec<u8>,
+    ) -> Got
+        requires { 0 < piece_len }
     {
-        let mut clock = Stopped::at(moment);
-        serve_connection(alloc, source, sink, &mut self.lent, &self.tree, &mut clock)
+        let mut source = Counted::new(Pieces::new(connection.sent.as_slice(), piece_len));
+        let mut sink = Counted::new(out);
+        let mut clock = Stopped::at(connection.moment);
+        let outcome = serve_connection(
+            alloc,
+            &mut source,
+            &mut sink,
+            &mut self.lent,
+            &self.tree,
+            &mut clock,
+        );
+        Got {
+            bytes: sink.into_device(),
+            fault: Fault::of(outcome),
+        }
     }
 }

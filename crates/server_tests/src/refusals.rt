@@ -3,23 +3,21 @@
 //! growths refused in turn; what a refusal says is compared there with runs of the program.
 
 use nfs_core::Moment;
-use nfs_rows::Server;
-use nfs_server::Counted;
+use nfs_rows::{Connection, Server};
 use nfs_tree::DEFAULT_TREE;
 use std::alloc::{AllocError, Global};
 use test_words::{call, reply};
 
-/// Whether the call gets its answer on a connection of its own.
+/// Whether the call of the connection gets its answer.
 fn is_answered_at_once(
     alloc: Global,
     server: &mut Server,
-    call: &[u8],
-    answer: &[u8],
+    connection: &Connection,
 ) -> Result<bool, AllocError> {
-    let mut source = Counted::new(call);
-    let mut sink = Counted::new(Vec::with_capacity(alloc, 1024)?);
-    let outcome = server.serve(alloc, &mut source, &mut sink, Moment::new(0).unwrap());
-    Ok(outcome == Ok(0) && sink.into_device().as_slice() == answer)
+    // With room for the reply: one that is lost isn't one that was refused.
+    let out = Vec::with_capacity(alloc, 1024)?;
+    let got = server.converse(alloc, connection, 65_536, out);
+    Ok(got.is_right(connection))
 }
 
 /// Whether a COMPOUND of these words is answered by these, up to the second time that it is sent, which is then on
@@ -30,11 +28,15 @@ fn is_answered(
     arguments: &[u32],
     results: &[u32],
 ) -> Result<bool, AllocError> {
-    let call = call(alloc, 1, 1, arguments)?;
-    let answer = reply(alloc, 1, results)?;
+    let connection = Connection {
+        moment: Moment::new(0).unwrap(),
+        sent: call(alloc, 1, 1, arguments)?,
+        wanted: reply(alloc, 1, results)?,
+        fault: None,
+    };
     Ok(
-        is_answered_at_once(alloc, server, call.as_slice(), answer.as_slice())?
-            || is_answered_at_once(alloc, server, call.as_slice(), answer.as_slice())?,
+        is_answered_at_once(alloc, server, &connection)?
+            || is_answered_at_once(alloc, server, &connection)?,
     )
 }
 
