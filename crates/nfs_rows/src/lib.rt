@@ -19,5 +19,4 @@ pub use pieces::Pieces;
 pub use reason::{Reason, Refused};
 pub use report::{Summary, show_text, try_text};
 pub use row::{Connection, Row};
-pub use run::run_row;
-pub use server::Server;
+pub use run::{retry_row, run_row};

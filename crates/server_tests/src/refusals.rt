@@ -3,41 +3,18 @@
 //! growths refused in turn; what a refusal says is compared there with runs of the program.
 
 use nfs_core::Moment;
-use nfs_rows::{Connection, Server};
-use nfs_tree::DEFAULT_TREE;
+use nfs_rows::{Connection, Row, retry_row};
 use std::alloc::{AllocError, Global};
 use test_words::{call, reply};
 
-/// Whether the call of the connection gets its answer.
-fn is_answered_at_once(
-    alloc: Global,
-    server: &mut Server,
-    connection: &Connection,
-) -> Result<bool, AllocError> {
-    // With room for the reply: one that is lost isn't one that was refused.
-    let out = Vec::with_capacity(alloc, 1024)?;
-    let got = server.converse(alloc, connection, 65_536, out);
-    Ok(got.is_right(connection))
-}
-
-/// Whether a COMPOUND of these words is answered by these, up to the second time that it is sent, which is then on
-/// another connection.
-fn is_answered(
-    alloc: Global,
-    server: &mut Server,
-    arguments: &[u32],
-    results: &[u32],
-) -> Result<bool, AllocError> {
-    let connection = Connection {
+/// A connection that sends a COMPOUND of these words, and has to get these.
+fn connection(alloc: Global, arguments: &[u32], results: &[u32]) -> Result<Connection, AllocError> {
+    Ok(Connection {
         moment: Moment::new(0).unwrap(),
         sent: call(alloc, 1, 1, arguments)?,
         wanted: reply(alloc, 1, results)?,
         fault: None,
-    };
-    Ok(
-        is_answered_at_once(alloc, server, &connection)?
-            || is_answered_at_once(alloc, server, &connection)?,
-    )
+    })
 }
 
 /// SETCLIENTID: verifier 01 to 08, id `c1`, program 0x40000000, `tcp`, `127.0.0.1.8.1`, ident 1.
@@ -61,22 +38,34 @@ const SET_CLIENT_ID: [u32; 17] = [
     1,
 ];
 
-/// Whether a client id is given and confirmed; None where memory is refused for the test itself.
-fn is_registered(alloc: Global) -> Option<bool> {
-    let mut server = Server::open(alloc, DEFAULT_TREE, 90, 1).ok()?;
-    let given = [0, 0, 1, 35, 0, 1, 1, 0, 1];
-    let is_given = is_answered(alloc, &mut server, &SET_CLIENT_ID, &given).ok()?;
+/// A client id and its confirmation, each on a connection of its own to one server.
+fn registration(alloc: Global) -> Result<Row, AllocError> {
+    let mut connections = Vec::new(alloc);
+    connections.push(connection(alloc, &SET_CLIENT_ID, &[0, 0, 1, 35, 0, 1, 1, 0, 1])?)?;
     let confirmation = [0, 0, 1, 36, 1, 1, 0, 1];
-    let done = [0, 0, 1, 36, 0];
-    let is_confirmed = is_answered(alloc, &mut server, &confirmation, &done).ok()?;
-    Some(is_given && is_confirmed)
+    connections.push(connection(alloc, &confirmation, &[0, 0, 1, 36, 0])?)?;
+    Ok(Row {
+        name: String::new(alloc),
+        line: 0,
+        rule: String::new(alloc),
+        document: None,
+        lease: 90,
+        epoch: 1,
+        connections,
+        is_whole: true,
+    })
+}
+
+/// Whether each call gets its answer, where memory isn't refused for the test itself.
+fn is_registered(alloc: Global) -> Result<bool, AllocError> {
+    retry_row(alloc, &registration(alloc)?)
 }
 
 #[test]
 fn calls_are_answered_on_another_connection(rt: HostRuntime) {
     let answered = match is_registered(rt.alloc()) {
-        None => is_registered(rt.alloc()),
+        Err(AllocError) => is_registered(rt.alloc()),
         answered => answered,
     };
-    assert!(rt; answered == Some(true));
+    assert!(rt; answered == Ok(true));
 }
