@@ -1,11 +1,9 @@
-//! What the crates of tests share: words of four bytes, values with their words, messages in words, and texts.
+//! What the crates of tests share: words of four bytes, values with their words, and texts.
 #![tactic(auto)]
 
 mod encoding;
-mod messages;
 
 pub use encoding::{is_encoded_as, is_unreadable};
-pub use messages::{call, reply};
 use std::alloc::{AllocError, Global};
 use std::fmt::Display;
 use std::test::Fail;
