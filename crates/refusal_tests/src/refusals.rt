@@ -2,8 +2,8 @@
 //! connection ended and another one to the same server was begun. `tools/refuse_growths` runs this with each of its
 //! growths refused in turn; what a refusal says is compared there with runs of the program.
 
-use nfs_rows::{read_rows, retry_row};
-use std::alloc::Global;
+use nfs_rows::retry_text;
+use std::alloc::AllocError;
 
 /// A client id, and on another connection to the same server its confirmation.
 const REGISTRATION: &str = r#"
@@ -19,17 +19,12 @@ row a client id, and its confirmation on another connection
     SETCLIENTID_CONFIRM NFS4_OK
 "#;
 
-/// Whether each call gets its answer, or None where memory is refused for the test itself.
-fn is_registered(alloc: Global) -> Option<bool> {
-    let rows = read_rows(alloc, REGISTRATION).ok()?;
-    retry_row(alloc, rows.first()?).ok()
-}
-
 #[test]
 fn calls_are_answered_on_another_connection(rt: HostRuntime) {
-    let answered = match is_registered(rt.alloc()) {
-        None => is_registered(rt.alloc()),
+    // Where memory is refused for the test itself, all is done once more.
+    let answered = match retry_text(rt.alloc(), REGISTRATION) {
+        Err(AllocError) => retry_text(rt.alloc(), REGISTRATION),
         answered => answered,
     };
-    assert!(rt; answered == Some(true));
+    assert!(rt; answered == Ok(true));
 }
