@@ -2,3 +2,4 @@ pub mod Step
 pub mod Lawful
 pub mod Safe
 pub mod Server
+pub mod CoreError

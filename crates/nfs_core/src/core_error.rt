@@ -1,3 +1,6 @@
+ghost use Rattle.std.specs.Prelude.{◌≡◌};
+ghost use Rattle.nfs_core.specs.CoreError.{number_of};
+
 use std::alloc::AllocError;
 use thiserror::Error;
 
@@ -7,6 +10,15 @@ pub enum CoreError {
     /// Memory ran out.
     #[error("no memory (4)")]
     Memory = 4,
+}
+
+impl CoreError {
+    /// The error's number.
+    pub fn number(&self) -> u32
+        ensures { result ≡ number_of self.now }
+    {
+        *self as u32
+    }
 }
 
 impl From<AllocError> for CoreError {

@@ -10,3 +10,4 @@ pub mod Owner
 pub mod Owners
 pub mod OwnerLaws
 pub mod Numbers
+pub mod OwnersError

@@ -1,4 +1,5 @@
 ghost use Rattle.std.specs.Prelude.{◌≡◌};
+ghost use Rattle.nfs_owners.specs.OwnersError.{number_of};
 
 use std::alloc::AllocError;
 use thiserror::Error;
@@ -12,6 +13,15 @@ pub enum OwnersError {
     /// Memory ran out.
     #[error("no memory (2)")]
     Memory = 2,
+}
+
+impl OwnersError {
+    /// The error's number, 1 or 2.
+    pub fn number(&self) -> u32
+        ensures { result ≡ number_of self.now }
+    {
+        *self as u32
+    }
 }
 
 impl From<AllocError> for OwnersError {

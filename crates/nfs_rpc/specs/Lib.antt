@@ -5,3 +5,4 @@ pub mod Credential
 pub mod Reply
 pub mod Call
 pub mod ReadingCalls
+pub mod RecordError

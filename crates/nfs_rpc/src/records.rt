@@ -1,5 +1,6 @@
 ghost use Rattle.std.specs.Prelude.{◌≡◌, ◌+◌, ◌^◌, ◌≤◌, ◌↔◌, ◌∷◌, [], ℕ, List, false, length, OnOk, IsErrOf, IfSome, IfNone, IsTrue};
 ghost use Rattle.nfs_rpc.specs.Records.{IsRest, IsTooLong, Stream, Keeps, IsStream, IsNew, TakesPiece, OneSplit, SplitGoesOn};
+ghost use Rattle.nfs_rpc.specs.RecordError.{number_of};
 ghost use Rattle.nfs_rpc.specs.Keeping.{IsSound, messages_of};
 
 use crate::unfinished::{Unfinished, take_piece};
@@ -26,6 +27,15 @@ pub enum RecordError {
     /// Memory ran out.
     #[error("no memory (2)")]
     Memory = 2,
+}
+
+impl RecordError {
+    /// The error's number, 1 or 2.
+    pub fn number(&self) -> u32
+        ensures { result ≡ number_of self.now }
+    {
+        *self as u32
+    }
 }
 
 /// A stream of bytes, which may arrive in pieces of any size, as records of fragments (RFC 5531, section 11).

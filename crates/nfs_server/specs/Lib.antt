@@ -10,3 +10,4 @@ pub mod Connection
 pub mod Serving
 pub mod CourseLaws
 pub mod Once
+pub mod ServeError

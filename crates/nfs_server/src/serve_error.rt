@@ -1,3 +1,6 @@
+ghost use Rattle.std.specs.Prelude.{◌≡◌};
+ghost use Rattle.nfs_server.specs.ServeError.{number_of};
+
 use thiserror::Error;
 
 /// Why a connection ended before its input did.
@@ -18,4 +21,13 @@ pub enum ServeError {
     /// More than 2^40 bytes came.
     #[error("input too long (5)")]
     TooMuch = 5,
+}
+
+impl ServeError {
+    /// The error's number, from 1 to 5.
+    pub fn number(&self) -> u32
+        ensures { result ≡ number_of self.now }
+    {
+        *self as u32
+    }
 }

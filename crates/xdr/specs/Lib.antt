@@ -5,3 +5,4 @@ pub mod laws
 pub mod Form
 pub mod Switch
 pub mod Union
+pub mod WireError

@@ -1,4 +1,5 @@
 ghost use Rattle.std.specs.Prelude.{◌≡◌};
+ghost use Rattle.xdr.specs.WireError.{number_of};
 ghost use Rattle.xdr.specs.declared.wire_error.WireError.TheVariants as errors;
 
 use std::alloc::AllocError;
@@ -16,6 +17,15 @@ pub enum WireError {
     /// Memory ran out.
     #[error("no memory (3)")]
     Memory = 3,
+}
+
+impl WireError {
+    /// The error's number, from 1 to 3.
+    pub fn number(&self) -> u32
+        ensures { result ≡ number_of self.now }
+    {
+        *self as u32
+    }
 }
 
 impl From<AllocError> for WireError {
