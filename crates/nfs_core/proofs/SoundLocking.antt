@@ -6,7 +6,7 @@ use Rattle.nfs_core.specs.Safe.{bears}
 use Rattle.nfs_core.proofs.SafeLists.{found_last, found_some}
 use Rattle.nfs_core.proofs.Sound.{IsSound, KeepsOwners, StandsUnder, equal_clients, is_known_in, keeps_both, same_client_self, same_lock_owner_self, same_name_self}
 use Rattle.nfs_core.proofs.SoundLocks.{bears_from, under_kept}
-use Rattle.nfs_core.proofs.SoundSequences.{IsOwnReady, continuing, keeps_entry, keeps_record, others_ready, some_equal}
+use Rattle.nfs_core.proofs.SoundSequences.{IsOf, IsOwnReady, continuing, keeps_entry, keeps_record, others_ready, some_equal}
 use Rattle.nfs_core.proofs.SoundSteps.{IsChangeReady}
 use Rattle.nfs_core.proofs.SoundTargets.{bound, lock_found, named_lock, named_open, ok_equal, open_found, unrefused, unrefused_then}
 use Rattle.nfs_forms.specs.ClientId.{is_same_client}
@@ -33,10 +33,12 @@ use Rattle.nfs_ranges.specs.declared.piece.Piece.{Piece}
 use Rattle.nfs_ranges.specs.declared.range.Range.{Range}
 use Rattle.nfs_rules.specs.Locking.{can_be_written, denied_by, lock_of_bytes, mode_of, unlock_of_bytes}
 use Rattle.nfs_rules.specs.Newcomers.{Newcomer, Nobody, Unknown, has_turn, newcomer_by, newcomer_if, newcomer_in, newcomer_of}
-use Rattle.nfs_rules.specs.Sequences.{Owner, counts, is_ok_status, kept_with, owner_change_of, requester_of_stateid, requester_of_target, stateid_of}
+use Rattle.nfs_rules.specs.Sequences.{IsSequenced, Owner, counts, is_ok_status, kept_with, owner_change_of, requester_of_stateid, requester_of_target}
 use Rattle.nfs_rules.specs.Stateids.{lock_verdict, target_of, verdict}
+use Rattle.nfs_rules.specs.declared.decision.Decision.{Decision}
 use Rattle.nfs_rules.specs.declared.passage.Passage.TheVariants as passages
 use Rattle.nfs_rules.specs.declared.ruling.Ruling.{Ruling}
+use Rattle.nfs_rules.specs.operations.{IsRuledBy}
 use Rattle.nfs_rules.specs.operations.Lock as lock
 use Rattle.nfs_rules.specs.operations.Lock.{Locking}
 use Rattle.nfs_rules.specs.operations.Locku as locku
@@ -48,6 +50,8 @@ use Rattle.nfs_state.specs.Places.{has_owner_place, has_state_place}
 use Rattle.nfs_state.specs.State.{State, History}
 use Rattle.nfs_state.specs.declared.change.Change.TheVariants as changes
 use Rattle.nfs_state.specs.declared.owner_change.OwnerChange.TheVariants as owner_changes
+use Rattle.nfs_state.specs.declared.request.Request.{Request}
+use Rattle.nfs_xdr.specs.Names.{locker_names}
 use Rattle.nfs_xdr.specs.OpResult.{status_of}
 use Rattle.nfs_xdr.specs.declared.op.Op.{Op}
 use Rattle.nfs_xdr.specs.declared.op.Op.TheVariants as ops
@@ -163,16 +167,27 @@ under_open journal state node id at is client same l mine under =
       confirmed = found.1;
     }))
 
-requests_open : (journal : History) (state : State) (node : ℕ) (id : Stateid) (at : OpenAt) (name : StateOwner) → verdict (record { node = node; also_unconfirmed = false }) journal.epoch state id ≡ Ok at
-    → requester_of_stateid journal state id ≡ Owner name → name ≡ open_owner at.state.owner
-requests_open journal state node id at name is of =
+-- the stateid in a LOCK: that of an open with a new lock owner, or that of a lock state
+abbrev pub stateid_of : Locker → Stateid
+stateid_of (lockers.New locker) = locker.open_stateid
+stateid_of (lockers.Known locker) = locker.lock_stateid
+
+-- a LOCK goes by the sequence id of the owner that its stateid names
+pub lock_sequenced : (args : Lock) (locker : Locker) (journal : History) (state : State) (request : Request) (d : Option Decision) → IsRuledBy (locker_names locker) (ops.Lock args) journal state request d
+    → (seqid : ℕ) × IsSequenced journal state (requester_of_stateid journal state (stateid_of locker) seqid) (lock.own journal state args) request d
+lock_sequenced args (lockers.New locker) journal state request d is = (locker.open_seqid, is)
+lock_sequenced args (lockers.Known locker) journal state request d is = (locker.lock_seqid, is)
+
+requests_open : (journal : History) (state : State) (node : ℕ) (id : Stateid) (at : OpenAt) (seqid : ℕ) (name : StateOwner) → verdict (record { node = node; also_unconfirmed = false }) journal.epoch state id ≡ Ok at
+    → IsOf name (requester_of_stateid journal state id seqid) → name ≡ open_owner at.state.owner
+requests_open journal state node id at seqid name is of =
     let found = open_found (record { node = node; also_unconfirmed = false }) state id (target_of journal.epoch state id) at is in
-    let same : Owner name ≡ Owner (open_owner at.state.owner) = sym of ∙ ap (requester_of_target journal state id) found.0 in
+    let same : Owner name of.0 ≡ Owner (open_owner at.state.owner) seqid = sym of.1 ∙ ap (requester_of_target journal state id seqid) found.0 in
     search same
 
-locking_founded : (journal : History) (state : State) (node : ℕ) (args : Lock) (locker : Locker) (l : Locking) (name : StateOwner) → lock.locking_of journal state node args locker ≡ Ok l
-    → requester_of_stateid journal state (stateid_of locker) ≡ Owner name → IsFounded state (newcomer_in journal state name.client locker) l l.state
-locking_founded journal state node args (lockers.New locker) l name is of =
+locking_founded : (journal : History) (state : State) (node : ℕ) (args : Lock) (locker : Locker) (l : Locking) (seqid : ℕ) (name : StateOwner) → lock.locking_of journal state node args locker ≡ Ok l
+    → IsOf name (requester_of_stateid journal state (stateid_of locker) seqid) → IsFounded state (newcomer_in journal state name.client locker) l l.state
+locking_founded journal state node args (lockers.New locker) l seqid name is of =
     let newcomer = newcomer_in journal state name.client (lockers.New locker) in
     let P : Type 0 = IsFounded state newcomer l l.state in
     bound P (verdict (record { node = node; also_unconfirmed = false }) journal.epoch state locker.open_stateid) (λ at. lock.introduction journal state args locker at) l
@@ -189,14 +204,14 @@ locking_founded journal state node args (lockers.New locker) l name is of =
     } in
     let turn = unrefused (not (has_turn journal state locker)) refusals.BadSeqId (Ok new) l first.1 in
     let same = not-false (is_same_client locker.lock_owner.client at.state.owner.client) client.0 in
-    let owner = requests_open journal state node locker.open_stateid at name found of in
+    let owner = requests_open journal state node locker.open_stateid at seqid name found of in
     let founded : IsFounded state newcomer new None = (
       introduced_in journal state name.client locker (subst (λ (n : StateOwner). is_same_client locker.lock_owner.client n.client ≡ true) (sym owner) same),
       λ number change. under_open journal state node locker.open_stateid at found locker.lock_owner.client same
           (first_state (record { owner = locker.lock_owner; open_number = at.state.number; change = change }) number) refl refl,
     ) in
     subst (λ (x : Locking). IsFounded state newcomer x x.state) (ok_equal new l turn.1) founded) is
-locking_founded journal state node args (lockers.Known locker) l name is of =
+locking_founded journal state node args (lockers.Known locker) l seqid name is of =
     let newcomer = newcomer_in journal state name.client (lockers.Known locker) in
     let P : Type 0 = IsFounded state newcomer l l.state in
     bound P (lock_verdict node journal.epoch state locker.lock_stateid) (λ at. lock.locking_of_state args at) l
@@ -265,15 +280,15 @@ locks_ready number state name newcomer args (Err refusal) ruling founded is =
 locks_ready number state name newcomer args (Ok l) ruling founded is =
     ranged_ready number state name newcomer l is.0 ruling (founded l refl) is.2
 
-pub lock_ready : (number : ℕ) (journal : History) (state : State) (op : Op) (args : Lock) → IsSound state → op ≡ ops.Lock args
-    → IsOwnReady number journal state (requester_of_stateid journal state (stateid_of args.locker)) op (lock.own journal state args)
-lock_ready number journal state op args sound is =
-    let requester = requester_of_stateid journal state (stateid_of args.locker) in
+pub lock_ready : (number : ℕ) (journal : History) (state : State) (op : Op) (args : Lock) (seqid : ℕ) → IsSound state → op ≡ ops.Lock args
+    → IsOwnReady number journal state (requester_of_stateid journal state (stateid_of args.locker) seqid) op (lock.own journal state args)
+lock_ready number journal state op args seqid sound is =
+    let requester = requester_of_stateid journal state (stateid_of args.locker) seqid in
     subst (λ o. IsOwnReady number journal state requester o (lock.own journal state args)) (sym is)
     (others_ready number journal state requester (ops.Lock args) (lock.own journal state args) sound refl
     (λ node name ruling of known h.
     locks_ready number state name (newcomer_in journal state name.client args.locker) args (lock.locking_of journal state node args args.locker) ruling
-    (λ l found. locking_founded journal state node args args.locker l name found of) h))
+    (λ l found. locking_founded journal state node args args.locker l seqid name found of) h))
 
 -- LOCKU
 
@@ -298,9 +313,9 @@ unlocks_ready number state name newcomer args (Ok at) ruling found is =
     unlocking_ready number state name newcomer at is.0 ruling (found at refl) is.2
 
 pub locku_ready : (number : ℕ) (journal : History) (state : State) (op : Op) (args : Locku) → IsSound state → op ≡ ops.Locku args
-    → IsOwnReady number journal state (requester_of_stateid journal state args.stateid) op (locku.own journal state args)
+    → IsOwnReady number journal state (requester_of_stateid journal state args.stateid args.seqid) op (locku.own journal state args)
 locku_ready number journal state op args sound is =
-    let requester = requester_of_stateid journal state args.stateid in
+    let requester = requester_of_stateid journal state args.stateid args.seqid in
     subst (λ o. IsOwnReady number journal state requester o (locku.own journal state args)) (sym is)
     (others_ready number journal state requester (ops.Locku args) (locku.own journal state args) sound refl
     (λ node name ruling of known h.

@@ -26,14 +26,14 @@ use Rattle.nfs_rules.specs.operations.ReleaseLockowner as release
 use Rattle.nfs_rules.specs.operations.Setclientid as setclientid
 use Rattle.nfs_rules.specs.operations.SetclientidConfirm as confirm
 use Rattle.nfs_state.specs.Owners.{KnownOwner, has_name, is_confirmed, without_owner}
-use Rattle.nfs_rules.specs.Sequences.{Owner, Refused, before_own, decision_of, is_ok_status, is_open, owner_change_of, requester_of_open, requester_of_stateid, stateid_of}
+use Rattle.nfs_rules.specs.Sequences.{Owner, Refused, before_own, decision_of, is_ok_status, is_open, owner_change_of, requester_of_open, requester_of_stateid}
 use Rattle.nfs_state.specs.Changes.{with_owner_change}
 use Rattle.nfs_rules.specs.Stateids.{verdict}
 use Rattle.nfs_state.specs.State.{State, History, record_has_state}
 use Rattle.nfs_core.proofs.SafeLists.{all_find, all_none, all_weaken, found_last}
 use Rattle.nfs_core.proofs.Sound.{AreSingle, HasSameClient, IsOnlyOf, IsSound, is_live_in, same_name_self}
-use Rattle.nfs_core.proofs.SoundLocking.{lock_ready, locku_ready}
-use Rattle.nfs_core.proofs.SoundSequences.{IsFit, IsOwnReady, as_decided, continues_ready, continuing, never, quiet_ready, sequenced_ready, some_equal}
+use Rattle.nfs_core.proofs.SoundLocking.{lock_ready, lock_sequenced, locku_ready, stateid_of}
+use Rattle.nfs_core.proofs.SoundSequences.{IsFit, IsOf, IsOwnReady, as_decided, continues_ready, continuing, never, quiet_ready, sequenced_ready, some_equal}
 use Rattle.nfs_core.proofs.SoundSteps.{IsChangeReady, IsClientReady, IsOwnerReady, IsReady}
 use Rattle.nfs_core.proofs.SoundTargets.{bound, ok_equal, unrefused}
 use Rattle.nfs_forms.specs.ClientId.{is_same_client}
@@ -242,21 +242,22 @@ ruling_ready number journal state op args passage directory ruling (Ok o) sound 
     ]
 
 -- the owner of an OPEN is the one in its arguments, whose client is live
-requests_open : (state : State) (owner : OpenOwner) (name : StateOwner) → requester_of_open state owner ≡ Owner name → (name ≡ open_owner owner) × (is_live_in state.clients.records owner.client ≡ true)
-requests_open state owner name is =
+requests_open : (state : State) (owner : OpenOwner) (seqid : ℕ) (name : StateOwner) → IsOf name (requester_of_open state owner seqid) → (name ≡ open_owner owner) × (is_live_in state.clients.records owner.client ≡ true)
+requests_open state owner seqid name is =
     let live = is_live_in state.clients.records owner.client in
+    let own = Owner (open_owner owner) seqid in
     elim (cases_Bool live) [
       | inl there ↦
-          let same : Owner (open_owner owner) ≡ Owner name = sym (cond-true live (Owner (open_owner owner)) (Refused refusals.StaleClientId) there) ∙ is in
+          let same : own ≡ Owner name is.0 = sym (cond-true live own (Refused refusals.StaleClientId) there) ∙ is.1 in
           (search same, there)
       | inr gone ↦
-          let same : Refused refusals.StaleClientId ≡ Owner name = sym (cond-false live (Owner (open_owner owner)) (Refused refusals.StaleClientId) gone) ∙ is in
+          let same : Refused refusals.StaleClientId ≡ Owner name is.0 = sym (cond-false live own (Refused refusals.StaleClientId) gone) ∙ is.1 in
           absurd cc
     ]
 
-open_ready : (number : ℕ) (journal : History) (state : State) (op : Op) (args : Open) → IsSound state → IsOwnReady number journal state (requester_of_open state args.owner) op (opening.own journal state args)
+open_ready : (number : ℕ) (journal : History) (state : State) (op : Op) (args : Open) → IsSound state → IsOwnReady number journal state (requester_of_open state args.owner args.seqid) op (opening.own journal state args)
 open_ready number journal state op args sound node passage name ruling of fit h =
-    let asked = requests_open state args.owner name of in
+    let asked = requests_open state args.owner args.seqid name of in
     let fits : IsFit state op (open_owner args.owner) passage = subst (λ n. IsFit state op n passage) asked.0 fit in
     subst (λ (n : StateOwner). IsReady number state (decision_of passage n (newcomer_of journal state n.client op) ruling)) (sym asked.0)
     (ruling_ready number journal state op args passage node ruling (opening.opening journal (before_own passage args.owner state) node args) sound asked.1 fits refl h)
@@ -304,27 +305,28 @@ ruled_ready number journal state (ops.SetclientidConfirm args) request d same so
           (finding_fits state.clients named has_state request.principal args),
     )
 ruled_ready number journal state (ops.Open args) request d same sound is =
-    sequenced_ready number journal state (requester_of_open state args.owner) request (opening.own journal state args)
+    sequenced_ready number journal state (requester_of_open state args.owner args.seqid) request (opening.own journal state args)
     (open_ready number journal state request.op args sound) d is
 ruled_ready number journal state (ops.OpenConfirm args) request d same sound is =
-    sequenced_ready number journal state (requester_of_stateid journal state args.stateid) request (open_confirm.own journal state args)
-    (quiet_ready number journal state (requester_of_stateid journal state args.stateid) request.op (open_confirm.own journal state args) sound (ap is_open same)
+    sequenced_ready number journal state (requester_of_stateid journal state args.stateid args.seqid) request (open_confirm.own journal state args)
+    (quiet_ready number journal state (requester_of_stateid journal state args.stateid args.seqid) request.op (open_confirm.own journal state args) sound (ap is_open same)
     (λ node passage ruling h. as_ruled ruling _ h (confirmation_quiet state (verdict (record { node = node; also_unconfirmed = true }) journal.epoch state args.stateid)))) d is
 ruled_ready number journal state (ops.OpenDowngrade args) request d same sound is =
-    sequenced_ready number journal state (requester_of_stateid journal state args.stateid) request (open_downgrade.own journal state args)
-    (quiet_ready number journal state (requester_of_stateid journal state args.stateid) request.op (open_downgrade.own journal state args) sound (ap is_open same)
+    sequenced_ready number journal state (requester_of_stateid journal state args.stateid args.seqid) request (open_downgrade.own journal state args)
+    (quiet_ready number journal state (requester_of_stateid journal state args.stateid args.seqid) request.op (open_downgrade.own journal state args) sound (ap is_open same)
     (λ node passage ruling h. found_quiet (verdict (record { node = node; also_unconfirmed = false }) journal.epoch state args.stateid) args ruling h)) d is
 ruled_ready number journal state (ops.Close args) request d same sound is =
-    sequenced_ready number journal state (requester_of_stateid journal state args.stateid) request (close.own journal state args)
-    (quiet_ready number journal state (requester_of_stateid journal state args.stateid) request.op (close.own journal state args) sound (ap is_open same)
+    sequenced_ready number journal state (requester_of_stateid journal state args.stateid args.seqid) request (close.own journal state args)
+    (quiet_ready number journal state (requester_of_stateid journal state args.stateid args.seqid) request.op (close.own journal state args) sound (ap is_open same)
     (λ node passage ruling h. as_ruled ruling _ h (closing_quiet (verdict (record { node = node; also_unconfirmed = false }) journal.epoch state args.stateid)))) d is
 ruled_ready number journal state (ops.Lock args) request d same sound is =
-    sequenced_ready number journal state (requester_of_stateid journal state (stateid_of args.locker)) request (lock.own journal state args)
-    (lock_ready number journal state request.op args sound same) d is
+    let sequenced = lock_sequenced args args.locker journal state request (Some d) is in
+    sequenced_ready number journal state (requester_of_stateid journal state (stateid_of args.locker) sequenced.0) request (lock.own journal state args)
+    (lock_ready number journal state request.op args sequenced.0 sound same) d sequenced.1
 ruled_ready number journal state (ops.Lockt args) request d same sound is =
     test_ready number state args (lockt.lockt_file journal state request.filehandle args) d is
 ruled_ready number journal state (ops.Locku args) request d same sound is =
-    sequenced_ready number journal state (requester_of_stateid journal state args.stateid) request (locku.own journal state args)
+    sequenced_ready number journal state (requester_of_stateid journal state args.stateid args.seqid) request (locku.own journal state args)
     (locku_ready number journal state request.op args sound same) d is
 ruled_ready number journal state (ops.ReleaseLockowner args) request d same sound is =
     as_decided number state d _ is (release_ready number state args)

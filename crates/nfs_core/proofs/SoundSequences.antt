@@ -62,16 +62,16 @@ judged_fits state name op passage owner verdicts.New known is =
 judged_fits state name op passage owner (verdicts.Replay answer) known is = absurd cc
 judged_fits state name op passage owner verdicts.Bad known is = absurd cc
 
-fits_known : (state : State) (b : Bool) (kept : Kept) (name : StateOwner) (request : Request) (passage : Passage) (owner : StateOwner) → is_known_in state.owners name ≡ true
-    → (b ≡ true → (is_open request.op ≡ true) × (is_confirmed name state.owners ≡ false)) → IsOfKnown b kept name request (GoesOn passage owner) → (owner ≡ name) × IsFit state request.op owner passage
-fits_known state true kept name request passage owner known opens h =
+fits_known : (state : State) (b : Bool) (kept : Kept) (name : StateOwner) (seqid : ℕ) (request : Request) (passage : Passage) (owner : StateOwner) → is_known_in state.owners name ≡ true
+    → (b ≡ true → (is_open request.op ≡ true) × (is_confirmed name state.owners ≡ false)) → IsOfKnown b kept name seqid request (GoesOn passage owner) → (owner ≡ name) × IsFit state request.op owner passage
+fits_known state true kept name seqid request passage owner known opens h =
     let fit : IsFit state request.op owner passages.Restarts = subst (λ n. (is_open request.op ≡ true) × (is_confirmed n state.owners ≡ false)) (sym h.2) (opens refl) in
     (h.2, subst (IsFit state request.op owner) (sym h.1) fit)
-fits_known state false kept name request passage owner known opens h =
+fits_known state false kept name seqid request passage owner known opens h =
     judged_fits state name request.op passage owner h.0 known h.2
 
-owner_fits : (journal : History) (state : State) (found : Option KnownOwner) (name : StateOwner) (request : Request) (passage : Passage) (owner : StateOwner) → owner_of name state.owners ≡ found → IsOfOwner journal found name request (GoesOn passage owner) → (owner ≡ name) × IsFit state request.op owner passage
-owner_fits journal state None name request passage owner is h =
+owner_fits : (journal : History) (state : State) (found : Option KnownOwner) (name : StateOwner) (seqid : ℕ) (request : Request) (passage : Passage) (owner : StateOwner) → owner_of name state.owners ≡ found → IsOfOwner journal found name seqid request (GoesOn passage owner) → (owner ≡ name) × IsFit state request.op owner passage
+owner_fits journal state None name seqid request passage owner is h =
     let begins = GoesOn passages.Begins name in
     let refuses = refusal_to request.op refusals.BadStateId in
     elim (cases_Bool (is_open request.op)) [
@@ -83,26 +83,30 @@ owner_fits journal state None name request passage owner is h =
           let same : GoesOn passage owner ≡ refuses = h ∙ cond-false (is_open request.op) begins refuses others in
           absurd cc
     ]
-owner_fits journal state (Some o) name request passage owner is h =
-    fits_known state (is_open request.op && not o.confirmed) h.0 name request passage owner (ap is_some is)
+owner_fits journal state (Some o) name seqid request passage owner is h =
+    fits_known state (is_open request.op && not o.confirmed) h.0 name seqid request passage owner (ap is_some is)
     (λ both.
     let parts = and_parts (is_open request.op) (not o.confirmed) both in
     (parts.0, ap confirmed_if_known is ∙ not-true o.confirmed parts.1)) h.2
 
-sequence_fits : (journal : History) (state : State) (requester : Requester) (request : Request) (passage : Passage) (owner : StateOwner) → IsSequence journal state requester request (GoesOn passage owner) → (requester ≡ Owner owner) × IsFit state request.op owner passage
+-- the request is one of this owner's, by its sequence id
+abbrev pub IsOf : StateOwner → Requester → Type 0
+IsOf owner requester = (seqid : ℕ) × (requester ≡ Owner owner seqid)
+
+sequence_fits : (journal : History) (state : State) (requester : Requester) (request : Request) (passage : Passage) (owner : StateOwner) → IsSequence journal state requester request (GoesOn passage owner) → IsOf owner requester × IsFit state request.op owner passage
 sequence_fits journal state (Refused refusal) request passage owner h = absurd cc
-sequence_fits journal state (Owner name) request passage owner h =
-    let fits = owner_fits journal state (owner_of name state.owners) name request passage owner refl h in
-    (ap Owner (sym fits.0), fits.1)
+sequence_fits journal state (Owner name seqid) request passage owner h =
+    let fits = owner_fits journal state (owner_of name state.owners) name seqid request passage owner refl h in
+    ((seqid, ap (λ n. Owner n seqid) (sym fits.0)), fits.1)
 
 -- what the own rule of an operation gives, as what is decided, is ready
 abbrev pub IsOwnReady : ℕ → History → State → Requester → Op → Own → Type 0
 IsOwnReady number journal state requester op own =
-    (node : ℕ) (passage : Passage) (owner : StateOwner) (ruling : Ruling) → requester ≡ Owner owner → IsFit state op owner passage → own node passage (Some ruling)
+    (node : ℕ) (passage : Passage) (owner : StateOwner) (ruling : Ruling) → IsOf owner requester → IsFit state op owner passage → own node passage (Some ruling)
     → IsReady number state (decision_of passage owner (newcomer_of journal state owner.client op) ruling)
 
 rules_ready : (number : ℕ) (journal : History) (state : State) (requester : Requester) (op : Op) (own : Own) → IsOwnReady number journal state requester op own
-    → (node : ℕ) (passage : Passage) (owner : StateOwner) (ruling : Option Ruling) (d : Decision) → requester ≡ Owner owner → IsFit state op owner passage → own node passage ruling
+    → (node : ℕ) (passage : Passage) (owner : StateOwner) (ruling : Option Ruling) (d : Decision) → IsOf owner requester → IsFit state op owner passage → own node passage ruling
     → Some d ≡ option_map (decision_of passage owner (newcomer_of journal state owner.client op)) ruling → IsReady number state d
 rules_ready number journal state requester op own ready node passage owner None d of fit h is = absurd cc
 rules_ready number journal state requester op own ready node passage owner (Some ruling) d of fit h is =
@@ -216,7 +220,7 @@ continuing number old name newcomer status =
 
 -- Operations other than OPEN: their requests continue.
 pub others_ready : (number : ℕ) (journal : History) (state : State) (requester : Requester) (op : Op) (own : Own) → IsSound state → is_open op ≡ false
-    → ((node : ℕ) (name : StateOwner) (ruling : Ruling) → requester ≡ Owner name → is_known_in state.owners name ≡ true → own node passages.Continues (Some ruling)
+    → ((node : ℕ) (name : StateOwner) (ruling : Ruling) → IsOf name requester → is_known_in state.owners name ≡ true → own node passages.Continues (Some ruling)
     → IsChangeReady ruling.change (with_owner_change (owner_change_of passages.Continues name (newcomer_of journal state name.client op) (status_of ruling.answer)) number state))
     → IsOwnReady number journal state requester op own
 others_ready number journal state requester op own sound other ready node passages.Continues owner ruling of fit h =

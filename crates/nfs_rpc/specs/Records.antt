@@ -6,6 +6,7 @@ use Rattle.nfs_rpc.specs.declared.records.TheConstants.{RECORD_LIMIT}
 use Rattle.nfs_rpc.specs.declared.place.Place.{Place}
 use Rattle.nfs_rpc.specs.declared.place.Place.TheVariants.{InHeader, InBody}
 use Rattle.nfs_rpc.specs.declared.unfinished.Unfinished.{Unfinished}
+use Rattle.xdr.specs.Layout.{◌⨾◌}
 
 -- A fragment's header, four bytes: the top bit says whether the fragment is its record's last, and the other 31 are its
 -- length.
@@ -22,23 +23,19 @@ IsFragment last body text =
 -- fragments with these bodies, none of them marked as the last
 abbrev pub AreOpen : List (List ℕ) → List ℕ → Type 0
 AreOpen [] text = text ≡ []
-AreOpen (body ∷ bodies) text =
-    (front : List ℕ) × (back : List ℕ) × (text ≡ front ++ back) × IsFragment false body front
-    × AreOpen bodies back
+AreOpen (body ∷ bodies) text = (IsFragment false body ⨾ AreOpen bodies) text
 
 -- A record: the bodies of its fragments, one after the other. Only the last fragment is marked as the last.
 abbrev pub IsRecord : List ℕ → List ℕ → Type 0
 IsRecord message text =
-    (bodies : List (List ℕ)) × (body : List ℕ) × (front : List ℕ) × (back : List ℕ)
-    × (text ≡ front ++ back) × AreOpen bodies front × IsFragment true body back
-    × (message ≡ concat bodies ++ body)
+    (bodies : List (List ℕ)) × (body : List ℕ) × (message ≡ concat bodies ++ body)
+    × (AreOpen bodies ⨾ IsFragment true body) text
 
 -- the text is exactly these records, none of them above the limit
 abbrev pub AreRecords : List (List ℕ) → List ℕ → Type 0
 AreRecords [] text = text ≡ []
 AreRecords (message ∷ messages) text =
-    (front : List ℕ) × (back : List ℕ) × (text ≡ front ++ back)
-    × IsRecord message front × (length message ≤ RECORD_LIMIT) × AreRecords messages back
+    (length message ≤ RECORD_LIMIT) × (IsRecord message ⨾ AreRecords messages) text
 
 -- no record within the limit is at the front
 abbrev pub IsRest : List ℕ → Type 0

@@ -47,7 +47,7 @@ use Rattle.nfs_rules.specs.operations.Open.{has_open_place, opening, ruling_of}
 use Rattle.nfs_state.specs.Owners.{KnownOwner, owner_of}
 use Rattle.nfs_state.specs.Room.{HasOwnerPlace, IsNewcomer, is_known}
 use Rattle.nfs_rules.specs.Sequences.{Answered, GoesOn, IsDecided, IsJudged, IsOfKnown, IsOfOwner, IsSequence, Own, Owner, Refused, Requester, Sequence, counts, decision_of, is_ok_status, is_open, kept_with, owner_change_of}
-use Rattle.nfs_state.specs.Kept.{kept_for, seqid_of}
+use Rattle.nfs_state.specs.Kept.{kept_for}
 use Rattle.nfs_state.specs.State.{State, History}
 use Rattle.nfs_forms.specs.declared.client_id.ClientId.{ClientId}
 use Rattle.nfs_forms.specs.declared.open_owner.OpenOwner.{OpenOwner}
@@ -97,28 +97,28 @@ answered own journal state requester request (Some at) node sequence answer deci
     let S : Sequence → Type 0 = λ s. IsSendableSequence request.op s in
     subst P (sym made) ((Answered answer, subst Q is sequenced, refl), subst S is sendable, tt, tt)
 
-judged_goes_on : (kept : Kept) (name owner : StateOwner) (request : Request) → IsJudged kept name request (GoesOn passages.Begins owner) → ⊥
-judged_goes_on kept name owner request (verdicts.New, is, same) = absurd cc
-judged_goes_on kept name owner request (verdicts.Replay answer, is, same) = absurd cc
-judged_goes_on kept name owner request (verdicts.Bad, is, same) = absurd cc
+judged_goes_on : (kept : Kept) (name owner : StateOwner) (seqid : ℕ) (request : Request) → IsJudged kept name seqid request (GoesOn passages.Begins owner) → ⊥
+judged_goes_on kept name owner seqid request (verdicts.New, is, same) = absurd cc
+judged_goes_on kept name owner seqid request (verdicts.Replay answer, is, same) = absurd cc
+judged_goes_on kept name owner seqid request (verdicts.Bad, is, same) = absurd cc
 
-known_goes_on : (is_restart : Bool) (kept : Kept) (name owner : StateOwner) (request : Request) → IsOfKnown is_restart kept name request (GoesOn passages.Begins owner) → ⊥
-known_goes_on true kept name owner request is = absurd cc
-known_goes_on false kept name owner request is = judged_goes_on kept name owner request is
+known_goes_on : (is_restart : Bool) (kept : Kept) (name owner : StateOwner) (seqid : ℕ) (request : Request) → IsOfKnown is_restart kept name seqid request (GoesOn passages.Begins owner) → ⊥
+known_goes_on true kept name owner seqid request is = absurd cc
+known_goes_on false kept name owner seqid request is = judged_goes_on kept name owner seqid request is
 
 begins_by : (b : Bool) (name owner : StateOwner) (answer : OpResult) → GoesOn passages.Begins owner ≡ (if b then GoesOn passages.Begins name else Answered answer) → b ≡ true
 begins_by true name owner answer same = refl
 begins_by false name owner answer same = absurd cc
 
-owner_begins : (journal : History) (found : Option KnownOwner) (name owner : StateOwner) (request : Request) → IsOfOwner journal found name request (GoesOn passages.Begins owner) → is_open request.op ≡ true
-owner_begins journal None name owner request is = begins_by (is_open request.op) name owner _ is
-owner_begins journal (Some o) name owner request is =
-    absurd (known_goes_on (is_open request.op && not o.confirmed) is.0 name owner request is.2)
+owner_begins : (journal : History) (found : Option KnownOwner) (name owner : StateOwner) (seqid : ℕ) (request : Request) → IsOfOwner journal found name seqid request (GoesOn passages.Begins owner) → is_open request.op ≡ true
+owner_begins journal None name owner seqid request is = begins_by (is_open request.op) name owner _ is
+owner_begins journal (Some o) name owner seqid request is =
+    absurd (known_goes_on (is_open request.op && not o.confirmed) is.0 name owner seqid request is.2)
 
 -- only an OPEN comes from an owner that isn't known
 begins_open : (journal : History) (state : State) (requester : Requester) (request : Request) (owner : StateOwner) → IsSequence journal state requester request (GoesOn passages.Begins owner) → is_open request.op ≡ true
 begins_open journal state (Refused refusal) request owner is = absurd cc
-begins_open journal state (Owner name) request owner is = owner_begins journal (owner_of name state.owners) name owner request is
+begins_open journal state (Owner name seqid) request owner is = owner_begins journal (owner_of name state.owners) name owner seqid request is
 
 place_by : (owners limit : ℕ) (place more : Bool) (r : Option Ruling) (ruling : Ruling) → nat_lt owners limit ≡ place → Some ruling ≡ (if place && more then r else None) → owners < limit
 place_by owners limit true more r ruling is same = search (arith, is)
@@ -305,42 +305,42 @@ abbrev IsOpenOwner : Passage → StateOwner → Type 0
 IsOpenOwner passages.Continues name = ⊤
 IsOpenOwner passage name = name ≡ open_owner (as_open_owner name)
 
-judged_continues : (kept : Kept) (n name : StateOwner) (request : Request) (passage : Passage) → IsJudged kept n request (GoesOn passage name) → (name ≡ n) × (passage ≡ passages.Continues)
-judged_continues kept n name request passage (verdicts.New, is, same) = (search same, search same)
-judged_continues kept n name request passage (verdicts.Replay answer, is, same) = absurd cc
-judged_continues kept n name request passage (verdicts.Bad, is, same) = absurd cc
+judged_continues : (kept : Kept) (n name : StateOwner) (seqid : ℕ) (request : Request) (passage : Passage) → IsJudged kept n seqid request (GoesOn passage name) → (name ≡ n) × (passage ≡ passages.Continues)
+judged_continues kept n name seqid request passage (verdicts.New, is, same) = (search same, search same)
+judged_continues kept n name seqid request passage (verdicts.Replay answer, is, same) = absurd cc
+judged_continues kept n name seqid request passage (verdicts.Bad, is, same) = absurd cc
 
-known_cases : (b : Bool) (kept : Kept) (n name : StateOwner) (request : Request) (passage : Passage) → (b ≡ true → is_open request.op ≡ true) → IsOfKnown b kept n request (GoesOn passage name)
+known_cases : (b : Bool) (kept : Kept) (n name : StateOwner) (seqid : ℕ) (request : Request) (passage : Passage) → (b ≡ true → is_open request.op ≡ true) → IsOfKnown b kept n seqid request (GoesOn passage name)
     → (name ≡ n) × ((passage ≡ passages.Continues) ⊎ (is_open request.op ≡ true))
-known_cases true kept n name request passage opens is = (is.2, inr (opens refl))
-known_cases false kept n name request passage opens is =
-    let both = judged_continues kept n name request passage is in
+known_cases true kept n name seqid request passage opens is = (is.2, inr (opens refl))
+known_cases false kept n name seqid request passage opens is =
+    let both = judged_continues kept n name seqid request passage is in
     (both.0, inl both.1)
 
 unknown_cases : (b : Bool) (n name : StateOwner) (passage : Passage) (answer : OpResult) → GoesOn passage name ≡ (if b then GoesOn passages.Begins n else Answered answer) → (name ≡ n) × (b ≡ true)
 unknown_cases true n name passage answer same = (search same, refl)
 unknown_cases false n name passage answer same = absurd cc
 
-owner_cases : (journal : History) (found : Option KnownOwner) (n name : StateOwner) (request : Request) (passage : Passage) → IsOfOwner journal found n request (GoesOn passage name)
+owner_cases : (journal : History) (found : Option KnownOwner) (n name : StateOwner) (seqid : ℕ) (request : Request) (passage : Passage) → IsOfOwner journal found n seqid request (GoesOn passage name)
     → (name ≡ n) × ((passage ≡ passages.Continues) ⊎ (is_open request.op ≡ true))
-owner_cases journal None n name request passage is =
+owner_cases journal None n name seqid request passage is =
     let both = unknown_cases (is_open request.op) n name passage _ is in
     (both.0, inr both.1)
-owner_cases journal (Some o) n name request passage is =
-    known_cases (is_open request.op && not o.confirmed) is.0 n name request passage
+owner_cases journal (Some o) n name seqid request passage is =
+    known_cases (is_open request.op && not o.confirmed) is.0 n name seqid request passage
     (λ both. (and_parts (is_open request.op) (not o.confirmed) both).0) is.2
 
-open_name : (op : Op) (n : StateOwner) → IsRequesterOf op (Owner n) → is_open op ≡ true → n ≡ open_owner (as_open_owner n)
-open_name (ops.Open args) n is opens = subst (λ m. m ≡ open_owner (as_open_owner m)) (sym is) refl
-open_name op n is opens = absurd cc
+open_name : (op : Op) (n : StateOwner) (seqid : ℕ) → IsRequesterOf op (Owner n seqid) → is_open op ≡ true → n ≡ open_owner (as_open_owner n)
+open_name (ops.Open args) n seqid is opens = subst (λ m. m ≡ open_owner (as_open_owner m)) (sym is) refl
+open_name op n seqid is opens = absurd cc
 
 open_owner_of : (journal : History) (state : State) (requester : Requester) (request : Request) (passage : Passage) (name : StateOwner) → IsRequesterOf request.op requester
     → IsSequence journal state requester request (GoesOn passage name) → IsOpenOwner passage name
 open_owner_of journal state (Refused refusal) request passage name asked is = absurd cc
-open_owner_of journal state (Owner n) request passage name asked is =
-    let cases = owner_cases journal (owner_of n state.owners) n name request passage is in
+open_owner_of journal state (Owner n seqid) request passage name asked is =
+    let cases = owner_cases journal (owner_of n state.owners) n name seqid request passage is in
     let named : is_open request.op ≡ true → name ≡ open_owner (as_open_owner name) =
-    λ opens. subst (λ m. m ≡ open_owner (as_open_owner m)) (sym cases.0) (open_name request.op n asked opens) in
+    λ opens. subst (λ m. m ≡ open_owner (as_open_owner m)) (sym cases.0) (open_name request.op n seqid asked opens) in
     by passage cases.1 named
   where
     by : (passage : Passage) → (passage ≡ passages.Continues) ⊎ (is_open request.op ≡ true) → (is_open request.op ≡ true → name ≡ open_owner (as_open_owner name)) → IsOpenOwner passage name
@@ -408,25 +408,25 @@ memory_decides ruled state op (Err Limit) err memory room = absurd cc
 memory_decides ruled state op (Err Memory) err memory room = room
 
 -- the kept request again doesn't go on as the next one
-judged_stays : (kept : Kept) (name : StateOwner) (request : Request) → IsAgain kept (seqid_of request.op) (request_of request.op request.filehandle) → (passage : Passage) (owner : StateOwner) → IsJudged kept name request (GoesOn passage owner) → ⊥
-judged_stays kept name request again passage owner (verdicts.New, is, same) = next_differs kept.seqid (sym again.0 ∙ is)
-judged_stays kept name request again passage owner (verdicts.Replay answer, is, same) = absurd cc
-judged_stays kept name request again passage owner (verdicts.Bad, is, same) = absurd cc
+judged_stays : (kept : Kept) (name : StateOwner) (seqid : ℕ) (request : Request) → IsAgain kept seqid (request_of request.op request.filehandle) → (passage : Passage) (owner : StateOwner) → IsJudged kept name seqid request (GoesOn passage owner) → ⊥
+judged_stays kept name seqid request again passage owner (verdicts.New, is, same) = next_differs kept.seqid (sym again.0 ∙ is)
+judged_stays kept name seqid request again passage owner (verdicts.Replay answer, is, same) = absurd cc
+judged_stays kept name seqid request again passage owner (verdicts.Bad, is, same) = absurd cc
 
-known_stays : (b : Bool) (kept : Kept) (name : StateOwner) (request : Request) → IsAgain kept (seqid_of request.op) (request_of request.op request.filehandle) → (passage : Passage) (owner : StateOwner) → IsOfKnown b kept name request (GoesOn passage owner) → ⊥
-known_stays true kept name request again passage owner is = is.0 again
-known_stays false kept name request again passage owner is = judged_stays kept name request again passage owner is
+known_stays : (b : Bool) (kept : Kept) (name : StateOwner) (seqid : ℕ) (request : Request) → IsAgain kept seqid (request_of request.op request.filehandle) → (passage : Passage) (owner : StateOwner) → IsOfKnown b kept name seqid request (GoesOn passage owner) → ⊥
+known_stays true kept name seqid request again passage owner is = is.0 again
+known_stays false kept name seqid request again passage owner is = judged_stays kept name seqid request again passage owner is
 
-owner_stays : (journal : History) (found : Option KnownOwner) (name : StateOwner) (request : Request) → IsReplayOf journal found request → (passage : Passage) (owner : StateOwner) → IsOfOwner journal found name request (GoesOn passage owner) → ⊥
-owner_stays journal None name request replay passage owner is = absurd replay
-owner_stays journal (Some o) name request replay passage owner is =
-    let again : Kept → Type 0 = λ kept. IsAgain kept (seqid_of request.op) (request_of request.op request.filehandle) in
-    known_stays (is_open request.op && not o.confirmed) is.0 name request (subst again (some_once (kept_for journal o) replay.0 is.0 replay.1 is.1) replay.2) passage owner is.2
+owner_stays : (journal : History) (found : Option KnownOwner) (name : StateOwner) (seqid : ℕ) (request : Request) → IsReplayOf journal found seqid request → (passage : Passage) (owner : StateOwner) → IsOfOwner journal found name seqid request (GoesOn passage owner) → ⊥
+owner_stays journal None name seqid request replay passage owner is = absurd replay
+owner_stays journal (Some o) name seqid request replay passage owner is =
+    let again : Kept → Type 0 = λ kept. IsAgain kept seqid (request_of request.op request.filehandle) in
+    known_stays (is_open request.op && not o.confirmed) is.0 name seqid request (subst again (some_once (kept_for journal o) replay.0 is.0 replay.1 is.1) replay.2) passage owner is.2
 
 -- the last request again doesn't go on to its own rule
 pub replay_stays : (journal : History) (state : State) (requester : Requester) (request : Request) → IsReplay journal state requester request → (passage : Passage) (owner : StateOwner) → IsSequence journal state requester request (GoesOn passage owner) → ⊥
 replay_stays journal state (Refused refusal) request replay passage owner is = absurd replay
-replay_stays journal state (Owner name) request replay passage owner is = owner_stays journal (owner_of name state.owners) name request replay passage owner is
+replay_stays journal state (Owner name seqid) request replay passage owner is = owner_stays journal (owner_of name state.owners) name seqid request replay passage owner is
 
 no_decision : (s : Sequence) (node : ℕ) (newcomer : ClientId → Newcomer) (own : Own) → ((passage : Passage) (name : StateOwner) → s ≡ GoesOn passage name → ⊥) → IsDecided s newcomer (own node) None → ⊥
 no_decision (Answered answer) node newcomer own stays none = absurd cc

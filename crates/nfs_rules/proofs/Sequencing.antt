@@ -5,7 +5,7 @@ use Rattle.std.specs.List.{AllByRecursion}
 use Rattle.nfs_rules.specs.Deciding.{HasPassage, IsReplayOf}
 use Rattle.nfs_state.specs.Entries.{IsSendable}
 use Rattle.nfs_rules.specs.Finding.{stored_or_bad}
-use Rattle.nfs_state.specs.Kept.{Agrees, IsKeptIn, kept_for, seqid_of}
+use Rattle.nfs_state.specs.Kept.{Agrees, IsKeptIn, kept_for}
 use Rattle.nfs_state.specs.Owners.{KnownOwner, confirmed_if_known, has_name, is_confirmed, owner_of}
 use Rattle.nfs_rules.specs.declared.passage.Passage.TheVariants as passages
 use Rattle.nfs_state.specs.declared.request.Request.{Request}
@@ -38,9 +38,9 @@ find_known : (p : KnownOwner → Bool) (q : Owner → Bool) (stored : List Owner
 find_known p q [] same = refl
 find_known p q (o ∷ stored) same = grind (arith, same.0, find_known p q stored same.1)
 
-stored_as_known : (found : Option Owner) → owner_or_bad (option_map known_owner found) ≡ stored_or_bad found
-stored_as_known None = refl
-stored_as_known (Some o) = refl
+stored_as_known : (seqid : ℕ) (found : Option Owner) → owner_or_bad seqid (option_map known_owner found) ≡ stored_or_bad seqid found
+stored_as_known seqid None = refl
+stored_as_known seqid (Some o) = refl
 
 some_same : (a b : Owner) → Some a ≡ Some b → a ≡ b
 some_same a b same = cc
@@ -73,10 +73,10 @@ closed_same : (journal : History) (id : Stateid) (stored : List Owner) → Agree
 closed_same journal id [] agrees = tt
 closed_same journal id (o ∷ stored) agrees = (ap (has_closed id) (agrees.0.entry), closed_same journal id stored agrees.1)
 
-pub closer_known : (journal : History) (id : Stateid) (stored : List Owner) → Agrees journal stored → owner_or_bad (find (λ o. has_closed id (kept_for journal o)) (map known_owner stored)) ≡ stored_or_bad (find (λ o. closes id.client id.number o.kept) stored)
-closer_known journal id stored agrees =
-    ap owner_or_bad (find_known (λ o. has_closed id (kept_for journal o)) (λ o. closes id.client id.number o.kept) stored (closed_same journal id stored agrees))
-    ∙ stored_as_known (find (λ o. closes id.client id.number o.kept) stored)
+pub closer_known : (journal : History) (id : Stateid) (seqid : ℕ) (stored : List Owner) → Agrees journal stored → owner_or_bad seqid (find (λ o. has_closed id (kept_for journal o)) (map known_owner stored)) ≡ stored_or_bad seqid (find (λ o. closes id.client id.number o.kept) stored)
+closer_known journal id seqid stored agrees =
+    ap (owner_or_bad seqid) (find_known (λ o. has_closed id (kept_for journal o)) (λ o. closes id.client id.number o.kept) stored (closed_same journal id stored agrees))
+    ∙ stored_as_known seqid (find (λ o. closes id.client id.number o.kept) stored)
 
 -- The kept request again has the same operation, whose answer can be sent as before.
 pub replay_sendable : (kept : Kept) (seqid : ℕ) (op : Op) (filehandle : Option ℕ) (answer : OpResult) → IsSendable kept.request.op kept.answer → IsAgain kept seqid (request_of op filehandle) → answer ≡ kept.answer → IsSendable op answer
@@ -97,39 +97,39 @@ refusal_sendable op refusal answer other is form short = record {
 }
 
 -- A sequence that the stored owner gives is one that the known owner gives.
-pub known_sequence : (journal : History) (name : StateOwner) (stored : List Owner) (o : Owner) (request : Request) (s : Sequence) → Agrees journal stored → owners.owner_of name stored ≡ Some o → IsOfKnown (is_open request.op && not o.confirmed) o.kept name request s → IsOfOwner journal (owner_of name (map known_owner stored)) name request s
-known_sequence journal name stored o request s agrees found is =
-    let of_owner : Option KnownOwner → Type 0 = λ known. IsOfOwner journal known name request s in
+pub known_sequence : (journal : History) (name : StateOwner) (stored : List Owner) (o : Owner) (seqid : ℕ) (request : Request) (s : Sequence) → Agrees journal stored → owners.owner_of name stored ≡ Some o → IsOfKnown (is_open request.op && not o.confirmed) o.kept name seqid request s → IsOfOwner journal (owner_of name (map known_owner stored)) name seqid request s
+known_sequence journal name stored o seqid request s agrees found is =
+    let of_owner : Option KnownOwner → Type 0 = λ known. IsOfOwner journal known name seqid request s in
     subst of_owner (sym (owner_known name stored ∙ ap (option_map known_owner) found)) (o.kept, (kept_found journal name stored o agrees found).entry, is)
 
 -- The last request again by what is stored of the owner is the last one again by what is kept for the known owner.
-pub known_replay : (journal : History) (name : StateOwner) (stored : List Owner) (o : Owner) (request : Request) → Agrees journal stored → owners.owner_of name stored ≡ Some o → IsAgain o.kept (seqid_of request.op) (request_of request.op request.filehandle) → IsReplayOf journal (owner_of name (map known_owner stored)) request
-known_replay journal name stored o request agrees found again =
-    let of_owner : Option KnownOwner → Type 0 = λ known. IsReplayOf journal known request in
+pub known_replay : (journal : History) (name : StateOwner) (stored : List Owner) (o : Owner) (seqid : ℕ) (request : Request) → Agrees journal stored → owners.owner_of name stored ≡ Some o → IsAgain o.kept seqid (request_of request.op request.filehandle) → IsReplayOf journal (owner_of name (map known_owner stored)) seqid request
+known_replay journal name stored o seqid request agrees found again =
+    let of_owner : Option KnownOwner → Type 0 = λ known. IsReplayOf journal known seqid request in
     subst of_owner (sym (owner_known name stored ∙ ap (option_map known_owner) found)) (o.kept, (kept_found journal name stored o agrees found).entry, again)
 
-pub unknown_sequence : (journal : History) (name : StateOwner) (stored : List Owner) (request : Request) (s : Sequence) → owners.owner_of name stored ≡ None → IsOfUnknown name request s → IsOfOwner journal (owner_of name (map known_owner stored)) name request s
-unknown_sequence journal name stored request s none is =
-    let of_owner : Option KnownOwner → Type 0 = λ known. IsOfOwner journal known name request s in
+pub unknown_sequence : (journal : History) (name : StateOwner) (stored : List Owner) (seqid : ℕ) (request : Request) (s : Sequence) → owners.owner_of name stored ≡ None → IsOfUnknown name request s → IsOfOwner journal (owner_of name (map known_owner stored)) name seqid request s
+unknown_sequence journal name stored seqid request s none is =
+    let of_owner : Option KnownOwner → Type 0 = λ known. IsOfOwner journal known name seqid request s in
     subst of_owner (sym (owner_known name stored ∙ ap (option_map known_owner) none)) is
 
 -- How a request goes on fits what is known of its owner.
-restart_passage : (state : State) (kept : Kept) (name : StateOwner) (request : Request) (s : Sequence) → is_known name state ≡ true → IsRestart kept name request s → HasPassage state s
-restart_passage state kept name request (Answered answer) known is = tt
-restart_passage state kept name request (GoesOn passage owner) known is = rw (is.1, is.2) known
+restart_passage : (state : State) (kept : Kept) (name : StateOwner) (seqid : ℕ) (request : Request) (s : Sequence) → is_known name state ≡ true → IsRestart kept name seqid request s → HasPassage state s
+restart_passage state kept name seqid request (Answered answer) known is = tt
+restart_passage state kept name seqid request (GoesOn passage owner) known is = rw (is.1, is.2) known
 
 verdict_passage : (state : State) (name : StateOwner) (op : Op) (verdict : Verdict) → is_known name state ≡ true → HasPassage state (by_verdict name op verdict)
 verdict_passage state name op verdicts.New known = known
 verdict_passage state name op (verdicts.Replay answer) known = tt
 verdict_passage state name op verdicts.Bad known = tt
 
-known_passage : (b : Bool) (state : State) (kept : Kept) (name : StateOwner) (request : Request) (s : Sequence) → is_known name state ≡ true → IsOfKnown b kept name request s → HasPassage state s
-known_passage true state kept name request s known is = restart_passage state kept name request s known is
-known_passage false state kept name request s known is = subst (HasPassage state) (sym is.2) (verdict_passage state name request.op is.0 known)
+known_passage : (b : Bool) (state : State) (kept : Kept) (name : StateOwner) (seqid : ℕ) (request : Request) (s : Sequence) → is_known name state ≡ true → IsOfKnown b kept name seqid request s → HasPassage state s
+known_passage true state kept name seqid request s known is = restart_passage state kept name seqid request s known is
+known_passage false state kept name seqid request s known is = subst (HasPassage state) (sym is.2) (verdict_passage state name request.op is.0 known)
 
-pub passage_known : (state : State) (name : StateOwner) (stored : List Owner) (o : Owner) (request : Request) (s : Sequence) → state.owners ≡ map known_owner stored → owners.owner_of name stored ≡ Some o → IsOfKnown (is_open request.op && not o.confirmed) o.kept name request s → HasPassage state s
-passage_known state name stored o request s are found is =
-    known_passage _ state o.kept name request s
+pub passage_known : (state : State) (name : StateOwner) (stored : List Owner) (o : Owner) (seqid : ℕ) (request : Request) (s : Sequence) → state.owners ≡ map known_owner stored → owners.owner_of name stored ≡ Some o → IsOfKnown (is_open request.op && not o.confirmed) o.kept name seqid request s → HasPassage state s
+passage_known state name stored o seqid request s are found is =
+    known_passage _ state o.kept name seqid request s
     (ap is_some (ap (owner_of name) are ∙ owner_known name stored ∙ ap (option_map known_owner) found)) is
 
 begin_passage : (b : Bool) (state : State) (name : StateOwner) (op : Op) → is_known name state ≡ false → HasPassage state (if b then GoesOn passages.Begins name else refusal_to op refusals.BadStateId)

@@ -5,16 +5,13 @@ use Rattle.nfs_rules.specs.declared.decision.Decision.{Decision}
 use Rattle.nfs_state.specs.declared.request.Request.{Request}
 use Rattle.nfs_rules.specs.declared.passage.Passage.{Passage}
 use Rattle.nfs_state.specs.Owners.{KnownOwner, owner_of}
-use Rattle.nfs_rules.specs.operations.{IsRuled}
-use Rattle.nfs_rules.specs.operations.Close as close
+use Rattle.nfs_rules.specs.operations.{IsPlain, IsRuled, IsRuledBy, own_of}
 use Rattle.nfs_rules.specs.operations.Lock as lock
 use Rattle.nfs_rules.specs.operations.Lock.{IsAllowed, IsLock, Locking, allows, locking_of, unless_denied}
 use Rattle.nfs_rules.specs.operations.Lockt as lockt
 use Rattle.nfs_rules.specs.operations.Lockt.{IsTest, answer_of, lockt_file}
 use Rattle.nfs_rules.specs.operations.Locku as locku
 use Rattle.nfs_rules.specs.operations.Locku.{IsUnlock, unlocking}
-use Rattle.nfs_rules.specs.operations.Open as opening
-use Rattle.nfs_rules.specs.operations.OpenConfirm as open_confirm
 use Rattle.nfs_rules.specs.operations.OpenDowngrade as open_downgrade
 use Rattle.nfs_rules.specs.operations.OpenDowngrade.{IsDowngrade, IsFound}
 use Rattle.nfs_rules.specs.Locking.{mode_of}
@@ -23,8 +20,8 @@ use Rattle.nfs_rules.specs.Stateids.{lock_verdict, verdict}
 use Rattle.nfs_share.specs.AllOpens.{OpenAt, opens_of}
 use Rattle.nfs_share.specs.Opens.{open_with_number}
 use Rattle.nfs_rules.specs.declared.ruling.Ruling.{Ruling}
-use Rattle.nfs_rules.specs.Sequences.{IsDecided, IsJudged, IsOfKnown, IsOfOwner, IsRestart, IsSequence, IsUnder, Own, Requester, Sequence, Answered, GoesOn, Refused, Owner, by_verdict, decision_of, is_open, requester_of_open, requester_of_stateid, stateid_of}
-use Rattle.nfs_state.specs.Kept.{kept_for, seqid_of}
+use Rattle.nfs_rules.specs.Sequences.{IsDecided, IsJudged, IsOfKnown, IsOfOwner, IsRestart, IsSequence, IsUnder, Own, Requester, Sequence, Answered, GoesOn, Refused, Owner, by_verdict, decision_of, is_open, requester_of_open, requester_of_stateid}
+use Rattle.nfs_state.specs.Kept.{kept_for}
 use Rattle.nfs_state.specs.State.{State, History}
 use Rattle.nfs_owners.specs.declared.state_owner.StateOwner.{StateOwner}
 use Rattle.nfs_owners.specs.declared.kept.Kept.{Kept}
@@ -46,6 +43,7 @@ use Rattle.nfs_operations.specs.declared.open_downgrade.OpenDowngrade.{OpenDowng
 use Rattle.nfs_forms.specs.declared.status.Refusal.{Refusal}
 use Rattle.nfs_share.specs.declared.share.Share.{Share}
 use Rattle.nfs_share.specs.Share.{share_of_numbers}
+use Rattle.nfs_xdr.specs.Names.{Names, Nothing, Client, Opener, Owned, names_of}
 use Rattle.nfs_xdr.specs.declared.op.Op.{Op}
 use Rattle.nfs_xdr.specs.declared.op.Op.TheVariants as ops
 
@@ -56,29 +54,29 @@ next_differs seqid same = by (seqid == 2 ^ 32 - 1) refl
     by true is = grind (arith, is, same)
     by false is = grind (arith, is, same)
 
-by_same_verdict : (kept : Kept) (name : StateOwner) (request : Request) (v w : Verdict) → IsVerdict kept (seqid_of request.op) (request_of request.op request.filehandle) v → IsVerdict kept (seqid_of request.op) (request_of request.op request.filehandle) w → by_verdict name request.op v ≡ by_verdict name request.op w
-by_same_verdict kept name request verdicts.New verdicts.New a b = refl
-by_same_verdict kept name request (verdicts.Replay x) (verdicts.Replay y) a b = ap Answered (a.1 ∙ sym b.1)
-by_same_verdict kept name request verdicts.Bad verdicts.Bad a b = refl
-by_same_verdict kept name request verdicts.New (verdicts.Replay y) a b = absurd (next_differs kept.seqid (sym b.0.0 ∙ a))
-by_same_verdict kept name request (verdicts.Replay x) verdicts.New a b = absurd (next_differs kept.seqid (sym a.0.0 ∙ b))
-by_same_verdict kept name request verdicts.New verdicts.Bad a b = absurd (b.0 a)
-by_same_verdict kept name request verdicts.Bad verdicts.New a b = absurd (a.0 b)
-by_same_verdict kept name request (verdicts.Replay x) verdicts.Bad a b = absurd (b.1 a.0)
-by_same_verdict kept name request verdicts.Bad (verdicts.Replay y) a b = absurd (a.1 b.0)
+by_same_verdict : (kept : Kept) (name : StateOwner) (seqid : ℕ) (request : Request) (v w : Verdict) → IsVerdict kept seqid (request_of request.op request.filehandle) v → IsVerdict kept seqid (request_of request.op request.filehandle) w → by_verdict name request.op v ≡ by_verdict name request.op w
+by_same_verdict kept name seqid request verdicts.New verdicts.New a b = refl
+by_same_verdict kept name seqid request (verdicts.Replay x) (verdicts.Replay y) a b = ap Answered (a.1 ∙ sym b.1)
+by_same_verdict kept name seqid request verdicts.Bad verdicts.Bad a b = refl
+by_same_verdict kept name seqid request verdicts.New (verdicts.Replay y) a b = absurd (next_differs kept.seqid (sym b.0.0 ∙ a))
+by_same_verdict kept name seqid request (verdicts.Replay x) verdicts.New a b = absurd (next_differs kept.seqid (sym a.0.0 ∙ b))
+by_same_verdict kept name seqid request verdicts.New verdicts.Bad a b = absurd (b.0 a)
+by_same_verdict kept name seqid request verdicts.Bad verdicts.New a b = absurd (a.0 b)
+by_same_verdict kept name seqid request (verdicts.Replay x) verdicts.Bad a b = absurd (b.1 a.0)
+by_same_verdict kept name seqid request verdicts.Bad (verdicts.Replay y) a b = absurd (a.1 b.0)
 
-judged_once : (kept : Kept) (name : StateOwner) (request : Request) (s t : Sequence) → IsJudged kept name request s → IsJudged kept name request t → s ≡ t
-judged_once kept name request s t a b = a.2 ∙ by_same_verdict kept name request a.0 b.0 a.1 b.1 ∙ sym b.2
+judged_once : (kept : Kept) (name : StateOwner) (seqid : ℕ) (request : Request) (s t : Sequence) → IsJudged kept name seqid request s → IsJudged kept name seqid request t → s ≡ t
+judged_once kept name seqid request s t a b = a.2 ∙ by_same_verdict kept name seqid request a.0 b.0 a.1 b.1 ∙ sym b.2
 
-restarted_once : (kept : Kept) (name : StateOwner) (request : Request) (s t : Sequence) → IsRestart kept name request s → IsRestart kept name request t → s ≡ t
-restarted_once kept name request (Answered x) (Answered y) a b = ap Answered (a.1 ∙ sym b.1)
-restarted_once kept name request (GoesOn p n) (GoesOn q m) a b = ap (λ r. GoesOn r n) (a.1 ∙ sym b.1) ∙ ap (GoesOn q) (a.2 ∙ sym b.2)
-restarted_once kept name request (Answered x) (GoesOn q m) a b = absurd (b.0 a.0)
-restarted_once kept name request (GoesOn p n) (Answered y) a b = absurd (a.0 b.0)
+restarted_once : (kept : Kept) (name : StateOwner) (seqid : ℕ) (request : Request) (s t : Sequence) → IsRestart kept name seqid request s → IsRestart kept name seqid request t → s ≡ t
+restarted_once kept name seqid request (Answered x) (Answered y) a b = ap Answered (a.1 ∙ sym b.1)
+restarted_once kept name seqid request (GoesOn p n) (GoesOn q m) a b = ap (λ r. GoesOn r n) (a.1 ∙ sym b.1) ∙ ap (GoesOn q) (a.2 ∙ sym b.2)
+restarted_once kept name seqid request (Answered x) (GoesOn q m) a b = absurd (b.0 a.0)
+restarted_once kept name seqid request (GoesOn p n) (Answered y) a b = absurd (a.0 b.0)
 
-known_once : (is_restart : Bool) (kept : Kept) (name : StateOwner) (request : Request) (s t : Sequence) → IsOfKnown is_restart kept name request s → IsOfKnown is_restart kept name request t → s ≡ t
-known_once true kept name request s t a b = restarted_once kept name request s t a b
-known_once false kept name request s t a b = judged_once kept name request s t a b
+known_once : (is_restart : Bool) (kept : Kept) (name : StateOwner) (seqid : ℕ) (request : Request) (s t : Sequence) → IsOfKnown is_restart kept name seqid request s → IsOfKnown is_restart kept name seqid request t → s ≡ t
+known_once true kept name seqid request s t a b = restarted_once kept name seqid request s t a b
+known_once false kept name seqid request s t a b = judged_once kept name seqid request s t a b
 
 pub some_once : {A : Type 0} (o : Option A) (x y : A) → o ≡ Some x → o ≡ Some y → x ≡ y
 some_once None x y a b = absurd cc
@@ -88,16 +86,16 @@ pub decided_once : (newcomer : ClientId → Newcomer) (own : Own) → ((node : �
 decided_once newcomer own once (Answered answer) node d e a b = a ∙ sym b
 decided_once newcomer own once (GoesOn passage name) node d e a b = a.2 ∙ ap (option_map (decision_of passage name (newcomer name.client))) (once node passage a.0 b.0 a.1 b.1) ∙ sym b.2
 
-owner_once : (journal : History) (found : Option KnownOwner) (name : StateOwner) (request : Request) (s t : Sequence) → IsOfOwner journal found name request s → IsOfOwner journal found name request t → s ≡ t
-owner_once journal None name request s t a b = a ∙ sym b
-owner_once journal (Some o) name request s t a b =
+owner_once : (journal : History) (found : Option KnownOwner) (name : StateOwner) (seqid : ℕ) (request : Request) (s t : Sequence) → IsOfOwner journal found name seqid request s → IsOfOwner journal found name seqid request t → s ≡ t
+owner_once journal None name seqid request s t a b = a ∙ sym b
+owner_once journal (Some o) name seqid request s t a b =
     let same : a.0 ≡ b.0 = some_once (kept_for journal o) a.0 b.0 a.1 b.1 in
-    let is_known : Kept → Type 0 = λ kept. IsOfKnown (is_open request.op && not o.confirmed) kept name request s in
-    known_once (is_open request.op && not o.confirmed) b.0 name request s t (subst is_known same a.2) b.2
+    let is_known : Kept → Type 0 = λ kept. IsOfKnown (is_open request.op && not o.confirmed) kept name seqid request s in
+    known_once (is_open request.op && not o.confirmed) b.0 name seqid request s t (subst is_known same a.2) b.2
 
 pub sequence_once : (journal : History) (state : State) (requester : Requester) (request : Request) (s t : Sequence) → IsSequence journal state requester request s → IsSequence journal state requester request t → s ≡ t
 sequence_once journal state (Refused refusal) request s t a b = a ∙ sym b
-sequence_once journal state (Owner name) request s t a b = owner_once journal (owner_of name state.owners) name request s t a b
+sequence_once journal state (Owner name seqid) request s t a b = owner_once journal (owner_of name state.owners) name seqid request s t a b
 
 abbrev pub Once : Own → Type 0
 Once own = (node : ℕ) (passage : Passage) (r u : Option Ruling) → own node passage r → own node passage u → r ≡ u
@@ -185,19 +183,27 @@ asked_once laws state args (Ok node) d e a b =
     let same = laws.one_range args.offset args.length a.0 b.0 a.1 b.1 in
     tested_once laws state args node b.0 d e (subst (λ range. lockt.IsOfRange state args node range d) same a.2) b.2
 
-pub ruled_once : LockLaws → (op : Op) (journal : History) (state : State) (request : Request) (d e : Option Decision) → IsRuled op journal state request d → IsRuled op journal state request e → d ≡ e
-ruled_once laws (ops.Open args) journal state request d e a b =
-    sequenced_once journal state (requester_of_open state args.owner) (opening.own journal state args) (λ n p r u x y. x ∙ sym y) request.filehandle request d e a b
-ruled_once laws (ops.OpenConfirm args) journal state request d e a b =
-    sequenced_once journal state (requester_of_stateid journal state args.stateid) (open_confirm.own journal state args) (λ n p r u x y. x ∙ sym y) request.filehandle request d e a b
-ruled_once laws (ops.OpenDowngrade args) journal state request d e a b =
-    sequenced_once journal state (requester_of_stateid journal state args.stateid) (open_downgrade.own journal state args) (downgrades_once journal state args) request.filehandle request d e a b
-ruled_once laws (ops.Close args) journal state request d e a b =
-    sequenced_once journal state (requester_of_stateid journal state args.stateid) (close.own journal state args) (λ n p r u x y. x ∙ sym y) request.filehandle request d e a b
-ruled_once laws (ops.Lock args) journal state request d e a b =
-    sequenced_once journal state (requester_of_stateid journal state (stateid_of args.locker)) (lock.own journal state args) (locks_once laws journal state args) request.filehandle request d e a b
-ruled_once laws (ops.Locku args) journal state request d e a b =
-    sequenced_once journal state (requester_of_stateid journal state args.stateid) (locku.own journal state args) (unlocks_once laws journal state args) request.filehandle request d e a b
-ruled_once laws (ops.Lockt args) journal state request d e a b =
+own_once : LockLaws → (op : Op) (journal : History) (state : State) → Once (own_of op journal state)
+own_once laws (ops.Open args) journal state node passage r u a b = a ∙ sym b
+own_once laws (ops.OpenConfirm args) journal state node passage r u a b = a ∙ sym b
+own_once laws (ops.OpenDowngrade args) journal state node passage r u a b = downgrades_once journal state args node passage r u a b
+own_once laws (ops.Close args) journal state node passage r u a b = a ∙ sym b
+own_once laws (ops.Lock args) journal state node passage r u a b = locks_once laws journal state args node passage r u a b
+own_once laws (ops.Locku args) journal state node passage r u a b = unlocks_once laws journal state args node passage r u a b
+own_once laws op journal state node passage r u a b = absurd a
+
+plain_once : LockLaws → (op : Op) (journal : History) (state : State) (request : Request) (d e : Option Decision) → IsPlain op journal state request d → IsPlain op journal state request e → d ≡ e
+plain_once laws (ops.Lockt args) journal state request d e a b =
     asked_once laws state args (lockt_file journal state request.filehandle args) d e a b
-ruled_once laws op journal state request d e a b = a ∙ sym b
+plain_once laws op journal state request d e a b = a ∙ sym b
+
+ruled_by_once : LockLaws → (names : Names) (op : Op) (journal : History) (state : State) (request : Request) (d e : Option Decision) → IsRuledBy names op journal state request d → IsRuledBy names op journal state request e → d ≡ e
+ruled_by_once laws (Opener owner seqid) op journal state request d e a b =
+    sequenced_once journal state (requester_of_open state owner seqid) (own_of op journal state) (own_once laws op journal state) request.filehandle request d e a b
+ruled_by_once laws (Owned id seqid) op journal state request d e a b =
+    sequenced_once journal state (requester_of_stateid journal state id seqid) (own_of op journal state) (own_once laws op journal state) request.filehandle request d e a b
+ruled_by_once laws Nothing op journal state request d e a b = plain_once laws op journal state request d e a b
+ruled_by_once laws (Client client) op journal state request d e a b = plain_once laws op journal state request d e a b
+
+pub ruled_once : LockLaws → (op : Op) (journal : History) (state : State) (request : Request) (d e : Option Decision) → IsRuled op journal state request d → IsRuled op journal state request e → d ≡ e
+ruled_once laws op journal state request d e a b = ruled_by_once laws (names_of op) op journal state request d e a b

@@ -1,5 +1,5 @@
 -- What the functions that decide an operation guarantee: `decide`, and the crate's own functions below it.
-use Rattle.std.specs.Prelude.{◌≡◌, ◌≢◌, ◌⊎◌, ⊤, Option, Some, None, is_some, Result, Ok, Err, IsFalse, IsTrue}
+use Rattle.std.specs.Prelude.{◌≡◌, ◌≢◌, ◌⊎◌, ⊤, ℕ, Option, Some, None, is_some, Result, Ok, Err, IsFalse, IsTrue}
 use Rattle.nfs_rules.specs.declared.decision.Decision.{Decision}
 use Rattle.nfs_state.specs.declared.shortage.Shortage.{Shortage}
 use Rattle.nfs_state.specs.declared.shortage.Shortage.TheVariants.{Limit, Memory}
@@ -8,7 +8,7 @@ use Rattle.nfs_state.specs.Room.{IsWithinLimits, HasOwnerPlace, is_known}
 use Rattle.nfs_rules.specs.Sequences.{IsSequence, Requester, Refused, Owner, Sequence, Answered, GoesOn}
 use Rattle.nfs_rules.specs.declared.passage.Passage.{Passage}
 use Rattle.nfs_state.specs.State.{State, History}
-use Rattle.nfs_state.specs.Kept.{kept_for, seqid_of}
+use Rattle.nfs_state.specs.Kept.{kept_for}
 use Rattle.nfs_state.specs.Owners.{KnownOwner, is_confirmed, owner_of}
 use Rattle.nfs_state.specs.declared.request.Request.{Request}
 use Rattle.nfs_owners.specs.declared.kept.Kept.{Kept}
@@ -49,21 +49,21 @@ HasPassage state (GoesOn passage name) = IsPassage passage name state
 
 -- An OPEN goes by the sequence id of the owner in its arguments.
 abbrev pub IsRequesterOf : Op → Requester → Type 0
-IsRequesterOf (ops.Open args) (Owner name) = name ≡ open_owner args.owner
+IsRequesterOf (ops.Open args) (Owner name seqid) = name ≡ open_owner args.owner
 IsRequesterOf op requester = ⊤
 
 -- The request is the last one again of its owner, by what is kept for it in the journal.
-abbrev pub IsReplayOf : History → Option KnownOwner → Request → Type 0
-IsReplayOf journal None request = ⊥
-IsReplayOf journal (Some o) request =
+abbrev pub IsReplayOf : History → Option KnownOwner → ℕ → Request → Type 0
+IsReplayOf journal None seqid request = ⊥
+IsReplayOf journal (Some o) seqid request =
     (kept : Kept)
     × (kept_for journal o ≡ Some kept)
-    × IsAgain kept (seqid_of request.op) (request_of request.op request.filehandle)
+    × IsAgain kept seqid (request_of request.op request.filehandle)
 
 abbrev pub IsReplay : History → State → Requester → Request → Type 0
 IsReplay journal state (Refused refusal) request = ⊥
-IsReplay journal state (Owner name) request =
-    IsReplayOf journal (owner_of name state.owners) request
+IsReplay journal state (Owner name seqid) request =
+    IsReplayOf journal (owner_of name state.owners) seqid request
 
 -- The request isn't refused before its own rule: there is a filehandle, and it is the last one again, or it goes on.
 abbrev pub IsAdmitted : History → State → Requester → Request → Type 0
@@ -76,7 +76,7 @@ IsAdmitted journal state requester request =
 -- A request without an owner isn't refused with NFS4ERR_RESOURCE, which would have no entry in the journal.
 abbrev pub HasOtherRefusal : Requester → Type 0
 HasOtherRefusal (Refused refusal) = refusal ≢ refusals.Resource
-HasOtherRefusal (Owner name) = ⊤
+HasOtherRefusal (Owner name seqid) = ⊤
 
 -- How an OPEN goes on fits what is known of the owner in its arguments.
 abbrev pub IsPassageOf : Op → Passage → State → Type 0

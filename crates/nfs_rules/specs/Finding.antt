@@ -1,6 +1,6 @@
 -- What the functions that look up a stateid and an owner return, as the rules speak of it; used only in the contracts
 -- of this crate's own functions.
-use Rattle.std.specs.Prelude.{Option, Some, None, option_map, Result, Ok, Err}
+use Rattle.std.specs.Prelude.{ℕ, Option, Some, None, option_map, Result, Ok, Err}
 use Rattle.std.specs.Option.{option_copied}
 use Rattle.nfs_locks.specs.AllLocks.{LockAt}
 use Rattle.nfs_locks.specs.LockFound.{lock_found_seen}
@@ -62,12 +62,12 @@ locking_or_refusal_seen (Err refusal) = Err refusal
 
 abbrev pub requester_seen : Requester → sequences.Requester
 requester_seen (requesters.Refused refusal) = sequences.Refused refusal
-requester_seen (requesters.Owner name) = sequences.Owner (owner_seen name)
+requester_seen (requesters.Owner name seqid) = sequences.Owner (owner_seen name) seqid
 
 -- the owner that was found among the stored ones, or NFS4ERR_BAD_STATEID
-abbrev pub stored_or_bad : Option Owner → sequences.Requester
-stored_or_bad None = sequences.Refused refusals.BadStateId
-stored_or_bad (Some o) = sequences.Owner o.name
+abbrev pub stored_or_bad : ℕ → Option Owner → sequences.Requester
+stored_or_bad seqid None = sequences.Refused refusals.BadStateId
+stored_or_bad seqid (Some o) = sequences.Owner o.name seqid
 
 abbrev pub sequence_seen : Sequence → sequences.Sequence
 sequence_seen (found_sequences.Answered answer) = sequences.Answered answer

@@ -11,7 +11,7 @@ use Rattle.nfs_rules.specs.declared.passage.Passage.TheVariants as passages
 use Rattle.nfs_state.specs.declared.request.Request.{Request}
 use Rattle.nfs_rules.specs.declared.ruling.Ruling.{Ruling}
 use Rattle.nfs_state.specs.Changes.{without}
-use Rattle.nfs_state.specs.Kept.{kept_for, seqid_of}
+use Rattle.nfs_state.specs.Kept.{kept_for}
 use Rattle.nfs_state.specs.Owners.{KnownOwner, owner_of}
 use Rattle.nfs_rules.specs.Newcomers.{Newcomer, Nobody, Known, Unknown, newcomer_of}
 use Rattle.nfs_rules.specs.Stateids as stateids
@@ -19,8 +19,6 @@ use Rattle.nfs_rules.specs.Stateids.{Target, target_of}
 use Rattle.nfs_state.specs.State.{State, History}
 use Rattle.nfs_forms.specs.declared.client_id.ClientId.{ClientId}
 use Rattle.nfs_forms.specs.declared.open_owner.OpenOwner.{OpenOwner}
-use Rattle.nfs_forms.specs.declared.locker.Locker.{Locker}
-use Rattle.nfs_forms.specs.declared.locker.Locker.TheVariants as lockers
 use Rattle.nfs_owners.specs.StateOwner.{as_open_owner, lock_owner, open_owner}
 use Rattle.nfs_owners.specs.declared.state_owner.StateOwner.{StateOwner}
 use Rattle.nfs_forms.specs.declared.stateid.Stateid.{Stateid}
@@ -44,16 +42,6 @@ abbrev pub is_open : Op → Bool
 is_open (ops.Open args) = true
 is_open op = false
 
--- the operations that go by a sequence id
-abbrev pub is_sequenced : Op → Bool
-is_sequenced (ops.Open args) = true
-is_sequenced (ops.OpenConfirm args) = true
-is_sequenced (ops.OpenDowngrade args) = true
-is_sequenced (ops.Close args) = true
-is_sequenced (ops.Lock args) = true
-is_sequenced (ops.Locku args) = true
-is_sequenced op = false
-
 -- These statuses leave the owner's sequence id as it is (section 9.1.7, which has NFS4ERR_MOVED as well; this server
 -- never answers it).
 abbrev pub counts_refusal : Refusal → Bool
@@ -75,15 +63,15 @@ abbrev pub is_ok_status : Status → Bool
 is_ok_status statuses.Ok = true
 is_ok_status status = false
 
--- Whose sequence id a request goes by, or why it goes by none.
+-- Whose sequence id a request goes by, with that of the request, or why it goes by none.
 pub data Requester : Type 0 where
   Refused : Refusal → Requester
-  Owner : StateOwner → Requester
+  Owner : StateOwner → ℕ → Requester
 
 -- The owner in an OPEN's arguments: NFS4ERR_STALE_CLIENTID unless the clientid is that of a known client.
-abbrev pub requester_of_open : State → OpenOwner → Requester
-requester_of_open state owner =
-    if is_some (record_of owner.client state.clients) then Owner (open_owner owner)
+abbrev pub requester_of_open : State → OpenOwner → ℕ → Requester
+requester_of_open state owner seqid =
+    if is_some (record_of owner.client state.clients) then Owner (open_owner owner) seqid
     else Refused refusals.StaleClientId
 
 -- what is kept for the owner closed the state that the stateid names
@@ -91,27 +79,24 @@ abbrev pub has_closed : Stateid → Option Kept → Bool
 has_closed id None = false
 has_closed id (Some kept) = closes id.client id.number kept
 
-abbrev pub owner_or_bad : Option KnownOwner → Requester
-owner_or_bad None = Refused refusals.BadStateId
-owner_or_bad (Some o) = Owner o.name
+abbrev pub owner_or_bad : ℕ → Option KnownOwner → Requester
+owner_or_bad seqid None = Refused refusals.BadStateId
+owner_or_bad seqid (Some o) = Owner o.name seqid
 
 -- The owner that a stateid names: that of its open or lock state, no matter which file the state is of, whether its
 -- owner is confirmed, and how old the stateid is; or the owner whose kept request closed the stateid's open.
-abbrev pub requester_of_target : History → State → Stateid → Target → Requester
-requester_of_target journal state id (stateids.Refused refusal) = Refused refusal
-requester_of_target journal state id (stateids.AnOpen at) = Owner (open_owner at.state.owner)
-requester_of_target journal state id (stateids.ALock at) = Owner (lock_owner at.state.owner)
-requester_of_target journal state id stateids.NoState =
-    owner_or_bad (find (λ o. has_closed id (kept_for journal o)) state.owners)
+abbrev pub requester_of_target : History → State → Stateid → ℕ → Target → Requester
+requester_of_target journal state id seqid (stateids.Refused refusal) = Refused refusal
+requester_of_target journal state id seqid (stateids.AnOpen at) =
+    Owner (open_owner at.state.owner) seqid
+requester_of_target journal state id seqid (stateids.ALock at) =
+    Owner (lock_owner at.state.owner) seqid
+requester_of_target journal state id seqid stateids.NoState =
+    owner_or_bad seqid (find (λ o. has_closed id (kept_for journal o)) state.owners)
 
-abbrev pub requester_of_stateid : History → State → Stateid → Requester
-requester_of_stateid journal state id =
-    requester_of_target journal state id (target_of journal.epoch state id)
-
--- The stateid in a LOCK: that of an open with a new lock owner, or that of a lock state.
-abbrev pub stateid_of : Locker → Stateid
-stateid_of (lockers.New locker) = locker.open_stateid
-stateid_of (lockers.Known locker) = locker.lock_stateid
+abbrev pub requester_of_stateid : History → State → Stateid → ℕ → Requester
+requester_of_stateid journal state id seqid =
+    requester_of_target journal state id seqid (target_of journal.epoch state id)
 
 -- Whether a request is answered without its own rule, or goes on to it, as one of this owner's.
 pub data Sequence : Type 0 where
@@ -127,26 +112,26 @@ by_verdict name op (verdicts.Replay answer) = Answered answer.now
 by_verdict name op verdicts.Bad = refusal_to op refusals.BadSeqId
 
 -- The owner's next request goes on, its kept one again is answered as it was, and any other is NFS4ERR_BAD_SEQID.
-abbrev pub IsJudged : Kept → StateOwner → Request → Sequence → Type 0
-IsJudged kept name request sequence =
+abbrev pub IsJudged : Kept → StateOwner → ℕ → Request → Sequence → Type 0
+IsJudged kept name seqid request sequence =
     (verdict : Verdict)
-    × IsVerdict kept (seqid_of request.op) (request_of request.op request.filehandle) verdict
+    × IsVerdict kept seqid (request_of request.op request.filehandle) verdict
     × (sequence ≡ by_verdict name request.op verdict)
 
 -- An OPEN of an unconfirmed owner: the kept one again is answered as it was. Any other starts the owner anew, whatever
 -- its sequence id.
-abbrev pub IsRestart : Kept → StateOwner → Request → Sequence → Type 0
-IsRestart kept name request (Answered answer) =
-    IsAgain kept (seqid_of request.op) (request_of request.op request.filehandle)
+abbrev pub IsRestart : Kept → StateOwner → ℕ → Request → Sequence → Type 0
+IsRestart kept name seqid request (Answered answer) =
+    IsAgain kept seqid (request_of request.op request.filehandle)
     × (answer ≡ kept.answer)
-IsRestart kept name request (GoesOn passage owner) =
-    (IsAgain kept (seqid_of request.op) (request_of request.op request.filehandle) → ⊥)
+IsRestart kept name seqid request (GoesOn passage owner) =
+    (IsAgain kept seqid (request_of request.op request.filehandle) → ⊥)
     × (passage ≡ passages.Restarts) × (owner ≡ name)
 
 -- A known owner's request, by whether it is an OPEN of an unconfirmed one.
-abbrev pub IsOfKnown : Bool → Kept → StateOwner → Request → Sequence → Type 0
-IsOfKnown true kept name request sequence = IsRestart kept name request sequence
-IsOfKnown false kept name request sequence = IsJudged kept name request sequence
+abbrev pub IsOfKnown : Bool → Kept → StateOwner → ℕ → Request → Sequence → Type 0
+IsOfKnown true kept name seqid request sequence = IsRestart kept name seqid request sequence
+IsOfKnown false kept name seqid request sequence = IsJudged kept name seqid request sequence
 
 -- An owner that isn't known begins with an OPEN of any sequence id; no other request comes from one.
 abbrev pub IsOfUnknown : StateOwner → Request → Sequence → Type 0
@@ -155,18 +140,18 @@ IsOfUnknown name request sequence =
     else refusal_to request.op refusals.BadStateId)
 
 -- A request of this owner, by whether it is known.
-abbrev pub IsOfOwner : History → Option KnownOwner → StateOwner → Request → Sequence → Type 0
-IsOfOwner journal None name request sequence = IsOfUnknown name request sequence
-IsOfOwner journal (Some o) name request sequence =
+abbrev pub IsOfOwner : History → Option KnownOwner → StateOwner → ℕ → Request → Sequence → Type 0
+IsOfOwner journal None name seqid request sequence = IsOfUnknown name request sequence
+IsOfOwner journal (Some o) name seqid request sequence =
     (kept : Kept)
     × (kept_for journal o ≡ Some kept)
-    × IsOfKnown (is_open request.op && not o.confirmed) kept name request sequence
+    × IsOfKnown (is_open request.op && not o.confirmed) kept name seqid request sequence
 
 abbrev pub IsSequence : History → State → Requester → Request → Sequence → Type 0
 IsSequence journal state (Refused refusal) request sequence =
     sequence ≡ refusal_to request.op refusal
-IsSequence journal state (Owner name) request sequence =
-    IsOfOwner journal (owner_of name state.owners) name request sequence
+IsSequence journal state (Owner name seqid) request sequence =
+    IsOfOwner journal (owner_of name state.owners) name seqid request sequence
 
 -- what an answer that counts means for the owner of the request and for the lock owner that it introduces
 abbrev pub kept_with : StateOwner → Newcomer → Status → OwnerChange

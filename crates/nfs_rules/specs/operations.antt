@@ -13,8 +13,9 @@ use Rattle.nfs_rules.specs.operations.OpenDowngrade as open_downgrade
 use Rattle.nfs_rules.specs.operations.ReleaseLockowner as release
 use Rattle.nfs_rules.specs.operations.Setclientid as setclientid
 use Rattle.nfs_rules.specs.operations.SetclientidConfirm as confirm
-use Rattle.nfs_rules.specs.Sequences.{IsSequenced, Own, requester_of_open, requester_of_stateid, stateid_of}
+use Rattle.nfs_rules.specs.Sequences.{IsSequenced, Own, requester_of_open, requester_of_stateid}
 use Rattle.nfs_state.specs.State.{State, History}
+use Rattle.nfs_xdr.specs.Names.{Names, Opener, Owned, names_of}
 use Rattle.nfs_xdr.specs.declared.op.Op.{Op}
 use Rattle.nfs_xdr.specs.declared.op.Op.TheVariants as ops
 pub mod Close
@@ -40,38 +41,35 @@ own_of (ops.Lock args) journal state = lock.own journal state args
 own_of (ops.Locku args) journal state = locku.own journal state args
 own_of op journal state = λ node passage ruling. ⊥
 
+-- what the rule of an operation decides that goes by no sequence id
+abbrev pub IsPlain : Op → History → State → Request → Option Decision → Type 0
+IsPlain (ops.Getattr mask) journal state request decision =
+    decision ≡ getattr.rule journal state request.filehandle mask
+IsPlain (ops.Setclientid args) journal state request decision =
+    decision ≡ setclientid.rule journal state request args
+IsPlain (ops.SetclientidConfirm args) journal state request decision =
+    decision ≡ confirm.rule journal state request args
+IsPlain (ops.Lockt args) journal state request decision =
+    lockt.IsRuled journal state request.filehandle args decision
+IsPlain (ops.ReleaseLockowner args) journal state request decision =
+    decision ≡ release.rule state args
+IsPlain op journal state request decision = decision ≡ None
+
+-- the same of any operation, by what it names
+abbrev pub IsRuledBy : Names → Op → History → State → Request → Option Decision → Type 0
+IsRuledBy (Opener owner seqid) op journal state request decision =
+    IsSequenced journal state (requester_of_open state owner seqid) (own_of op journal state)
+    request decision
+IsRuledBy (Owned id seqid) op journal state request decision =
+    IsSequenced journal state (requester_of_stateid journal state id seqid)
+    (own_of op journal state) request decision
+IsRuledBy names op journal state request decision = IsPlain op journal state request decision
+
 -- What the rule of an operation decides for a request, given the journal and the state; `None` if a limit would be
 -- exceeded. An operation without an entry in the journal has no rule here.
 abbrev pub IsRuled : Op → History → State → Request → Option Decision → Type 0
-IsRuled (ops.Getattr mask) journal state request decision =
-    decision ≡ getattr.rule journal state request.filehandle mask
-IsRuled (ops.Setclientid args) journal state request decision =
-    decision ≡ setclientid.rule journal state request args
-IsRuled (ops.SetclientidConfirm args) journal state request decision =
-    decision ≡ confirm.rule journal state request args
-IsRuled (ops.Open args) journal state request decision =
-    IsSequenced journal state (requester_of_open state args.owner) (opening.own journal state args)
-    request decision
-IsRuled (ops.OpenConfirm args) journal state request decision =
-    IsSequenced journal state (requester_of_stateid journal state args.stateid)
-    (open_confirm.own journal state args) request decision
-IsRuled (ops.OpenDowngrade args) journal state request decision =
-    IsSequenced journal state (requester_of_stateid journal state args.stateid)
-    (open_downgrade.own journal state args) request decision
-IsRuled (ops.Close args) journal state request decision =
-    IsSequenced journal state (requester_of_stateid journal state args.stateid)
-    (close.own journal state args) request decision
-IsRuled (ops.Lock args) journal state request decision =
-    IsSequenced journal state (requester_of_stateid journal state (stateid_of args.locker))
-    (lock.own journal state args) request decision
-IsRuled (ops.Lockt args) journal state request decision =
-    lockt.IsRuled journal state request.filehandle args decision
-IsRuled (ops.Locku args) journal state request decision =
-    IsSequenced journal state (requester_of_stateid journal state args.stateid)
-    (locku.own journal state args) request decision
-IsRuled (ops.ReleaseLockowner args) journal state request decision =
-    decision ≡ release.rule state args
-IsRuled op journal state request decision = decision ≡ None
+IsRuled op journal state request decision =
+    IsRuledBy (names_of op) op journal state request decision
 
 -- For one journal, state and request the rules give at most one decision, or none.
 abbrev pub AtMostOneDecision : Type 0

@@ -2,7 +2,7 @@ ghost use Rattle.std.specs.Prelude.{◌≡◌, ◌≢◌, ◌&&◌, not, IfOk, O
 ghost use Rattle.nfs_rules.specs.Finding.{requester_seen, sequence_seen, stored_or_bad};
 ghost use Rattle.nfs_rules.specs.Deciding.{HasOtherRefusal, HasPassage, IsReplay, IsSendableSequence};
 ghost use Rattle.nfs_state.specs.Entries.{IsSendable};
-ghost use Rattle.nfs_state.specs.Kept.{Agrees, seqid_of};
+ghost use Rattle.nfs_state.specs.Kept.{Agrees};
 ghost use Rattle.nfs_state.specs.Room.{state_of};
 ghost use Rattle.nfs_rules.specs.Sequences.{IsJudged, IsOfKnown, IsOfUnknown, IsRestart, IsSequence, is_open, refusal_to, requester_of_open, requester_of_stateid};
 ghost use Rattle.nfs_owners.specs.Kept.{IsAgain, closes, request_of};
@@ -11,15 +11,15 @@ ghost use Rattle.nfs_owners.specs.StateOwner.{owner_seen};
 use crate::passage::Passage;
 use crate::stateids::{Target, target_of};
 use nfs_owners::{Kept, Owner, OwnerRef, Verdict};
-use nfs_state::{Journal, Request, Tables, seqid_of};
+use nfs_state::{Journal, Request, Tables};
 use nfs_xdr::{Op, OpResult, OpenOwner, Refusal, Stateid};
 use std::alloc::AllocError;
 
-/// Whose sequence id a request goes by, or why it goes by none.
+/// Whose sequence id a request goes by, with that of the request, or why it goes by none.
 #[derive(Clone, Copy, Debug)]
 pub(crate) enum Requester<'a> {
     Refused(Refusal),
-    Owner(OwnerRef<'a>),
+    Owner(OwnerRef<'a>, u32),
 }
 
 /// Whether a request is answered without its own rule, or goes on to it, as one of this owner's.
@@ -30,13 +30,17 @@ pub(crate) enum Sequence<'a> {
 }
 
 /// The owner in an OPEN's arguments, if its client is known.
-pub(crate) fn requester_of_open<'a>(tables: &Tables, owner: &'a OpenOwner) -> Requester<'a>
+pub(crate) fn requester_of_open<'a>(
+    tables: &Tables,
+    owner: &'a OpenOwner,
+    seqid: u32,
+) -> Requester<'a>
     ensures requester { requester_seen result
-        ≡ requester_of_open (state_of tables.now) owner.now }
+        ≡ requester_of_open (state_of tables.now) owner.now seqid }
     ensures refusal { HasOtherRefusal (requester_seen result) }
 {
     match tables.clients.of(owner.client) {
-        Some(_) => Requester::Owner(OwnerRef::of_open(owner)),
+        Some(_) => Requester::Owner(OwnerRef::of_open(owner), seqid),
         None => Requester::Refused(Refusal::StaleClientId),
     }
 }
@@ -46,28 +50,29 @@ pub(crate) fn requester_of_stateid<'a>(
     tables: &'a Tables,
     journal: &Journal,
     stateid: Stateid,
+    seqid: u32,
 ) -> Requester<'a>
     requires { Agrees journal.now tables.now.owners.owners }
     ensures requester { requester_seen result
-        ≡ requester_of_stateid journal.now (state_of tables.now) stateid }
+        ≡ requester_of_stateid journal.now (state_of tables.now) stateid seqid }
     ensures refusal { HasOtherRefusal (requester_seen result) }
 {
     match target_of(tables, journal.epoch(), stateid) {
         Target::Refused(refusal) => Requester::Refused(refusal),
-        Target::AnOpen(found) => Requester::Owner(OwnerRef::of_open(&found.state.owner)),
-        Target::ALock(found) => Requester::Owner(OwnerRef::of_lock(&found.state.owner)),
-        Target::NoState => closer_of(tables, stateid),
+        Target::AnOpen(found) => Requester::Owner(OwnerRef::of_open(&found.state.owner), seqid),
+        Target::ALock(found) => Requester::Owner(OwnerRef::of_lock(&found.state.owner), seqid),
+        Target::NoState => closer_of(tables, stateid, seqid),
     }
 }
 
 // The owner whose kept request closed the stateid's open.
-fn closer_of(tables: &Tables, stateid: Stateid) -> Requester<'_>
+fn closer_of(tables: &Tables, stateid: Stateid, seqid: u32) -> Requester<'_>
     ensures { requester_seen result
-        ≡ stored_or_bad (find (λ o. closes stateid.client stateid.number o.kept)
+        ≡ stored_or_bad seqid (find (λ o. closes stateid.client stateid.number o.kept)
         tables.now.owners.owners) }
 {
     match tables.owners.closer_of(stateid.client, stateid.number) {
-        Some(owner) => Requester::Owner(owner.name.as_ref()),
+        Some(owner) => Requester::Owner(owner.name.as_ref(), seqid),
         None => Requester::Refused(Refusal::BadStateId),
     }
 }
@@ -88,13 +93,13 @@ pub(crate) fn sequence_of<'a>(
     ensures memory { OnErr result (IsReplay journal.now (state_of tables.now)
         (requester_seen requester.entry) request.now) }
 {
-    let name = match requester {
+    let (name, seqid) = match requester {
         Requester::Refused(refusal) => return Ok(refusal_to(&request.op, refusal)),
-        Requester::Owner(name) => name,
+        Requester::Owner(name, seqid) => (name, seqid),
     };
     match tables.owners.find(name) {
         None => Ok(begin(request, name)),
-        Some(owner) => resume(owner, request, name),
+        Some(owner) => resume(owner, request, name, seqid),
     }
 }
 
@@ -115,32 +120,38 @@ fn resume<'a>(
     owner: &Owner,
     request: &Request,
     name: OwnerRef<'a>,
+    seqid: u32,
 ) -> Result<Sequence<'a>, AllocError>
     requires { IsSendable owner.now.kept.request.op owner.now.kept.answer }
     ensures sequence { IfOk result (λ s. IsOfKnown
         (is_open request.now.op && not owner.now.confirmed)
-        owner.now.kept (owner_seen name.entry) request.now (sequence_seen s)) }
+        owner.now.kept (owner_seen name.entry) seqid request.now (sequence_seen s)) }
     ensures sendable { IfOk result (λ s. IsSendableSequence request.now.op (sequence_seen s)) }
-    ensures memory { OnErr result (IsAgain owner.now.kept (seqid_of request.now.op)
+    ensures memory { OnErr result (IsAgain owner.now.kept seqid
         (request_of request.now.op request.now.filehandle)) }
 {
     if is_open(&request.op) && !owner.confirmed {
-        restart(&owner.kept, request, name)
+        restart(&owner.kept, request, name, seqid)
     } else {
-        judge(&owner.kept, request, name)
+        judge(&owner.kept, request, name, seqid)
     }
 }
 
 // The owner's next request goes on, its kept one again is answered as it was, and any other is NFS4ERR_BAD_SEQID.
-fn judge<'a>(kept: &Kept, request: &Request, name: OwnerRef<'a>) -> Result<Sequence<'a>, AllocError>
+fn judge<'a>(
+    kept: &Kept,
+    request: &Request,
+    name: OwnerRef<'a>,
+    seqid: u32,
+) -> Result<Sequence<'a>, AllocError>
     requires { IsSendable kept.now.request.op kept.now.answer }
     ensures sequence { IfOk result (λ s.
-        IsJudged kept.now (owner_seen name.entry) request.now (sequence_seen s)) }
+        IsJudged kept.now (owner_seen name.entry) seqid request.now (sequence_seen s)) }
     ensures sendable { IfOk result (λ s. IsSendableSequence request.now.op (sequence_seen s)) }
-    ensures memory { OnErr result (IsAgain kept.now (seqid_of request.now.op)
+    ensures memory { OnErr result (IsAgain kept.now seqid
         (request_of request.now.op request.now.filehandle)) }
 {
-    match kept.judge(seqid_of(&request.op), &request.op, request.filehandle) {
+    match kept.judge(seqid, &request.op, request.filehandle) {
         Verdict::New => Ok(Sequence::GoesOn(Passage::Continues, name)),
         Verdict::Replay(answer) => Ok(Sequence::Answered(answer.clone()?)),
         Verdict::Bad => Ok(refusal_to(&request.op, Refusal::BadSeqId)),
@@ -152,15 +163,16 @@ fn restart<'a>(
     kept: &Kept,
     request: &Request,
     name: OwnerRef<'a>,
+    seqid: u32,
 ) -> Result<Sequence<'a>, AllocError>
     requires { IsSendable kept.now.request.op kept.now.answer }
     ensures sequence { IfOk result (λ s.
-        IsRestart kept.now (owner_seen name.entry) request.now (sequence_seen s)) }
+        IsRestart kept.now (owner_seen name.entry) seqid request.now (sequence_seen s)) }
     ensures sendable { IfOk result (λ s. IsSendableSequence request.now.op (sequence_seen s)) }
-    ensures memory { OnErr result (IsAgain kept.now (seqid_of request.now.op)
+    ensures memory { OnErr result (IsAgain kept.now seqid
         (request_of request.now.op request.now.filehandle)) }
 {
-    match kept.judge(seqid_of(&request.op), &request.op, request.filehandle) {
+    match kept.judge(seqid, &request.op, request.filehandle) {
         Verdict::Replay(answer) => Ok(Sequence::Answered(answer.clone()?)),
         Verdict::New | Verdict::Bad => Ok(Sequence::GoesOn(Passage::Restarts, name)),
     }

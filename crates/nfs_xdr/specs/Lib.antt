@@ -3,3 +3,4 @@ pub mod Op
 pub mod OpResult
 pub mod ArgOp
 pub mod Compound
+pub mod Names

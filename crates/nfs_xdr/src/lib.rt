@@ -4,6 +4,7 @@
 mod arg_op;
 mod compound;
 mod limits;
+mod names;
 mod op;
 mod op_result;
 mod opnum;
@@ -13,6 +14,7 @@ pub use compound::{
     Compound, OPERATION_LIMIT, Request, one_request_is_encoded, read_compound, write_results,
 };
 pub use limits::limit_of_compounds;
+pub use names::Names;
 pub use nfs_forms::{
     Address, Answer, Bitmap, Callback, ChangeInfo, Claim, ClientId, CreateHow, DelegationType,
     FILE_HANDLE_LIMIT, Fattr, FileHandle, KnownLocker, LockDenied, LockOwner, LockType, Locker,

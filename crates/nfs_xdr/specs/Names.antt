@@ -1,0 +1,58 @@
+-- What the arguments of an operation name of the state (RFC 7530, sections 9.1.4, 9.1.5, 9.1.7 and 9.5).
+use Rattle.std.specs.Prelude.{ℕ, Bool, true, false, Option, Some, None, is_some}
+use Rattle.nfs_forms.specs.declared.client_id.ClientId.{ClientId}
+use Rattle.nfs_forms.specs.declared.locker.Locker.{Locker}
+use Rattle.nfs_forms.specs.declared.locker.Locker.TheVariants as lockers
+use Rattle.nfs_forms.specs.declared.open_owner.OpenOwner.{OpenOwner}
+use Rattle.nfs_forms.specs.declared.stateid.Stateid.{Stateid}
+use Rattle.nfs_xdr.specs.declared.names.Names.{Names as LentNames}
+use Rattle.nfs_xdr.specs.declared.names.Names.TheVariants as lent
+use Rattle.nfs_xdr.specs.declared.op.Op.{Op}
+use Rattle.nfs_xdr.specs.declared.op.Op.TheVariants as ops
+
+pub data Names : Type 0 where
+  -- neither an owner nor a state nor a client that is confirmed already
+  Nothing : Names
+  Client : ClientId → Names
+  -- an open owner, with the sequence id of its request
+  Opener : OpenOwner → ℕ → Names
+  -- a stateid, with the sequence id of the request of the state's owner
+  Owned : Stateid → ℕ → Names
+
+-- A LOCK names an open if its lock owner is new to the file, and else a lock state. The sequence id is that of the open's
+-- owner or that of the lock owner.
+abbrev pub locker_names : Locker → Names
+locker_names (lockers.New locker) = Owned locker.open_stateid locker.open_seqid
+locker_names (lockers.Known locker) = Owned locker.lock_stateid locker.lock_seqid
+
+abbrev pub names_of : Op → Names
+names_of (ops.Open args) = Opener args.owner args.seqid
+names_of (ops.OpenConfirm args) = Owned args.stateid args.seqid
+names_of (ops.OpenDowngrade args) = Owned args.stateid args.seqid
+names_of (ops.Close args) = Owned args.stateid args.seqid
+names_of (ops.Lock args) = locker_names args.locker
+names_of (ops.Locku args) = Owned args.stateid args.seqid
+names_of (ops.Lockt args) = Client args.owner.client
+names_of (ops.ReleaseLockowner args) = Client args.owner.client
+names_of op = Nothing
+
+-- the sequence id by which the request goes
+abbrev pub seqid_in : Names → Option ℕ
+seqid_in Nothing = None
+seqid_in (Client client) = None
+seqid_in (Opener owner seqid) = Some seqid
+seqid_in (Owned stateid seqid) = Some seqid
+
+abbrev pub seqid_of : Op → Option ℕ
+seqid_of op = seqid_in (names_of op)
+
+-- the operation goes by the sequence id of an owner (section 9.1.7)
+abbrev pub is_sequenced : Op → Bool
+is_sequenced op = is_some (seqid_of op)
+
+-- the names that are lent
+abbrev pub names_seen : LentNames → Names
+names_seen lent.Nothing = Nothing
+names_seen (lent.Client client) = Client client
+names_seen (lent.Opener owner seqid) = Opener owner.now seqid
+names_seen (lent.Owned stateid seqid) = Owned stateid seqid

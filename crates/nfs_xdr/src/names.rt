@@ -1,0 +1,49 @@
+//! What operations name of the state: clients, owners and states.
+
+ghost use Rattle.std.specs.Prelude.{◌≡◌};
+ghost use Rattle.nfs_xdr.specs.Names.{locker_names, names_of, names_seen};
+
+use crate::Op;
+use nfs_forms::{ClientId, Locker, OpenOwner, Stateid};
+
+/// What the arguments of an operation name of the state. By it the owner is found that the request comes from, and by
+/// whose sequence id it goes.
+#[derive(Clone, Copy, Debug)]
+pub enum Names<'a> {
+    /// Neither an owner nor a state nor a client that is confirmed already.
+    Nothing,
+    Client(ClientId),
+    /// An open owner, with the sequence id of its request.
+    Opener(&'a OpenOwner, u32),
+    /// A stateid, with the sequence id of the request of the state's owner.
+    Owned(Stateid, u32),
+}
+
+impl Op {
+    /// What the operation's arguments name of the state.
+    pub fn names(&self) -> Names<'_>
+        ensures { names_seen result ≡ names_of self.now }
+    {
+        match self {
+            Op::Open(args) => Names::Opener(&args.owner, args.seqid),
+            Op::OpenConfirm(args) => Names::Owned(args.stateid, args.seqid),
+            Op::OpenDowngrade(args) => Names::Owned(args.stateid, args.seqid),
+            Op::Close(args) => Names::Owned(args.stateid, args.seqid),
+            Op::Lock(args) => locker_names(&args.locker),
+            Op::Locku(args) => Names::Owned(args.stateid, args.seqid),
+            Op::Lockt(args) => Names::Client(args.owner.client),
+            Op::ReleaseLockowner(args) => Names::Client(args.owner.client),
+            _ => Names::Nothing,
+        }
+    }
+}
+
+// What a LOCK names.
+fn locker_names(locker: &Locker) -> Names<'_>
+    ensures { names_seen result ≡ locker_names locker.now }
+{
+    match locker {
+        Locker::New(locker) => Names::Owned(locker.open_stateid, locker.open_seqid),
+        Locker::Known(locker) => Names::Owned(locker.lock_stateid, locker.lock_seqid),
+    }
+}
