@@ -34,9 +34,9 @@ def introduce(verifier, number):
         (u32(Opnum.SETCLIENTID_CONFIRM, 1, number) + u64(number), result(Opnum.SETCLIENTID_CONFIRM))]
 
 
-def opening(owner, seqid, file, client=1, number=None, flags=4, state_seqid=1, status=Status.OK):
-    """An OPEN for reading, and the state that it gives."""
-    words = u32(Opnum.OPEN, seqid, READ, NONE, 1, client) + opaque(b"%d" % owner) + u32(0, 0) + opaque(b"f%d" % file)
+def opening(owner, seqid, file, client=1, number=None, flags=4, state_seqid=1, status=Status.OK, access=READ):
+    """An OPEN, for reading if nothing else is said, and the state that it gives."""
+    words = u32(Opnum.OPEN, seqid, access, NONE, 1, client) + opaque(b"%d" % owner) + u32(0, 0) + opaque(b"f%d" % file)
     rest = b""
     if status == Status.OK:
         rest = u32(state_seqid, 1, client, number) + u32(1) + u64(0) + u64(0) + u32(flags, 0, 0)

@@ -9,7 +9,7 @@ import sys
 sys.dont_write_bytecode = True
 
 from limits import FILES, closing, compare, confirming, introduce, opening, result
-from model import OWNERS_LIMIT, STATES_LIMIT, handle_of
+from model import BOTH, OWNERS_LIMIT, READ, STATES_LIMIT, handle_of
 from ranges import ALL_ONES, RUNS_LIMIT
 from wire import Opnum, READ_LT, Status, WRITE_LT, opaque, u32, u64
 
@@ -75,10 +75,10 @@ def release(owner, status=Status.OK):
     return [(u32(Opnum.RELEASE_LOCKOWNER) + spelled(owner), result(Opnum.RELEASE_LOCKOWNER, status))]
 
 
-def open_files(locker, count):
-    """The client, and the open owner with its first files opened."""
+def open_files(locker, count, access=READ):
+    """The client, and the open owner with its first files opened, file 0 for this access."""
     yield introduce(1, 1)
-    yield opening(0, 1, 0, number=1, flags=6) + confirming(2, 1)
+    yield opening(0, 1, 0, number=1, flags=6, access=access) + confirming(2, 1)
     for file in range(1, count):
         yield locker.open(file)
 
@@ -152,7 +152,7 @@ def states_at_their_limit(limit=STATES_LIMIT):
 def runs_at_their_limit(limit=RUNS_LIMIT):
     """Only up to the limit: this part is timed."""
     locker = Locker(3, 2)
-    yield from open_files(locker, 1)
+    yield from open_files(locker, 1, BOTH)
     yield locker.first_lock(1, 0, offset=0)
     for run in range(1, limit):
         yield next_lock(1 + run, 2, 0, 2 * run, run)
@@ -161,15 +161,21 @@ def runs_at_their_limit(limit=RUNS_LIMIT):
 def runs_past_their_limit(limit=RUNS_LIMIT):
     yield from runs_at_their_limit(limit)
     yield next_lock(limit + 1, 2, 0, 2 * limit, limit, Status.RESOURCE)
-    # A byte that joins two runs makes a place, which one more takes; then LOCKU may not divide a run.
+    # A byte that joins two runs makes a place. A byte in the middle of a run, in another mode, would take two.
     yield next_lock(limit + 1, 2, 0, 1, limit)
+    yield next_lock(limit + 2, 2, 0, 1, limit + 1, Status.RESOURCE, WRITE_LT)
+    # One more run takes the place. Then no run may be divided, neither by LOCKU nor by another mode.
     yield next_lock(limit + 2, 2, 0, 2 * limit, limit + 1)
     yield unlock(limit + 3, 2, 0, 1, 1, limit + 2, Status.RESOURCE)
+    yield next_lock(limit + 3, 2, 0, 1, limit + 2, Status.RESOURCE, WRITE_LT)
     yield next_lock(limit + 3, 2, 0, 2 * limit + 2, limit + 2, Status.RESOURCE)
+    # A run that gets shorter or longer needs no place.
+    yield unlock(limit + 3, 2, 0, 0, 1, limit + 2)
+    yield next_lock(limit + 4, 2, 0, 0, limit + 3)
     # Another lock owner has runs of its own.
     yield Locker(4, 3).first_lock(2, 0, offset=2 * limit + 2)
-    yield unlock(limit + 3, 2, 0, state_seqid=limit + 2)
-    yield next_lock(limit + 4, 2, 0, 2 * limit + 2, limit + 3)
+    yield unlock(limit + 5, 2, 0, state_seqid=limit + 4)
+    yield next_lock(limit + 6, 2, 0, 2 * limit + 2, limit + 5)
 
 
 def main(program):

@@ -1,6 +1,13 @@
-//! The tests of `nfs_forms` and `nfs_operations` on opens, through what is public of them: values, written and read
-//! again. The expected bytes were worked out by hand, in words of four bytes, from the XDR of RFC 7531.
+//! The tests of `nfs_forms` and `nfs_operations`, through what is public of them, for values that the server doesn't
+//! send, so that no row has them. What is expected was worked out by hand, bytes in words of four, from the XDR of
+//! RFC 7531 and from RFC 7530.
 #![tactic(auto)]
 
 #[cfg(test)]
-mod opens;
+mod delegations;
+#[cfg(test)]
+mod encoding;
+#[cfg(test)]
+mod stateids;
+#[cfg(test)]
+mod unsent;

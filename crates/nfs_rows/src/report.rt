@@ -1,6 +1,6 @@
 //! What the program reports of a file of rows.
 
-use crate::{Connection, Got, Refused, Row, read_rows, run_row};
+use crate::{Connection, Got, Reason, Refused, Row, read_rows, retry_row, run_row};
 use nfs_server::Fault;
 use std::alloc::{AllocError, Global};
 
@@ -9,6 +9,15 @@ const PIECES: [usize; 4] = [1 << 20, 1000, 3, 1];
 
 /// An input of more bytes isn't cut into pieces of a few bytes.
 const SHORT: usize = 10_000;
+
+/// How the connections of a row are sent.
+#[derive(Clone, Copy, Debug, PartialEq, Eq)]
+pub enum Sending {
+    /// Once, whole; and then in pieces of several lengths, each time to another server.
+    Once,
+    /// Whole, and once more where it goes wrong.
+    Again,
+}
 
 /// What came of a file: the report, and how many rows there are and failed.
 #[derive(Debug, Drop)]
@@ -20,7 +29,12 @@ pub struct Summary {
 }
 
 /// Runs the rows of a file's text, which is reported under this name.
-pub fn try_text(alloc: Global, name: &str, text: &str) -> Result<Summary, AllocError> {
+pub fn try_text(
+    alloc: Global,
+    name: &str,
+    text: &str,
+    sending: Sending,
+) -> Result<Summary, AllocError> {
     let rows = match read_rows(alloc, text) {
         Ok(rows) => rows,
         Err(refused) => return refusal(alloc, name, text, refused),
@@ -28,7 +42,7 @@ pub fn try_text(alloc: Global, name: &str, text: &str) -> Result<Summary, AllocE
     let mut out = String::new(alloc);
     let mut failures = 0usize;
     for row in &rows {
-        if !report_row(alloc, name, row, &mut out)? {
+        if !report_row(alloc, name, row, sending, &mut out)? {
             failures = failures.saturating_add(1);
         }
     }
@@ -69,8 +83,11 @@ fn show_row(alloc: Global, row: &Row, out: &mut String) -> Result<(), AllocError
     Ok(())
 }
 
-// The report of a file that can't be read.
+// The report of a file that can't be read, unless for want of memory.
 fn refusal(alloc: Global, name: &str, text: &str, refused: Refused) -> Result<Summary, AllocError> {
+    if refused.reason == Reason::Memory {
+        return Err(AllocError);
+    }
     let line = text
         .lines()
         .nth(refused.line.saturating_sub(1))
@@ -87,25 +104,67 @@ fn refusal(alloc: Global, name: &str, text: &str, refused: Refused) -> Result<Su
 }
 
 // Whether the row passes; the first way in which it doesn't is reported.
-fn report_row(alloc: Global, name: &str, row: &Row, out: &mut String) -> Result<bool, AllocError> {
+fn report_row(
+    alloc: Global,
+    name: &str,
+    row: &Row,
+    sending: Sending,
+    out: &mut String,
+) -> Result<bool, AllocError> {
+    let Some(failure) = first_failure(alloc, row, sending)? else {
+        return Ok(true);
+    };
+    writeln!(out, "{name}:{}: {}", row.line, row.name)?;
+    for line in row.rule.as_str().lines() {
+        writeln!(out, "    {line}")?;
+    }
+    if let Some(connection) = row.connections.get(failure.place) {
+        report_difference(alloc, connection, &failure.got, failure.piece_len, out)?;
+    }
+    Ok(false)
+}
+
+// A connection of a row, counted from 0, that doesn't get what is wanted: what it gets, and the most bytes that a piece
+// of its input had.
+#[derive(Debug, Drop)]
+struct Failure {
+    place: usize,
+    got: Got,
+    piece_len: usize,
+}
+
+fn first_failure(
+    alloc: Global,
+    row: &Row,
+    sending: Sending,
+) -> Result<Option<Failure>, AllocError> {
+    match sending {
+        Sending::Once => first_failure_in_pieces(alloc, row),
+        Sending::Again => Ok(failure_of(retry_row(alloc, row)?, usize::MAX)),
+    }
+}
+
+fn first_failure_in_pieces(alloc: Global, row: &Row) -> Result<Option<Failure>, AllocError> {
     let is_short = row.connections.iter().all(|it| it.sent.len() <= SHORT);
     for piece_len in PIECES {
         if piece_len < 1000 && !is_short {
             continue;
         }
-        let Some((place, got)) = run_row(alloc, row, piece_len)? else {
-            continue;
-        };
-        writeln!(out, "{name}:{}: {}", row.line, row.name)?;
-        for line in row.rule.as_str().lines() {
-            writeln!(out, "    {line}")?;
+        let failure = failure_of(run_row(alloc, row, piece_len)?, piece_len);
+        if failure.is_some() {
+            return Ok(failure);
         }
-        if let Some(connection) = row.connections.get(place) {
-            report_difference(alloc, connection, &got, piece_len, out)?;
-        }
-        return Ok(false);
     }
-    Ok(true)
+    Ok(None)
+}
+
+fn failure_of(wrong: Option<(usize, Got)>, piece_len: usize) -> Option<Failure> {
+    let (place, got) = wrong?;
+    Some(Failure {
+        place,
+        got,
+        piece_len,
+    })
 }
 
 fn report_difference(

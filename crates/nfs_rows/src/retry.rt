@@ -1,64 +1,49 @@
-//! Rows whose connections are sent once more where they go wrong.
+//! A row whose connections are sent once more where they go wrong.
 
-use crate::run::document;
+use crate::run::{document, refused_tree};
 use crate::server::Server;
-use crate::{Connection, Reason, Refused, Row, read_rows};
+use crate::{Connection, Got, Row};
 use nfs_tree::TreeError;
 use std::alloc::{AllocError, Global};
 
 // A piece of an input that isn't cut: as long as what the server reads at once.
 const WHOLE: usize = 65_536;
 
-/// Whether each connection of the rows of this text gets what it has to get, the first or the second time that it is
-/// sent, each row from one server: as by a client that asks once more where it was refused memory.
-pub fn retry_text(alloc: Global, text: &str) -> Result<bool, AllocError> {
-    let rows = match read_rows(alloc, text) {
-        Ok(rows) => rows,
-        Err(
-            Refused {
-                reason: Reason::Memory,
-                ..
-            },
-        ) => return Err(AllocError),
-        Err(_) => return Ok(false),
-    };
-    for row in &rows {
-        if !retry_row(alloc, row)? {
-            return Ok(false);
-        }
-    }
-    Ok(!rows.is_empty())
-}
-
-// Whether the connections of the row get what they have to get from one server.
-fn retry_row(alloc: Global, row: &Row) -> Result<bool, AllocError> {
+/// Runs the row on a server of its own. A connection that doesn't get what is wanted is sent once more, as by a client
+/// that asks again where it was refused memory. It gives the first connection, counted from 0, that doesn't get what is
+/// wanted then either, with what it gets.
+pub fn retry_row(alloc: Global, row: &Row) -> Result<Option<(usize, Got)>, AllocError> {
     match Server::open(alloc, document(row), row.lease, row.epoch) {
-        Ok(mut server) => are_answered(alloc, &mut server, row.connections.as_slice()),
+        Ok(mut server) => first_wrong_again(alloc, &mut server, row.connections.as_slice()),
         Err(TreeError::Memory) => Err(AllocError),
-        Err(_) => Ok(false),
+        Err(error) => Ok(refused_tree(alloc, row, error)),
     }
 }
 
-fn are_answered(
+// The first connection that doesn't get what is wanted, and doesn't get it when it is sent once more.
+fn first_wrong_again(
     alloc: Global,
     server: &mut Server,
     connections: &[Connection],
-) -> Result<bool, AllocError> {
-    for connection in connections {
-        if !is_answered(alloc, server, connection)? && !is_answered(alloc, server, connection)? {
-            return Ok(false);
+) -> Result<Option<(usize, Got)>, AllocError> {
+    for (place, connection) in connections.iter().enumerate() {
+        if converse(alloc, server, connection)?.is_right(connection) {
+            continue;
+        }
+        let got = converse(alloc, server, connection)?;
+        if !got.is_right(connection) {
+            return Ok(Some((place, got)));
         }
     }
-    Ok(true)
+    Ok(None)
 }
 
 // There is room for the replies, since one that is lost isn't one that was refused.
-fn is_answered(
+fn converse(
     alloc: Global,
     server: &mut Server,
     connection: &Connection,
-) -> Result<bool, AllocError> {
+) -> Result<Got, AllocError> {
     let out = Vec::with_capacity(alloc, connection.wanted.len())?;
-    let got = server.converse(alloc, connection, WHOLE, out);
-    Ok(got.is_right(connection))
+    Ok(server.converse(alloc, connection, WHOLE, out))
 }

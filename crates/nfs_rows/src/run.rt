@@ -56,7 +56,7 @@ pub(crate) fn document(row: &Row) -> &str {
 }
 
 // Where the server has no tree, nothing is written.
-fn refused_tree(alloc: Global, row: &Row, error: TreeError) -> Option<(usize, Got)> {
+pub(crate) fn refused_tree(alloc: Global, row: &Row, error: TreeError) -> Option<(usize, Got)> {
     let got = Got {
         bytes: Vec::new(alloc),
         fault: Some(Fault::from(error)),

@@ -1,15 +1,25 @@
 //! Runs files of rows against the server, and reports which rows fail.
 #![tactic(auto)]
 
-use nfs_rows::{show_text, try_text};
+use nfs_rows::{Sending, show_text, try_text};
+use std::io::ErrorKind;
 use std::process::ExitCode;
 use std::{env, fs, io};
 
 /// The rows of the repository, from its top.
 const DEFAULT_FOLDER: &str = "crates/rows/data";
 
-/// `rows [--hex] [FOLDER | FILE.rows]..`: the status is 0 where every row passes, or with `--hex` where every file can
-/// be read.
+/// What is done with the rows.
+#[derive(Clone, Copy, Debug, PartialEq, Eq)]
+enum Task {
+    /// They are run.
+    Run(Sending),
+    /// Their bytes are shown.
+    Show,
+}
+
+/// `rows [--again | --hex] [FOLDER | FILE.rows]..`: the status is 0 where every row passes, or with `--hex` where every
+/// file can be read, else 1; and 2 where there is no folder of that name, or no memory.
 fn main(rt: HostRuntime) -> ExitCode {
     match try_all(&rt) {
         Ok(true) => ExitCode::from(0),
@@ -17,23 +27,32 @@ fn main(rt: HostRuntime) -> ExitCode {
         Err(error) => {
             // There is nobody left to tell that this line isn't written either.
             let _ = eprintln!(rt; "rows: {error}");
-            ExitCode::from(1)
+            ExitCode::from(2)
         }
     }
 }
 
 fn try_all(rt: &HostRuntime) -> io::Result<bool> {
     let words: Vec<String> = env::args(rt)?.collect(rt.alloc())?;
-    let is_hex = words.get(1).is_some_and(|word| word.as_str() == "--hex");
-    let files = files_of(rt, words.as_slice(), if is_hex { 2 } else { 1 })?;
+    let (task, first) = task_of(words.as_slice());
+    let files = files_of(rt, words.as_slice(), first)?;
     let mut tally = Tally::default();
     for file in &files {
-        tally.try_file(rt, file.as_str(), is_hex)?;
+        tally.try_file(rt, file.as_str(), task)?;
     }
-    if is_hex {
+    if task == Task::Show {
         return Ok(tally.unread == 0);
     }
     tally.tell(rt, files.len())
+}
+
+// What the first word after the program's name asks for, and from which word on paths are named.
+fn task_of(words: &[String]) -> (Task, usize) {
+    match words.get(1) {
+        Some(word) if word.as_str() == "--again" => (Task::Run(Sending::Again), 2),
+        Some(word) if word.as_str() == "--hex" => (Task::Show, 2),
+        _ => (Task::Run(Sending::Once), 1),
+    }
 }
 
 // The files that the words name from the first path on, or those of the repository where no path is named.
@@ -76,18 +95,18 @@ struct Tally {
 }
 
 impl Tally {
-    fn try_file(&mut self, rt: &HostRuntime, path: &str, is_hex: bool) -> io::Result<()> {
+    fn try_file(&mut self, rt: &HostRuntime, path: &str, task: Task) -> io::Result<()> {
         let text = match fs::read_to_string(rt, path) {
             Ok(text) => text,
+            Err(error) if error.kind() == ErrorKind::OutOfMemory => return Err(error),
             Err(error) => {
                 self.unread = self.unread.saturating_add(1);
                 return println!(rt; "{path}: {error}");
             }
         };
-        let summary = if is_hex {
-            show_text(rt.alloc(), path, text.as_str())?
-        } else {
-            try_text(rt.alloc(), path, text.as_str())?
+        let summary = match task {
+            Task::Run(sending) => try_text(rt.alloc(), path, text.as_str(), sending)?,
+            Task::Show => show_text(rt.alloc(), path, text.as_str())?,
         };
         self.rows = self.rows.saturating_add(summary.rows);
         self.failures = self.failures.saturating_add(summary.failures);

@@ -1,9 +1,15 @@
-//! The tests of `nfs_server`, through what is public of it. What calls get as their replies is tested by the rows of
-//! `crates/rows/data`, and what a run of the program shows by `tools/try_program`; these tests are for what neither can
-//! show: std's devices under `Counted`, and texts.
+//! The tests of `nfs_server`, `nfs_core`, `nfs_tree` and `nfs_rpc`, through what is public of them. What calls get as
+//! their replies is tested by the rows of `crates/rows/data`, and what a run of the program shows by `tools/try_program`
+//! and `tools/refuse_growths`; these tests are for what neither can show.
 #![tactic(auto)]
 
 #[cfg(test)]
+mod cores;
+#[cfg(test)]
 mod devices;
 #[cfg(test)]
-mod errors;
+mod faults;
+#[cfg(test)]
+mod streams;
+#[cfg(test)]
+mod trees;

@@ -1,0 +1,11 @@
+//! The tests of `nfs_ranges`, `nfs_share` and `nfs_owners`: each public function that no layer above calls, once. No
+//! clause can say that such a call succeeds, and no row shows it. Whatever is refused for want of memory is asked for
+//! once more. So each test passes with ample memory, and where any one growth is refused.
+#![tactic(auto)]
+
+#[cfg(test)]
+mod opens;
+#[cfg(test)]
+mod owners;
+#[cfg(test)]
+mod ranges;

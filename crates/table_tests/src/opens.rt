@@ -1,0 +1,71 @@
+//! Opens of a file, and what they deny.
+
+use nfs_forms::{ClientId, OpenOwner, Stateid};
+use nfs_share::{FileShare, Modes, Share, ShareError};
+use std::alloc::{AllocError, Global};
+use std::test::Fail;
+use xdr::Opaque;
+
+const CLIENT: ClientId = ClientId {
+    epoch: 1,
+    number: 1,
+};
+
+const READ: Share = Share {
+    access: Modes::READ,
+    deny: Modes::NONE,
+};
+
+const WRITE: Share = Share {
+    access: Modes::WRITE,
+    deny: Modes::NONE,
+};
+
+const BOTH_ALONE: Share = Share {
+    access: Modes::BOTH,
+    deny: Modes::WRITE,
+};
+
+fn owner(alloc: Global, name: &[u8]) -> Result<OpenOwner, AllocError> {
+    let name = match Opaque::copy_of(alloc, name) {
+        Err(_) => Opaque::copy_of(alloc, name),
+        copy => copy,
+    };
+    Ok(OpenOwner {
+        client: CLIENT,
+        name: name?,
+    })
+}
+
+fn try_open(
+    alloc: Global,
+    file: &mut FileShare,
+    name: &[u8],
+    share: Share,
+    number: u32,
+) -> Result<Stateid, ShareError> {
+    match file.try_open(owner(alloc, name)?, share, number) {
+        Err(ShareError::Memory) => file.try_open(owner(alloc, name)?, share, number),
+        answer => answer,
+    }
+}
+
+/// Owner `a` opens the file to read it, and then also to write it alone, so that owner `b` has to wait for it to
+/// downgrade that open to the first.
+#[test]
+fn opens_and_downgrades(rt: HostRuntime) -> Result<(), Fail> {
+    let alloc = rt.alloc();
+    let mut file = FileShare::new(alloc);
+    try_open(alloc, &mut file, b"a", READ, 7)?;
+    assert!(rt; !file.denies(Modes::BOTH));
+    let stateid = try_open(alloc, &mut file, b"a", BOTH_ALONE, 8)?;
+    assert!(rt; stateid.seqid == 2 && stateid.client == CLIENT && stateid.number == 7);
+    assert!(rt; file.share_of(&owner(alloc, b"a")?) == Some(BOTH_ALONE));
+    assert!(rt; file.denies(Modes::WRITE) && !file.denies(Modes::READ));
+    assert!(rt; try_open(alloc, &mut file, b"b", WRITE, 8) == Err(ShareError::Denied));
+    assert!(rt; file.downgrade(7, WRITE) == Err(ShareError::Invalid));
+    assert_eq!(rt; file.downgrade(7, READ)?.seqid, 3);
+    assert!(rt; file.share_of(&owner(alloc, b"a")?) == Some(READ));
+    assert_eq!(rt; try_open(alloc, &mut file, b"b", WRITE, 8)?.number, 8);
+    Ok(())
+}

@@ -1,0 +1,47 @@
+//! Bytes of a file that an owner locks and unlocks.
+
+ghost use Rattle.std.specs.Prelude.{◌≤◌};
+
+use nfs_ranges::{Mode, Range, Ranges, RangesError};
+use std::test::Fail;
+
+fn span(first: u64, last: u64) -> Range
+    requires { first ≤ last }
+{
+    Range { first, last }
+}
+
+fn lock(ranges: &mut Ranges, range: Range, mode: Mode) -> Result<(), RangesError> {
+    match ranges.lock(range, mode) {
+        Err(RangesError::Memory) => ranges.lock(range, mode),
+        answer => answer,
+    }
+}
+
+fn unlock(ranges: &mut Ranges, range: Range) -> Result<(), RangesError> {
+    match ranges.unlock(range) {
+        Err(RangesError::Memory) => ranges.unlock(range),
+        answer => answer,
+    }
+}
+
+/// Bytes 0 to 99 are locked for writing, and every second ten of them unlocked: more changes than there is room for at
+/// first. Then bytes 90 to 109 are locked for reading.
+#[test]
+fn locks_and_unlocks(rt: HostRuntime) -> Result<(), Fail> {
+    let mut ranges = Ranges::new(rt.alloc());
+    assert!(rt; ranges.is_empty());
+    lock(&mut ranges, span(0, 99), Mode::Write)?;
+    for place in 0..5_u64 {
+        let first = place * 20 + 10;
+        unlock(&mut ranges, span(first, first + 9))?;
+    }
+    lock(&mut ranges, span(90, 109), Mode::Read)?;
+    assert!(rt; ranges.run_at(0) == Some((span(0, 9), Mode::Write)));
+    assert!(rt; ranges.run_at(15).is_none());
+    assert!(rt; ranges.run_at(89) == Some((span(80, 89), Mode::Write)));
+    assert!(rt; ranges.run_at(90) == Some((span(90, 109), Mode::Read)));
+    assert!(rt; ranges.first_conflict(span(15, 99), Mode::Read) == Some(20));
+    assert!(rt; ranges.first_conflict(span(90, 109), Mode::Read).is_none());
+    Ok(())
+}
