@@ -62,8 +62,8 @@ HasBytes {D = D} {S = S} {C = C} device rules remaining contents =
     × ((written : List ℕ) × IsWrittenBy rules.tree course result written
     × Appends (contents before.device) (contents after.device) written)
 
--- If the service is a core, its journal gains an entry for each question of a course that wasn't answered
--- NFS4ERR_RESOURCE, in order, and no others.
+-- If the service is a core, its journal gains an entry for each operation that it was asked in a course and that wasn't
+-- answered NFS4ERR_RESOURCE, in order, and no others.
 abbrev pub GainsEntries : {D C : Type 0} → Device D → Files
     → (Lent → Question → OpResult → Lent → Type 0) → (C → ℕ → C → Type 0) → Type 0
 GainsEntries {D = D} {C = C} device tree gives tells =

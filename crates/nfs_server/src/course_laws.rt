@@ -29,8 +29,8 @@ pub fn bytes_of_a_connection<R: Read, W: Write, S: Service, C: Clock>()
         (λ sides. R.remaining sides.source.device) (λ sides. W.contents sides.sink.device) }
 {}
 
-/// The law that, if the service is a core, its journal gains an entry for each question of a connection that wasn't
-/// answered NFS4ERR_RESOURCE, in order, and no others.
+/// The law that, if the service is a core, its journal gains an entry for each operation that it was asked in a
+/// connection and that wasn't answered NFS4ERR_RESOURCE, in order, and no others.
 pub fn journal_of_a_connection<D: Duplex, R: Source, W: Sink, C: Clock>()
     ensures together { (tree : Files) → GainsEntries D.device tree
         ⟦<Lent as Service>⟧.gives C.tells }

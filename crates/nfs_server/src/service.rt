@@ -1,6 +1,6 @@
 ghost use Rattle.std.specs.Prelude.{◌≡◌, ◌<◌, ◌≤◌, IsTrue, IfSome, List, length};
 ghost use Rattle.nfs_xdr.specs.Op.{has_entry};
-ghost use Rattle.nfs_server.specs.Asking.{GivenByCore, Question};
+ghost use Rattle.nfs_server.specs.Asking.{GivenByCore, Operation, Question};
 ghost use Rattle.nfs_server.specs.Entries.{QuestionsAreEntries};
 ghost use Rattle.nfs_state.specs.Entries.{request_of};
 ghost use Rattle.nfs_state.specs.declared.entry.TheConstants.{ANSWER_LIMIT};
@@ -29,8 +29,8 @@ pub trait Service {
     ) -> OpResult
         requires entry { IsTrue (has_entry op.now) }
         requires node { IfSome filehandle (λ node. node < node_count (serves self.old)) }
-        ensures gives { gives self.old (request_of moment principal op.now filehandle) result
-            self.new }
+        ensures gives { gives self.old
+            (Operation (request_of moment principal op.now filehandle)) result self.new }
         ensures serves { serves self.new ≡ serves self.old }
         ensures fits { length (op_result.encoding result) ≤ ANSWER_LIMIT }
         ensures form { op_result.Fits result };
@@ -63,6 +63,7 @@ impl Service for Lent {
 
     ghost serves = { λ l. l.core.journal.nodes };
 
+    #[tactic(auto, using(crate::proofs::JournalGains::given_by_core))]
     fn call(
         &mut self,
         moment: Moment,
@@ -75,7 +76,7 @@ impl Service for Lent {
     }
 }
 
-/// The law that the entries that a core's journal gains are the questions that it was asked, with their answers and in
+/// The law that the entries that a core's journal gains are the operations that it was asked, with their answers and in
 /// order, except those that were answered `NFS4ERR_RESOURCE`.
 pub fn questions_are_entries()
     ensures { QuestionsAreEntries }
