@@ -21,8 +21,29 @@ abbrev pub Gains : List Question → List OpResult → History → History → T
 Gains questions answers old new =
     (entries : List Entry) × AreEntries questions answers entries × (new ≡ record old { entries = old.entries ++ entries })
 
+-- the entries of questions and of more questions after them
+entries_then : (questions more : List Question) (answers others : List OpResult) (entries last : List Entry) → AreEntries questions answers entries → AreEntries more others last → AreEntries (questions ++ more) (answers ++ others) (entries ++ last)
+entries_then [] more [] others entries last are rest = rw are rest
+entries_then (Operation request ∷ questions) more (answer ∷ answers) others entries last (inl refused) rest =
+    inl (refused.0, entries_then questions more answers others entries last refused.1 rest)
+entries_then (Operation request ∷ questions) more (answer ∷ answers) others entries last (inr entered) rest =
+    inr (entered.0, entered.1 ++ last, ap (λ (es : List Entry). es ++ last) entered.2, entries_then questions more answers others entered.1 last entered.3 rest)
+entries_then (Renewal moment client ∷ questions) more (answer ∷ answers) others entries last are rest =
+    entries_then questions more answers others entries last are rest
+entries_then [] more (answer ∷ answers) others entries last are rest = absurd are
+entries_then (question ∷ questions) more [] others entries last are rest = absurd are
+
+pub gains_then : (questions more : List Question) (answers others : List OpResult) (old mid new : History) → Gains questions answers old mid → Gains more others mid new → Gains (questions ++ more) (answers ++ others) old new
+gains_then questions more answers others old mid new first second = (
+  first.0 ++ second.0,
+  entries_then questions more answers others first.0 second.0 first.1 second.1,
+  second.2
+      ∙ ap (λ (j : History). record j { entries = j.entries ++ second.0 }) first.2
+      ∙ ap (λ (es : List Entry). record old { entries = es }) (append_assoc old.entries first.0 second.0),
+)
+
 -- from a core that is alike the journal gains the same
-gains_after : (old mid new : Server) (questions : List Question) (answers : List OpResult) → AreAlike old mid → Gains questions answers mid.journal new.journal → Gains questions answers old.journal new.journal
+pub gains_after : (old mid new : Server) (questions : List Question) (answers : List OpResult) → AreAlike old mid → Gains questions answers mid.journal new.journal → Gains questions answers old.journal new.journal
 gains_after old mid new questions answers alike others =
     (others.0, others.1, others.2 ∙ ap (λ (j : History). record j { entries = j.entries ++ others.0 }) alike.0)
 
@@ -52,12 +73,16 @@ gains_first old mid new (Operation request) questions answer answers (inr refuse
 gains_first old mid new (Renewal moment client) questions answer answers alike others =
     gains_after old mid new questions answers alike others
 
-pub questions_are_entries : QuestionsAreEntries
-questions_are_entries old new [] [] asked = (
+-- where nothing was asked the journal gained nothing
+pub gains_nothing : (old new : Lent) → new ≡ old → Gains [] [] old.core.journal new.core.journal
+gains_nothing old new same = (
   [],
   refl,
-  ap (λ (s : Lent). s.core.journal) asked ∙ ap (λ (es : List Entry). record old.core.journal { entries = es }) (sym (append-nil old.core.journal.entries)),
+  ap (λ (s : Lent). s.core.journal) same ∙ ap (λ (es : List Entry). record old.core.journal { entries = es }) (sym (append-nil old.core.journal.entries)),
 )
+
+pub questions_are_entries : QuestionsAreEntries
+questions_are_entries old new [] [] asked = gains_nothing old new asked
 questions_are_entries old new (question ∷ questions) (answer ∷ answers) asked =
     let mid = asked.0 in
     gains_first old.core mid.core new.core question questions answer answers asked.1 (questions_are_entries mid new questions answers asked.2)
