@@ -1,6 +1,6 @@
 //! Laws that hold for every course of a connection.
-ghost use Rattle.std.specs.Prelude.{◌≡◌};
-ghost use Rattle.nfs_server.specs.CourseLaws.{GainsEntries, HasBytes, IsOneText};
+ghost use Rattle.std.specs.Prelude.{◌≡◌, ℕ, List, Option};
+ghost use Rattle.nfs_server.specs.CourseLaws.{GainsEntries, HasBytes, IsOneText, TellsBytes};
 ghost use Rattle.nfs_server.specs.Sides.{device_of};
 ghost use Rattle.nfs_server.specs.Exchange.{rules};
 ghost use Rattle.nfs_tree.specs.Tree.{Files};
@@ -19,10 +19,14 @@ pub fn turns_are_of_one_text<D: Duplex, R: Source, W: Sink, S: Service, C: Clock
     split_goes_on();
 }
 
-/// The law that a connection over devices of std takes what it reads from the front of the bytes that the reader has,
-/// and adds what it writes after the bytes that the writer has, if these bytes are known.
-pub fn bytes_of_a_connection<R: Read, W: Write, S: Service, C: Clock>()
-    ensures { (tree : Files) → HasBytes
+/// The law that a connection takes what it reads from the front of the bytes that its device has, and adds what it
+/// writes after the bytes that were written before, if these bytes are known: of any device that tells them, and of two
+/// devices of std.
+pub fn bytes_of_a_connection<D: Duplex, R: Read, W: Write, S: Service, C: Clock>()
+    ensures together { (tree : Files) (remaining contents : D → Option (List ℕ))
+        → TellsBytes D.device remaining contents
+        → HasBytes D.device (rules tree S.gives S.alike C.tells) remaining contents }
+    ensures apart { (tree : Files) → HasBytes
         (device_of ⟦<Counted<R> as Source>⟧.gives ⟦<Counted<R> as Source>⟧.fails
         ⟦<Counted<W> as Sink>⟧.takes ⟦<Counted<W> as Sink>⟧.fails)
         (rules tree S.gives S.alike C.tells)
