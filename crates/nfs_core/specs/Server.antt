@@ -16,6 +16,10 @@ pub record Server : Type 0 where
 abbrev pub IsLawful : Server → Type 0
 IsLawful server = Lawful server.journal (meaning server.stored)
 
+-- the two have the same journal, and store the same
+abbrev pub AreAlike : Server → Server → Type 0
+AreAlike old new = (new.journal ≡ old.journal) × (new.stored ≡ old.stored)
+
 -- One call of `apply`: the server `old` answers the request and becomes `new`. With a number the answered request is
 -- the journal's entry of that number, as the operation's rule decides. Without a number the answer is
 -- NFS4ERR_RESOURCE, and nothing changes.

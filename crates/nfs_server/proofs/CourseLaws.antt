@@ -9,11 +9,16 @@ use Rattle.nfs_rpc.specs.Records.{IsRest, SplitGoesOn, Splits}
 use Rattle.nfs_tree.specs.Tree.{Files}
 use Rattle.nfs_server.specs.declared.serve_error.ServeError.{ServeError}
 use Rattle.nfs_server.specs.declared.serve_error.ServeError.TheVariants as errors
-use Rattle.nfs_server.specs.Asking.{Asks, Question}
+use Rattle.nfs_server.specs.Asking.{GivenByCore, Question}
+use Rattle.nfs_server.specs.declared.service.Lent.{Lent}
+use Rattle.nfs_core.specs.Server.{AreAlike}
+use Rattle.nfs_rpc.specs.declared.call.Call.{Call}
+use Rattle.nfs_rpc.specs.declared.call.Call.TheVariants as calls
+use Rattle.nfs_server.proofs.JournalGains.{Gains, gains_after, gains_nothing, gains_then, questions_are_entries}
 use Rattle.nfs_server.specs.Connection.{Scene, Turn, Course, AreTurns, EndsWith, IsCourse, IsIdle, IsTurn, all_exchanges, exchanges_of, rest_after, text_of}
-use Rattle.nfs_server.specs.CourseLaws.{HasBytes, IsOneText, TellsBytes}
+use Rattle.nfs_server.specs.CourseLaws.{GainsEntries, HasBytes, IsOneText, TellsBytes}
 use Rattle.nfs_server.specs.Device.{Device, AreTaken, IsCut, IsWritten}
-use Rattle.nfs_server.specs.Exchange.{Exchange, Rules, AreExchanged, messages_of, questions_of, written_for_all}
+use Rattle.nfs_server.specs.Exchange.{Exchange, Rules, AreExchanged, AreLeft, MakesRoom, messages_of, questions_of, rules, written_for_all}
 use Rattle.nfs_server.proofs.Serving.{exchanged_then, messages-append, written-append}
 use Rattle.nfs_xdr.specs.declared.op_result.OpResult.{OpResult}
 
@@ -48,50 +53,98 @@ is_one_text continues device rules before after turns are =
     let all = texts_go_on continues device rules before after [] [] [] turns none are in
     (all, λ piece found rest more. continues (text_of turns) piece (messages_of (exchanges_of turns)) found (rest_after [] turns) rest all more)
 
+-- where no record is left, the service is as it was
+none_left : {S : Type 0} (alike : S → S → Type 0) (old new : S) (left : List (List ℕ)) → left ≡ [] → AreLeft alike old left new → new ≡ old
+none_left alike old new left none stays = rw none at stays
+
+-- whatever records are left, the service is alike
+left_alike : {S : Type 0} (alike : S → S → Type 0) (same : (s : S) → alike s s) (old new : S) (left : List (List ℕ)) → AreLeft alike old left new → alike old new
+left_alike {S = S} alike same old new [] stays = subst (λ (s : S). alike old s) (sym stays) (same old)
+left_alike alike same old new (message ∷ left) stays = stays
+
 -- the exchanges of turns follow one another, and lead the service and the clock from the first turn to the last
 turns_exchanged : {D S C : Type 0} (device : Device D) (rules : Rules S C) (before after : Scene D S C) (carried : List ℕ) (turns : List Turn)
     → AreTurns device rules before carried turns after → AreExchanged rules before.service before.clock (exchanges_of turns) after.service after.clock
 turns_exchanged {D = D} {S = S} {C = C} device rules before after carried [] are = (ap (λ (s : Scene D S C). s.service) are, ap (λ (s : Scene D S C). s.clock) are)
 turns_exchanged {D = D} {S = S} {C = C} device rules before after carried (turn ∷ turns) are =
+    let mid = are.0 in
+    let here = subst (λ (s : S). AreExchanged rules before.service before.clock turn.exchanges s mid.clock) (sym (none_left rules.alike are.1.service mid.service turn.unanswered are.2 are.1.left)) are.1.exchanged in
     subst (λ (es : List Exchange). AreExchanged rules before.service before.clock es after.service after.clock) (sym (flat_map-cons (λ (t : Turn). t.exchanges) turn turns))
-    (exchanged_then rules turn.exchanges (exchanges_of turns) before.service are.0.service after.service before.clock are.0.clock after.clock are.1.exchanged (turns_exchanged device rules are.0 after turn.rest turns are.4))
+    (exchanged_then rules turn.exchanges (exchanges_of turns) before.service mid.service after.service before.clock mid.clock after.clock here (turns_exchanged device rules mid after turn.rest turns are.4))
 
-idle_exchanged : {D S C : Type 0} (device : Device D) (rules : Rules S C) (before after : Scene D S C) (exchanges : List Exchange) → exchanges ≡ [] → after ≡ record before { device = after.device } → AreExchanged rules before.service before.clock exchanges after.service after.clock
-idle_exchanged {D = D} {S = S} {C = C} device rules before after exchanges none same =
-    subst (λ (es : List Exchange). AreExchanged rules before.service before.clock es after.service after.clock) (sym none) (ap (λ (s : Scene D S C). s.service) same, ap (λ (s : Scene D S C). s.clock) same)
+-- the exchanges follow one another, and lead to a service that is alike to the one at the end
+abbrev LeadTo : {S C : Type 0} → Rules S C → S → C → List Exchange → S → C → Type 0
+LeadTo {S = S} rules service clock es service' clock' =
+    (served : S) × AreExchanged rules service clock es served clock' × rules.alike served service'
 
-end_exchanged : {D S C : Type 0} (device : Device D) (rules : Rules S C) (before : Scene D S C) (course : Course) (result : Result ℕ ServeError) (after : Scene D S C)
-    → EndsWith device rules before course result after → AreExchanged rules before.service before.clock course.last.exchanges after.service after.clock
-end_exchanged device rules before course (Ok len) after ends = idle_exchanged device rules before after course.last.exchanges ends.0.0 ends.0.1
-end_exchanged device rules before course (Err errors.Read) after ends = idle_exchanged device rules before after course.last.exchanges ends.0 ends.2
-end_exchanged device rules before course (Err errors.Write) after ends = ends.0.exchanged
-end_exchanged device rules before course (Err errors.TooLong) after ends = ends.0.exchanged
-end_exchanged {D = D} {S = S} {C = C} device rules before course (Err errors.Memory) after (inl ends) =
-    idle_exchanged device rules before after course.last.exchanges ends.1 (ends.3 ∙ ap (λ (s : Scene D S C). record before { device = s.device }) (sym ends.3))
-end_exchanged device rules before course (Err errors.Memory) after (inr (inl ends)) = idle_exchanged device rules before after course.last.exchanges ends.0.0 ends.0.1
-end_exchanged device rules before course (Err errors.Memory) after (inr (inr ends)) = ends.0.exchanged
-end_exchanged device rules before course (Err errors.TooMuch) after ends = idle_exchanged device rules before after course.last.exchanges ends.0.0 ends.0.1
+idle_exchanged : {D S C : Type 0} (device : Device D) (rules : Rules S C) (same : (s : S) → rules.alike s s) (before after : Scene D S C) (exchanges : List Exchange) → exchanges ≡ [] → after ≡ record before { device = after.device } → LeadTo rules before.service before.clock exchanges after.service after.clock
+idle_exchanged {D = D} {S = S} {C = C} device rules same before after exchanges none is = (
+  after.service,
+  subst (λ (es : List Exchange). AreExchanged rules before.service before.clock es after.service after.clock) (sym none) (ap (λ (s : Scene D S C). s.service) is, ap (λ (s : Scene D S C). s.clock) is),
+  same after.service,
+)
 
-pub course_exchanged : {D S C : Type 0} (device : Device D) (rules : Rules S C) (before : Scene D S C) (course : Course) (result : Result ℕ ServeError) (after : Scene D S C)
-    → IsCourse device rules before course result after → AreExchanged rules before.service before.clock (all_exchanges course) after.service after.clock
-course_exchanged device rules before course result after is =
-    exchanged_then rules (exchanges_of course.turns) course.last.exchanges before.service is.0.service after.service before.clock is.0.clock after.clock
-    (turns_exchanged device rules before is.0 [] course.turns is.1) (end_exchanged device rules is.0 course result after is.3)
+turn_exchanged : {D S C : Type 0} (device : Device D) (rules : Rules S C) (same : (s : S) → rules.alike s s) (out : Device D → D → List ℕ → D → Type 0) (before : Scene D S C) (carried : List ℕ) (turn : Turn) (after : Scene D S C)
+    → IsTurn device rules out before carried turn after → LeadTo rules before.service before.clock turn.exchanges after.service after.clock
+turn_exchanged device rules same out before carried turn after t =
+    (t.service, t.exchanged, left_alike rules.alike same t.service after.service turn.unanswered t.left)
 
-asks_then : {S : Type 0} (gives : S → Question → OpResult → S → Type 0) (a b c : S) (questions more : List Question) (answers others : List OpResult) → Asks gives a questions answers b → Asks gives b more others c → Asks gives a (questions ++ more) (answers ++ others) c
-asks_then {S = S} gives a b c [] more [] others first second = subst (λ (s : S). Asks gives s more others c) first second
-asks_then gives a b c (question ∷ questions) more (answer ∷ answers) others first second = (first.0, first.1, asks_then gives first.0 b c questions more answers others first.2 second)
-asks_then gives a b c [] more (answer ∷ answers) others first second = absurd first
-asks_then gives a b c (question ∷ questions) more [] others first second = absurd first
+end_exchanged : {D S C : Type 0} (device : Device D) (rules : Rules S C) (same : (s : S) → rules.alike s s) (before : Scene D S C) (course : Course) (result : Result ℕ ServeError) (after : Scene D S C)
+    → EndsWith device rules before course result after → LeadTo rules before.service before.clock course.last.exchanges after.service after.clock
+end_exchanged device rules same before course (Ok len) after ends = idle_exchanged device rules same before after course.last.exchanges ends.0.0 ends.0.1
+end_exchanged device rules same before course (Err errors.Read) after ends = idle_exchanged device rules same before after course.last.exchanges ends.0 ends.2
+end_exchanged device rules same before course (Err errors.Write) after ends = turn_exchanged device rules same IsCut before (rest_after [] course.turns) course.last after ends.0
+end_exchanged device rules same before course (Err errors.TooLong) after ends = turn_exchanged device rules same IsWritten before (rest_after [] course.turns) course.last after ends.0
+end_exchanged {D = D} {S = S} {C = C} device rules same before course (Err errors.Memory) after (inl ends) =
+    idle_exchanged device rules same before after course.last.exchanges ends.1 (ends.3 ∙ ap (λ (s : Scene D S C). record before { device = s.device }) (sym ends.3))
+end_exchanged device rules same before course (Err errors.Memory) after (inr (inl ends)) = idle_exchanged device rules same before after course.last.exchanges ends.0.0 ends.0.1
+end_exchanged device rules same before course (Err errors.Memory) after (inr (inr ends)) = turn_exchanged device rules same IsWritten before (rest_after [] course.turns) course.last after ends.0
+end_exchanged device rules same before course (Err errors.TooMuch) after ends = idle_exchanged device rules same before after course.last.exchanges ends.0.0 ends.0.1
 
--- exchanges that follow one another ask the service their questions one after the other
-pub exchanges_ask : {S C : Type 0} (rules : Rules S C) (s new : S) (c after : C) (es : List Exchange) → AreExchanged rules s c es new after
-    → Asks rules.gives s (flat_map (questions_of rules.tree) es) (flat_map (λ (e : Exchange). e.answers) es) new
-exchanges_ask rules s new c after [] are = are.0
-exchanges_ask {S = S} rules s new c after (e ∷ es) are =
-    let here = asks_then rules.gives s are.0 new (questions_of rules.tree e) (flat_map (questions_of rules.tree) es) e.answers (flat_map (λ (x : Exchange). x.answers) es) are.2.1 (exchanges_ask rules are.0 new are.1 after es are.3) in
-    subst (λ (q : List Question). Asks rules.gives s q (flat_map (λ (x : Exchange). x.answers) (e ∷ es)) new) (sym (flat_map-cons (questions_of rules.tree) e es))
-    (subst (λ (a : List OpResult). Asks rules.gives s (questions_of rules.tree e ++ flat_map (questions_of rules.tree) es) a new) (sym (flat_map-cons (λ (x : Exchange). x.answers) e es)) here)
+course_exchanged : {D S C : Type 0} (device : Device D) (rules : Rules S C) (same : (s : S) → rules.alike s s) (before : Scene D S C) (course : Course) (result : Result ℕ ServeError) (after : Scene D S C)
+    → IsCourse device rules before course result after → LeadTo rules before.service before.clock (all_exchanges course) after.service after.clock
+course_exchanged device rules same before course result after is =
+    let mid = is.0 in
+    let end = end_exchanged device rules same mid course result after is.3 in (
+      end.0,
+      exchanged_then rules (exchanges_of course.turns) course.last.exchanges before.service mid.service end.0 before.clock mid.clock after.clock
+          (turns_exchanged device rules before mid [] course.turns is.1) end.1,
+      end.2,
+    )
+
+-- the rules of a connection whose service is a core
+abbrev of_core : {C : Type 0} → Files → (C → ℕ → C → Type 0) → Rules Lent C
+of_core tree tells =
+    rules tree (λ (old : Lent) question answer (new : Lent). GivenByCore old.core question answer new.core) (λ (old new : Lent). AreAlike old.core new.core) tells
+
+-- before the first question of a call the core is alike
+ready_alike : (old ready : Lent) (call : Call) → MakesRoom (λ (old new : Lent). AreAlike old.core new.core) old call ready → AreAlike old.core ready.core
+ready_alike old ready (calls.Compound xid principal compound) made = made
+ready_alike old ready calls.Silent made = rw made (refl, refl)
+ready_alike old ready (calls.Null xid) made = rw made (refl, refl)
+ready_alike old ready (calls.Answer xid reply) made = rw made (refl, refl)
+
+-- by exchanges that follow one another the journal of a core gains the entries of their questions
+exchanges_gain : {C : Type 0} (tree : Files) (tells : C → ℕ → C → Type 0) (s new : Lent) (c after : C) (es : List Exchange) → AreExchanged (of_core tree tells) s c es new after
+    → Gains (flat_map (questions_of tree) es) (flat_map (λ (e : Exchange). e.answers) es) s.core.journal new.core.journal
+exchanges_gain tree tells s new c after [] are = gains_nothing s new are.0
+exchanges_gain tree tells s new c after (e ∷ es) are =
+    let mid = are.0 in
+    let one = are.2 in
+    let ready = one.0 in
+    let questions = questions_of tree e in
+    let more = flat_map (questions_of tree) es in
+    let others = flat_map (λ (x : Exchange). x.answers) es in
+    let here = gains_after s.core ready.core mid.core questions e.answers (ready_alike s ready e.call one.2) (questions_are_entries ready mid questions e.answers one.3) in
+    let all = gains_then questions more e.answers others s.core.journal mid.core.journal new.core.journal here (exchanges_gain tree tells mid new are.1 after es are.3) in
+    subst (λ (q : List Question). Gains q (flat_map (λ (x : Exchange). x.answers) (e ∷ es)) s.core.journal new.core.journal) (sym (flat_map-cons (questions_of tree) e es))
+    (subst (λ (a : List OpResult). Gains (questions ++ more) a s.core.journal new.core.journal) (sym (flat_map-cons (λ (x : Exchange). x.answers) e es)) all)
+
+pub gains_entries : {D C : Type 0} (device : Device D) (tree : Files) (tells : C → ℕ → C → Type 0) → GainsEntries device (of_core tree tells)
+gains_entries device tree tells before after course result is =
+    let led = course_exchanged device (of_core tree tells) (λ (s : Lent). (refl, refl)) before course result after is in
+    let gained = exchanges_gain tree tells before.service led.0 before.clock after.clock (all_exchanges course) led.1 in
+    (gained.0, gained.1, led.2.0 ∙ gained.2)
 
 -- which bytes are in the device after writes took these parts
 taken_bytes : {D : Type 0} (device : Device D) (remaining contents : D → Option (List ℕ)) (tells : TellsBytes device remaining contents) (a b : D) (parts : List (List ℕ)) → AreTaken device a parts b

@@ -98,7 +98,7 @@ abbrev turn_of : {D S C T : Type 0} (device : Device D) (rules : Rules S C) (bef
 turn_of device rules before now old new piece result after p = record {
   piece = piece;
   exchanges = p.served.exchanges;
-  unanswered = p.served.left;
+  unanswered = p.served.unanswered;
   rest = rest_of device rules before now old new piece result after p;
 }
 
@@ -108,13 +108,15 @@ is_turn : {D S C T : Type 0} (device : Device D) (rules : Rules S C) (before now
 is_turn device rules before now old new piece result after p =
     let rest = rest_after [] p.under_way.turns in
     let w = p.takes.split rest p.under_way.keeps in
-    let all : p.takes.found ≡ messages_of p.served.exchanges ++ p.served.left = sym (found_ready old new piece p.under_way.idle p.takes) ∙ p.served.served in
+    let all : p.takes.found ≡ messages_of p.served.exchanges ++ p.served.unanswered = sym (found_ready old new piece p.under_way.idle p.takes) ∙ p.served.served in
     record {
       mid = p.mid;
+      service = p.served.service;
       some = p.some;
       reads = p.reads;
       split = subst (λ (m : List (List ℕ)). Splits (rest ++ piece) m w.0) all w.1;
       exchanged = p.served.exchanged;
+      left = p.served.left;
       written = p.served.written;
     }
 

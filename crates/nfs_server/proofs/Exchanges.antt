@@ -22,23 +22,23 @@ IsAnswered rules service clock message before after service' clock' =
 
 pub answers_silence : {S C : Type 0} (rules : Rules S C) (service : S) (clock : C) (message before after : List ℕ) → IsCall message calls.Silent → after ≡ before → IsAnswered rules service clock message before after service clock
 answers_silence rules service clock message before after call same =
-    (record { message = message; call = calls.Silent; moment = 0; answers = [] }, refl, (call, refl, refl), same ∙ sym (append-nil before))
+    (record { message = message; call = calls.Silent; moment = 0; answers = [] }, refl, (service, call, refl, refl, refl), same ∙ sym (append-nil before))
 
 pub answers_null : {S C : Type 0} (rules : Rules S C) (service : S) (clock : C) (message before after : List ℕ) (xid : ℕ) → IsCall message (calls.Null xid) → after ≡ before ++ written_record (written_reply xid replies.Null) → IsAnswered rules service clock message before after service clock
 answers_null rules service clock message before after xid call written =
-    (record { message = message; call = calls.Null xid; moment = 0; answers = [] }, refl, (call, refl, refl), written)
+    (record { message = message; call = calls.Null xid; moment = 0; answers = [] }, refl, (service, call, refl, refl, refl), written)
 
 pub answers_alone : {S C : Type 0} (rules : Rules S C) (service : S) (clock : C) (message before after : List ℕ) (xid : ℕ) (reply : Reply) → IsCall message (calls.Answer xid reply) → after ≡ before ++ written_record (written_reply xid reply) → IsAnswered rules service clock message before after service clock
 answers_alone rules service clock message before after xid reply call written =
-    (record { message = message; call = calls.Answer xid reply; moment = 0; answers = [] }, refl, (call, refl, refl), written)
+    (record { message = message; call = calls.Answer xid reply; moment = 0; answers = [] }, refl, (service, call, refl, refl, refl), written)
 
-pub answers_compound : {S C : Type 0} (rules : Rules S C) (service service' : S) (clock clock' : C) (message before after : List ℕ) (xid moment : ℕ) (principal : Principal) (compound : Compound) (reply : CompoundReply)
-    → IsCall message (calls.Compound xid principal compound) → rules.tells clock moment clock'
-    → (answers : List OpResult) × Asks rules.gives service (map (question_of moment principal) (compound_outcome rules.tree compound answers).asked) answers service' × (reply ≡ compound_reply rules.tree compound answers)
+pub answers_compound : {S C : Type 0} (rules : Rules S C) (service ready service' : S) (clock clock' : C) (message before after : List ℕ) (xid moment : ℕ) (principal : Principal) (compound : Compound) (reply : CompoundReply)
+    → IsCall message (calls.Compound xid principal compound) → rules.alike service ready → rules.tells clock moment clock'
+    → (answers : List OpResult) × Asks rules.gives ready (map (question_of moment principal) (compound_outcome rules.tree compound answers).asked) answers service' × (reply ≡ compound_reply rules.tree compound answers)
     → after ≡ before ++ written_record (written_reply xid (replies.Compound reply)) → IsAnswered rules service clock message before after service' clock'
-answers_compound rules service service' clock clock' message before after xid moment principal compound reply call told asked written = (
+answers_compound rules service ready service' clock clock' message before after xid moment principal compound reply call alike told asked written = (
   record { message = message; call = calls.Compound xid principal compound; moment = moment; answers = asked.0 },
   refl,
-  (call, asked.1, told),
+  (ready, call, alike, asked.1, told),
   written ∙ ap (λ (r : CompoundReply). before ++ written_record (written_reply xid (replies.Compound r))) asked.2,
 )

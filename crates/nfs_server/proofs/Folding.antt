@@ -8,7 +8,6 @@ use Rattle.std.proofs.lemmas.Grind.{flat_map-append}
 use Rattle.std.proofs.Math.Seq.{drop-cons}
 use Rattle.std.proofs.Math.ListN.{drop_of_length-le}
 use Rattle.nfs_tree.specs.Effect.{Effect}
-use Rattle.nfs_tree.specs.Filehandles.{handles_after}
 use Rattle.nfs_server.specs.Answering.{Dispatch, Known, Ask, dispatch, is_ok, outcome_of}
 use Rattle.nfs_server.specs.Folding.{Asker, Place, HasEffect, IsAnswered, IsDetermined, place_after}
 use Rattle.nfs_xdr.specs.declared.arg_op.ArgOp.{ArgOp}
@@ -46,8 +45,7 @@ determined_by asker old op ops effect results service new false (Known told) by 
       rw (here, ends, outcome_of) (with_result effect.answer rest.0),
     )
 determined_by asker old op ops effect results service new true (Ask asked) by goes is rest =
-    let after : effect.after ≡ handles_after asker.tree old.handles asked.op = rw goes at is.1 in
-    let next = rw after at rest in (
+    let next = rw is.1 at rest in (
       effect.answer ∷ next.0,
       rw (by, goes, outcome_of) (service, is.0, next.1),
       rw (by, goes, outcome_of) (with_result effect.answer next.2),

@@ -1,27 +1,58 @@
 -- The entries that the journal of a core gains when the core is asked questions as a service.
-use Rattle.std.proofs.Common.{◌≡◌, ℕ, Option, Some, None, List, [], ◌∷◌, ◌++◌, refl, sym, ap, ◌∙◌, inl, inr, append_assoc}
+use Rattle.std.proofs.Common.{◌≡◌, ℕ, Option, Some, None, List, [], ◌∷◌, ◌++◌, refl, sym, ap, ◌∙◌, inl, inr, append_assoc, rules}
 use Rattle.std.proofs.lemmas.List.{append-nil}
 use Rattle.nfs_state.specs.declared.entry.Entry.{Entry}
-use Rattle.nfs_core.specs.Server.{Server, Applies}
+use Rattle.nfs_core.specs.Server.{Server, Applies, AreAlike}
 use Rattle.nfs_state.specs.State.{History}
 use Rattle.nfs_state.specs.Entries.{entry_of}
-use Rattle.nfs_server.specs.Asking.{Question}
+use Rattle.nfs_state.specs.declared.request.Request.{Request}
+use Rattle.nfs_server.specs.Asking.{GivenByCore, Operation, Question, Renewal}
 use Rattle.nfs_server.specs.Entries.{AreEntries, QuestionsAreEntries}
 use Rattle.nfs_server.specs.declared.service.Lent.{Lent}
 use Rattle.nfs_xdr.specs.declared.op_result.OpResult.{OpResult}
 
--- the entries of one question and the following ones: its own entry comes first, unless its answer was NFS4ERR_RESOURCE
-gains_first : (old mid new : Server) (question : Question) (questions : List Question) (answer : OpResult) (answers : List OpResult) (number : Option ℕ)
-    → Applies old mid question answer number
-    → (entries : List Entry) × AreEntries questions answers entries × (new.journal ≡ record mid.journal { entries = mid.journal.entries ++ entries })
-    → (entries : List Entry) × AreEntries (question ∷ questions) (answer ∷ answers) entries × (new.journal ≡ record old.journal { entries = old.journal.entries ++ entries })
-gains_first old mid new question questions answer answers None applies others = (
-  others.0,
-  inl (applies.0, others.1),
-  others.2 ∙ ap (λ (s : Server). record s.journal { entries = s.journal.entries ++ others.0 }) applies.1,
+-- what a call of `apply` gives is given by the core
+pub given_by_core : (old new : Server) (request : Request) (answer : OpResult) (number : Option ℕ) → Applies old new request answer number → GivenByCore old (Operation request) answer new
+given_by_core old new request answer (Some number) applies = inl (number, applies)
+given_by_core old new request answer None applies = inr (applies.0, (search (rules, applies.1), search (rules, applies.1)))
+
+-- Answering questions with these answers, the journal gained their entries and didn't change otherwise.
+abbrev pub Gains : List Question → List OpResult → History → History → Type 0
+Gains questions answers old new =
+    (entries : List Entry) × AreEntries questions answers entries × (new ≡ record old { entries = old.entries ++ entries })
+
+-- the entries of questions and of more questions after them
+entries_then : (questions more : List Question) (answers others : List OpResult) (entries last : List Entry) → AreEntries questions answers entries → AreEntries more others last → AreEntries (questions ++ more) (answers ++ others) (entries ++ last)
+entries_then [] more [] others entries last are rest = rw are rest
+entries_then (Operation request ∷ questions) more (answer ∷ answers) others entries last (inl refused) rest =
+    inl (refused.0, entries_then questions more answers others entries last refused.1 rest)
+entries_then (Operation request ∷ questions) more (answer ∷ answers) others entries last (inr entered) rest =
+    inr (entered.0, entered.1 ++ last, ap (λ (es : List Entry). es ++ last) entered.2, entries_then questions more answers others entered.1 last entered.3 rest)
+entries_then (Renewal moment client ∷ questions) more (answer ∷ answers) others entries last are rest =
+    entries_then questions more answers others entries last are rest
+entries_then [] more (answer ∷ answers) others entries last are rest = absurd are
+entries_then (question ∷ questions) more [] others entries last are rest = absurd are
+
+pub gains_then : (questions more : List Question) (answers others : List OpResult) (old mid new : History) → Gains questions answers old mid → Gains more others mid new → Gains (questions ++ more) (answers ++ others) old new
+gains_then questions more answers others old mid new first second = (
+  first.0 ++ second.0,
+  entries_then questions more answers others first.0 second.0 first.1 second.1,
+  second.2
+      ∙ ap (λ (j : History). record j { entries = j.entries ++ second.0 }) first.2
+      ∙ ap (λ (es : List Entry). record old { entries = es }) (append_assoc old.entries first.0 second.0),
 )
-gains_first old mid new question questions answer answers (Some number) applies others =
-    let entry = entry_of question answer in
+
+-- from a core that is alike the journal gains the same
+pub gains_after : (old mid new : Server) (questions : List Question) (answers : List OpResult) → AreAlike old mid → Gains questions answers mid.journal new.journal → Gains questions answers old.journal new.journal
+gains_after old mid new questions answers alike others =
+    (others.0, others.1, others.2 ∙ ap (λ (j : History). record j { entries = j.entries ++ others.0 }) alike.0)
+
+-- an entered operation and the following questions: its own entry comes first
+gains_entered : (old mid new : Server) (request : Request) (questions : List Question) (answer : OpResult) (answers : List OpResult) (number : ℕ)
+    → Applies old mid request answer (Some number) → Gains questions answers mid.journal new.journal
+    → Gains (Operation request ∷ questions) (answer ∷ answers) old.journal new.journal
+gains_entered old mid new request questions answer answers number applies others =
+    let entry = entry_of request answer in
     let entered = applies.2.2 in (
       entry ∷ others.0,
       inr (entered.other, others.0, refl, others.1),
@@ -30,15 +61,30 @@ gains_first old mid new question questions answer answers (Some number) applies 
           ∙ ap (λ (es : List Entry). record old.journal { entries = es }) (append_assoc old.journal.entries (entry ∷ []) others.0),
     )
 
-pub questions_are_entries : QuestionsAreEntries
-questions_are_entries old new [] [] asked = (
+-- one question and the following ones
+gains_first : (old mid new : Server) (question : Question) (questions : List Question) (answer : OpResult) (answers : List OpResult)
+    → GivenByCore old question answer mid → Gains questions answers mid.journal new.journal
+    → Gains (question ∷ questions) (answer ∷ answers) old.journal new.journal
+gains_first old mid new (Operation request) questions answer answers (inl applied) others =
+    gains_entered old mid new request questions answer answers applied.0 applied.1 others
+gains_first old mid new (Operation request) questions answer answers (inr refused) others =
+    let gained = gains_after old mid new questions answers refused.1 others in
+    (gained.0, inl (refused.0, gained.1), gained.2)
+gains_first old mid new (Renewal moment client) questions answer answers alike others =
+    gains_after old mid new questions answers alike others
+
+-- where nothing was asked the journal gained nothing
+pub gains_nothing : (old new : Lent) → new ≡ old → Gains [] [] old.core.journal new.core.journal
+gains_nothing old new same = (
   [],
   refl,
-  ap (λ (s : Lent). s.core.journal) asked ∙ ap (λ (es : List Entry). record old.core.journal { entries = es }) (sym (append-nil old.core.journal.entries)),
+  ap (λ (s : Lent). s.core.journal) same ∙ ap (λ (es : List Entry). record old.core.journal { entries = es }) (sym (append-nil old.core.journal.entries)),
 )
+
+pub questions_are_entries : QuestionsAreEntries
+questions_are_entries old new [] [] asked = gains_nothing old new asked
 questions_are_entries old new (question ∷ questions) (answer ∷ answers) asked =
     let mid = asked.0 in
-    let given = asked.1 in
-    gains_first old.core mid.core new.core question questions answer answers given.0 given.1 (questions_are_entries mid new questions answers asked.2)
+    gains_first old.core mid.core new.core question questions answer answers asked.1 (questions_are_entries mid new questions answers asked.2)
 questions_are_entries old new [] (answer ∷ answers) asked = absurd asked
 questions_are_entries old new (question ∷ questions) [] asked = absurd asked

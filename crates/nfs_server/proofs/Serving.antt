@@ -10,7 +10,7 @@ use Rattle.nfs_server.specs.declared.serve_error.ServeError.{ServeError}
 use Rattle.nfs_server.specs.declared.serve_error.ServeError.TheVariants as errors
 use Rattle.nfs_server.specs.Connection.{Scene, scene}
 use Rattle.nfs_server.specs.Device.{Device, IsCut, IsWritten}
-use Rattle.nfs_server.specs.Exchange.{Exchange, Rules, AreExchanged, IsExchanged, messages_of, written_for, written_for_all}
+use Rattle.nfs_server.specs.Exchange.{Exchange, Rules, AreExchanged, AreLeft, IsExchanged, messages_of, written_for, written_for_all}
 use Rattle.nfs_server.specs.Serving.{IsServed}
 use Rattle.nfs_server.proofs.Exchanges.{IsAnswered}
 use Rattle.nfs_server.proofs.Writing.{cut_after, written_nothing, written_then}
@@ -94,29 +94,46 @@ write_is_not_memory same = cc
 ok_is_no_error : {T : Type 0} {x : T} {e : ServeError} → IsErrOf {T = T} (Ok x) e → ⊥
 ok_is_no_error same = cc
 
+-- for the first of the messages that are left room was made
+pub left_first : {S : Type 0} (alike : S → S → Type 0) (old new : S) (left : List (List ℕ)) (message : List ℕ) (others : List (List ℕ)) → left ≡ message ∷ others → alike old new → AreLeft alike old left new
+left_first alike old new left message others begins is_alike = rw begins is_alike
+
+-- nothing was done for the messages that are left
+pub left_so : {S : Type 0} (alike : S → S → Type 0) (same : (s : S) → alike s s) (s : S) (left : List (List ℕ)) → AreLeft alike s left s
+left_so alike same s [] = refl
+left_so alike same s (message ∷ left) = same s
+
+-- no message is left
+pub left_none : {S : Type 0} (alike : S → S → Type 0) (s : S) (left : List (List ℕ)) → left ≡ [] → AreLeft alike s left s
+left_none alike s left none = rw none refl
+
 -- serving ends because a write failed within the replies that waited
-pub ends_cut : {D S C T : Type 0} (device : Device D) (rules : Rules S C) (before mid : Scene D S C) (messages left : List (List ℕ)) (waiting : List ℕ) (d : D)
-    → HasServed device rules before messages left waiting mid → IsCut device mid.device waiting d
-    → IsServed {T = T} device rules before messages (Err errors.Write) (scene d mid.service mid.clock)
-ends_cut {D = D} device rules before mid messages left waiting d s cut = record {
+pub ends_cut : {D S C T : Type 0} (device : Device D) (rules : Rules S C) (before mid : Scene D S C) (messages left : List (List ℕ)) (waiting : List ℕ) (d : D) (service : S)
+    → HasServed device rules before messages left waiting mid → AreLeft rules.alike mid.service left service → IsCut device mid.device waiting d
+    → IsServed {T = T} device rules before messages (Err errors.Write) (scene d service mid.clock)
+ends_cut {D = D} device rules before mid messages left waiting d service s stays cut = record {
   exchanges = s.exchanges;
-  left = left;
+  unanswered = left;
+  service = mid.service;
   served = s.served;
   exchanged = s.exchanged;
+  left = stays;
   none_left = tt;
   some_left = λ same none. write_is_not_memory same;
   written = subst (λ (w : List ℕ). IsCut device before.device w d) (sym s.all) (cut_after device before.device mid.device d s.out waiting s.written cut);
 }
 
 -- serving ends because memory ran out for a reply, after the replies that waited were written
-pub ends_refused : {D S C T : Type 0} (device : Device D) (rules : Rules S C) (before mid : Scene D S C) (messages left : List (List ℕ)) (waiting : List ℕ) (d : D)
-    → HasServed device rules before messages left waiting mid → left ≢ [] → IsWritten device mid.device waiting d
-    → IsServed {T = T} device rules before messages (Err errors.Memory) (scene d mid.service mid.clock)
-ends_refused device rules before mid messages left waiting d s some sent = record {
+pub ends_refused : {D S C T : Type 0} (device : Device D) (rules : Rules S C) (before mid : Scene D S C) (messages left : List (List ℕ)) (waiting : List ℕ) (d : D) (service : S)
+    → HasServed device rules before messages left waiting mid → AreLeft rules.alike mid.service left service → left ≢ [] → IsWritten device mid.device waiting d
+    → IsServed {T = T} device rules before messages (Err errors.Memory) (scene d service mid.clock)
+ends_refused device rules before mid messages left waiting d service s stays some sent = record {
   exchanges = s.exchanges;
-  left = left;
+  unanswered = left;
+  service = mid.service;
   served = s.served;
   exchanged = s.exchanged;
+  left = stays;
   none_left = tt;
   some_left = λ same. some;
   written = subst (λ (w : List ℕ). IsWritten device before.device w d) (sym s.all) (written_then device before.device mid.device d s.out waiting s.written sent);
@@ -129,15 +146,17 @@ pub ends_all : {D S C T : Type 0} (device : Device D) (rules : Rules S C) (befor
     → IsServed {T = T} device rules before messages result (scene d mid.service mid.clock)
 ends_all {T = T} device rules before mid messages left waiting d (Ok x) s none sent cut write = record {
   exchanges = s.exchanges;
-  left = left;
+  unanswered = left;
+  service = mid.service;
   served = s.served;
   exchanged = s.exchanged;
+  left = left_none rules.alike mid.service left none;
   none_left = none;
   some_left = λ same. absurd (ok_is_no_error same);
   written = subst (λ (w : List ℕ). IsWritten device before.device w d) (sym s.all) (written_then device before.device mid.device d s.out waiting s.written sent);
 }
 ends_all {T = T} device rules before mid messages left waiting d (Err e) s none sent cut write =
-    rw write (ends_cut {T = T} device rules before mid messages left waiting d s cut)
+    rw write (ends_cut {T = T} device rules before mid messages left waiting d mid.service s (left_none rules.alike mid.service left none) cut)
 
 abbrev pub errs : ServeError → Result (Unit {0}) ServeError
 errs e = Err e
@@ -150,19 +169,21 @@ pub ends_so : {D S C T U : Type 0} (device : Device D) (rules : Rules S C) (befo
     → result ≡ Err error → error ≡ errors.Write → IsServed {T = U} device rules before messages (Err errors.Write) after → IsServed {T = T} device rules before messages result after
 ends_so {T = T} device rules before after messages result error failed is_write s = rw (failed, is_write) (record {
   exchanges = s.exchanges;
-  left = s.left;
+  unanswered = s.unanswered;
+  service = s.service;
   served = s.served;
   exchanged = s.exchanged;
+  left = s.left;
   none_left = tt;
   some_left = λ same none. write_is_not_memory same;
   written = s.written;
 })
 
 -- nothing more was answered, and the waiting replies are the same
-pub serves_same : {D S C : Type 0} (device : Device D) (rules : Rules S C) (before mid : Scene D S C) (messages left : List (List ℕ)) (waiting same : List ℕ) (service : S) (clock : C)
-    → HasServed device rules before messages left waiting mid → same ≡ waiting → service ≡ mid.service → clock ≡ mid.clock
-    → HasServed device rules before messages left same (scene mid.device service clock)
-serves_same device rules before mid messages left waiting same service clock s is_same same_service same_clock = rw (is_same, same_service, same_clock) s
+pub serves_same : {D S C : Type 0} (device : Device D) (rules : Rules S C) (before mid : Scene D S C) (messages left : List (List ℕ)) (waiting same : List ℕ) (clock : C)
+    → HasServed device rules before messages left waiting mid → same ≡ waiting → clock ≡ mid.clock
+    → HasServed device rules before messages left same (scene mid.device mid.service clock)
+serves_same device rules before mid messages left waiting same clock s is_same same_clock = rw (is_same, same_clock) s
 
 -- a list with a first element isn't empty
 pub some_more : {A : Type 0} {xs ys : List A} {x : A} → xs ≡ x ∷ ys → xs ≢ []

@@ -45,8 +45,19 @@ turn_as : {D E S C : Type 0} (from : Device D) (to : Device E) (view : D → E) 
     → IsTurn to rules out' (scene_as view before) carried turn (scene_as view after) × IsBound after.device
 turn_as from to view IsBound is rules out out' goes before carried turn after bound t =
     let read = is.gives before.device t.mid turn.piece bound t.reads in
-    let written = goes t.mid after.device _ read.1 t.written in
-    (record { mid = view t.mid; some = t.some; reads = read.0; split = t.split; exchanged = t.exchanged; written = written.0 }, written.1)
+    let written = goes t.mid after.device _ read.1 t.written in (
+      record {
+        mid = view t.mid;
+        service = t.service;
+        some = t.some;
+        reads = read.0;
+        split = t.split;
+        exchanged = t.exchanged;
+        left = t.left;
+        written = written.0;
+      },
+      written.1,
+    )
 
 turns_as : {D E S C : Type 0} (from : Device D) (to : Device E) (view : D → E) (IsBound : D → Type 0) (is : Is from to view IsBound) (rules : Rules S C) (before : Scene D S C) (carried : List ℕ) (turns : List Turn) (after : Scene D S C)
     → IsBound before.device → AreTurns from rules before carried turns after

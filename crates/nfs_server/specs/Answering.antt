@@ -21,6 +21,7 @@ use Rattle.nfs_xdr.specs.declared.compound.Request.TheVariants.{MinorVersion, To
 use Rattle.nfs_xdr.specs.declared.op.Op.{Op}
 use Rattle.nfs_xdr.specs.declared.op_result.OpResult.{OpResult}
 use Rattle.nfs_xdr.specs.declared.opnum.Opnum.TheVariants as opnums
+use Rattle.nfs_forms.specs.declared.client_id.ClientId.{ClientId}
 use Rattle.nfs_forms.specs.declared.status.Refusal.TheVariants as refusals
 use Rattle.nfs_forms.specs.declared.status.Status.{Status}
 use Rattle.nfs_forms.specs.declared.status.Status.TheVariants as status
@@ -33,10 +34,11 @@ abbrev pub is_ok : Status → Bool
 is_ok status.Ok = true
 is_ok s = false
 
--- an operation that the service is asked to answer, and the node of the current filehandle at that time
-pub record Asked : Type 0 where
-  pub op : Op
-  pub filehandle : Option ℕ
+-- What the service is asked: an operation, with the node of the current filehandle at that time; or to renew the lease of
+-- a client.
+pub data Asked : Type 0 where
+  Operation : Op → Option ℕ → Asked
+  Renewal : ClientId → Asked
 
 -- What a COMPOUND asks the service, and the results in the reply.
 pub record Outcome : Type 0 where
@@ -77,12 +79,13 @@ dispatch tree handles size (Illegal number) =
 dispatch tree handles size (Run op) =
     if not (nat_le (size + room_of (opnum_of op)) RECORD_LIMIT)
     then Known (stays handles (resource op))
-    else by_effect (effect_of tree handles op) (record { op = op; filehandle = handles.current })
+    else by_effect (effect_of tree handles op) (Operation op handles.current)
 
 -- The filehandles after the service's answer: with NFS4_OK they follow the operation.
-abbrev pub handles_after_answer : Files → Filehandles → Op → OpResult → Filehandles
-handles_after_answer tree handles op answer =
+abbrev pub handles_after_answer : Files → Filehandles → Asked → OpResult → Filehandles
+handles_after_answer tree handles (Operation op filehandle) answer =
     if is_ok (status_of answer) then handles_after tree handles op else handles
+handles_after_answer tree handles (Renewal client) answer = handles
 
 -- The questions and the results of the operations, whose results follow the first `size` bytes of the reply's record.
 unfoldable pub outcome_of : Files → Filehandles → ℕ → List ArgOp → List OpResult → Outcome
@@ -96,7 +99,7 @@ outcome_of tree handles size (op ∷ ops) answers =
       | Ask question ↦
           asks question answers
           (λ answer others.
-          outcome_of tree (handles_after_answer tree handles question.op answer) (size_with answer)
+          outcome_of tree (handles_after_answer tree handles question answer) (size_with answer)
           ops others)
     ]
 
@@ -132,7 +135,7 @@ compound_reply tree c answers =
     let results = (compound_outcome tree c answers).results in
     record { status = request_status results c.request; tag = c.tag; results = results }
 
--- the operations that the service is asked to answer for a call, given its answers
+-- what the service is asked for a call, given its answers
 abbrev pub asked : Files → Call → List OpResult → List Asked
 asked tree (calls.Compound xid principal c) answers = (compound_outcome tree c answers).asked
 asked tree call answers = []

@@ -1,19 +1,24 @@
 -- The questions that a service is asked, and its answers.
-use Rattle.std.specs.Prelude.{◌≡◌, ℕ, List, [], ◌∷◌, Option}
+use Rattle.std.specs.Prelude.{◌≡◌, ◌⊎◌, ℕ, List, [], ◌∷◌, Some}
+use Rattle.nfs_forms.specs.declared.client_id.ClientId.{ClientId}
 use Rattle.nfs_forms.specs.declared.principal.Principal.{Principal}
+use Rattle.nfs_server.specs.Answering as asked
 use Rattle.nfs_server.specs.Answering.{Asked}
 use Rattle.nfs_state.specs.declared.request.Request.{Request}
-use Rattle.nfs_core.specs.Server.{Server, Applies}
-use Rattle.nfs_state.specs.Entries.{request_of}
+use Rattle.nfs_core.specs.Server.{Server, Applies, AreAlike}
+use Rattle.nfs_state.specs.Entries.{request_of, resource}
 use Rattle.nfs_xdr.specs.declared.op_result.OpResult.{OpResult}
 
--- a question to a service: the request for an operation
-abbrev pub Question : Type 0
-Question = Request
+-- A question to a service: the request for an operation; or that the lease of a client be renewed at this moment.
+pub data Question : Type 0 where
+  Operation : Request → Question
+  Renewal : ℕ → ClientId → Question
 
--- an operation of a COMPOUND that the service is asked to answer, as a question
+-- what a COMPOUND asks, as a question at this moment and of this principal
 abbrev pub question_of : ℕ → Principal → Asked → Question
-question_of moment principal asked = request_of moment principal asked.op asked.filehandle
+question_of moment principal (asked.Operation op filehandle) =
+    Operation (request_of moment principal op filehandle)
+question_of moment principal (asked.Renewal client) = Renewal moment client
 
 -- Starting in the state old, the service may answer these questions in this way, one after the other, and be in the
 -- state new after them. `gives` says this for one question.
@@ -25,8 +30,10 @@ Asks {S = S} gives old (question ∷ questions) (answer ∷ answers) new =
 Asks gives old [] (answer ∷ answers) new = ⊥
 Asks gives old (question ∷ questions) [] new = ⊥
 
--- How a core answers a question: the answered question becomes the journal's next entry, or the answer is
--- NFS4ERR_RESOURCE and nothing changes.
+-- How a core answers a question: an operation with its answer becomes the journal's next entry, or the answer is
+-- NFS4ERR_RESOURCE and the core stays as it was. It has no leases, so by a renewal it stays as it was.
 abbrev pub GivenByCore : Server → Question → OpResult → Server → Type 0
-GivenByCore old question answer new =
-    (number : Option ℕ) × Applies old new question answer number
+GivenByCore old (Operation request) answer new =
+    ((number : ℕ) × Applies old new request answer (Some number))
+    ⊎ ((answer ≡ resource request.op) × AreAlike old new)
+GivenByCore old (Renewal moment client) answer new = AreAlike old new

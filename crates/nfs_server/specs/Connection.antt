@@ -5,7 +5,7 @@ use Rattle.nfs_rpc.specs.Records.{IsTooLong, Splits}
 use Rattle.nfs_server.specs.declared.serve_error.ServeError.{ServeError}
 use Rattle.nfs_server.specs.declared.serve_error.ServeError.TheVariants as errors
 use Rattle.nfs_server.specs.Device.{Device, IsCut, IsWritten}
-use Rattle.nfs_server.specs.Exchange.{Exchange, Rules, AreExchanged, messages_of, written_for_all}
+use Rattle.nfs_server.specs.Exchange.{Exchange, Rules, AreExchanged, AreLeft, messages_of, written_for_all}
 
 -- a moment of a connection: the states of its device, its service and its clock
 pub record Scene (D S C : Type 0) : Type 0 where
@@ -26,17 +26,18 @@ pub record Turn : Type 0 where
 
 -- A turn. `carried` are the bytes from earlier reads that are no whole record yet. A read gives a piece; the records
 -- that are whole now are answered in their order; and their replies are written, completely, or partly if a write
--- fails.
+-- fails. The device is `mid` after the read, and the service is `service` after the last record that was answered.
 pub record IsTurn {D S C : Type 0} (device : Device D) (rules : Rules S C)
     (goes_out : Device D → D → List ℕ → D → Type 0) (before : Scene D S C) (carried : List ℕ)
     (turn : Turn) (after : Scene D S C) : Type 0 where
   pub mid : D
+  pub service : S
   pub some : turn.piece ≢ []
   pub reads : device.gives before.device turn.piece mid
   pub split : Splits (carried ++ turn.piece) (messages_of turn.exchanges ++ turn.unanswered)
       turn.rest
-  pub exchanged : AreExchanged rules before.service before.clock turn.exchanges after.service
-      after.clock
+  pub exchanged : AreExchanged rules before.service before.clock turn.exchanges service after.clock
+  pub left : AreLeft rules.alike service turn.unanswered after.service
   pub written : goes_out device mid (written_for_all rules.tree turn.exchanges) after.device
 
 -- Turns one after the other. In each of them every record is answered and every reply is written before the next read,

@@ -9,12 +9,10 @@ use Rattle.nfs_tree.specs.Tree.{Files}
 use Rattle.nfs_server.specs.declared.serve_error.ServeError.{ServeError}
 use Rattle.nfs_server.specs.declared.serve_error.ServeError.TheVariants as errors
 use Rattle.nfs_server.specs.declared.service.Lent.{Lent}
-use Rattle.nfs_server.specs.Asking.{Question}
 use Rattle.nfs_server.specs.Connection.{Scene, Turn, Course, AreTurns, IsCourse, all_exchanges, exchanges_of, rest_after, text_of}
 use Rattle.nfs_server.specs.Device.{Device}
 use Rattle.nfs_server.specs.Entries.{AreEntries}
-use Rattle.nfs_server.specs.Exchange.{Rules, messages_of, questions_of, rules, written_for_all}
-use Rattle.nfs_xdr.specs.declared.op_result.OpResult.{OpResult}
+use Rattle.nfs_server.specs.Exchange.{Rules, messages_of, questions_of, written_for_all}
 
 -- The records that were answered in turns are those of the whole text that was read, in order, and the records of one
 -- more piece continue them.
@@ -62,15 +60,14 @@ HasBytes {D = D} {S = S} {C = C} device rules remaining contents =
     × ((written : List ℕ) × IsWrittenBy rules.tree course result written
     × Appends (contents before.device) (contents after.device) written)
 
--- If the service is a core, its journal gains an entry for each question of a course that wasn't answered
--- NFS4ERR_RESOURCE, in order, and no others.
-abbrev pub GainsEntries : {D C : Type 0} → Device D → Files
-    → (Lent → Question → OpResult → Lent → Type 0) → (C → ℕ → C → Type 0) → Type 0
-GainsEntries {D = D} {C = C} device tree gives tells =
+-- If the service is a core, its journal gains an entry for each operation that it was asked in a course and that wasn't
+-- answered NFS4ERR_RESOURCE, in order, and no others.
+abbrev pub GainsEntries : {D C : Type 0} → Device D → Rules Lent C → Type 0
+GainsEntries {D = D} {C = C} device rules =
     (before after : Scene D Lent C) (course : Course) (result : Result ℕ ServeError)
-    → IsCourse device (rules tree gives tells) before course result after
+    → IsCourse device rules before course result after
     → (entries : List Entry)
-    × AreEntries (flat_map (questions_of tree) (all_exchanges course))
+    × AreEntries (flat_map (questions_of rules.tree) (all_exchanges course))
     (flat_map (λ e. e.answers) (all_exchanges course)) entries
     × (after.service.core.journal
     ≡ record before.service.core.journal {

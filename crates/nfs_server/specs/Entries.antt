@@ -2,19 +2,22 @@
 use Rattle.std.specs.Prelude.{◌≡◌, ◌≢◌, ◌⊎◌, List, [], ◌∷◌, ◌++◌}
 use Rattle.nfs_state.specs.declared.entry.Entry.{Entry}
 use Rattle.nfs_state.specs.Entries.{entry_of, resource}
-use Rattle.nfs_server.specs.Asking.{Asks, GivenByCore, Question}
+use Rattle.nfs_server.specs.Asking.{Asks, GivenByCore, Operation, Question, Renewal}
 use Rattle.nfs_server.specs.declared.service.Lent.{Lent}
 use Rattle.nfs_xdr.specs.declared.op_result.OpResult.{OpResult}
 
--- the entries are the questions with their answers, in order, except those that were answered NFS4ERR_RESOURCE
+-- The entries are the operations that were asked, with their answers, in order, except those that were answered
+-- NFS4ERR_RESOURCE. A renewal makes none.
 abbrev pub AreEntries : List Question → List OpResult → List Entry → Type 0
 AreEntries [] [] entries = entries ≡ []
-AreEntries (question ∷ questions) (answer ∷ answers) entries =
-    ((answer ≡ resource question.op) × AreEntries questions answers entries)
-    ⊎ ((answer ≢ resource question.op)
+AreEntries (Operation request ∷ questions) (answer ∷ answers) entries =
+    ((answer ≡ resource request.op) × AreEntries questions answers entries)
+    ⊎ ((answer ≢ resource request.op)
     × (rest : List Entry)
-    × (entries ≡ entry_of question answer ∷ rest)
+    × (entries ≡ entry_of request answer ∷ rest)
     × AreEntries questions answers rest)
+AreEntries (Renewal moment client ∷ questions) (answer ∷ answers) entries =
+    AreEntries questions answers entries
 AreEntries [] (answer ∷ answers) entries = ⊥
 AreEntries (question ∷ questions) [] entries = ⊥
 

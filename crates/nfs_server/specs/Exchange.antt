@@ -19,15 +19,17 @@ pub record Exchange : Type 0 where
   pub moment : ℕ
   pub answers : List OpResult
 
--- What the answers to records depend on: the tree, how the service may answer, and what the clock may show.
+-- What the answers to records depend on: the tree, how the service may answer, which of its states are alike, and what
+-- the clock may show.
 pub record Rules (S C : Type 0) : Type 1 where
   pub tree : Files
   pub gives : S → Question → OpResult → S → Type 0
+  pub alike : S → S → Type 0
   pub tells : C → ℕ → C → Type 0
 
 abbrev pub rules : {S C : Type 0} → Files → (S → Question → OpResult → S → Type 0)
-    → (C → ℕ → C → Type 0) → Rules S C
-rules tree gives tells = record { tree = tree; gives = gives; tells = tells }
+    → (S → S → Type 0) → (C → ℕ → C → Type 0) → Rules S C
+rules tree gives alike tells = record { tree = tree; gives = gives; alike = alike; tells = tells }
 
 abbrev pub principal_of : Call → Principal
 principal_of (calls.Compound xid principal compound) = principal
@@ -50,12 +52,18 @@ abbrev pub ReadsClock : {C : Type 0} → (C → ℕ → C → Type 0) → C → 
 ReadsClock tells old (calls.Compound xid principal compound) moment new = tells old moment new
 ReadsClock tells old call moment new = new ≡ old
 
--- A record was read as its call, and the service was asked the questions of the call at that moment, and gave the
--- answers.
+-- For a COMPOUND room is made in the service, which stays alike. For other calls the service isn't called.
+abbrev pub MakesRoom : {S : Type 0} → (S → S → Type 0) → S → Call → S → Type 0
+MakesRoom alike old (calls.Compound xid principal compound) new = alike old new
+MakesRoom alike old call new = new ≡ old
+
+-- A record was read as its call; room was made in the service, and then it was asked the questions of the call at that
+-- moment, and gave the answers.
 abbrev pub IsExchanged : {S C : Type 0} → Rules S C → S → C → Exchange → S → C → Type 0
-IsExchanged rules service clock e service' clock' =
-    IsCall e.message e.call
-    × Asks rules.gives service (questions_of rules.tree e) e.answers service'
+IsExchanged {S = S} rules service clock e service' clock' =
+    (ready : S) × IsCall e.message e.call
+    × MakesRoom rules.alike service e.call ready
+    × Asks rules.gives ready (questions_of rules.tree e) e.answers service'
     × ReadsClock rules.tells clock e.call e.moment clock'
 
 -- the exchanges follow one another
@@ -64,6 +72,12 @@ AreExchanged rules service clock [] service' clock' = (service' ≡ service) × 
 AreExchanged {S = S} {C = C} rules service clock (e ∷ es) service' clock' =
     (s : S) × (c : C) × IsExchanged rules service clock e s c
     × AreExchanged rules s c es service' clock'
+
+-- Messages are left without an answer. For the first of them room may have been made in the service, but nothing was
+-- asked.
+abbrev pub AreLeft : {S : Type 0} → (S → S → Type 0) → S → List (List ℕ) → S → Type 0
+AreLeft alike old [] new = new ≡ old
+AreLeft alike old (message ∷ messages) new = alike old new
 
 abbrev pub messages_of : List Exchange → List (List ℕ)
 messages_of es = map (λ e. e.message) es

@@ -51,7 +51,7 @@ abbrev pub HasEffect : {S : Type 0} → Asker S → Place S → Dispatch → Eff
 HasEffect asker old (Known known) effect service = (effect ≡ known) × (service ≡ old.service)
 HasEffect asker old (Ask asked) effect service =
     asker.gives old.service (question_of asker.moment asker.principal asked) effect.answer service
-    × (effect.after ≡ handles_after_answer asker.tree old.handles asked.op effect.answer)
+    × (effect.after ≡ handles_after_answer asker.tree old.handles asked effect.answer)
 
 -- At this place the operation has this effect, and leaves the service in this state.
 abbrev pub IsAnswered : {S : Type 0} → Asker S → Place S → ArgOp → Effect → S → Type 0

@@ -76,6 +76,14 @@ pub(crate) fn make_result_room(results: &mut Vec<OpResult>) -> Result<(), AllocE
     results.reserve(OPERATION_LIMIT as usize)
 }
 
+/// How many operations of a COMPOUND may be answered one after the other.
+pub(crate) fn operation_count(request: &Request) -> usize
+    requires few { HasFewOperations request.now }
+    ensures { result ≡ length (operations_of request.now) }
+{
+    operations(request).len()
+}
+
 // What stays the same for all operations of a COMPOUND.
 #[derive(Drop)]
 struct Context<'a> {

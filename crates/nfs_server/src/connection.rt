@@ -38,7 +38,7 @@ pub fn serve_connection<R: Source, W: Sink, S: Service, C: Clock>(
     requires serves { S.serves service.old ≡ tree.now.nodes }
     ensures serves { S.serves service.new ≡ tree.now.nodes }
     ensures course { HasCourse (device_of R.gives R.fails W.takes W.fails)
-        (rules tree.now S.gives C.tells)
+        (rules tree.now S.gives S.alike C.tells)
         (scene (sides source.old sink.old) service.old clock.old) result
         (scene (sides source.new sink.new) service.new clock.new) }
     ensures read_failed { IsErrOf result ServeError.Read
@@ -70,7 +70,7 @@ pub fn serve_duplex<D: Duplex, S: Service, C: Clock>(
     requires writes { D.write_failures device.old < 2 ^ 64 - 1 }
     requires serves { S.serves service.old ≡ tree.now.nodes }
     ensures serves { S.serves service.new ≡ tree.now.nodes }
-    ensures course { HasCourse D.device (rules tree.now S.gives C.tells)
+    ensures course { HasCourse D.device (rules tree.now S.gives S.alike C.tells)
         (scene device.old service.old clock.old) result (scene device.new service.new clock.new) }
     ensures read_failed { IsErrOf result ServeError.Read
         ↔ D.read_failures device.old < D.read_failures device.new }
@@ -135,7 +135,7 @@ fn serve_ready<D: Duplex, S: Service, C: Clock>(
     requires writes { D.write_failures device.old < 2 ^ 64 - 1 }
     requires serves { S.serves service.old ≡ tree.now.nodes }
     ensures serves { S.serves service.new ≡ tree.now.nodes }
-    ensures served { IsServed D.device (rules tree.now S.gives C.tells)
+    ensures served { IsServed D.device (rules tree.now S.gives S.alike C.tells)
         (scene device.old service.old clock.old) records.old.ready result
         (scene device.new service.new clock.new) }
     ensures taken { OnOk result (records.new ≡ record records.old { ready = [] }) }

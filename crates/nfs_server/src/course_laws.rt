@@ -1,6 +1,6 @@
 //! Laws that hold for every course of a connection.
-ghost use Rattle.std.specs.Prelude.{◌≡◌};
-ghost use Rattle.nfs_server.specs.CourseLaws.{GainsEntries, HasBytes, IsOneText};
+ghost use Rattle.std.specs.Prelude.{◌≡◌, ℕ, List, Option};
+ghost use Rattle.nfs_server.specs.CourseLaws.{GainsEntries, HasBytes, IsOneText, TellsBytes};
 ghost use Rattle.nfs_server.specs.Sides.{device_of};
 ghost use Rattle.nfs_server.specs.Exchange.{rules};
 ghost use Rattle.nfs_tree.specs.Tree.{Files};
@@ -12,28 +12,32 @@ use std::io::{Read, Write};
 /// The law that the records of a connection, answered turn by turn, are those of the whole text that was read, and that
 /// the records of the last read continue them.
 pub fn turns_are_of_one_text<D: Duplex, R: Source, W: Sink, S: Service, C: Clock>()
-    ensures together { (tree : Files) → IsOneText D.device (rules tree S.gives C.tells) }
+    ensures together { (tree : Files) → IsOneText D.device (rules tree S.gives S.alike C.tells) }
     ensures apart { (tree : Files) → IsOneText (device_of R.gives R.fails W.takes W.fails)
-        (rules tree S.gives C.tells) }
+        (rules tree S.gives S.alike C.tells) }
 {
     split_goes_on();
 }
 
-/// The law that a connection over devices of std takes what it reads from the front of the bytes that the reader has,
-/// and adds what it writes after the bytes that the writer has, if these bytes are known.
-pub fn bytes_of_a_connection<R: Read, W: Write, S: Service, C: Clock>()
-    ensures { (tree : Files) → HasBytes
+/// The law that a connection takes what it reads from the front of the bytes that its device has, and adds what it
+/// writes after the bytes that were written before, if these bytes are known: of any device that tells them, and of two
+/// devices of std.
+pub fn bytes_of_a_connection<D: Duplex, R: Read, W: Write, S: Service, C: Clock>()
+    ensures together { (tree : Files) (remaining contents : D → Option (List ℕ))
+        → TellsBytes D.device remaining contents
+        → HasBytes D.device (rules tree S.gives S.alike C.tells) remaining contents }
+    ensures apart { (tree : Files) → HasBytes
         (device_of ⟦<Counted<R> as Source>⟧.gives ⟦<Counted<R> as Source>⟧.fails
         ⟦<Counted<W> as Sink>⟧.takes ⟦<Counted<W> as Sink>⟧.fails)
-        (rules tree S.gives C.tells)
+        (rules tree S.gives S.alike C.tells)
         (λ sides. R.remaining sides.source.device) (λ sides. W.contents sides.sink.device) }
 {}
 
-/// The law that, if the service is a core, its journal gains an entry for each question of a connection that wasn't
-/// answered NFS4ERR_RESOURCE, in order, and no others.
+/// The law that, if the service is a core, its journal gains an entry for each operation that it was asked in a
+/// connection and that wasn't answered NFS4ERR_RESOURCE, in order, and no others.
 pub fn journal_of_a_connection<D: Duplex, R: Source, W: Sink, C: Clock>()
-    ensures together { (tree : Files) → GainsEntries D.device tree
-        ⟦<Lent as Service>⟧.gives C.tells }
-    ensures apart { (tree : Files) → GainsEntries (device_of R.gives R.fails W.takes W.fails) tree
-        ⟦<Lent as Service>⟧.gives C.tells }
+    ensures together { (tree : Files) → GainsEntries D.device
+        (rules tree ⟦<Lent as Service>⟧.gives ⟦<Lent as Service>⟧.alike C.tells) }
+    ensures apart { (tree : Files) → GainsEntries (device_of R.gives R.fails W.takes W.fails)
+        (rules tree ⟦<Lent as Service>⟧.gives ⟦<Lent as Service>⟧.alike C.tells) }
 {}

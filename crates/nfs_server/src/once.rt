@@ -33,7 +33,8 @@ pub fn run_once<R: Source, W: Sink, E: Write>(
         × (outcome : Result ℕ ServeError)
         × (lent.core ≡ core) × (clock.moment ≡ 0)
         × HasCourse (device_of R.gives R.fails W.takes W.fails)
-        (rules tree.now ⟦<Lent as Service>⟧.gives ⟦<Stopped as Clock>⟧.tells)
+        (rules tree.now ⟦<Lent as Service>⟧.gives ⟦<Lent as Service>⟧.alike
+        ⟦<Stopped as Clock>⟧.tells)
         (scene (sides source.old sink.old) lent clock) outcome
         (scene (sides source.new sink.new) lent' clock')
         × (IsErrOf outcome ServeError.Read ↔ R.failures source.old < R.failures source.new)

@@ -2,7 +2,7 @@ ghost use Rattle.std.specs.Prelude.{◌≡◌, ◌+◌, ◌^◌, ◌<◌, ◌≤
 ghost use Rattle.nfs_rpc.specs.Reply.{IsWritable, written_record, written_reply};
 ghost use Rattle.nfs_server.specs.Exchange.{Exchange, IsExchanged, rules, written_for};
 
-use crate::compound::make_result_room;
+use crate::compound::{make_result_room, operation_count};
 use crate::{Clock, Service, run_compound};
 use byteorder::{BigEndian, ByteOrder};
 use nfs_rpc::{
@@ -52,7 +52,7 @@ impl Replies {
     }
 
     /// Answers a record, and adds the reply after the others, as a record of one fragment. All memory of its own is
-    /// taken before the service is asked, so that after an error it wasn't asked.
+    /// taken, and room is made in the service, before the service is asked, so that after an error it wasn't asked.
     pub(crate) fn answer<S: Service, C: Clock>(
         &mut self,
         message: &[u8],
@@ -63,10 +63,10 @@ impl Replies {
         requires limit { length message.now ≤ RECORD_LIMIT }
         requires serves { S.serves service.old ≡ tree.now.nodes }
         ensures ok { OnOk result ((e : Exchange) × (e.message ≡ message.now)
-            × IsExchanged (rules tree.now S.gives C.tells) service.old clock.old e service.new
-            clock.new
+            × IsExchanged (rules tree.now S.gives S.alike C.tells) service.old clock.old e
+            service.new clock.new
             × (self.new.gathered.items ≡ self.old.gathered.items ++ written_for tree.now e)) }
-        ensures err { OnErr result ((service.new ≡ service.old) × (clock.new ≡ clock.old)
+        ensures err { OnErr result (S.alike service.old service.new × (clock.new ≡ clock.old)
             × (self.new.gathered.items ≡ self.old.gathered.items)) }
         ensures serves { S.serves service.new ≡ tree.now.nodes }
     {
@@ -77,6 +77,7 @@ impl Replies {
             Call::Answer(xid, reply) => put_record(&mut self.gathered, xid, &reply),
             Call::Compound(xid, principal, compound) => {
                 make_result_room(&mut self.results)?;
+                service.room(operation_count(&compound.request))?;
                 let results = mem::replace(&mut self.results, Vec::new(self.alloc));
                 let moment = clock.now();
                 let reply = run_compound(service, tree, moment, principal, compound, results);

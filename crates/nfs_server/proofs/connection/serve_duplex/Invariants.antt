@@ -9,7 +9,7 @@ use Rattle.nfs_server.proofs.connection.serve_duplex.Given as goal
 -- all turns so far are complete
 abbrev pub invariant-loop-records : goal.invariant-loop-records
 invariant-loop-records g l = record {
-  under_way : IsUnderWay g.D.Duplex.device (rules l.fn.tree g.S.Service.gives g.C.Clock.tells) (scene l.fn.device l.fn.service l.fn.clock) l.records (scene l.device l.service l.clock);
+  under_way : IsUnderWay g.D.Duplex.device (rules l.fn.tree g.S.Service.gives g.S.Service.alike g.C.Clock.tells) (scene l.fn.device l.fn.service l.fn.clock) l.records (scene l.device l.service l.clock);
   sound : IsStream l.records;
   goes : l.records.is_too_long ≡ false;
   room : length l.buffer ≡ PIECE_LEN;

@@ -9,7 +9,7 @@ use Rattle.nfs_server.proofs.connection.serve_ready.Given as goal
 -- the records so far were answered, and the remaining ones are still ready
 abbrev pub invariant-loop-message : goal.invariant-loop-message
 invariant-loop-message g l = record {
-  served : HasServed g.D.Duplex.device (rules l.fn.tree g.S.Service.gives g.C.Clock.tells) (scene l.fn.device l.fn.service l.fn.clock) l.fn.records.ready l.records.ready l.replies.gathered.items (scene l.device l.service l.clock);
+  served : HasServed g.D.Duplex.device (rules l.fn.tree g.S.Service.gives g.S.Service.alike g.C.Clock.tells) (scene l.fn.device l.fn.service l.fn.clock) l.fn.records.ready l.records.ready l.replies.gathered.items (scene l.device l.service l.clock);
   limits : AllByRecursion (λ message. length message ≤ RECORD_LIMIT) l.records.ready;
   same : l.records ≡ record l.fn.records { ready = l.records.ready };
   serves : g.S.Service.serves l.service ≡ l.fn.tree.nodes;
