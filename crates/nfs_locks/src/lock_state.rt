@@ -19,7 +19,7 @@ impl LockState {
     ghost use Rattle.std.specs.Prelude.{◌≡◌, ◌<◌, ◌&&◌, [], IsFalse};
     ghost use Rattle.nfs_locks.specs.Locks.{after_change, first_state, holds_bytes, is_lock_of, is_lock_of_client, is_numbered, is_stateid_of, next_stateid_of, stateid_of, would_be_full};
     ghost use Rattle.nfs_locks.specs.StoredLocks.{lock_seen};
-    ghost use Rattle.nfs_ranges.specs.Held.{Held};
+    ghost use Rattle.nfs_ranges.specs.RoomyRanges.{RoomyRanges};
 
     /// The lock state that an owner's first lock of the file makes, of ranges that are free and have room. It takes no
     /// memory.

@@ -1,6 +1,6 @@
 pub mod Bytes
 pub mod Modes
 pub mod Runs
-pub mod Held
+pub mod RoomyRanges
 pub mod Questions
 pub mod RangesError

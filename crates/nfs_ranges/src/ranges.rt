@@ -1,6 +1,6 @@
 ghost use Rattle.std.specs.Prelude.{◌≡◌, ◌≤◌, ◌<◌, ◌↔◌, [], nat_le, Some, None};
 ghost use Rattle.std.specs.Prelude.{IfErr, IsErrOf, IsOk, IsTrue, OnErr, OnOk};
-ghost use Rattle.nfs_ranges.specs.Held.{IsFree, modes_after, modes_in};
+ghost use Rattle.nfs_ranges.specs.RoomyRanges.{IsFree, modes_after, modes_in};
 ghost use Rattle.nfs_ranges.specs.Modes.{with_mode};
 ghost use Rattle.nfs_ranges.specs.Questions.{IsFirstConflict, IsRunAt};
 ghost use Rattle.nfs_ranges.specs.Runs.{runs};
@@ -23,12 +23,12 @@ pub struct Ranges {
 impl Model for Ranges {
     ghost use Rattle.std.specs.Prelude.{◌≡◌, ◌≤◌, ◌-◌};
     ghost use Rattle.std.specs.Vec.{vec_capacity, vec_len};
-    ghost use Rattle.nfs_ranges.specs.Held.{Held};
+    ghost use Rattle.nfs_ranges.specs.RoomyRanges.{RoomyRanges};
     ghost use Rattle.nfs_ranges.specs.Modes.{modes_of};
     ghost use Rattle.nfs_ranges.specs.Runs.{runs};
     ghost use Rattle.nfs_ranges.specs.declared.limits.TheConstants.{RUN_LIMIT};
 
-    ghost Value = { Held };
+    ghost Value = { RoomyRanges };
 
     ghost view = { λ r. record {
       pieces = r.pieces.items;

@@ -1,5 +1,5 @@
 use Rattle.std.proofs.Common.{◌∙◌, ap}
-use Rattle.nfs_ranges.specs.Held.{modes_in}
+use Rattle.nfs_ranges.specs.RoomyRanges.{modes_in}
 use Rattle.nfs_ranges.specs.Runs.{runs}
 use Rattle.nfs_ranges.proofs.Counting.{no_runs_free}
 use Rattle.nfs_ranges.proofs.ranges.Ranges.is_empty.Goals as goal

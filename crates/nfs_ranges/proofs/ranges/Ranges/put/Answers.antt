@@ -1,5 +1,5 @@
 use Rattle.std.proofs.Common.{◌≡◌, ◌∙◌, sym, ap}
-use Rattle.nfs_ranges.specs.Held.{modes_after}
+use Rattle.nfs_ranges.specs.RoomyRanges.{modes_after}
 use Rattle.nfs_ranges.specs.Modes.{modes_of}
 use Rattle.nfs_ranges.specs.Runs.{runs}
 use Rattle.nfs_ranges.proofs.Pieces.{modes_more}

@@ -5,18 +5,18 @@ use Rattle.nfs_ranges.specs.declared.mode.Mode.{Mode}
 use Rattle.nfs_ranges.specs.declared.piece.Piece.{Piece}
 
 -- pieces that give each byte its mode, and the room, which is above 0 where the next change takes no memory
-pub record Held : Type 0 where
+pub record RoomyRanges : Type 0 where
   pub pieces : List Piece
   pub room : ℕ
 
 -- the mode of each byte
-abbrev pub modes_in : Held → ℕ → Option Mode
+abbrev pub modes_in : RoomyRanges → ℕ → Option Mode
 modes_in held = modes_of held.pieces
 
 -- the modes after a change
-abbrev pub modes_after : Piece → Held → ℕ → Option Mode
+abbrev pub modes_after : Piece → RoomyRanges → ℕ → Option Mode
 modes_after change held = with_change change (modes_in held)
 
 -- no byte is held
-abbrev pub IsFree : Held → Type 0
+abbrev pub IsFree : RoomyRanges → Type 0
 IsFree held = (byte : ℕ) → byte ≤ 2 ^ 64 - 1 → modes_in held byte ≡ None
