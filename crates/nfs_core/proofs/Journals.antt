@@ -28,7 +28,7 @@ use Rattle.nfs_state.specs.declared.entry.Entry.TheVariants as entries
 use Rattle.nfs_rules.specs.Deciding.{Decides}
 use Rattle.nfs_state.specs.declared.shortage.Shortage.{Shortage}
 use Rattle.nfs_state.specs.declared.shortage.Shortage.TheVariants.{Limit, Memory}
-use Rattle.nfs_core.specs.Lawful.{Leads, Lawful}
+use Rattle.nfs_core.specs.Lawful.{AtMostOneState, Leads, Lawful}
 use Rattle.nfs_core.specs.Server.{Server, Applies, IsLawful}
 use Rattle.nfs_state.specs.State.{State, History, empty_server}
 use Rattle.nfs_core.specs.Step.{Follows, Step, AtMostOneStep}
@@ -83,6 +83,23 @@ pub Step-unique : AtMostOneDecision → AtMostOneStep
 Step-unique once journal old request answer answer' new new' s s' =
     let same : Some s.0 ≡ Some s'.0 = once journal old request (Some s.0) (Some s'.0) s.1 s'.1 in
     search (same, s.2.answer, s'.2.answer, s.2.state, s'.2.state)
+
+-- an entry leads to at most one state
+Step-once : AtMostOneDecision → (journal : History) (old : State) (entry : Entry) (new new' : State) → Step journal old entry new → Step journal old entry new' → new ≡ new'
+Step-once once journal old (entries.Call call) new new' s s' =
+    (Step-unique once journal old call.request call.answer call.answer new new' s s').1
+
+Leads-once : AtMostOneDecision → (journal : History) (old new new' : State) (entries : List Entry) → Leads journal old entries new → Leads journal old entries new' → new ≡ new'
+Leads-once once journal old new new' [] leads leads' = leads ∙ sym leads'
+Leads-once once journal old new new' (entry ∷ entries) leads leads' =
+    let longer = with_entry entry journal in
+    let same = Step-once once journal old entry leads.0 leads'.0 leads.1 leads'.1 in
+    Leads-once once longer leads'.0 new new' entries (subst (λ mid. Leads longer mid entries new) same leads.2) leads'.2
+
+-- a journal leads to at most one state
+pub Lawful-once : AtMostOneDecision → AtMostOneState
+Lawful-once once journal state state' lawful lawful' =
+    Leads-once once (record journal { entries = [] }) (empty_server journal.nodes) state state' journal.entries lawful lawful'
 
 -- a core that hasn't changed is as lawful as before
 pub Lawful-same : (journal journal' : History) (stored stored' : Stored) → journal' ≡ journal → stored' ≡ stored → Lawful journal (meaning stored) → Lawful journal' (meaning stored')

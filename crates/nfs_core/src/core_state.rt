@@ -1,7 +1,7 @@
 ghost use Rattle.std.specs.Prelude.{◌≡◌, None, ◌≤◌, ◌<◌, [], IfOk, OnErr, IsErrOf, IsTrue, Some, length};
 ghost use Rattle.nfs_core.specs.Safe.{IsSafe};
 ghost use Rattle.nfs_core.specs.Server.{Applies, IsLawful};
-ghost use Rattle.nfs_core.specs.Step.{AtMostOneStep, HasNoStep};
+ghost use Rattle.nfs_core.specs.Step.{HasNoStep};
 ghost use Rattle.nfs_rules.specs.operations.{IsRuled};
 ghost use Rattle.nfs_state.specs.Entries.{IsFilehandle, IsSendable, request_of};
 ghost use Rattle.nfs_state.specs.Kept.{Agrees};
@@ -157,11 +157,4 @@ fn enter(
         decision.owner,
     )?;
     Ok((decision.answer, number))
-}
-
-/// The law that a request has at most one answer in a state, and leads to at most one state.
-pub fn at_most_one_step()
-    ensures { AtMostOneStep }
-{
-    at_most_one_decision();
 }
