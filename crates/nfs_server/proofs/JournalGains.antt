@@ -18,11 +18,11 @@ gains_first : (old mid new : Server) (question : Question) (questions : List Que
 gains_first old mid new question questions answer answers None applies others = (
   others.0,
   inl (applies.0, others.1),
-  others.2 ∙ ap (λ (s : Server). record s.journal { entries = s.journal.entries ++ others.0 }) applies.1,
+  others.2 ∙ ap (λ (j : History). record j { entries = j.entries ++ others.0 }) applies.1.0,
 )
 gains_first old mid new question questions answer answers (Some number) applies others =
     let entry = entry_of question answer in
-    let entered = applies.2.2 in (
+    let entered = applies.2.allowed in (
       entry ∷ others.0,
       inr (entered.other, others.0, refl, others.1),
       others.2
