@@ -1,38 +1,34 @@
 -- Lawful journals: those whose entries the rules allow.
-use Rattle.std.proofs.Common.{◌≡◌, Bool, true, false, ℕ, ◌≤◌, ◌⊎◌, inl, inr, Option, Some, None, List, [], ◌∷◌, ◌++◌, length, map, refl, sym, ap, ◌∙◌, ◌+◌, subst, append_assoc, append-nil, arith}
+use Rattle.std.proofs.Common.{◌≡◌, Bool, true, false, ℕ, ◌≤◌, Option, Some, None, List, [], ◌∷◌, ◌++◌, length, map, refl, sym, ap, ◌∙◌, ◌+◌, subst, append_assoc, append-nil, arith}
+use Rattle.nfs_state.specs.declared.effect.Effect.{Effect}
 use Rattle.nfs_state.specs.declared.entry.Call.{Call}
-use Rattle.nfs_state.specs.declared.entry.TheConstants.{JOURNAL_LIMIT}
-use Rattle.std.specs.Prelude.{is_some, IsErrOf, Result, Ok, Err}
+use Rattle.std.specs.Prelude.{is_some}
 use Rattle.nfs_state.specs.declared.request.Request.{Request}
 use Rattle.nfs_share.specs.AllOpens.{opens_of}
 use Rattle.nfs_share.specs.Opens.{open_of}
 use Rattle.nfs_rules.specs.operations.{AtMostOneDecision, IsRuled}
 use Rattle.nfs_state.specs.declared.owner_change.OwnerChange.{OwnerChange}
 use Rattle.nfs_state.specs.declared.owner_change.OwnerChange.TheVariants.{Nothing}
-use Rattle.nfs_state.specs.Changes.{with_owner_change, with_state_change, last_state_after}
+use Rattle.nfs_state.specs.Changes.{after, with_owner_change, with_state_change, last_state_after}
 use Rattle.nfs_owners.specs.Registry.{Registry}
 use Rattle.nfs_state.specs.Stored.{Stored, empty_store, meaning}
 use Rattle.nfs_core.proofs.SafeLists.{map_replicate}
+use Rattle.nfs_core.proofs.SoundSequences.{some_equal}
 use Rattle.nfs_locks.specs.Locks.{ByteLocks}
 use Rattle.nfs_locks.specs.StoredLocks.{byte_locks}
 use Rattle.nfs_tree.specs.Tree.{node_count}
 use Rattle.nfs_tree.specs.declared.node.Node.{Node}
-use Rattle.nfs_xdr.specs.declared.op.Op.{Op}
-use Rattle.nfs_xdr.specs.declared.op_result.OpResult.{OpResult}
 use Rattle.nfs_state.specs.declared.change.Change.{Change}
 use Rattle.nfs_state.specs.declared.change.Change.TheVariants as changes
 use Rattle.nfs_owners.specs.declared.clients.client_change.ClientChange.TheVariants as client_changes
 use Rattle.nfs_rules.specs.declared.decision.Decision.{Decision}
 use Rattle.nfs_state.specs.declared.entry.Entry.{Entry}
 use Rattle.nfs_state.specs.declared.entry.Entry.TheVariants as entries
-use Rattle.nfs_rules.specs.Deciding.{Decides}
-use Rattle.nfs_state.specs.declared.shortage.Shortage.{Shortage}
-use Rattle.nfs_state.specs.declared.shortage.Shortage.TheVariants.{Limit, Memory}
-use Rattle.nfs_core.specs.Lawful.{Leads, Lawful}
-use Rattle.nfs_core.specs.Server.{Server, Applies, IsLawful}
+use Rattle.nfs_core.specs.Lawful.{AtMostOneState, Leads, Lawful}
 use Rattle.nfs_state.specs.State.{State, History, empty_server}
-use Rattle.nfs_core.specs.Step.{Follows, Step, AtMostOneStep}
-use Rattle.nfs_state.specs.Entries.{entry_of, with_entry}
+use Rattle.nfs_core.specs.Step.{Allows, AtMostOneStep, Step}
+use Rattle.nfs_state.specs.Entries.{with_entry}
+use Rattle.nfs_state.specs.Kept.{Agrees}
 
 -- entries that lead to a state, and one more entry that leads on from there
 Leads-append : (journal : History) (old mid new : State) (entries : List Entry) (entry : Entry) → Leads journal old entries mid → Step (record journal { entries = journal.entries ++ entries }) mid entry new → Leads journal old (entries ++ entry ∷ []) new
@@ -45,7 +41,7 @@ Leads-append journal old mid new (first ∷ entries) entry leads step =
     (leads.0, leads.1, Leads-append (with_entry first journal) leads.0 mid new entries entry leads.2 (subst from_mid (sym (append_assoc journal.entries (first ∷ []) entries)) step))
 
 -- a lawful journal with one more entry that the rules allow is lawful
-pub Lawful-step : (journal : History) (old new : State) (entry : Entry) → Lawful journal old → Step journal old entry new → Lawful (with_entry entry journal) new
+Lawful-step : (journal : History) (old new : State) (entry : Entry) → Lawful journal old → Step journal old entry new → Lawful (with_entry entry journal) new
 Lawful-step journal old new entry lawful step =
     Leads-append (record journal { entries = [] }) (empty_server journal.nodes) old new journal.entries entry lawful step
 
@@ -67,26 +63,50 @@ decides_something once journal old request decision is none =
     let same = once journal old request None (Some decision) none is in
     cc
 
--- if the rule gives no decision, or the journal is full, no call may come next
-pub none_follows : AtMostOneDecision → (journal : History) (old : State) (call : Call) (new : State) → IsRuled call.request.op journal old call.request None ⊎ (JOURNAL_LIMIT ≤ length journal.entries) → Follows journal old call new → ⊥
-none_follows once journal old call new (inl none) follows =
-    decides_something once journal old call.request follows.0 follows.1 none
-none_follows once journal old call new (inr full) follows = omega (arith, follows.2.below)
+-- the same, where the longer journal has a name of its own
+pub Lawful-entered : (journal journal' : History) (old new : State) (entry : Entry) → Lawful journal old → journal' ≡ with_entry entry journal → Step journal old entry new → Lawful journal' new
+Lawful-entered journal journal' old new entry lawful is step =
+    subst (λ j. Lawful j new) (sym is) (Lawful-step journal old new entry lawful step)
 
--- a lawful core that answers a call stays lawful
-pub Lawful-applies : (old new : Server) (request : Request) (answer : OpResult) (number : ℕ) → IsLawful old → Applies old new request answer (Some number) → IsLawful new
-Lawful-applies old new request answer number lawful applies =
-    let P : History → Type 0 = λ journal. Lawful journal (meaning new.stored) in
-    subst P (sym applies.1) (Lawful-step old.journal (meaning old.stored) (meaning new.stored) (entry_of request answer) lawful applies.2)
+-- an entry has at most one effect
+Allows-once : AtMostOneDecision → (journal : History) (old : State) (entry : Entry) (effect effect' : Effect) → Allows journal old entry effect → Allows journal old entry effect' → effect ≡ effect'
+Allows-once once journal old (entries.Call call) effect effect' a a' =
+    let d : Decision = record { answer = call.answer; effect = effect } in
+    let d' : Decision = record { answer = call.answer; effect = effect' } in
+    ap (λ (x : Decision). x.effect) (some_equal d d' (once journal old call.request (Some d) (Some d') a.rule a'.rule))
 
+-- an entry leads to at most one state
+Step-once : AtMostOneDecision → (journal : History) (old : State) (entry : Entry) (new new' : State) → Step journal old entry new → Step journal old entry new' → new ≡ new'
+Step-once once journal old entry new new' s s' =
+    s.state ∙ ap (λ e. after (length journal.entries) e old) (Allows-once once journal old entry s.effect s'.effect s.allowed s'.allowed) ∙ sym s'.state
+
+-- a request has at most one answer, and leads to at most one state
 pub Step-unique : AtMostOneDecision → AtMostOneStep
 Step-unique once journal old request answer answer' new new' s s' =
-    let same : Some s.0 ≡ Some s'.0 = once journal old request (Some s.0) (Some s'.0) s.1 s'.1 in
-    search (same, s.2.answer, s'.2.answer, s.2.state, s'.2.state)
+    let d : Decision = record { answer = answer; effect = s.effect } in
+    let d' : Decision = record { answer = answer'; effect = s'.effect } in
+    let same = some_equal d d' (once journal old request (Some d) (Some d') s.allowed.rule s'.allowed.rule) in
+    (ap (λ (x : Decision). x.answer) same, s.state ∙ ap (λ (x : Decision). after (length journal.entries) x.effect old) same ∙ sym s'.state)
+
+Leads-once : AtMostOneDecision → (journal : History) (old new new' : State) (entries : List Entry) → Leads journal old entries new → Leads journal old entries new' → new ≡ new'
+Leads-once once journal old new new' [] leads leads' = leads ∙ sym leads'
+Leads-once once journal old new new' (entry ∷ entries) leads leads' =
+    let longer = with_entry entry journal in
+    let same = Step-once once journal old entry leads.0 leads'.0 leads.1 leads'.1 in
+    Leads-once once longer leads'.0 new new' entries (subst (λ mid. Leads longer mid entries new) same leads.2) leads'.2
+
+-- a journal leads to at most one state
+pub Lawful-once : AtMostOneDecision → AtMostOneState
+Lawful-once once journal state state' lawful lawful' =
+    Leads-once once (record journal { entries = [] }) (empty_server journal.nodes) state state' journal.entries lawful lawful'
 
 -- a core that hasn't changed is as lawful as before
 pub Lawful-same : (journal journal' : History) (stored stored' : Stored) → journal' ≡ journal → stored' ≡ stored → Lawful journal (meaning stored) → Lawful journal' (meaning stored')
 Lawful-same journal journal' stored stored' same_journal same_stored lawful = rw (same_journal, same_stored) lawful
+
+-- and what it stores agrees with its journal as before
+pub Agrees-same : (journal journal' : History) (stored stored' : Stored) → journal' ≡ journal → stored' ≡ stored → Agrees journal stored.owners → Agrees journal' stored'.owners
+Agrees-same journal journal' stored stored' same_journal same_stored agrees = rw (same_journal, same_stored) agrees
 
 -- a change uses at most one confirm value
 changed_confirm : (change : Change) (old : State) → (with_state_change change old).clients.last_confirm ≤ old.clients.last_confirm + 1
@@ -98,13 +118,10 @@ owner_change_confirm : (change : OwnerChange) (number : ℕ) (old : State) → (
 owner_change_confirm Nothing number old = refl
 owner_change_confirm change number old = refl
 
-Follows-confirm : (journal : History) (old : State) (call : Call) (new : State) → Follows journal old call new → new.clients.last_confirm ≤ old.clients.last_confirm + 1
-Follows-confirm journal old call new follows =
-    let number = length journal.entries in
-    omega (arith, changed_confirm follows.0.change (with_owner_change follows.0.owner number old), ap (λ (r : Registry). r.last_confirm) (owner_change_confirm follows.0.owner number old), ap (λ (s : State). s.clients.last_confirm) follows.2.state)
-
 Step-confirm : (journal : History) (old : State) (entry : Entry) (new : State) → Step journal old entry new → new.clients.last_confirm ≤ old.clients.last_confirm + 1
-Step-confirm journal old (entries.Call call) new step = Follows-confirm journal old call new step
+Step-confirm journal old entry new step =
+    let number = length journal.entries in
+    omega (arith, changed_confirm step.effect.change (with_owner_change step.effect.owner number old), ap (λ (r : Registry). r.last_confirm) (owner_change_confirm step.effect.owner number old), ap (λ (s : State). s.clients.last_confirm) step.state)
 
 Leads-confirm : (journal : History) (old new : State) (entries : List Entry) → Leads journal old entries new → new.clients.last_confirm ≤ old.clients.last_confirm + length entries
 Leads-confirm journal old new [] leads = omega (arith, ap (λ (s : State). s.clients.last_confirm) leads)
@@ -132,13 +149,10 @@ owner_change_state : (change : OwnerChange) (number : ℕ) (old : State) → (wi
 owner_change_state Nothing number old = refl
 owner_change_state change number old = refl
 
-Follows-state : (journal : History) (old : State) (call : Call) (new : State) → Follows journal old call new → new.last_state ≤ old.last_state + 1
-Follows-state journal old call new follows =
-    let number = length journal.entries in
-    omega (arith, changed_state follows.0.change (with_owner_change follows.0.owner number old), owner_change_state follows.0.owner number old, ap (λ (s : State). s.last_state) follows.2.state)
-
 Step-state : (journal : History) (old : State) (entry : Entry) (new : State) → Step journal old entry new → new.last_state ≤ old.last_state + 1
-Step-state journal old (entries.Call call) new step = Follows-state journal old call new step
+Step-state journal old entry new step =
+    let number = length journal.entries in
+    omega (arith, changed_state step.effect.change (with_owner_change step.effect.owner number old), owner_change_state step.effect.owner number old, ap (λ (s : State). s.last_state) step.state)
 
 Leads-state : (journal : History) (old new : State) (entries : List Entry) → Leads journal old entries new → new.last_state ≤ old.last_state + length entries
 Leads-state journal old new [] leads = omega (arith, ap (λ (s : State). s.last_state) leads)
@@ -148,9 +162,3 @@ Leads-state journal old new (entry ∷ entries) leads =
 -- no more numbers were given to states than the journal has entries
 pub Lawful-state : (journal : History) (state : State) → Lawful journal state → state.last_state ≤ length journal.entries
 Lawful-state journal state lawful = omega (arith, Leads-state (record journal { entries = [] }) (empty_server journal.nodes) state journal.entries lawful)
-
--- where a decision fails for a limit, the rule gives none
-pub limited : (ruled : Option Decision → Type 0) (state : State) (op : Op) (result : Result Decision Shortage) → Decides ruled state op result → IsErrOf result Limit → ruled None
-limited ruled state op (Ok decision) decides is_limit = absurd cc
-limited ruled state op (Err Limit) decides is_limit = decides
-limited ruled state op (Err Memory) decides is_limit = absurd cc

@@ -1,3 +1,4 @@
+pub mod Following
 pub mod Journals
 pub mod SafeFiles
 pub mod SafeLists

@@ -2,13 +2,13 @@
 use Rattle.std.proofs.Common.{ℕ, List, [], ◌∷◌, length, refl, sym, subst}
 use Rattle.std.specs.Prelude.{replicate}
 use Rattle.std.specs.List.{AllByRecursion}
-use Rattle.nfs_state.specs.declared.entry.Call.{Call}
+use Rattle.nfs_state.specs.declared.effect.Effect.{Effect}
 use Rattle.nfs_state.specs.declared.entry.Entry.{Entry}
 use Rattle.nfs_state.specs.declared.entry.Entry.TheVariants as entries
 use Rattle.nfs_core.specs.Lawful.{Leads, Lawful}
 use Rattle.nfs_core.specs.Safe.{HasKnownLocker, HasKnownOwner, HasLiveClient, HasLiveLocker, IsSafe, StandsUnderOpen, bears}
 use Rattle.nfs_state.specs.State.{State, History, empty_server}
-use Rattle.nfs_core.specs.Step.{Follows, Step}
+use Rattle.nfs_core.specs.Step.{Allows, Step}
 use Rattle.nfs_state.specs.Entries.{with_entry}
 use Rattle.nfs_core.proofs.SafeFiles.{locks_at}
 use Rattle.nfs_core.proofs.SafeLists.{all_replicate, all_weaken, any_found}
@@ -16,7 +16,7 @@ use Rattle.nfs_core.proofs.Sound.{AreNumbered, HasSoundLocks, IsKnownIn, IsLocke
 use Rattle.nfs_core.proofs.SoundLocks.{LocksStay}
 use Rattle.nfs_core.proofs.SoundRules.{ruled_ready}
 use Rattle.nfs_core.proofs.SoundSequences.{live_owner}
-use Rattle.nfs_core.proofs.SoundSteps.{sound_after}
+use Rattle.nfs_core.proofs.SoundSteps.{IsEffectReady, sound_after}
 use Rattle.nfs_locks.specs.AllLocks.{locks_of}
 use Rattle.nfs_locks.specs.Laws.{AllLocksAreCompatible}
 use Rattle.nfs_locks.specs.Locks.{ByteLocks}
@@ -48,14 +48,14 @@ sound_empty journal =
       locks = no_locks count (empty_server journal.nodes).opens;
     }
 
-sound_follows : OpensStay → LocksStay → (journal : History) (old : State) (call : Call) (new : State) → Follows journal old call new → IsSound old → IsSound new
-sound_follows law lock_law journal old call new follows sound =
-    let number = length journal.entries in
-    let ready = ruled_ready number journal old call.request.op call.request follows.0 refl sound follows.1 in
-    subst IsSound (sym follows.2.state) (sound_after law lock_law number follows.0 old ready sound)
+-- what an entry may do is ready to keep the state sound
+allowed_ready : (journal : History) (old : State) (entry : Entry) (effect : Effect) → IsSound old → Allows journal old entry effect → IsEffectReady (length journal.entries) old effect
+allowed_ready journal old (entries.Call call) effect sound allowed =
+    ruled_ready (length journal.entries) journal old call.request.op call.request (record { answer = call.answer; effect = effect }) refl sound allowed.rule
 
 sound_step : OpensStay → LocksStay → (journal : History) (old : State) (entry : Entry) (new : State) → Step journal old entry new → IsSound old → IsSound new
-sound_step law lock_law journal old (entries.Call call) new step sound = sound_follows law lock_law journal old call new step sound
+sound_step law lock_law journal old entry new step sound =
+    subst IsSound (sym step.state) (sound_after law lock_law (length journal.entries) step.effect old (allowed_ready journal old entry step.effect sound step.allowed) sound)
 
 sound_leads : OpensStay → LocksStay → (journal : History) (old new : State) (entries : List Entry) → Leads journal old entries new → IsSound old → IsSound new
 sound_leads law lock_law journal old new [] leads sound = subst IsSound (sym leads) sound

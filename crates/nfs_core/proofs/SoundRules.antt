@@ -27,7 +27,7 @@ use Rattle.nfs_rules.specs.operations.Setclientid as setclientid
 use Rattle.nfs_rules.specs.operations.SetclientidConfirm as confirm
 use Rattle.nfs_state.specs.Owners.{KnownOwner, has_name, is_confirmed, without_owner}
 use Rattle.nfs_rules.specs.Sequences.{Owner, Refused, before_own, decision_of, is_ok_status, is_open, owner_change_of, requester_of_open, requester_of_stateid}
-use Rattle.nfs_state.specs.Changes.{with_owner_change}
+use Rattle.nfs_state.specs.Changes.{change_alone, with_owner_change}
 use Rattle.nfs_rules.specs.Stateids.{verdict}
 use Rattle.nfs_state.specs.State.{State, History, record_has_state}
 use Rattle.nfs_core.proofs.SafeLists.{all_find, all_none, all_weaken, found_last}
@@ -278,11 +278,7 @@ test_ready number state args (Ok node) d is = tests_ready number state args node
 
 release_ready : (number : ℕ) (state : State) (args : ReleaseLockowner) → IsReady number state (release.decision_of state args)
 release_ready number state args =
-    let forgets : Decision = record {
-      answer = results.ReleaseLockowner (Done tt);
-      change = changes.Releases args.owner;
-      owner = owner_changes.Nothing;
-    } in
+    let forgets : Decision = record { answer = results.ReleaseLockowner (Done tt); effect = change_alone (changes.Releases args.owner) } in
     cond_both (not (is_some (record_of args.owner.client state.clients))) (release.refusal_of refusals.StaleClientId)
     (if holds args.owner state.locks then release.refusal_of refusals.LocksHeld else forgets) (IsReady number state) (λ _. (tt, tt))
     (λ _. cond_both (holds args.owner state.locks) (release.refusal_of refusals.LocksHeld) forgets (IsReady number state) (λ _. (tt, tt)) (λ _. (tt, tt)))

@@ -18,7 +18,7 @@ use Rattle.nfs_owners.specs.declared.kept.Verdict.{Verdict}
 use Rattle.nfs_owners.specs.declared.kept.Verdict.TheVariants as verdicts
 use Rattle.nfs_owners.specs.declared.state_owner.StateOwner.{StateOwner}
 use Rattle.nfs_rules.specs.Newcomers.{Newcomer, Nobody, Known, Unknown, is_next, newcomer_by, newcomer_if, newcomer_in, newcomer_of}
-use Rattle.nfs_rules.specs.Sequences.{Answered, GoesOn, IsDecided, IsOfKnown, IsOfOwner, IsSequence, IsSequenced, IsUnder, Own, Owner, Refused, Requester, Sequence, by_verdict, counts, decision_of, is_ok_status, is_open, kept_with, owner_change_of, refusal_to}
+use Rattle.nfs_rules.specs.Sequences.{Answered, GoesOn, IsDecided, IsOfKnown, IsOfOwner, IsSequence, IsSequenced, IsUnder, Own, Owner, Refused, Requester, Sequence, by_verdict, counts, decision_of, is_ok_status, is_open, kept_with, only, owner_change_of, refusal_to}
 use Rattle.nfs_rules.specs.declared.decision.Decision.{Decision}
 use Rattle.nfs_rules.specs.declared.passage.Passage.{Passage}
 use Rattle.nfs_rules.specs.declared.passage.Passage.TheVariants as passages
@@ -116,7 +116,7 @@ decided_ready : (number : ℕ) (journal : History) (state : State) (requester : 
     → (node : ℕ) (sequence : Sequence) (d : Decision) → IsSequence journal state requester request sequence
     → IsDecided sequence (λ client. newcomer_of journal state client request.op) (own node) (Some d) → IsReady number state d
 decided_ready number journal state requester request own ready node (Answered answer) d h is =
-    as_decided number state d (record { answer = answer; change = changes.Nothing; owner = owner_changes.Nothing }) is (tt, tt)
+    as_decided number state d (only answer) is (tt, tt)
 decided_ready number journal state requester request own ready node (GoesOn passage owner) d h is =
     let fits = sequence_fits journal state requester request passage owner h in
     rules_ready number journal state requester request.op own ready node passage owner is.0 d fits.0 fits.1 is.1 is.2

@@ -5,13 +5,13 @@ use Rattle.std.specs.List.{AllByRecursion}
 use Rattle.nfs_state.specs.declared.change.Change.{Change}
 use Rattle.nfs_state.specs.declared.change.Change.TheVariants as changes
 use Rattle.nfs_rules.specs.declared.decision.Decision.{Decision}
+use Rattle.nfs_state.specs.declared.effect.Effect.{Effect}
 use Rattle.nfs_state.specs.declared.owner_change.OwnerChange.{OwnerChange}
 use Rattle.nfs_state.specs.declared.owner_change.OwnerChange.TheVariants as owner_changes
 use Rattle.nfs_state.specs.Owners.{KnownOwner, has_name, is_confirmed, with_confirmation, with_kept_entry, with_record, without_owner}
-use Rattle.nfs_state.specs.Changes.{last_state_after, with_owner_change, with_state_change}
+use Rattle.nfs_state.specs.Changes.{after, last_state_after, with_owner_change, with_state_change}
 use Rattle.nfs_state.specs.Changes as state_changes
 use Rattle.nfs_state.specs.State.{State}
-use Rattle.nfs_core.specs.Step.{after}
 use Rattle.nfs_core.proofs.SafeFiles.{opens_at, set_opens}
 use Rattle.nfs_core.proofs.SafeLists.{all_filter, all_push, all_set}
 use Rattle.nfs_core.proofs.Sound.{AreLive, IsKnownIn, IsOnlyOf, IsSound, StandsUnder, KeepsOwner, KeepsOwners, OpensStay, dropped_compatible, dropped_known, dropped_live, each_known, is_known_in, is_live_in, keeps_mapped, keeps_recorded, keeps_tested, live_confirmed, live_replaced, live_unconfirmed, mapped_live, name_left, opening_known, renamed_known, single_confirmed, single_unconfirmed}
@@ -69,9 +69,12 @@ IsChangeReady (changes.Locks node number change) state =
     × IsFreeFor owner change (locks_of node state.locks)
 IsChangeReady change state = ⊤
 
+abbrev pub IsEffectReady : ℕ → State → Effect → Type 0
+IsEffectReady number old effect =
+    IsOwnerReady effect.owner old × IsChangeReady effect.change (with_owner_change effect.owner number old)
+
 abbrev pub IsReady : ℕ → State → Decision → Type 0
-IsReady number old decision =
-    IsOwnerReady decision.owner old × IsChangeReady decision.change (with_owner_change decision.owner number old)
+IsReady number old decision = IsEffectReady number old decision.effect
 
 -- The owners change, and all that are known or confirmed stay so.
 sound_owners : (new : List KnownOwner) (old : State) → AreLive old.clients.records new → KeepsOwners old.owners new → IsSound old → IsSound (record old { owners = new })
@@ -248,7 +251,7 @@ sound_changed law lock_law (changes.Releases owner) old ready sound = record {
 }
 
 -- an entry keeps the state sound
-pub sound_after : OpensStay → LocksStay → (number : ℕ) (decision : Decision) (old : State) → IsReady number old decision → IsSound old → IsSound (after number decision old)
-sound_after law lock_law number decision old ready sound =
-    sound_changed law lock_law decision.change (with_owner_change decision.owner number old) ready.1
-    (sound_owner law decision.owner number old ready.0 sound)
+pub sound_after : OpensStay → LocksStay → (number : ℕ) (effect : Effect) (old : State) → IsEffectReady number old effect → IsSound old → IsSound (after number effect old)
+sound_after law lock_law number effect old ready sound =
+    sound_changed law lock_law effect.change (with_owner_change effect.owner number old) ready.1
+    (sound_owner law effect.owner number old ready.0 sound)

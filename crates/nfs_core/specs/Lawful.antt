@@ -15,3 +15,11 @@ Leads journal old (entry ∷ entries) new =
 abbrev pub Lawful : History → State → Type 0
 Lawful journal state =
     Leads (record journal { entries = [] }) (empty_server journal.nodes) journal.entries state
+
+-- A journal leads to at most one state.
+abbrev pub AtMostOneState : Type 0
+AtMostOneState =
+    (journal : History) (state state' : State)
+    → Lawful journal state
+    → Lawful journal state'
+    → state ≡ state'

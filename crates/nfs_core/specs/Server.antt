@@ -1,9 +1,10 @@
 -- The core of the server: the journal, and what is stored.
 use Rattle.std.specs.Prelude.{◌≡◌, ℕ, length, Option, Some, None}
+use Rattle.nfs_state.specs.declared.entry.Entry.{Entry}
 use Rattle.nfs_state.specs.declared.request.Request.{Request}
 use Rattle.nfs_core.specs.Lawful.{Lawful}
 use Rattle.nfs_state.specs.State.{History}
-use Rattle.nfs_core.specs.Step.{Follows}
+use Rattle.nfs_core.specs.Step.{Step}
 use Rattle.nfs_state.specs.Entries.{entry_of, resource, with_entry}
 use Rattle.nfs_state.specs.Stored.{Stored, meaning}
 use Rattle.nfs_xdr.specs.declared.op_result.OpResult.{OpResult}
@@ -16,18 +17,21 @@ pub record Server : Type 0 where
 abbrev pub IsLawful : Server → Type 0
 IsLawful server = Lawful server.journal (meaning server.stored)
 
--- the two have the same journal, and store the same
+-- Two servers have the same journal, and store the same.
 abbrev pub AreAlike : Server → Server → Type 0
 AreAlike old new = (new.journal ≡ old.journal) × (new.stored ≡ old.stored)
+
+-- The server `old` becomes `new` by an entry that may come next, and is the journal's entry with this number.
+abbrev pub Enters : Server → Server → Entry → ℕ → Type 0
+Enters old new entry number =
+    (number ≡ length old.journal.entries)
+    × (new.journal ≡ with_entry entry old.journal)
+    × Step old.journal (meaning old.stored) entry (meaning new.stored)
 
 -- One call of `apply`: the server `old` answers the request and becomes `new`. With a number the answered request is
 -- the journal's entry of that number, as the operation's rule decides. Without a number the answer is
 -- NFS4ERR_RESOURCE, and nothing changes.
 abbrev pub Applies : Server → Server → Request → OpResult → Option ℕ → Type 0
-Applies old new request answer None = (answer ≡ resource request.op) × (new ≡ old)
+Applies old new request answer None = (answer ≡ resource request.op) × AreAlike old new
 Applies old new request answer (Some number) =
-    let old_state = meaning old.stored in
-    (number ≡ length old.journal.entries)
-    × (new.journal ≡ with_entry (entry_of request answer) old.journal)
-    × Follows old.journal old_state (record { request = request; answer = answer })
-    (meaning new.stored)
+    Enters old new (entry_of request answer) number

@@ -1,25 +1,26 @@
-ghost use Rattle.std.specs.Prelude.{◌≡◌, None, ◌≤◌, ◌<◌, [], IfOk, OnErr, IsErrOf, IsTrue, Some, length};
+ghost use Rattle.std.specs.Prelude.{◌≡◌, None, ◌≤◌, ◌<◌, [], IfErr, IfOk, OnErr, IsErrOf, IsTrue, length};
 ghost use Rattle.nfs_core.specs.Safe.{IsSafe};
-ghost use Rattle.nfs_core.specs.Server.{Applies, IsLawful};
-ghost use Rattle.nfs_core.specs.Step.{AtMostOneStep, HasNoStep};
+ghost use Rattle.nfs_core.specs.Server.{Applies, AreAlike, Enters, IsLawful};
+ghost use Rattle.nfs_core.specs.Step.{Allows, HasNoAnswer, HasNoStep};
 ghost use Rattle.nfs_rules.specs.operations.{IsRuled};
-ghost use Rattle.nfs_state.specs.Entries.{IsFilehandle, IsSendable, request_of};
-ghost use Rattle.nfs_state.specs.Kept.{Agrees};
-ghost use Rattle.nfs_state.specs.Room.{state_of, stored_of};
+ghost use Rattle.nfs_state.specs.Entries.{IsFilehandle, IsSendable, entry_of, request_of};
+ghost use Rattle.nfs_state.specs.Room.{Fits};
 ghost use Rattle.nfs_state.specs.Stored.{empty_store, meaning};
 ghost use Rattle.nfs_xdr.specs.Op.{has_entry};
 ghost use Rattle.nfs_xdr.specs.OpResult.{op_result};
 
 use crate::CoreError;
+use crate::following::effect_of;
 use crate::laws::lawful_is_safe;
+use crate::not_followed::NotFollowed;
 use nfs_rules::{at_most_one_decision, decide};
 use nfs_state::{
-    ANSWER_LIMIT, Call, JOURNAL_LIMIT, Journal, LEASE_MAX, LEASE_MIN, Moment, Request, Shortage,
-    Tables, copy_of_answer, take_in,
+    ANSWER_LIMIT, Call, Effect, Entry, JOURNAL_LIMIT, Journal, LEASE_MAX, LEASE_MIN, Moment,
+    Request, Shortage, Tables, commit_entry, copy_of_answer,
 };
 use nfs_tree::{Policy, Tree};
 use nfs_xdr::{Op, OpResult, Principal, Refusal};
-use std::alloc::{AllocError, Global};
+use std::alloc::Global;
 use std::marker::Model;
 
 /// The state of a server (RFC 7530, section 9), and the journal of the changes that led to it.
@@ -92,12 +93,10 @@ impl Core {
         ensures form { op_result.Fits result.0 }
         ensures lawful { IsLawful self.new }
     {
-        let tables = &mut self.tables;
-        let journal = &mut self.journal;
         let Ok(request) = Request::of_copy(moment, principal, op, filehandle) else {
             return (op.opnum().refusal(Refusal::Resource), None);
         };
-        match enter(self.alloc, tables, journal, request) {
+        match self.answer(request) {
             Ok((answer, number)) => (answer, Some(number)),
             Err(_) => (op.opnum().refusal(Refusal::Resource), None),
         }
@@ -112,56 +111,63 @@ impl Core {
         lawful_is_safe();
         &self.journal
     }
-}
 
-// Answers the request and enters it in the journal. Returns the answer and the entry's number. Fails with Limit only if
-// no answer may come next, and with Memory only if no limit would be exceeded.
-fn enter(
-    alloc: Global,
-    tables: &mut Tables,
-    journal: &mut Journal,
-    request: Request,
-) -> Result<(OpResult, u32), Shortage>
-    requires entry { IsTrue (has_entry request.op) }
-    requires node { IsFilehandle journal.old request.filehandle }
-    requires numbers { tables.old.clients.registry.last_confirm ≤ length journal.old.entries }
-    requires states { tables.old.numbers ≤ length journal.old.entries }
-    requires kept { Agrees journal.old tables.old.owners.owners }
-    ensures entered { IfOk result (λ r. Applies
-        (record { journal = journal.old; stored = stored_of tables.old })
-        (record { journal = journal.new; stored = stored_of tables.new })
-        request r.0 (Some r.1)) }
-    ensures kept { Agrees journal.new tables.new.owners.owners }
-    ensures sendable { IfOk result (λ r. IsSendable request.op r.0) }
-    ensures limit { IsErrOf result Shortage.Limit
-        → HasNoStep journal.old (state_of tables.old) request }
-    ensures memory { IsErrOf result Shortage.Memory
-        → (length journal.old.entries < JOURNAL_LIMIT)
-        × (IsRuled request.op journal.old (state_of tables.old) request None → ⊥) }
-    ensures same { OnErr result
-        ((journal.new ≡ journal.old) × (stored_of tables.new ≡ stored_of tables.old)) }
-{
-    at_most_one_decision();
-    if journal.is_full() {
-        return Err(Shortage::Limit);
+    // Answers the request by its rule, and enters it in the journal. Returns the answer and the entry's number. Fails
+    // with Limit only if no answer may come next, and with Memory only if no limit would be exceeded.
+    fn answer(&mut self, request: Request) -> Result<(OpResult, u32), Shortage>
+        requires entry { IsTrue (has_entry request.op) }
+        requires node { IsFilehandle self.old.journal request.filehandle }
+        ensures entered { IfOk result (λ r.
+            Enters self.old self.new (entry_of request r.0) r.1) }
+        ensures sendable { IfOk result (λ r. IsSendable request.op r.0) }
+        ensures limit { IsErrOf result Shortage.Limit
+            → HasNoAnswer self.old.journal (meaning self.old.stored) request }
+        ensures memory { IsErrOf result Shortage.Memory
+            → (length self.old.journal.entries < JOURNAL_LIMIT)
+            × (IsRuled request.op self.old.journal (meaning self.old.stored) request None → ⊥) }
+        ensures alike { OnErr result (AreAlike self.old self.new) }
+        ensures lawful { IsLawful self.new }
+    {
+        at_most_one_decision();
+        if self.journal.is_full() {
+            return Err(Shortage::Limit);
+        }
+        let decision = decide(self.alloc, &self.tables, &self.journal, &request)?;
+        let answer = copy_of_answer(&decision.answer)?;
+        let number = self.enter(Entry::Call(Call { request, answer }), decision.effect)?;
+        Ok((decision.answer, number))
     }
-    let decision = decide(alloc, tables, journal, &request)?;
-    let answer = copy_of_answer(&decision.answer)?;
-    let call = Call { request, answer };
-    let number = take_in(
-        alloc,
-        tables,
-        journal,
-        call,
-        decision.change,
-        decision.owner,
-    )?;
-    Ok((decision.answer, number))
-}
 
-/// The law that a request has at most one answer in a state, and leads to at most one state.
-pub fn at_most_one_step()
-    ensures { AtMostOneStep }
-{
-    at_most_one_decision();
+    // Follows an entry that is handed in, if it may come next, and returns its number.
+    fn follow(&mut self, entry: Entry) -> Result<u32, NotFollowed>
+        ensures entered { IfOk result (λ n. Enters self.old self.new entry n) }
+        ensures wrong { IsErrOf result NotFollowed.Wrong
+            → HasNoStep self.old.journal (meaning self.old.stored) entry }
+        ensures limit { IsErrOf result NotFollowed.Limit
+            → JOURNAL_LIMIT ≤ length self.old.journal.entries }
+        ensures alike { OnErr result (AreAlike self.old self.new) }
+        ensures lawful { IsLawful self.new }
+    {
+        if self.journal.is_full() {
+            return Err(NotFollowed::Limit);
+        }
+        let effect = effect_of(self.alloc, &self.tables, &self.journal, &entry)?;
+        Ok(self.enter(entry, effect)?)
+    }
+
+    // Enters an entry that may come next with this effect, and returns its number. Fails for want of memory alone.
+    fn enter(&mut self, entry: Entry, effect: Effect) -> Result<u32, Shortage>
+        requires below { length self.old.journal.entries < JOURNAL_LIMIT }
+        requires allowed { Allows self.old.journal (meaning self.old.stored) entry effect }
+        requires fits { Fits entry effect (meaning self.old.stored) }
+        ensures entered { IfOk result (λ n. Enters self.old self.new entry n) }
+        ensures memory { IfErr result (λ e. e ≡ Shortage.Memory) }
+        ensures alike { OnErr result (AreAlike self.old self.new) }
+        ensures lawful { IsLawful self.new }
+    {
+        let tables = &mut self.tables;
+        let journal = &mut self.journal;
+        let number = commit_entry(self.alloc, tables, journal, entry, effect)?;
+        Ok(number)
+    }
 }

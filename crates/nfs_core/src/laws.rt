@@ -1,9 +1,25 @@
-ghost use Rattle.nfs_core.specs.Lawful.{Lawful};
+ghost use Rattle.nfs_core.specs.Lawful.{AtMostOneState, Lawful};
 ghost use Rattle.nfs_core.specs.Safe.{IsSafe};
+ghost use Rattle.nfs_core.specs.Step.{AtMostOneStep};
 ghost use Rattle.nfs_state.specs.State.{State, History};
 
 use nfs_locks::locks_stay_compatible;
+use nfs_rules::at_most_one_decision;
 use nfs_share::opens_stay_compatible;
+
+/// The law that a request has at most one answer in a state, and leads to at most one state.
+pub fn at_most_one_step()
+    ensures { AtMostOneStep }
+{
+    at_most_one_decision();
+}
+
+/// The law that a journal leads to at most one state.
+pub fn at_most_one_state()
+    ensures { AtMostOneState }
+{
+    at_most_one_decision();
+}
 
 /// The law that each state which a lawful journal leads to is safe.
 pub fn lawful_is_safe()

@@ -3,11 +3,13 @@
 
 mod core_error;
 mod core_state;
+mod following;
 mod laws;
+mod not_followed;
 
 pub use core_error::CoreError;
-pub use core_state::{Core, at_most_one_step};
-pub use laws::lawful_is_safe;
+pub use core_state::Core;
+pub use laws::{at_most_one_state, at_most_one_step, lawful_is_safe};
 pub use nfs_state::{
     ANSWER_LIMIT, Call, Entry, JOURNAL_LIMIT, Journal, LEASE_MAX, LEASE_MIN, Moment, Request,
     STATE_LIMIT, StoredFile, limits_of_the_state,

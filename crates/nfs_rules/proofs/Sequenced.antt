@@ -46,7 +46,7 @@ use Rattle.nfs_rules.specs.operations.{own_of}
 use Rattle.nfs_rules.specs.operations.Open.{has_open_place, opening, ruling_of}
 use Rattle.nfs_state.specs.Owners.{KnownOwner, owner_of}
 use Rattle.nfs_state.specs.Room.{HasOwnerPlace, IsNewcomer, is_known}
-use Rattle.nfs_rules.specs.Sequences.{Answered, GoesOn, IsDecided, IsJudged, IsOfKnown, IsOfOwner, IsSequence, Own, Owner, Refused, Requester, Sequence, counts, decision_of, is_ok_status, is_open, kept_with, owner_change_of}
+use Rattle.nfs_rules.specs.Sequences.{Answered, GoesOn, IsDecided, IsJudged, IsOfKnown, IsOfOwner, IsSequence, Own, Owner, Refused, Requester, Sequence, counts, decision_of, is_ok_status, is_open, kept_with, only, owner_change_of}
 use Rattle.nfs_state.specs.Kept.{kept_for}
 use Rattle.nfs_state.specs.State.{State, History}
 use Rattle.nfs_forms.specs.declared.client_id.ClientId.{ClientId}
@@ -76,11 +76,11 @@ no_handle_other (ops.Access v) = λ same. cc
 no_handle_other op = λ same. cc
 
 -- without a current filehandle the operation is refused
-pub without_filehandle : (own : Own) (journal : History) (state : State) (requester : Requester) (request : Request) (filehandle : Option ℕ) (answer : OpResult) (decision : Decision) → ((node : ℕ) → filehandle ≡ Some node → ⊥) → answer ≡ refusal_of (opnum_of request.op) refusals.NoFileHandle → op_result.Fits answer → length (op_result.encoding answer) ≤ 12 → decision ≡ record { answer = answer; change = changes.Nothing; owner = Nothing } → Decides (IsSequencedUnder journal state requester own filehandle request) state request.op (Ok decision)
+pub without_filehandle : (own : Own) (journal : History) (state : State) (requester : Requester) (request : Request) (filehandle : Option ℕ) (answer : OpResult) (decision : Decision) → ((node : ℕ) → filehandle ≡ Some node → ⊥) → answer ≡ refusal_of (opnum_of request.op) refusals.NoFileHandle → op_result.Fits answer → length (op_result.encoding answer) ≤ 12 → decision ≡ only answer → Decides (IsSequencedUnder journal state requester own filehandle request) state request.op (Ok decision)
 without_filehandle own journal state requester request (Some node) answer decision none is fits short made = absurd (none node refl)
 without_filehandle own journal state requester request None answer decision none is fits short made =
     let P : Decision → Type 0 = λ d. Decides (IsSequencedUnder journal state requester own None request) state request.op (Ok d) in
-    let with_answer : OpResult → Option Decision = λ a. Some (record { answer = a; change = changes.Nothing; owner = Nothing }) in
+    let with_answer : OpResult → Option Decision = λ a. Some (only a) in
     let sendable : IsSendable request.op answer = record {
       not_resource = λ same. no_handle_other request.op (sym is ∙ same);
       form = fits;
@@ -89,7 +89,7 @@ without_filehandle own journal state requester request None answer decision none
     subst P (sym made) (ap with_answer is, sendable, tt, tt)
 
 -- a request that is answered without the operation's own rule
-pub answered : (own : Own) (journal : History) (state : State) (requester : Requester) (request : Request) (filehandle : Option ℕ) (node : ℕ) (sequence : Sequence) (answer : OpResult) (decision : Decision) → filehandle ≡ Some node → sequence ≡ Answered answer → IsSequence journal state requester request sequence → IsSendableSequence request.op sequence → decision ≡ record { answer = answer; change = changes.Nothing; owner = Nothing } → Decides (IsSequencedUnder journal state requester own filehandle request) state request.op (Ok decision)
+pub answered : (own : Own) (journal : History) (state : State) (requester : Requester) (request : Request) (filehandle : Option ℕ) (node : ℕ) (sequence : Sequence) (answer : OpResult) (decision : Decision) → filehandle ≡ Some node → sequence ≡ Answered answer → IsSequence journal state requester request sequence → IsSendableSequence request.op sequence → decision ≡ only answer → Decides (IsSequencedUnder journal state requester own filehandle request) state request.op (Ok decision)
 answered own journal state requester request None node sequence answer decision has is sequenced sendable made = absurd cc
 answered own journal state requester request (Some at) node sequence answer decision has is sequenced sendable made =
     let P : Decision → Type 0 = λ d. Decides (IsSequencedUnder journal state requester own (Some at) request) state request.op (Ok d) in

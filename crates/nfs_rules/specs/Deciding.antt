@@ -32,8 +32,8 @@ IsPassage passage name state = IsTrue (is_known name state)
 -- gives no decision.
 abbrev pub Decides : (Option Decision → Type 0) → State → Op → Result Decision Shortage → Type 0
 Decides ruled state op (Ok decision) =
-    ruled (Some decision) × IsSendable op decision.answer × IsWithinLimits decision.change state
-    × HasOwnerPlace decision.owner state
+    ruled (Some decision) × IsSendable op decision.answer
+    × IsWithinLimits decision.effect.change state × HasOwnerPlace decision.effect.owner state
 Decides ruled state op (Err Limit) = ruled None
 Decides ruled state op (Err Memory) = ruled None → ⊥
 

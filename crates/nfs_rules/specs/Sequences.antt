@@ -10,7 +10,7 @@ use Rattle.nfs_rules.specs.declared.passage.Passage.{Passage}
 use Rattle.nfs_rules.specs.declared.passage.Passage.TheVariants as passages
 use Rattle.nfs_state.specs.declared.request.Request.{Request}
 use Rattle.nfs_rules.specs.declared.ruling.Ruling.{Ruling}
-use Rattle.nfs_state.specs.Changes.{without}
+use Rattle.nfs_state.specs.Changes.{change_alone, without}
 use Rattle.nfs_state.specs.Kept.{kept_for}
 use Rattle.nfs_state.specs.Owners.{KnownOwner, owner_of}
 use Rattle.nfs_rules.specs.Newcomers.{Newcomer, Nobody, Known, Unknown, newcomer_of}
@@ -173,8 +173,10 @@ owner_change_of passages.Restarts name newcomer status =
 abbrev pub decision_of : Passage → StateOwner → Newcomer → Ruling → Decision
 decision_of passage name newcomer ruling = record {
   answer = ruling.answer;
-  change = ruling.change;
-  owner = owner_change_of passage name newcomer (status_of ruling.answer);
+  effect = record {
+    owner = owner_change_of passage name newcomer (status_of ruling.answer);
+    change = ruling.change;
+  };
 }
 
 -- An operation's own rule: it relates the node of the current filehandle and how the request goes on to what is
@@ -184,7 +186,7 @@ Own = ℕ → Passage → Option Ruling → Type 0
 
 -- an answer without an operation's own rule, which changes nothing
 abbrev pub only : OpResult → Decision
-only answer = record { answer = answer; change = changes.Nothing; owner = Nothing }
+only answer = record { answer = answer; effect = change_alone changes.Nothing }
 
 -- by the lock owner that a request of each client introduces, and the own rule under its filehandle
 abbrev pub IsDecided : Sequence → (ClientId → Newcomer) → (Passage → Option Ruling → Type 0)

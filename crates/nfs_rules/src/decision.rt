@@ -1,10 +1,9 @@
-use nfs_state::{Change, OwnerChange};
+use nfs_state::Effect;
 use nfs_xdr::OpResult;
 
-/// How an operation is answered, what it changes, and what its entry means for an owner.
+/// How an operation is answered, and what its entry does to the state.
 #[derive(Debug, Drop)]
 pub struct Decision {
     pub answer: OpResult,
-    pub change: Change,
-    pub owner: OwnerChange,
+    pub effect: Effect,
 }

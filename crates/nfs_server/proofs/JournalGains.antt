@@ -53,7 +53,7 @@ gains_entered : (old mid new : Server) (request : Request) (questions : List Que
     → Gains (Operation request ∷ questions) (answer ∷ answers) old.journal new.journal
 gains_entered old mid new request questions answer answers number applies others =
     let entry = entry_of request answer in
-    let entered = applies.2.2 in (
+    let entered = applies.2.allowed in (
       entry ∷ others.0,
       inr (entered.other, others.0, refl, others.1),
       others.2

@@ -1,12 +1,13 @@
 -- What is stored of the owners agrees with the journal, entry after entry.
-use Rattle.std.proofs.Common.{◌≡◌, ℕ, zero, suc, Bool, true, false, Some, List, [], ◌∷◌, ◌++◌, length, map, refl, ap, ◌∙◌, subst, sym}
+use Rattle.std.proofs.Common.{◌≡◌, ℕ, zero, suc, Bool, true, false, Option, None, Some, List, [], ◌∷◌, ◌++◌, length, map, refl, ap, ◌∙◌, subst, sym}
 use Rattle.std.specs.Str.{bytes_eq}
-use Rattle.std.specs.Prelude.{◌&&◌, not, option_map, slice_get, if◌then◌else◌}
+use Rattle.std.specs.Prelude.{◌&&◌, not, option_and_then, option_map, slice_get, if◌then◌else◌}
+use Rattle.nfs_state.specs.declared.entry.Call.{Call}
 use Rattle.nfs_state.specs.declared.entry.Entry.{Entry}
 use Rattle.nfs_state.specs.declared.owner_change.OwnerChange.{OwnerChange}
 use Rattle.nfs_state.specs.declared.owner_change.OwnerChange.TheVariants as owner_changes
-use Rattle.nfs_state.specs.Entries.{IsSendable, with_entry}
-use Rattle.nfs_state.specs.Kept.{Agrees, IsKeptIn, owners_after, update_of, kept_of}
+use Rattle.nfs_state.specs.Entries.{IsSendable, call_at, call_of, with_entry}
+use Rattle.nfs_state.specs.Kept.{Agrees, CanBeKept, IsKeptIn, owners_after, update_by, update_of, kept_of}
 use Rattle.nfs_state.specs.State.{History}
 use Rattle.std.proofs.lemmas.Bool.{and_parts, cond_both, false≢true}
 use Rattle.nfs_forms.specs.ClientId.{is_same_client}
@@ -20,13 +21,13 @@ use Rattle.nfs_owners.specs.Owner.{has_name, is_known, new_owner}
 use Rattle.nfs_owners.specs.Owners.{with_kept, without_owner}
 
 -- what an entry has, a longer journal has
-kept_longer : (keep : Entry → Kept) (entries more : List Entry) (number : ℕ) (kept : Kept) → option_map keep (slice_get entries number) ≡ Some kept → option_map keep (slice_get (entries ++ more) number) ≡ Some kept
+kept_longer : (keep : Call → Kept) (entries more : List Entry) (number : ℕ) (kept : Kept) → option_map keep (option_and_then call_of (slice_get entries number)) ≡ Some kept → option_map keep (option_and_then call_of (slice_get (entries ++ more) number)) ≡ Some kept
 kept_longer keep [] more number kept is = absurd cc
 kept_longer keep (first ∷ entries) more zero kept is = is
 kept_longer keep (first ∷ entries) more (suc number) kept is = kept_longer keep entries more number kept is
 
 -- what the last entry has
-kept_last : (keep : Entry → Kept) (entries : List Entry) (entry : Entry) → option_map keep (slice_get (entries ++ entry ∷ []) (length entries)) ≡ Some (keep entry)
+kept_last : (keep : Call → Kept) (entries : List Entry) (entry : Entry) → option_map keep (option_and_then call_of (slice_get (entries ++ entry ∷ []) (length entries))) ≡ option_map keep (call_of entry)
 kept_last keep [] entry = refl
 kept_last keep (first ∷ entries) entry = kept_last keep entries entry
 
@@ -56,7 +57,7 @@ Agrees-without journal name (o ∷ owners) agrees =
 
 -- the entry with this number has this to keep for owners of each kind, which can be sent again
 record IsEntryOf (journal : History) (number : ℕ) (kept : OwnerKind → Kept) : Type 0 where
-  pub entry : (kind : OwnerKind) → option_map (kept_of kind) (slice_get journal.entries number) ≡ Some (kept kind)
+  pub entry : (kind : OwnerKind) → option_map (kept_of kind) (call_at journal number) ≡ Some (kept kind)
   pub sendable : (kind : OwnerKind) → IsSendable (kept kind).request.op (kept kind).answer
 
 -- an owner with the name is of its kind
@@ -104,20 +105,16 @@ after_update journal (owner_changes.Restarts name) number kept owners is agrees 
     Agrees-kept journal (open_owner name) number kept (without_owner (open_owner name) owners) is (Agrees-without journal (open_owner name) owners agrees)
 after_update journal (owner_changes.Drops name) number kept owners is agrees = Agrees-without journal (open_owner name) owners agrees
 
--- the entry can be sent again, whoever keeps it
-abbrev pub CanBeSent : Entry → Type 0
-CanBeSent entry = (kind : OwnerKind) → IsSendable (kept_of kind entry).request.op (kept_of kind entry).answer
+-- after an entry that may be kept, the stored owners agree with the journal that ends with it
+Agrees-after : (journal : History) (entry : Entry) (found : Option Call) (change : OwnerChange) (owners : List Owner) → call_of entry ≡ found → CanBeKept found change → Agrees journal owners → Agrees (with_entry entry journal) (owners_after (update_by change found) (length journal.entries) owners)
+Agrees-after journal entry None change owners is keeps agrees = Agrees-longer journal entry owners agrees
+Agrees-after journal entry (Some call) change owners is sendable agrees =
+    after_update (with_entry entry journal) change (length journal.entries) (λ kind. kept_of kind call) owners (record { entry = λ kind. kept_last (kept_of kind) journal.entries entry ∙ ap (option_map (kept_of kind)) is; sendable = λ kind. sendable }) (Agrees-longer journal entry owners agrees)
 
--- after an entry that can be sent again, the stored owners agree with the journal that ends with it
-pub Agrees-after : (journal : History) (entry : Entry) (change : OwnerChange) (owners : List Owner) → CanBeSent entry → Agrees journal owners → Agrees (with_entry entry journal) (owners_after (update_of change (λ kind. kept_of kind entry)) (length journal.entries) owners)
-Agrees-after journal entry change owners sendable agrees =
-    after_update (with_entry entry journal) change (length journal.entries) (λ kind. kept_of kind entry) owners (record { entry = λ kind. kept_last (kept_of kind) journal.entries entry; sendable = sendable }) (Agrees-longer journal entry owners agrees)
-
--- after an entry that can be sent again, and the operation's own change, the stored owners agree with the journal; the
--- journal, the number and the owners after the change have names of their own
-pub Agrees-changed : (old new : History) (entry : Entry) (change : OwnerChange) (number : ℕ) (owners after : List Owner) → ((journal : History) → Agrees journal (owners_after (update_of change (λ kind. kept_of kind entry)) number owners) → Agrees journal after) → new ≡ with_entry entry old → number ≡ length old.entries → CanBeSent entry → Agrees old owners → Agrees new after
-Agrees-changed old new entry change number owners after keeps is at sendable agrees =
-    let kept : OwnerKind → Kept = λ kind. kept_of kind entry in
-    let with_number : ℕ → Type 0 = λ n. Agrees (with_entry entry old) (owners_after (update_of change kept) n owners) in
+-- after an entry that may be kept, and its change, the stored owners agree with the journal; the journal, the number and
+-- the owners after the change have names of their own
+pub Agrees-changed : (old new : History) (entry : Entry) (change : OwnerChange) (number : ℕ) (owners after : List Owner) → ((journal : History) → Agrees journal (owners_after (update_by change (call_of entry)) number owners) → Agrees journal after) → new ≡ with_entry entry old → number ≡ length old.entries → CanBeKept (call_of entry) change → Agrees old owners → Agrees new after
+Agrees-changed old new entry change number owners after keeps is at kept agrees =
+    let with_number : ℕ → Type 0 = λ n. Agrees (with_entry entry old) (owners_after (update_by change (call_of entry)) n owners) in
     let with_journal : History → Type 0 = λ journal. Agrees journal after in
-    subst with_journal (sym is) (keeps (with_entry entry old) (subst with_number (sym at) (Agrees-after old entry change owners sendable agrees)))
+    subst with_journal (sym is) (keeps (with_entry entry old) (subst with_number (sym at) (Agrees-after old entry (call_of entry) change owners refl kept agrees)))

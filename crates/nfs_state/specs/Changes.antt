@@ -19,6 +19,7 @@ use Rattle.nfs_state.specs.Owners.{with_confirmation, with_kept_entry, with_reco
 use Rattle.nfs_state.specs.State.{State}
 use Rattle.nfs_state.specs.declared.change.Change.{Change}
 use Rattle.nfs_state.specs.declared.change.Change.TheVariants as changes
+use Rattle.nfs_state.specs.declared.effect.Effect.{Effect}
 use Rattle.nfs_state.specs.declared.owner_change.OwnerChange.{OwnerChange}
 use Rattle.nfs_state.specs.declared.owner_change.OwnerChange.TheVariants.{Nothing, Keeps, KeepsBoth, Introduces, Records, Restarts, Drops}
 
@@ -95,3 +96,13 @@ with_state_change (changes.Releases owner) old = record old {
   owners = without_owner (lock_owner owner) old.owners;
   locks = map (locks.without (locks.is_lock_of owner)) old.locks;
 }
+
+-- a change of an entry that means nothing for the owners
+abbrev pub change_alone : Change → Effect
+change_alone change = record { owner = Nothing; change = change }
+
+-- The state after an entry with this number that has this effect: first what it means for the owners, and then the
+-- change.
+abbrev pub after : ℕ → Effect → State → State
+after number effect old =
+    with_state_change effect.change (with_owner_change effect.owner number old)

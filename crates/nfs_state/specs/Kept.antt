@@ -1,7 +1,7 @@
 -- What is kept for an owner, and that what is stored of it is what the owner's entry in the journal has.
-use Rattle.std.specs.Prelude.{◌≡◌, ℕ, List, Option, Some, option_map, slice_get}
+use Rattle.std.specs.Prelude.{◌≡◌, ℕ, List, Option, None, Some, option_map}
 use Rattle.std.specs.List.{AllByRecursion}
-use Rattle.nfs_state.specs.Entries.{IsSendable}
+use Rattle.nfs_state.specs.Entries.{IsSendable, call_at}
 use Rattle.nfs_state.specs.State.{History}
 use Rattle.nfs_state.specs.declared.owner_change.OwnerChange.{OwnerChange}
 use Rattle.nfs_state.specs.declared.owner_change.OwnerChange.TheVariants as changes
@@ -19,8 +19,7 @@ use Rattle.nfs_owners.specs.declared.owner.Owner.{Owner}
 use Rattle.nfs_owners.specs.Owners.{with_kept, without_owner}
 use Rattle.nfs_owners.specs.Kept.{request_of}
 use Rattle.nfs_state.specs.Owners.{KnownOwner}
-use Rattle.nfs_state.specs.declared.entry.Entry.{Entry}
-use Rattle.nfs_state.specs.declared.entry.Entry.TheVariants as entries
+use Rattle.nfs_state.specs.declared.entry.Call.{Call}
 use Rattle.nfs_xdr.specs.declared.op.Op.{Op}
 use Rattle.nfs_xdr.specs.declared.op.Op.TheVariants as ops
 
@@ -50,9 +49,9 @@ seqid_for kinds.Open op = seqid_of op
 seqid_for kinds.Lock (ops.Lock args) = lock_owner_seqid args.locker
 seqid_for kinds.Lock op = seqid_of op
 
--- the request and the answer of an entry, as they are kept for an owner of this kind
-abbrev pub kept_of : OwnerKind → Entry → Kept
-kept_of kind (entries.Call call) = record {
+-- the request and the answer, as they are kept for an owner of this kind
+abbrev pub kept_of : OwnerKind → Call → Kept
+kept_of kind call = record {
   seqid = seqid_for kind call.request.op;
   request = request_of call.request.op call.request.filehandle;
   answer = call.answer;
@@ -60,11 +59,11 @@ kept_of kind (entries.Call call) = record {
 
 -- what is kept for the owner
 abbrev pub kept_for : History → KnownOwner → Option Kept
-kept_for journal o = option_map (kept_of o.name.kind) (slice_get journal.entries o.kept_entry)
+kept_for journal o = option_map (kept_of o.name.kind) (call_at journal o.kept_entry)
 
 -- the owner keeps the request and the answer of its entry, which can be sent again
 pub record IsKeptIn (journal : History) (o : Owner) : Type 0 where
-  pub entry : option_map (kept_of o.name.kind) (slice_get journal.entries o.number) ≡ Some o.kept
+  pub entry : option_map (kept_of o.name.kind) (call_at journal o.number) ≡ Some o.kept
   pub sendable : IsSendable o.kept.request.op o.kept.answer
 
 abbrev pub Agrees : History → List Owner → Type 0
@@ -85,6 +84,17 @@ update_of (changes.Introduces owner newcomer) kept =
 update_of (changes.Records owner) kept = updates.Keeps (keeping (open_owner owner) kept)
 update_of (changes.Restarts owner) kept = updates.Restarts owner (kept kinds.Open)
 update_of (changes.Drops owner) kept = updates.Drops owner
+
+-- the same by the call that the entry records; an entry that records none means nothing for the owners
+abbrev pub update_by : OwnerChange → Option Call → OwnerUpdate
+update_by change None = updates.Nothing
+update_by change (Some call) = update_of change (λ kind. kept_of kind call)
+
+-- Owners may keep the entry as the change says: a call has an answer that can be sent again, and an entry that records
+-- no call means nothing for them.
+abbrev pub CanBeKept : Option Call → OwnerChange → Type 0
+CanBeKept None change = change ≡ changes.Nothing
+CanBeKept (Some call) change = IsSendable call.request.op call.answer
 
 -- the owners after one keeps a request and an answer, in the entry with this number
 abbrev pub kept_by : Keeping → ℕ → List Owner → List Owner

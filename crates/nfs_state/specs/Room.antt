@@ -2,11 +2,15 @@
 use Rattle.std.specs.Prelude.{◌<◌, ◌-◌, ◌^◌, ⊤, Bool, IsFalse, IsTrue, is_some, length}
 use Rattle.nfs_state.specs.declared.change.Change.{Change}
 use Rattle.nfs_state.specs.declared.change.Change.TheVariants as changes
+use Rattle.nfs_state.specs.declared.effect.Effect.{Effect}
+use Rattle.nfs_state.specs.declared.entry.Entry.{Entry}
 use Rattle.nfs_state.specs.declared.owner_change.OwnerChange.{OwnerChange}
 use Rattle.nfs_state.specs.declared.owner_change.OwnerChange.TheVariants as owner_changes
 use Rattle.nfs_state.specs.declared.tables.Tables.{Tables}
 use Rattle.nfs_state.specs.declared.owner_update.OwnerUpdate.{OwnerUpdate}
 use Rattle.nfs_state.specs.declared.owner_update.OwnerUpdate.TheVariants as updates
+use Rattle.nfs_state.specs.Entries.{call_of}
+use Rattle.nfs_state.specs.Kept.{CanBeKept}
 use Rattle.nfs_state.specs.Owners.{owner_of}
 use Rattle.nfs_owners.specs.Owner as owners
 use Rattle.nfs_locks.specs.AllLocks.{HasLockRoomAt, is_full_for, locks_of, stored_in}
@@ -102,3 +106,10 @@ IsWithinLimits (changes.Begins node first) state = state.last_state < 2 ^ 32 - 1
 IsWithinLimits (changes.Locks node number change) state =
     IsFalse (is_full_for number change (locks_of node state.locks))
 IsWithinLimits change state = ⊤
+
+-- The entry with this effect can be committed in this state: owners may keep it, the numbers that its change uses are
+-- left, and there is a place for an owner that it records.
+pub record Fits (entry : Entry) (effect : Effect) (state : State) : Type 0 where
+  pub kept : CanBeKept (call_of entry) effect.owner
+  pub numbers : IsWithinLimits effect.change state
+  pub place : HasOwnerPlace effect.owner state

@@ -30,7 +30,7 @@ pub const ANSWER_LIMIT: usize = 2036;
 impl Call {
     /// The request and the answer, as they are kept for an owner of this kind.
     pub(crate) fn kept(&self, kind: OwnerKind) -> Result<Kept, AllocError>
-        ensures { IfOk result (λ k. k ≡ kept_of kind (Entry.Call self.now)) }
+        ensures { IfOk result (λ k. k ≡ kept_of kind self.now) }
     {
         Ok(Kept {
             seqid: seqid_for(kind, &self.request.op),

@@ -2,8 +2,9 @@
 #![tactic(auto)]
 
 mod change;
+mod committing;
+mod effect;
 mod entry;
-mod intake;
 mod journal;
 mod limits;
 mod moment;
@@ -16,8 +17,9 @@ mod stored_files;
 mod tables;
 
 pub use change::Change;
+pub use committing::commit_entry;
+pub use effect::Effect;
 pub use entry::{ANSWER_LIMIT, Call, Entry, JOURNAL_LIMIT, copy_of_answer, seqid_of};
-pub use intake::take_in;
 pub use journal::{Journal, LEASE_MAX, LEASE_MIN};
 pub use limits::{STATE_LIMIT, limits_of_the_state};
 pub use moment::Moment;

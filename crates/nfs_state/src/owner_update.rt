@@ -1,5 +1,6 @@
 ghost use Rattle.std.specs.Prelude.{◌≡◌, IfOk};
-ghost use Rattle.nfs_state.specs.Kept.{kept_of, update_of};
+ghost use Rattle.nfs_state.specs.Entries.{call_of};
+ghost use Rattle.nfs_state.specs.Kept.{kept_of, update_by, update_of};
 
 use crate::owner_change::OwnerChange;
 use crate::{Call, Entry};
@@ -29,10 +30,18 @@ pub(crate) struct Keeping {
 }
 
 impl OwnerUpdate {
-    /// What the call means for the owners.
-    pub(crate) fn of(change: OwnerChange, call: &Call) -> Result<OwnerUpdate, AllocError>
-        ensures { IfOk result (λ u.
-            u ≡ update_of change (λ kind. kept_of kind (Entry.Call call.now))) }
+    /// What the entry means for the owners, where it may be kept so.
+    pub(crate) fn of(change: OwnerChange, entry: &Entry) -> Result<OwnerUpdate, AllocError>
+        ensures { IfOk result (λ u. u ≡ update_by change (call_of entry.now)) }
+    {
+        match entry {
+            Entry::Call(call) => OwnerUpdate::of_call(change, call),
+        }
+    }
+
+    // What the call means for the owners.
+    fn of_call(change: OwnerChange, call: &Call) -> Result<OwnerUpdate, AllocError>
+        ensures { IfOk result (λ u. u ≡ update_of change (λ kind. kept_of kind call.now)) }
     {
         Ok(match change {
             OwnerChange::Nothing => OwnerUpdate::Nothing,
@@ -57,8 +66,7 @@ impl Keeping {
 
     // The owner with what it keeps of the call.
     fn of(owner: StateOwner, call: &Call) -> Result<Keeping, AllocError>
-        ensures { IfOk result (λ k.
-            k ≡ keeping owner (λ kind. kept_of kind (Entry.Call call.now))) }
+        ensures { IfOk result (λ k. k ≡ keeping owner (λ kind. kept_of kind call.now)) }
     {
         let kept = call.kept(owner.kind)?;
         Ok(Keeping { owner, kept })

@@ -163,6 +163,8 @@ impl Tables {
             → update ≡ update_of change kept
             → HasOwnerPlace change (state_of self.old)
             → state_of self.new ≡ with_owner_change change number (state_of self.old) }
+        ensures nothing { update ≡ OwnerUpdate.Nothing
+            → state_of self.new ≡ state_of self.old }
         ensures owners { self.new.owners.owners
             ≡ owners_after update number self.old.owners.owners }
         ensures room { (change : Change) → HasRoom change self.old → HasRoom change self.new }

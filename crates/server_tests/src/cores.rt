@@ -4,7 +4,7 @@ ghost use Rattle.nfs_core.specs.Safe.{IsSafe};
 ghost use Rattle.nfs_core.specs.Server.{IsLawful};
 ghost use Rattle.nfs_state.specs.Stored.{meaning};
 
-use nfs_core::{Core, LEASE_MAX, at_most_one_step, lawful_is_safe};
+use nfs_core::{Core, LEASE_MAX, at_most_one_state, at_most_one_step, lawful_is_safe};
 use nfs_tree::Tree;
 use std::test::Fail;
 
@@ -25,6 +25,7 @@ fn a_core_begins_with_an_empty_journal(rt: HostRuntime) -> Result<(), Fail> {
     assert!(rt; journal.epoch() == 7 && journal.lease() == 86_400);
     assert!(rt; journal.tree().nodes().len() == 1);
     at_most_one_step();
+    at_most_one_state();
     lawful_is_safe();
     Ok(())
 }

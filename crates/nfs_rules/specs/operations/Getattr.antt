@@ -2,7 +2,7 @@
 use Rattle.std.specs.Prelude.{ℕ, List, Option, Some, None}
 use Rattle.nfs_state.specs.declared.change.Change.TheVariants.{Nothing}
 use Rattle.nfs_rules.specs.declared.decision.Decision.{Decision}
-use Rattle.nfs_state.specs.declared.owner_change.OwnerChange.TheVariants as no_owner
+use Rattle.nfs_state.specs.Changes.{change_alone}
 use Rattle.nfs_state.specs.State.{State, History, change_of, file_of, size_of}
 use Rattle.nfs_tree.specs.declared.attribute.Subject.{Subject}
 use Rattle.nfs_tree.specs.Attributes.{attributes_of}
@@ -35,4 +35,4 @@ attributes journal state (Some node) mask =
 abbrev pub rule : History → State → Option ℕ → List ℕ → Option Decision
 rule journal state filehandle mask =
     let answer = results.Getattr (attributes journal state filehandle mask) in
-    Some (record { answer = answer; change = Nothing; owner = no_owner.Nothing })
+    Some (record { answer = answer; effect = change_alone Nothing })

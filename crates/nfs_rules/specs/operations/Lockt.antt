@@ -14,16 +14,15 @@ use Rattle.nfs_ranges.specs.declared.range.Range.{Range}
 use Rattle.nfs_rules.specs.Locking.{can_be_written, denied_by, mode_of}
 use Rattle.nfs_rules.specs.Refusing.{◌>>=◌, refused_if}
 use Rattle.nfs_rules.specs.declared.decision.Decision.{Decision}
+use Rattle.nfs_state.specs.Changes.{change_alone}
 use Rattle.nfs_state.specs.State.{State, History}
 use Rattle.nfs_state.specs.declared.change.Change.TheVariants as changes
-use Rattle.nfs_state.specs.declared.owner_change.OwnerChange.TheVariants as no_owner
 use Rattle.nfs_tree.specs.Tree.{is_directory}
 use Rattle.nfs_xdr.specs.declared.op_result.OpResult.TheVariants as results
 
 -- an answer, which changes nothing
 abbrev pub only : Answer (Unit {0}) LockDenied (Unit {0}) → Decision
-only answer =
-    record { answer = results.Lockt answer; change = changes.Nothing; owner = no_owner.Nothing }
+only answer = record { answer = results.Lockt answer; effect = change_alone changes.Nothing }
 
 abbrev pub place_of : Option ℕ → Result ℕ Refusal
 place_of None = Err refusals.NoFileHandle

@@ -7,16 +7,15 @@ use Rattle.nfs_locks.specs.AllLocks.{holds}
 use Rattle.nfs_operations.specs.declared.release_lockowner.ReleaseLockowner.{ReleaseLockowner}
 use Rattle.nfs_owners.specs.Registry.{record_of}
 use Rattle.nfs_rules.specs.declared.decision.Decision.{Decision}
+use Rattle.nfs_state.specs.Changes.{change_alone}
 use Rattle.nfs_state.specs.State.{State}
 use Rattle.nfs_state.specs.declared.change.Change.TheVariants.{Nothing, Releases}
-use Rattle.nfs_state.specs.declared.owner_change.OwnerChange.TheVariants as no_owner
 use Rattle.nfs_xdr.specs.declared.op_result.OpResult.TheVariants as results
 
 abbrev pub refusal_of : Refusal → Decision
 refusal_of refusal = record {
   answer = results.ReleaseLockowner (Refused refusal);
-  change = Nothing;
-  owner = no_owner.Nothing;
+  effect = change_alone Nothing;
 }
 
 -- NFS4ERR_STALE_CLIENTID for an owner whose client isn't known, NFS4ERR_LOCKS_HELD for one that holds a byte of a file.
@@ -28,8 +27,7 @@ decision_of state args =
     else if holds args.owner state.locks then refusal_of refusals.LocksHeld
     else record {
       answer = results.ReleaseLockowner (Done tt);
-      change = Releases args.owner;
-      owner = no_owner.Nothing;
+      effect = change_alone (Releases args.owner);
     }
 
 -- the rule of RELEASE_LOCKOWNER, which needs no filehandle; there is always a decision

@@ -3,10 +3,10 @@ use Rattle.std.specs.Prelude.{Option, option_map}
 use Rattle.nfs_state.specs.declared.change.Change.TheVariants.{Clients}
 use Rattle.nfs_owners.specs.declared.clients.client_change.ClientChange.{ClientChange}
 use Rattle.nfs_rules.specs.declared.decision.Decision.{Decision}
-use Rattle.nfs_state.specs.declared.owner_change.OwnerChange.TheVariants as no_owner
 use Rattle.nfs_state.specs.declared.request.Request.{Request}
 use Rattle.nfs_owners.specs.Registration.{Outcome, registration}
 use Rattle.nfs_owners.specs.Registry.{confirmed_of}
+use Rattle.nfs_state.specs.Changes.{change_alone}
 use Rattle.nfs_state.specs.State.{State, History, record_has_state}
 use Rattle.nfs_xdr.specs.declared.op_result.OpResult.TheVariants as results
 use Rattle.nfs_operations.specs.declared.setclientid.Setclientid.{Setclientid}
@@ -15,8 +15,7 @@ use Rattle.nfs_operations.specs.declared.setclientid.Setclientid.{Setclientid}
 abbrev pub decision_of : Outcome × ClientChange → Decision
 decision_of outcome = record {
   answer = results.Setclientid outcome.0;
-  change = Clients outcome.1;
-  owner = no_owner.Nothing;
+  effect = change_alone (Clients outcome.1);
 }
 
 -- The rule of SETCLIENTID. It depends on whether the client of the confirmed record with the id has state.

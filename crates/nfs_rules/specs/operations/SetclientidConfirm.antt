@@ -5,10 +5,10 @@ use Rattle.nfs_owners.specs.declared.client_record.PathMark.{PathMark}
 use Rattle.nfs_owners.specs.declared.client_record.PathMark.TheVariants.{Unknown, Up}
 use Rattle.nfs_owners.specs.declared.clients.client_change.ClientChange.{ClientChange}
 use Rattle.nfs_rules.specs.declared.decision.Decision.{Decision}
-use Rattle.nfs_state.specs.declared.owner_change.OwnerChange.TheVariants as no_owner
 use Rattle.nfs_state.specs.declared.request.Request.{Request}
 use Rattle.nfs_owners.specs.Confirmation.{Outcome, confirmation, holder_of}
 use Rattle.nfs_owners.specs.Registry.{unconfirmed_named_by}
+use Rattle.nfs_state.specs.Changes.{change_alone}
 use Rattle.nfs_state.specs.State.{State, History, record_has_state}
 use Rattle.nfs_tree.specs.declared.policy.Callbacks.{Callbacks}
 use Rattle.nfs_tree.specs.declared.policy.Callbacks.TheVariants.{Probe, Assume}
@@ -24,8 +24,7 @@ path_of Assume = Up
 abbrev pub decision_of : Outcome × ClientChange → Decision
 decision_of outcome = record {
   answer = results.SetclientidConfirm outcome.0;
-  change = Clients outcome.1;
-  owner = no_owner.Nothing;
+  effect = change_alone (Clients outcome.1);
 }
 
 -- The rule of SETCLIENTID_CONFIRM. It depends on whether the client that would be replaced has state.

@@ -7,7 +7,7 @@ ghost use Rattle.nfs_state.specs.Room.{state_of};
 ghost use Rattle.nfs_operations.specs.Getattr as getattr;
 
 use crate::decision::Decision;
-use nfs_state::{Change, Journal, OwnerChange, Request, Shortage, Tables};
+use nfs_state::{Change, Effect, Journal, Request, Shortage, Tables};
 use nfs_xdr::{Answer, Bitmap, Fattr, Op, OpResult, Refusal};
 use std::alloc::{AllocError, Global};
 
@@ -28,8 +28,7 @@ pub(super) fn decide(
     let answer = attributes(alloc, tables, journal, mask, request.filehandle)?;
     Ok(Decision {
         answer: OpResult::Getattr(answer),
-        change: Change::Nothing,
-        owner: OwnerChange::Nothing,
+        effect: Effect::change_alone(Change::Nothing),
     })
 }
 

@@ -10,7 +10,7 @@ use nfs_forms::LockDenied;
 use nfs_locks::at_most_one_report;
 use nfs_operations::lockt::Lockt;
 use nfs_ranges::{at_most_one_range, range_of};
-use nfs_state::{Change, Journal, OwnerChange, Request, Shortage, Tables};
+use nfs_state::{Change, Effect, Journal, Request, Shortage, Tables};
 use nfs_xdr::{Answer, Op, OpResult, Refusal};
 
 /// Decides a LOCKT: its answer, and that it changes nothing.
@@ -30,8 +30,7 @@ pub(super) fn decide(
     };
     Ok(Decision {
         answer: OpResult::Lockt(answer),
-        change: Change::Nothing,
-        owner: OwnerChange::Nothing,
+        effect: Effect::change_alone(Change::Nothing),
     })
 }
 

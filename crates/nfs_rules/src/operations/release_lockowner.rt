@@ -5,7 +5,7 @@ ghost use Rattle.nfs_state.specs.Room.{state_of};
 
 use crate::decision::Decision;
 use nfs_operations::release_lockowner::ReleaseLockowner;
-use nfs_state::{Change, OwnerChange, Shortage, Tables};
+use nfs_state::{Change, Effect, Shortage, Tables};
 use nfs_xdr::{Answer, Op, OpResult, Refusal};
 
 /// Decides a RELEASE_LOCKOWNER: its answer and its change.
@@ -22,10 +22,9 @@ pub(super) fn decide(tables: &Tables, args: &ReleaseLockowner) -> Result<Decisio
     }
     Ok(Decision {
         answer: OpResult::ReleaseLockowner(Answer::Done(())),
-        change: Change::Releases {
+        effect: Effect::change_alone(Change::Releases {
             owner: args.owner.clone()?,
-        },
-        owner: OwnerChange::Nothing,
+        }),
     })
 }
 
@@ -34,7 +33,6 @@ fn refusal_decision(refusal: Refusal) -> Decision
 {
     Decision {
         answer: OpResult::ReleaseLockowner(Answer::Refused(refusal)),
-        change: Change::Nothing,
-        owner: OwnerChange::Nothing,
+        effect: Effect::change_alone(Change::Nothing),
     }
 }

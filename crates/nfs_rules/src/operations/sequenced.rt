@@ -6,10 +6,8 @@ ghost use Rattle.nfs_owners.specs.StateOwner.{owner_seen};
 ghost use Rattle.nfs_rules.specs.Finding.{newcomer_seen, requester_seen};
 ghost use Rattle.nfs_state.specs.Kept.{Agrees};
 ghost use Rattle.nfs_state.specs.Room.{state_of};
-ghost use Rattle.nfs_rules.specs.Sequences.{IsSequenced, decision_of, counts, kept_with, owner_change_of};
+ghost use Rattle.nfs_rules.specs.Sequences.{IsSequenced, decision_of, counts, kept_with, only, owner_change_of};
 ghost use Rattle.nfs_xdr.specs.Names.{is_sequenced};
-ghost use Rattle.nfs_state.specs.declared.change.Change.TheVariants as changes;
-ghost use Rattle.nfs_state.specs.declared.owner_change.OwnerChange.TheVariants as owner_changes;
 ghost use Rattle.nfs_rules.specs.operations.{own_of};
 
 use super::{close, lock, locku, open, open_confirm, open_downgrade};
@@ -21,7 +19,7 @@ use crate::sequence::{Requester, Sequence, sequence_of};
 use nfs_locks::at_most_one_report;
 use nfs_owners::OwnerRef;
 use nfs_ranges::at_most_one_range;
-use nfs_state::{Change, Journal, OwnerChange, Request, Shortage, Tables};
+use nfs_state::{Change, Effect, Journal, OwnerChange, Request, Shortage, Tables};
 use nfs_xdr::{Op, OpResult, Refusal, Status};
 use std::alloc::{AllocError, Global};
 
@@ -62,13 +60,11 @@ pub(super) fn decide(
 
 // An answer without the operation's own rule. It changes nothing.
 fn answer_alone(answer: OpResult) -> Decision
-    ensures { result
-        ≡ record { answer = answer; change = changes.Nothing; owner = owner_changes.Nothing } }
+    ensures { result ≡ only answer }
 {
     Decision {
         answer,
-        change: Change::Nothing,
-        owner: OwnerChange::Nothing,
+        effect: Effect::change_alone(Change::Nothing),
     }
 }
 
@@ -112,8 +108,10 @@ fn decision_of(
     let owner = owner_change_of(passage, name, newcomer, ruling.answer.status())?;
     Ok(Decision {
         answer: ruling.answer,
-        change: ruling.change,
-        owner,
+        effect: Effect {
+            owner,
+            change: ruling.change,
+        },
     })
 }
 

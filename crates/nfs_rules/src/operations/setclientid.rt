@@ -5,7 +5,7 @@ ghost use Rattle.nfs_state.specs.Room.{state_of};
 
 use crate::decision::Decision;
 use nfs_operations::setclientid::Setclientid;
-use nfs_state::{Change, Journal, OwnerChange, Request, Shortage, Tables};
+use nfs_state::{Change, Effect, Journal, Request, Shortage, Tables};
 use nfs_xdr::{Op, OpResult};
 
 /// Decides a SETCLIENTID: its answer and its change.
@@ -26,7 +26,6 @@ pub(super) fn decide(
         .set(journal.epoch(), request.principal, args, has_state)?;
     Ok(Decision {
         answer: OpResult::Setclientid(answer),
-        change: Change::Clients(change),
-        owner: OwnerChange::Nothing,
+        effect: Effect::change_alone(Change::Clients(change)),
     })
 }

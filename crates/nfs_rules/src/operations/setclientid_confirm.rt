@@ -6,7 +6,7 @@ ghost use Rattle.nfs_state.specs.Room.{state_of};
 use crate::decision::Decision;
 use nfs_operations::setclientid_confirm::SetclientidConfirm;
 use nfs_owners::PathMark;
-use nfs_state::{Change, Journal, OwnerChange, Request, Shortage, Tables};
+use nfs_state::{Change, Effect, Journal, Request, Shortage, Tables};
 use nfs_tree::Callbacks;
 use nfs_xdr::{Op, OpResult};
 
@@ -28,8 +28,7 @@ pub(super) fn decide(
         .confirm(request.principal, args, has_state, path)?;
     Ok(Decision {
         answer: OpResult::SetclientidConfirm(answer),
-        change: Change::Clients(change),
-        owner: OwnerChange::Nothing,
+        effect: Effect::change_alone(Change::Clients(change)),
     })
 }
 

@@ -1,0 +1,23 @@
+ghost use Rattle.std.specs.Prelude.{◌≡◌};
+ghost use Rattle.nfs_state.specs.Changes.{change_alone};
+
+use crate::{Change, OwnerChange};
+
+/// What an entry of the journal does to the state: first what it means for the owners, and then the change.
+#[derive(Debug, Drop)]
+pub struct Effect {
+    pub owner: OwnerChange,
+    pub change: Change,
+}
+
+impl Effect {
+    /// The change, of an entry that means nothing for the owners.
+    pub fn change_alone(change: Change) -> Effect
+        ensures { result ≡ change_alone change }
+    {
+        Effect {
+            owner: OwnerChange::Nothing,
+            change,
+        }
+    }
+}
