@@ -1,5 +1,6 @@
 pub mod Opnum
 pub mod Op
 pub mod OpResult
+pub mod Short
 pub mod ArgOp
 pub mod Compound
