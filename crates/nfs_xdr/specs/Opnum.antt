@@ -1,6 +1,6 @@
 -- The operations of NFSv4.0: the number of each, what it works on, and the room of its reply (RFC 7530, section 16; RFC
 -- 7531, nfs_opnum4).
-use Rattle.std.specs.Prelude.{◌≡◌, ℕ, Bool, true, false, Option, Some, ◌==◌}
+use Rattle.std.specs.Prelude.{◌≡◌, ℕ, ◌+◌, Bool, true, false, Option, Some, ◌==◌}
 use Rattle.std.proofs.Common.{refl}
 use Rattle.std.specs.List.{find}
 use Rattle.nfs_xdr.specs.declared.opnum.Class.{Class}
@@ -72,9 +72,14 @@ is_of_tree OnTree = true
 is_of_tree OnState = false
 is_of_tree OnNothing = false
 
--- the room that has to be left in the reply for the operation's result
+-- the greatest length of the operation's result
+abbrev pub answer_limit : Opnum → ℕ
+answer_limit o = 2_036
+
+-- the room that has to be left in the reply for the operation to be run: that of its result, and of a refusal of the
+-- next operation
 abbrev pub room_of : Opnum → ℕ
-room_of o = 2_048
+room_of o = answer_limit o + 12
 
 -- the operation that has this number, if there is one
 abbrev pub opnum_of : ℕ → Option Opnum

@@ -2,6 +2,7 @@
 #![tactic(auto)]
 
 mod arg_op;
+mod bounded;
 mod compound;
 mod limits;
 mod names;

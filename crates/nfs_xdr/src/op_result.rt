@@ -29,6 +29,8 @@ macro_rules! of_answer {
     };
 }
 
+pub(crate) use of_answer;
+
 macro_rules! opnum_of_result {
     ([$($X:ident = $n:literal $c:ident,)*] [$($Y:ident = $m:literal $d:ident,)*] $result:expr) => {
         match $result {
