@@ -16,7 +16,7 @@ mod stored_files;
 mod tables;
 
 pub use change::Change;
-pub use entry::{ANSWER_LIMIT, Call, Entry, JOURNAL_LIMIT, copy_of_answer, seqid_of};
+pub use entry::{Call, Entry, JOURNAL_LIMIT, copy_of_answer, seqid_of};
 pub use intake::take_in;
 pub use journal::{Journal, LEASE_MAX, LEASE_MIN};
 pub use limits::{STATE_LIMIT, limits_of_the_state};
