@@ -6,8 +6,9 @@ ghost use Rattle.nfs_rules.specs.operations.{IsRuled};
 ghost use Rattle.nfs_state.specs.Entries.{IsFilehandle, IsSendable, entry_of, request_of};
 ghost use Rattle.nfs_state.specs.Room.{Fits};
 ghost use Rattle.nfs_state.specs.Stored.{empty_store, meaning};
-ghost use Rattle.nfs_xdr.specs.Op.{has_entry};
+ghost use Rattle.nfs_xdr.specs.Op.{has_entry, opnum_of};
 ghost use Rattle.nfs_xdr.specs.OpResult.{op_result};
+ghost use Rattle.nfs_xdr.specs.Opnum.{answer_limit};
 
 use crate::CoreError;
 use crate::following::effect_of;
@@ -15,7 +16,7 @@ use crate::laws::lawful_is_safe;
 use crate::not_followed::NotFollowed;
 use nfs_rules::{at_most_one_decision, decide};
 use nfs_state::{
-    ANSWER_LIMIT, Call, Effect, Entry, JOURNAL_LIMIT, Journal, LEASE_MAX, LEASE_MIN, Moment,
+    Call, Effect, Entry, JOURNAL_LIMIT, Journal, LEASE_MAX, LEASE_MIN, Moment,
     Request, Shortage, Tables, commit_entry, copy_of_answer,
 };
 use nfs_tree::{Policy, Tree};
@@ -89,7 +90,7 @@ impl Core {
         requires node { IsFilehandle self.old.journal filehandle }
         ensures applies { Applies self.old self.new (request_of moment principal op.now filehandle)
             result.0 result.1 }
-        ensures short { length (op_result.encoding result.0) ≤ ANSWER_LIMIT }
+        ensures short { length (op_result.encoding result.0) ≤ answer_limit (opnum_of op.now) }
         ensures form { op_result.Fits result.0 }
         ensures lawful { IsLawful self.new }
     {
@@ -97,7 +98,10 @@ impl Core {
             return (op.opnum().refusal(Refusal::Resource), None);
         };
         match self.answer(request) {
-            Ok((answer, number)) => (answer, Some(number)),
+            Ok((answer, number)) => {
+                answer.fits();
+                (answer, Some(number))
+            }
             Err(_) => (op.opnum().refusal(Refusal::Resource), None),
         }
     }

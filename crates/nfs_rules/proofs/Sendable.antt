@@ -1,5 +1,5 @@
 -- The answers of the rules that go by a stateid can be sent.
-use Rattle.std.proofs.Common.{◌≡◌, ◌≢◌, ℕ, ◌^◌, ◌<◌, Bool, true, false, Option, Some, None, Result, Ok, Err, length, ◌≤◌, sym, subst, arith}
+use Rattle.std.proofs.Common.{◌≡◌, ◌≢◌, ℕ, ◌^◌, ◌<◌, Bool, true, false, Option, Some, None, Result, Ok, Err, refl, sym, subst}
 use Rattle.std.specs.Prelude.{⊤, not, nat_lt, ◌==◌, ◌||◌, is_some, if◌then◌else◌}
 use Rattle.nfs_state.specs.Owners.{is_confirmed}
 use Rattle.nfs_owners.specs.Registry.{record_of, was_given}
@@ -11,7 +11,6 @@ use Rattle.nfs_rules.specs.Stateids.{Target, Refused, ALock, AnOpen, NoState, by
 use Rattle.nfs_rules.specs.operations.Lock.{introduction, locking_of}
 use Rattle.nfs_rules.specs.operations.Lockt.{lockt_file, place_of}
 use Rattle.nfs_forms.specs.ClientId.{is_same_client}
-use Rattle.nfs_forms.specs.LockDenied.{lock_denied}
 use Rattle.nfs_forms.specs.declared.lock_denied.LockDenied.{LockDenied}
 use Rattle.nfs_forms.specs.declared.locker.Locker.{Locker}
 use Rattle.nfs_forms.specs.declared.locker.Locker.TheVariants as lockers
@@ -20,23 +19,15 @@ use Rattle.nfs_locks.specs.AllLocks.{LockAt, lock_named_in, locks_of}
 use Rattle.nfs_locks.specs.Locks.{lock_of}
 use Rattle.nfs_operations.specs.declared.lock.Lock.{Lock}
 use Rattle.nfs_operations.specs.declared.lockt.Lockt.{Lockt}
-use Rattle.nfs_operations.specs.declared.locku.Locku.{Locku}
 use Rattle.nfs_owners.specs.StateOwner.{open_owner}
 use Rattle.nfs_share.specs.AllOpens.{OpenAt, named_in}
 use Rattle.nfs_forms.specs.declared.answer.Answer.TheVariants as answers
-use Rattle.nfs_operations.specs.declared.close.Close.{Close}
-use Rattle.nfs_operations.specs.declared.open_confirm.OpenConfirm.{OpenConfirm}
-use Rattle.nfs_operations.specs.declared.open_downgrade.OpenDowngrade.{OpenDowngrade}
 use Rattle.nfs_forms.specs.declared.stateid.Stateid.{Stateid}
 use Rattle.nfs_forms.specs.declared.status.Refusal.{Refusal}
 use Rattle.nfs_forms.specs.declared.status.Refusal.TheVariants as refusals
-use Rattle.nfs_forms.specs.Answer.{answer}
-use Rattle.nfs_forms.specs.Status.{number_of_refusal, status}
 use Rattle.nfs_xdr.specs.declared.op.Op.TheVariants as ops
 use Rattle.nfs_xdr.specs.declared.op_result.OpResult.TheVariants as results
-use Rattle.nfs_xdr.specs.Opnum.{opnum}
-use Rattle.nfs_xdr.specs.OpResult.{op_result}
-use Rattle.xdr.specs.Writing.{written_number}
+use Rattle.nfs_xdr.specs.Short.{HasShortName}
 
 -- no refusal of the target is NFS4ERR_RESOURCE
 abbrev pub IsOtherTarget : Target → Type 0
@@ -142,62 +133,6 @@ asked_refusal journal state filehandle args refusal same =
     (refused_if_other _ refusals.StaleClientId node (λ e. cc)) λ node.
     refused_if_other _ refusals.IsDir node (λ e. cc))
 
-refusal_fits : (refusal : Refusal) → number_of_refusal refusal < 2 ^ 32
-refusal_fits refusals.NoEnt = omega arith
-refusal_fits refusal = omega arith
-
-pub close_refused : (args : Close) (refusal : Refusal) → refusal ≢ refusals.Resource → IsSendable (ops.Close args) (results.Close (answers.Refused refusal))
-unfolding op_result opnum answer status written_number
-close_refused args refusal other = record {
-  not_resource = λ same. other (search same);
-  form = (omega arith, (refusal_fits refusal, tt));
-  short = omega arith;
-}
-
-pub confirm_refused : (args : OpenConfirm) (refusal : Refusal) → refusal ≢ refusals.Resource → IsSendable (ops.OpenConfirm args) (results.OpenConfirm (answers.Refused refusal))
-unfolding op_result opnum answer status written_number
-confirm_refused args refusal other = record {
-  not_resource = λ same. other (search same);
-  form = (omega arith, (refusal_fits refusal, tt));
-  short = omega arith;
-}
-
-pub downgrade_refused : (args : OpenDowngrade) (refusal : Refusal) → refusal ≢ refusals.Resource → IsSendable (ops.OpenDowngrade args) (results.OpenDowngrade (answers.Refused refusal))
-unfolding op_result opnum answer status written_number
-downgrade_refused args refusal other = record {
-  not_resource = λ same. other (search same);
-  form = (omega arith, (refusal_fits refusal, tt));
-  short = omega arith;
-}
-
-pub lock_refused : (args : Lock) (refusal : Refusal) → refusal ≢ refusals.Resource → IsSendable (ops.Lock args) (results.Lock (answers.Refused refusal))
-unfolding op_result opnum answer status written_number
-lock_refused args refusal other = record {
-  not_resource = λ same. other (search same);
-  form = (omega arith, (refusal_fits refusal, tt));
-  short = omega arith;
-}
-
-pub unlock_refused : (args : Locku) (refusal : Refusal) → refusal ≢ refusals.Resource → IsSendable (ops.Locku args) (results.Locku (answers.Refused refusal))
-unfolding op_result opnum answer status written_number
-unlock_refused args refusal other = record {
-  not_resource = λ same. other (search same);
-  form = (omega arith, (refusal_fits refusal, tt));
-  short = omega arith;
-}
-
-pub test_refused : (args : Lockt) (refusal : Refusal) → refusal ≢ refusals.Resource → IsSendable (ops.Lockt args) (results.Lockt (answers.Refused refusal))
-unfolding op_result opnum answer status written_number
-test_refused args refusal other = record {
-  not_resource = λ same. other (search same);
-  form = (omega arith, (refusal_fits refusal, tt));
-  short = omega arith;
-}
-
-pub denied_sendable : (args : Lock) (denied : LockDenied) → lock_denied.Fits denied → length (lock_denied.encoding denied) ≤ 1056 → IsSendable (ops.Lock args) (results.Lock (answers.Denied denied))
-unfolding op_result opnum answer status written_number
-denied_sendable args denied fits short = record {
-  not_resource = λ same. absurd cc;
-  form = (omega arith, (omega arith, fits));
-  short = omega (arith, short);
-}
+-- An answer NFS4ERR_DENIED can be sent if the name of the lock's owner is within its limit.
+pub denied_sendable : (args : Lock) (denied : LockDenied) → HasShortName denied → IsSendable (ops.Lock args) (results.Lock (answers.Denied denied))
+denied_sendable args denied short = record { not_resource = λ same. absurd cc; opnum = refl; short = short }

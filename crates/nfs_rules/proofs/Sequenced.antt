@@ -41,7 +41,7 @@ use Rattle.nfs_rules.specs.declared.ruling.Ruling.{Ruling}
 use Rattle.nfs_state.specs.declared.shortage.Shortage.{Shortage}
 use Rattle.nfs_state.specs.declared.shortage.Shortage.TheVariants.{Limit, Memory}
 use Rattle.nfs_rules.specs.Deciding.{Decides, HasPassage, IsReplay, IsRequesterOf, IsReplayOf, IsSendableSequence, Rules, IsPassage}
-use Rattle.nfs_state.specs.Entries.{IsSendable, resource}
+use Rattle.nfs_state.specs.Entries.{IsSendable}
 use Rattle.nfs_rules.specs.operations.{own_of}
 use Rattle.nfs_rules.specs.operations.Open.{has_open_place, opening, ruling_of}
 use Rattle.nfs_state.specs.Owners.{KnownOwner, owner_of}
@@ -63,7 +63,8 @@ use Rattle.nfs_xdr.specs.declared.op.Op.{Op}
 use Rattle.nfs_xdr.specs.declared.op.Op.TheVariants as ops
 use Rattle.nfs_xdr.specs.declared.op_result.OpResult.{OpResult}
 use Rattle.nfs_xdr.specs.Op.{opnum_of}
-use Rattle.nfs_xdr.specs.OpResult.{op_result, refusal_of, status_of}
+use Rattle.nfs_xdr.specs.OpResult.{refusal_of, status_of}
+use Rattle.nfs_rules.proofs.Sequencing.{refusal_sendable}
 
 -- the own rule of an operation that is known to be this one
 pub rules_as : (op op' : Op) (journal : History) (state : State) (node : ℕ) (passage : Passage) (ruling : Ruling) → op ≡ op' → Rules (own_of op' journal state node passage) state op' (Ok ruling) → Rules (own_of op journal state node passage) state op (Ok ruling)
@@ -71,21 +72,13 @@ rules_as op op' journal state node passage ruling same rules =
     let P : Op → Type 0 = λ o. Rules (own_of o journal state node passage) state o (Ok ruling) in
     subst P (sym same) rules
 
-no_handle_other : (op : Op) → refusal_of (opnum_of op) refusals.NoFileHandle ≢ resource op
-no_handle_other (ops.Access v) = λ same. cc
-no_handle_other op = λ same. cc
-
 -- without a current filehandle the operation is refused
-pub without_filehandle : (own : Own) (journal : History) (state : State) (requester : Requester) (request : Request) (filehandle : Option ℕ) (answer : OpResult) (decision : Decision) → ((node : ℕ) → filehandle ≡ Some node → ⊥) → answer ≡ refusal_of (opnum_of request.op) refusals.NoFileHandle → op_result.Fits answer → length (op_result.encoding answer) ≤ 12 → decision ≡ only answer → Decides (IsSequencedUnder journal state requester own filehandle request) state request.op (Ok decision)
-without_filehandle own journal state requester request (Some node) answer decision none is fits short made = absurd (none node refl)
-without_filehandle own journal state requester request None answer decision none is fits short made =
+pub without_filehandle : (own : Own) (journal : History) (state : State) (requester : Requester) (request : Request) (filehandle : Option ℕ) (answer : OpResult) (decision : Decision) → ((node : ℕ) → filehandle ≡ Some node → ⊥) → answer ≡ refusal_of (opnum_of request.op) refusals.NoFileHandle → decision ≡ only answer → Decides (IsSequencedUnder journal state requester own filehandle request) state request.op (Ok decision)
+without_filehandle own journal state requester request (Some node) answer decision none is made = absurd (none node refl)
+without_filehandle own journal state requester request None answer decision none is made =
     let P : Decision → Type 0 = λ d. Decides (IsSequencedUnder journal state requester own None request) state request.op (Ok d) in
     let with_answer : OpResult → Option Decision = λ a. Some (only a) in
-    let sendable : IsSendable request.op answer = record {
-      not_resource = λ same. no_handle_other request.op (sym is ∙ same);
-      form = fits;
-      short = omega (arith, short);
-    } in
+    let sendable : IsSendable request.op answer = refusal_sendable request.op refusals.NoFileHandle answer (λ e. cc) is in
     subst P (sym made) (ap with_answer is, sendable, tt, tt)
 
 -- a request that is answered without the operation's own rule

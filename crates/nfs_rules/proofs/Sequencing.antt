@@ -31,7 +31,9 @@ use Rattle.nfs_xdr.specs.declared.op.Op.{Op}
 use Rattle.nfs_xdr.specs.declared.op.Op.TheVariants as ops
 use Rattle.nfs_xdr.specs.declared.op_result.OpResult.{OpResult}
 use Rattle.nfs_xdr.specs.Op.{opnum_of}
-use Rattle.nfs_xdr.specs.OpResult.{op_result, refusal_of}
+use Rattle.nfs_xdr.specs.OpResult as results
+use Rattle.nfs_xdr.specs.OpResult.{refusal_of}
+use Rattle.nfs_xdr.specs.Short.{IsShort}
 
 -- where a test tells of known owners what another tells of the stored ones, both find the same owner
 find_known : (p : KnownOwner → Bool) (q : Owner → Bool) (stored : List Owner) → AllByRecursion (λ o. p (known_owner o) ≡ q o) stored → find p (map known_owner stored) ≡ option_map known_owner (find q stored)
@@ -89,11 +91,15 @@ refused_once : (op : Op) (r s : Refusal) → refusal_of (opnum_of op) r ≡ refu
 refused_once (ops.Open args) r s same = cc
 refused_once op r s same = cc
 
-pub refusal_sendable : (op : Op) (refusal : Refusal) (answer : OpResult) → refusal ≢ refusals.Resource → answer ≡ refusal_of (opnum_of op) refusal → op_result.Fits answer → length (op_result.encoding answer) ≤ 12 → IsSendable op answer
-refusal_sendable op refusal answer other is form short = record {
+refusal_answers : (op : Op) (r : Refusal) → (results.opnum_of (refusal_of (opnum_of op) r) ≡ opnum_of op) × IsShort (refusal_of (opnum_of op) r)
+refusal_answers (ops.Open args) r = (refl, tt)
+refusal_answers op r = (refl, tt)
+
+pub refusal_sendable : (op : Op) (refusal : Refusal) (answer : OpResult) → refusal ≢ refusals.Resource → answer ≡ refusal_of (opnum_of op) refusal → IsSendable op answer
+refusal_sendable op refusal answer other is = record {
   not_resource = λ same. other (refused_once op refusal refusals.Resource (sym is ∙ same));
-  form = form;
-  short = omega (arith, short);
+  opnum = ap results.opnum_of is ∙ (refusal_answers op refusal).0;
+  short = subst IsShort (sym is) (refusal_answers op refusal).1;
 }
 
 -- A sequence that the stored owner gives is one that the known owner gives.

@@ -1,8 +1,8 @@
 //! What LOCK, LOCKT and LOCKU have in common (RFC 7530, sections 9.2, 9.3 and 16.10 to 16.12).
 
-ghost use Rattle.std.specs.Prelude.{◌≡◌, ◌≤◌, IfOk, IsErrOf, IsFalse, IsTrue, OnOk, length};
-ghost use Rattle.nfs_forms.specs.LockDenied.{lock_denied};
+ghost use Rattle.std.specs.Prelude.{◌≡◌, IfOk, IsErrOf, IsFalse, IsTrue, OnOk};
 ghost use Rattle.nfs_locks.specs.ReportSeen.{report_seen};
+ghost use Rattle.nfs_xdr.specs.Short.{HasShortName};
 ghost use Rattle.nfs_rules.specs.Locking.{can_be_written, denied_by, lock_of_bytes, mode_of, type_of, unlock_of_bytes};
 
 use nfs_forms::{LockDenied, LockType, OWNER_NAME_LIMIT};
@@ -49,11 +49,9 @@ pub(crate) fn unlock_of_bytes(range: Range) -> Piece
 }
 
 /// What NFS4ERR_DENIED tells of the lock that is in the way. Limit if it can't be written.
-#[tactic(auto, unfolding(nfs_forms::specs::LockDenied::lock_denied, nfs_forms::specs::LockOwner::lock_owner, nfs_forms::specs::LockType::lock_type, nfs_forms::specs::ClientId::client_id, xdr::specs::Writing::written_number, xdr::specs::Writing::written_opaque))]
 pub(crate) fn denied_by(report: Report<'_>) -> Result<LockDenied, Shortage>
     ensures denied { IfOk result (λ d. d ≡ denied_by (report_seen report.entry)) }
-    ensures fits { IfOk result (λ d. lock_denied.Fits d) }
-    ensures short { IfOk result (λ d. length (lock_denied.encoding d) ≤ 1056) }
+    ensures short { IfOk result HasShortName }
     ensures within { OnOk result (IsTrue (can_be_written (report_seen report.entry))) }
     ensures limit { IsErrOf result Shortage.Limit
         → IsFalse (can_be_written (report_seen report.entry)) }

@@ -1,7 +1,7 @@
-ghost use Rattle.std.specs.Prelude.{◌≡◌, ◌≤◌, length};
-ghost use Rattle.nfs_xdr.specs.OpResult.{op_result, refusal_of};
+ghost use Rattle.std.specs.Prelude.{◌≡◌};
+ghost use Rattle.nfs_xdr.specs.OpResult.{refusal_of};
 
-use nfs_state::{ANSWER_LIMIT, Change};
+use nfs_state::Change;
 use nfs_xdr::{OpResult, Opnum, Refusal};
 
 /// The answer of a sequenced operation's own rule, and what it changes.
@@ -14,12 +14,10 @@ pub struct Ruling {
 impl Ruling {
     /// A refusal of the operation, which changes nothing.
     pub(crate) fn refusal(operation: Opnum, refusal: Refusal) -> Ruling
-        ensures value { result ≡ record {
+        ensures { result ≡ record {
           answer = refusal_of operation refusal;
           change = Change.Nothing;
         } }
-        ensures form { op_result.Fits result.answer }
-        ensures short { length (op_result.encoding result.answer) ≤ ANSWER_LIMIT }
     {
         Ruling {
             answer: operation.refusal(refusal),

@@ -1,14 +1,14 @@
 ghost use Rattle.std.specs.Prelude.{◌≡◌, refl, ◌<◌, ◌≤◌, IsTrue, IfSome, List, length};
 ghost use Rattle.nfs_core.specs.Server.{AreAlike};
-ghost use Rattle.nfs_xdr.specs.Op.{has_entry};
+ghost use Rattle.nfs_xdr.specs.Op.{has_entry, opnum_of};
 ghost use Rattle.nfs_server.specs.Asking.{GivenByCore, Operation, Question};
 ghost use Rattle.nfs_server.specs.Entries.{QuestionsAreEntries};
 ghost use Rattle.nfs_state.specs.Entries.{request_of};
-ghost use Rattle.nfs_state.specs.declared.entry.TheConstants.{ANSWER_LIMIT};
 ghost use Rattle.nfs_tree.specs.Tree.{node_count};
 ghost use Rattle.nfs_tree.specs.declared.node.Node.{Node};
 ghost use Rattle.nfs_xdr.specs.declared.op_result.OpResult.{OpResult};
 ghost use Rattle.nfs_xdr.specs.OpResult.{op_result};
+ghost use Rattle.nfs_xdr.specs.Opnum.{answer_limit};
 
 use nfs_core::{Core, Moment};
 use nfs_xdr::{Op, OpResult, Principal};
@@ -41,7 +41,7 @@ pub trait Service {
         ensures gives { gives self.old
             (Operation (request_of moment principal op.now filehandle)) result self.new }
         ensures serves { serves self.new ≡ serves self.old }
-        ensures fits { length (op_result.encoding result) ≤ ANSWER_LIMIT }
+        ensures fits { length (op_result.encoding result) ≤ answer_limit (opnum_of op.now) }
         ensures form { op_result.Fits result };
 
     /// Each state is alike to itself.

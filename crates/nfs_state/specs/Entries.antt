@@ -1,16 +1,17 @@
 -- Requests and answers as the journal records them.
-use Rattle.std.specs.Prelude.{◌≢◌, ◌≤◌, ℕ, ◌<◌, [], ◌∷◌, ◌++◌, length, Option, Some, IfSome, option_and_then, slice_get}
+use Rattle.std.specs.Prelude.{◌≡◌, ◌≢◌, ℕ, ◌<◌, [], ◌∷◌, ◌++◌, Option, Some, IfSome, option_and_then, slice_get}
 use Rattle.nfs_forms.specs.declared.principal.Principal.{Principal}
 use Rattle.nfs_forms.specs.declared.status.Refusal.TheVariants.{Resource}
 use Rattle.nfs_state.specs.State.{History}
 use Rattle.nfs_state.specs.declared.entry.Call.{Call}
 use Rattle.nfs_state.specs.declared.entry.Entry.{Entry}
 use Rattle.nfs_state.specs.declared.entry.Entry.TheVariants as entries
-use Rattle.nfs_state.specs.declared.entry.TheConstants.{ANSWER_LIMIT}
 use Rattle.nfs_state.specs.declared.request.Request.{Request}
 use Rattle.nfs_tree.specs.Tree.{node_count}
 use Rattle.nfs_xdr.specs.Op.{opnum_of}
-use Rattle.nfs_xdr.specs.OpResult.{op_result, refusal_of}
+use Rattle.nfs_xdr.specs.OpResult as results
+use Rattle.nfs_xdr.specs.OpResult.{refusal_of}
+use Rattle.nfs_xdr.specs.Short.{IsShort}
 use Rattle.nfs_xdr.specs.declared.op.Op.{Op}
 use Rattle.nfs_xdr.specs.declared.op_result.OpResult.{OpResult}
 
@@ -45,8 +46,8 @@ call_at journal number = option_and_then call_of (slice_get journal.entries numb
 abbrev pub with_entry : Entry → History → History
 with_entry entry journal = record journal { entries = journal.entries ++ entry ∷ [] }
 
--- The answer can be sent in a reply: it isn't NFS4ERR_RESOURCE, it fits its form, and it isn't too long.
+-- The answer can be sent in a reply: it isn't NFS4ERR_RESOURCE, it is the operation's, and it isn't too long.
 pub record IsSendable (op : Op) (answer : OpResult) : Type 0 where
   pub not_resource : answer ≢ resource op
-  pub form : op_result.Fits answer
-  pub short : length (op_result.encoding answer) ≤ ANSWER_LIMIT
+  pub opnum : results.opnum_of answer ≡ opnum_of op
+  pub short : IsShort answer

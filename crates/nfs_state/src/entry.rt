@@ -24,9 +24,6 @@ pub struct Call {
 /// How many entries a journal can have.
 pub const JOURNAL_LIMIT: usize = 1_000_000;
 
-/// The greatest length of an answer in a reply, in bytes.
-pub const ANSWER_LIMIT: usize = 2036;
-
 impl Call {
     /// The request and the answer, as they are kept for an owner of this kind.
     pub(crate) fn kept(&self, kind: OwnerKind) -> Result<Kept, AllocError>

@@ -4,4 +4,5 @@ pub mod Entries
 pub mod Growing
 pub mod Nodes
 pub mod Paths
+pub mod Short
 pub mod Ways

@@ -5,9 +5,6 @@ ghost use Rattle.nfs_tree.specs.Tree.{node_count};
 use crate::Tree;
 use nfs_xdr::{Claim, Op};
 
-/// The greatest length of the answer to an operation on the tree, in bytes.
-pub const TREE_ANSWER_LIMIT: usize = 20;
-
 /// The nodes of the current and the saved filehandle (RFC 7530, section 15.2). Each is absent until an operation of the
 /// COMPOUND sets it.
 #[derive(Clone, Copy, Debug)]

@@ -17,7 +17,7 @@ mod tree_error;
 pub use attribute::{ATTRIBUTES, Attribute, Subject};
 pub use building::{DEFAULT_TREE, trees_are_their_entries};
 pub use document::{Document, Listing};
-pub use filehandles::{Filehandles, TREE_ANSWER_LIMIT};
+pub use filehandles::Filehandles;
 pub use limits::limits_of_trees;
 pub use node::{Entry, Node, NodeKind};
 pub use operations::{

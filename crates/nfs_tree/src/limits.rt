@@ -1,6 +1,5 @@
 ghost use Rattle.std.specs.Prelude.{◌≡◌};
 
-use crate::filehandles::TREE_ANSWER_LIMIT;
 use crate::operations::{
     ACCESS_DELETE, ACCESS_EXECUTE, ACCESS_EXTEND, ACCESS_LOOKUP, ACCESS_MODIFY, ACCESS_READ,
 };
@@ -12,7 +11,7 @@ use crate::tree::{DIRECTORY_LIMIT, FILE_LIMIT, HANDLE_LEN, ROOT, TEXT_LIMIT};
 pub fn limits_of_trees()
     ensures names { (NAME_LIMIT ≡ 255) × (PATH_LIMIT ≡ 8) }
     ensures nodes { (FILE_LIMIT ≡ 64) × (DIRECTORY_LIMIT ≡ 64) × (TEXT_LIMIT ≡ 65536) }
-    ensures handles { (ROOT ≡ 0) × (HANDLE_LEN ≡ 8) × (TREE_ANSWER_LIMIT ≡ 20) }
+    ensures handles { (ROOT ≡ 0) × (HANDLE_LEN ≡ 8) }
     ensures access { (ACCESS_READ ≡ 1) × (ACCESS_LOOKUP ≡ 2) × (ACCESS_MODIFY ≡ 4)
         × (ACCESS_EXTEND ≡ 8) × (ACCESS_DELETE ≡ 16) × (ACCESS_EXECUTE ≡ 32) }
 {}

@@ -1,10 +1,10 @@
 // The operations that need only the tree and the filehandles, one file each.
 ghost use Rattle.std.specs.Prelude.{◌≡◌, ◌≤◌, IsTrue, Some, length};
-ghost use Rattle.nfs_tree.specs.declared.filehandles.TheConstants.{TREE_ANSWER_LIMIT};
 ghost use Rattle.nfs_tree.specs.Filehandles.{AreNodes};
 ghost use Rattle.nfs_tree.specs.operations.{effect_of};
-ghost use Rattle.nfs_xdr.specs.Op.{is_on_tree};
+ghost use Rattle.nfs_xdr.specs.Op.{is_on_tree, opnum_of};
 ghost use Rattle.nfs_xdr.specs.OpResult.{op_result};
+ghost use Rattle.nfs_xdr.specs.Opnum.{answer_limit};
 
 mod access;
 mod getfh;
@@ -28,8 +28,21 @@ impl Filehandles {
         requires nodes { AreNodes tree.now self.old }
         ensures effect { effect_of tree.now self.old op.now
             ≡ Some (record { answer = result; after = self.new }) }
-        ensures short { length (op_result.encoding result) ≤ TREE_ANSWER_LIMIT }
+        ensures short { length (op_result.encoding result) ≤ answer_limit (opnum_of op.now) }
         ensures form { op_result.Fits result }
+        ensures nodes { AreNodes tree.now self.new }
+    {
+        let answer = self.answer(tree, op);
+        answer.fits();
+        answer
+    }
+
+    // Runs the operation, by its own function.
+    fn answer(&mut self, tree: &Tree, op: &Op) -> OpResult
+        requires on_tree { IsTrue (is_on_tree op.now) }
+        requires nodes { AreNodes tree.now self.old }
+        ensures effect { effect_of tree.now self.old op.now
+            ≡ Some (record { answer = result; after = self.new }) }
         ensures nodes { AreNodes tree.now self.new }
     {
         match op {

@@ -1,9 +1,10 @@
-ghost use Rattle.std.specs.Prelude.{◌≡◌, ℕ, ◌-◌, ◌^◌, ◌<◌, ◌≤◌, ◌↔◌, false, true, None, Some, IfOk, IsErrOf, length};
+ghost use Rattle.std.specs.Prelude.{◌≡◌, ℕ, ◌-◌, ◌^◌, ◌<◌, ◌↔◌, false, true, None, Some, IfOk, IsErrOf};
 ghost use Rattle.nfs_forms.specs.declared.answer.Answer.TheVariants.{ClidInUse};
-ghost use Rattle.nfs_operations.specs.Setclientid as setclientid;
 ghost use Rattle.nfs_owners.specs.Registration.{Arrival, Update, registration, registration_by, unconfirmed_record};
 ghost use Rattle.nfs_owners.specs.ClientRoom.{HasNumbersFor};
 ghost use Rattle.nfs_owners.specs.Addresses.{is_within_limit};
+ghost use Rattle.nfs_xdr.specs.Short.{IsShort};
+ghost use Rattle.nfs_xdr.specs.declared.op_result.OpResult.TheVariants as OpResult;
 
 use super::{ClientChange, Clients};
 use crate::{CLIENT_LIMIT, ClientCallback, ClientRecord, OwnersError, PathMark};
@@ -16,7 +17,6 @@ impl Clients {
     /// The answer of SETCLIENTID (RFC 7530, section 16.33.5) in the server's run `epoch`, and its change of the
     /// clients' records. `has_state` is whether the client of the confirmed record with the id has state. Full if a
     /// limit would be exceeded.
-    #[tactic(auto, unfolding(nfs_forms::specs::Answer::answer, nfs_forms::specs::Status::status, nfs_operations::specs::SetclientidConfirm::arguments, nfs_forms::specs::ClientId::client_id, xdr::specs::Writing::written_number))]
     pub fn set(
         &self,
         epoch: u32,
@@ -30,8 +30,7 @@ impl Clients {
         ensures full { IsErrOf result OwnersError.Full
             ↔ registration epoch has_state self.now.registry principal args.now ≡ None }
         ensures numbers { IfOk result (λ r. HasNumbersFor r.1 self.now.registry) }
-        ensures form { IfOk result (λ r. setclientid.result.Fits r.0) }
-        ensures short { IfOk result (λ r. length (setclientid.result.encoding r.0) ≤ 300) }
+        ensures short { IfOk result (λ r. IsShort (OpResult.Setclientid r.0)) }
     {
         match self.confirmed_of(args.id.as_slice()) {
             Some(record) if record.principal.is(principal) => {
@@ -50,7 +49,6 @@ impl Clients {
     }
 
     // A client updates its callback, and keeps its clientid.
-    #[tactic(auto, unfolding(nfs_forms::specs::Answer::answer, nfs_forms::specs::Status::status, nfs_operations::specs::SetclientidConfirm::arguments, nfs_forms::specs::ClientId::client_id, xdr::specs::Writing::written_number))]
     fn set_update(
         &self,
         principal: Principal,
@@ -63,8 +61,7 @@ impl Clients {
         ensures full { IsErrOf result OwnersError.Full ↔ registration_by (Update client)
             client.epoch self.now.registry principal args.now ≡ None }
         ensures numbers { IfOk result (λ r. HasNumbersFor r.1 self.now.registry) }
-        ensures form { IfOk result (λ r. setclientid.result.Fits r.0) }
-        ensures short { IfOk result (λ r. length (setclientid.result.encoding r.0) ≤ 300) }
+        ensures short { IfOk result (λ r. IsShort (OpResult.Setclientid r.0)) }
     {
         let confirm = self.last_confirm + 1;
         let answer = SetclientidConfirm { client, confirm };
@@ -73,7 +70,6 @@ impl Clients {
     }
 
     // A client gets a new client number.
-    #[tactic(auto, unfolding(nfs_forms::specs::Answer::answer, nfs_forms::specs::Status::status, nfs_operations::specs::SetclientidConfirm::arguments, nfs_forms::specs::ClientId::client_id, xdr::specs::Writing::written_number))]
     fn set_arrival(
         &self,
         epoch: u32,
@@ -86,8 +82,7 @@ impl Clients {
         ensures full { IsErrOf result OwnersError.Full
             ↔ registration_by Arrival epoch self.now.registry principal args.now ≡ None }
         ensures numbers { IfOk result (λ r. HasNumbersFor r.1 self.now.registry) }
-        ensures form { IfOk result (λ r. setclientid.result.Fits r.0) }
-        ensures short { IfOk result (λ r. length (setclientid.result.encoding r.0) ≤ 300) }
+        ensures short { IfOk result (λ r. IsShort (OpResult.Setclientid r.0)) }
     {
         if self.last_number >= CLIENT_LIMIT {
             return Err(OwnersError::Full);
@@ -104,12 +99,10 @@ impl Clients {
 }
 
 // NFS4ERR_CLID_INUSE, with the address at which the client that has the id is called back.
-#[tactic(auto, unfolding(nfs_forms::specs::Answer::answer, nfs_forms::specs::Status::status, nfs_forms::specs::Callback::address, xdr::specs::Form::bytes, xdr::specs::Form::opaque))]
 fn clid_in_use(address: &Address) -> Result<Outcome, AllocError>
     requires { is_within_limit address.now ≡ true }
     ensures ok { IfOk result (λ r. r ≡ ClidInUse address.now) }
-    ensures form { IfOk result (λ r. setclientid.result.Fits r) }
-    ensures short { IfOk result (λ r. length (setclientid.result.encoding r) ≤ 300) }
+    ensures short { IfOk result (λ r. IsShort (OpResult.Setclientid r)) }
 {
     Ok(Outcome::ClidInUse(address.clone()?))
 }

@@ -1,10 +1,9 @@
-ghost use Rattle.std.specs.Prelude.{◌≡◌, ◌≤◌, ◌-◌, IfOk, length};
-ghost use Rattle.nfs_state.specs.declared.entry.TheConstants.{ANSWER_LIMIT};
+ghost use Rattle.std.specs.Prelude.{◌≡◌, IfOk};
 ghost use Rattle.nfs_rules.specs.operations.Getattr.{attributes, rule};
 ghost use Rattle.nfs_rules.specs.Deciding.{Decides};
 ghost use Rattle.nfs_state.specs.Entries.{IsFilehandle};
 ghost use Rattle.nfs_state.specs.Room.{state_of};
-ghost use Rattle.nfs_operations.specs.Getattr as getattr;
+ghost use Rattle.nfs_xdr.specs.Short.{IsShort};
 
 use crate::decision::Decision;
 use nfs_state::{Change, Effect, Journal, Request, Shortage, Tables};
@@ -12,7 +11,6 @@ use nfs_xdr::{Answer, Bitmap, Fattr, Op, OpResult, Refusal};
 use std::alloc::{AllocError, Global};
 
 /// Decides a GETATTR: its answer, and that it changes nothing.
-#[tactic(auto, unfolding(nfs_xdr::specs::OpResult::op_result, nfs_xdr::specs::Opnum::opnum, xdr::specs::Writing::written_number))]
 pub(super) fn decide(
     alloc: Global,
     tables: &Tables,
@@ -32,7 +30,6 @@ pub(super) fn decide(
     })
 }
 
-#[tactic(auto, unfolding(nfs_forms::specs::Answer::answer, nfs_forms::specs::Status::status, xdr::specs::Writing::written_number))]
 fn attributes(
     alloc: Global,
     tables: &Tables,
@@ -43,8 +40,7 @@ fn attributes(
     requires node { IsFilehandle journal.now filehandle }
     ensures attributes { IfOk result (λ r.
         r ≡ attributes journal.now (state_of tables.now) filehandle mask.now) }
-    ensures short { IfOk result (λ r. length (getattr.result.encoding r) ≤ ANSWER_LIMIT - 4) }
-    ensures form { IfOk result (λ r. getattr.result.Fits r) }
+    ensures short { IfOk result (λ r. IsShort (OpResult.Getattr r)) }
 {
     let Some(node) = filehandle else {
         return Ok(Answer::Refused(Refusal::NoFileHandle));

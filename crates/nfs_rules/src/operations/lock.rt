@@ -13,7 +13,6 @@ ghost use Rattle.nfs_state.specs.Places.{has_owner_place, has_state_place};
 ghost use Rattle.nfs_state.specs.Kept.{Agrees};
 ghost use Rattle.nfs_state.specs.Room.{state_of};
 ghost use Rattle.nfs_state.specs.State.{History};
-ghost use Rattle.nfs_xdr.specs.OpResult.{op_result};
 
 use crate::demand::Demand;
 use crate::locking::{denied_by, lock_of_bytes, mode_of};
@@ -26,7 +25,7 @@ use nfs_operations::lock::Lock;
 use nfs_owners::OwnerRef;
 use nfs_ranges::{Mode, Range, at_most_one_range, range_of};
 use nfs_share::{OpenFound, OpenState};
-use nfs_state::{ANSWER_LIMIT, Change, Journal, Shortage, Tables};
+use nfs_state::{Change, Journal, Shortage, Tables};
 use nfs_xdr::{Answer, Op, OpResult, Opnum, Refusal};
 
 /// For whom bytes of a node's file are to be held and in which mode, under which open, and the lock state that they are
@@ -212,7 +211,7 @@ fn begin(tables: &Tables, locking: Locking<'_>, range: Range) -> Result<Ruling, 
         change: lock_of_bytes(locking.mode, range),
     };
     Ok(Ruling {
-        answer: ok_answer(first_stateid(tables, locking.owner)),
+        answer: OpResult::Lock(Answer::Done(first_stateid(tables, locking.owner))),
         change: Change::Begins {
             node: locking.node,
             first,
@@ -245,7 +244,7 @@ fn add(
         return Err(Shortage::Limit);
     }
     Ok(Ruling {
-        answer: ok_answer(state.next_stateid()),
+        answer: OpResult::Lock(Answer::Done(state.next_stateid())),
         change: Change::Locks {
             node,
             number: state.number,
@@ -264,14 +263,4 @@ fn first_stateid(tables: &Tables, owner: &LockOwner) -> Stateid
         client: owner.client,
         number: tables.numbers.upcoming(),
     }
-}
-
-// The answer to a LOCK that is granted.
-#[tactic(auto, unfolding(nfs_xdr::specs::OpResult::op_result, nfs_xdr::specs::Opnum::opnum, nfs_forms::specs::Status::status, xdr::specs::Writing::written_number, nfs_forms::specs::Answer::answer, nfs_forms::specs::Stateid::stateid, nfs_forms::specs::ClientId::client_id))]
-fn ok_answer(stateid: Stateid) -> OpResult
-    ensures value { result ≡ OpResult.Lock (Answer.Done stateid) }
-    ensures form { op_result.Fits result }
-    ensures short { length (op_result.encoding result) ≤ ANSWER_LIMIT }
-{
-    OpResult::Lock(Answer::Done(stateid))
 }

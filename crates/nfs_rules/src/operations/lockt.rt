@@ -1,8 +1,8 @@
 ghost use Rattle.std.specs.Prelude.{◌≡◌, ◌≤◌, IfOk, IsErrOf, Ok, Some, None, length};
-ghost use Rattle.nfs_operations.specs.Lockt as lockt;
 ghost use Rattle.nfs_rules.specs.Deciding.{Decides};
 ghost use Rattle.nfs_rules.specs.operations.Lockt.{IsRuled, IsTest, lockt_file, only};
 ghost use Rattle.nfs_state.specs.Room.{state_of};
+ghost use Rattle.nfs_xdr.specs.Short.{IsShort};
 
 use crate::decision::Decision;
 use crate::locking::{denied_by, mode_of};
@@ -14,7 +14,6 @@ use nfs_state::{Change, Effect, Journal, Request, Shortage, Tables};
 use nfs_xdr::{Answer, Op, OpResult, Refusal};
 
 /// Decides a LOCKT: its answer, and that it changes nothing.
-#[tactic(auto, unfolding(nfs_xdr::specs::OpResult::op_result, nfs_xdr::specs::Opnum::opnum, nfs_forms::specs::Status::status, xdr::specs::Writing::written_number, nfs_forms::specs::Answer::answer))]
 pub(super) fn decide(
     tables: &Tables,
     journal: &Journal,
@@ -55,12 +54,10 @@ fn lockt_file(
 }
 
 // Whether a LOCK of the node's file would be refused, and for which lock.
-#[tactic(auto, unfolding(nfs_forms::specs::Answer::answer, nfs_forms::specs::Status::status, xdr::specs::Writing::written_number))]
 fn test(tables: &Tables, node: u32, args: &Lockt) -> Result<Answer<(), LockDenied>, Shortage>
     ensures answer { IfOk result (λ a.
         IsTest (state_of tables.now) args.now (Ok node) (Some (only a))) }
-    ensures form { IfOk result (λ a. lockt.result.Fits a) }
-    ensures short { IfOk result (λ a. length (lockt.result.encoding a) ≤ 1060) }
+    ensures short { IfOk result (λ a. IsShort (OpResult.Lockt a)) }
     ensures limit { IsErrOf result Shortage.Limit
         → IsTest (state_of tables.now) args.now (Ok node) None }
     ensures memory { IsErrOf result Shortage.Memory

@@ -1,21 +1,18 @@
-ghost use Rattle.std.specs.Prelude.{◌≡◌, ◌≤◌, ◌<◌, ◌-◌, ◌^◌, Some, length};
+ghost use Rattle.std.specs.Prelude.{◌≡◌, Some};
 ghost use Rattle.nfs_locks.specs.LockFound.{lock_found_seen};
-ghost use Rattle.nfs_locks.specs.Locks.{next_stateid_of};
-ghost use Rattle.nfs_locks.specs.StoredLocks.{lock_seen};
 ghost use Rattle.nfs_operations.specs.declared.locku.Locku.{Locku};
 ghost use Rattle.nfs_rules.specs.Deciding.{Rules};
 ghost use Rattle.nfs_rules.specs.declared.passage.Passage.{Passage};
 ghost use Rattle.nfs_rules.specs.operations.Locku.{own, unlocking};
 ghost use Rattle.nfs_state.specs.Room.{state_of};
-ghost use Rattle.nfs_xdr.specs.OpResult.{op_result};
 
 use crate::locking::unlock_of_bytes;
 use crate::ruling::Ruling;
 use crate::stateids::lock_verdict;
-use nfs_locks::{LockFound, LockState};
+use nfs_locks::LockFound;
 use nfs_operations::locku::Locku;
 use nfs_ranges::{Range, at_most_one_range, range_of};
-use nfs_state::{ANSWER_LIMIT, Change, Journal, Shortage, Tables};
+use nfs_state::{Change, Journal, Shortage, Tables};
 use nfs_xdr::{Answer, Op, OpResult, Opnum, Refusal};
 
 /// The own rule of LOCKU, under the current filehandle `node`.
@@ -51,21 +48,11 @@ fn unlock(tables: &Tables, found: LockFound<'_>, range: Range) -> Result<Ruling,
         return Err(Shortage::Limit);
     }
     Ok(Ruling {
-        answer: ok_answer(state),
+        answer: OpResult::Locku(Answer::Done(state.next_stateid())),
         change: Change::Locks {
             node,
             number: state.number,
             change,
         },
     })
-}
-
-// The answer to a LOCKU that is granted: the lock state's stateid with the next seqid.
-#[tactic(auto, unfolding(nfs_xdr::specs::OpResult::op_result, nfs_xdr::specs::Opnum::opnum, nfs_forms::specs::Status::status, xdr::specs::Writing::written_number, nfs_forms::specs::Answer::answer, nfs_forms::specs::Stateid::stateid, nfs_forms::specs::ClientId::client_id))]
-fn ok_answer(state: &LockState) -> OpResult
-    ensures value { result ≡ OpResult.Locku (Answer.Done (next_stateid_of (lock_seen state.now))) }
-    ensures form { op_result.Fits result }
-    ensures short { length (op_result.encoding result) ≤ ANSWER_LIMIT }
-{
-    OpResult::Locku(Answer::Done(state.next_stateid()))
 }

@@ -11,7 +11,6 @@ ghost use Rattle.nfs_rules.specs.operations.OpenGrant.{ok_answer, granted_statei
 ghost use Rattle.nfs_share.specs.AllOpens.{opens_of};
 ghost use Rattle.nfs_state.specs.Places.{has_state_place};
 ghost use Rattle.nfs_share.specs.Opens.{open_of};
-ghost use Rattle.nfs_xdr.specs.OpResult.{op_result};
 
 use crate::opening::Opening;
 use crate::passage::Passage;
@@ -20,7 +19,7 @@ use crate::stateids::{Target, target_of};
 use nfs_operations::open::{Open, OpenOk};
 use nfs_owners::OwnerRef;
 use nfs_share::{OpenState, Share};
-use nfs_state::{ANSWER_LIMIT, Change, Journal, Shortage, Tables};
+use nfs_state::{Change, Journal, Shortage, Tables};
 use nfs_xdr::{
     Answer, Bitmap, ChangeInfo, Claim, CreateHow, Op, OpResult, OpenDelegation, OpenHow, OpenOwner,
     Opnum, Refusal, Stateid,
@@ -247,11 +246,8 @@ fn has_state_place(tables: &Tables, passage: Passage, owner: &OpenOwner) -> bool
 }
 
 // The answer to an OPEN that is granted.
-#[tactic(auto, unfolding(nfs_xdr::specs::OpResult::op_result, nfs_xdr::specs::Opnum::opnum, nfs_forms::specs::Status::status, xdr::specs::Writing::written_number, nfs_forms::specs::Answer::answer, nfs_operations::specs::Open::open_ok, nfs_forms::specs::Stateid::stateid, nfs_forms::specs::ClientId::client_id, nfs_forms::specs::ChangeInfo::change_info, nfs_forms::specs::DelegationType::delegation_type, nfs_forms::specs::OpenDelegation::open_delegation))]
 fn ok_answer(alloc: Global, passage: Passage, stateid: Stateid) -> OpResult
     ensures value { result ≡ ok_answer passage stateid }
-    ensures form { op_result.Fits result }
-    ensures short { length (op_result.encoding result) ≤ ANSWER_LIMIT }
 {
     OpResult::Open(Answer::Done(OpenOk {
         stateid,

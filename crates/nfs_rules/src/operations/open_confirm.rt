@@ -1,6 +1,4 @@
-ghost use Rattle.std.specs.Prelude.{◌≡◌, ◌≤◌, IfOk, OnErr, Some, length, true};
-ghost use Rattle.nfs_share.specs.Opens.{next_stateid_of};
-ghost use Rattle.nfs_xdr.specs.OpResult.{op_result};
+ghost use Rattle.std.specs.Prelude.{IfOk, OnErr, Some, true};
 ghost use Rattle.nfs_state.specs.Entries.{IsSendable};
 ghost use Rattle.nfs_state.specs.Room.{IsWithinLimits, state_of};
 ghost use Rattle.nfs_rules.specs.declared.passage.Passage.{Passage};
@@ -12,8 +10,7 @@ use crate::demand::Demand;
 use crate::ruling::Ruling;
 use crate::stateids::{is_confirmed, verdict};
 use nfs_operations::open_confirm::OpenConfirm;
-use nfs_share::OpenState;
-use nfs_state::{ANSWER_LIMIT, Change, Journal, Tables};
+use nfs_state::{Change, Journal, Tables};
 use nfs_xdr::{Answer, Op, OpResult, Opnum, Refusal};
 use std::alloc::AllocError;
 
@@ -44,21 +41,11 @@ pub(super) fn rule(
         return Ok(Ruling::refusal(Opnum::OpenConfirm, Refusal::BadStateId));
     }
     Ok(Ruling {
-        answer: ok_answer(&found.state),
+        answer: OpResult::OpenConfirm(Answer::Done(found.state.next_stateid())),
         change: Change::Confirms {
             node: found.node,
             number: found.state.number,
             owner: found.state.owner.clone()?,
         },
     })
-}
-
-// The answer to an OPEN_CONFIRM that is granted: the open's stateid with the next seqid.
-#[tactic(auto, unfolding(nfs_xdr::specs::OpResult::op_result, nfs_xdr::specs::Opnum::opnum, nfs_forms::specs::Status::status, xdr::specs::Writing::written_number, nfs_forms::specs::Answer::answer, nfs_forms::specs::Stateid::stateid, nfs_forms::specs::ClientId::client_id))]
-fn ok_answer(state: &OpenState) -> OpResult
-    ensures value { result ≡ OpResult.OpenConfirm (Answer.Done (next_stateid_of state.now)) }
-    ensures form { op_result.Fits result }
-    ensures short { length (op_result.encoding result) ≤ ANSWER_LIMIT }
-{
-    OpResult::OpenConfirm(Answer::Done(state.next_stateid()))
 }

@@ -1,6 +1,4 @@
-ghost use Rattle.std.specs.Prelude.{◌≡◌, ◌≤◌, Some, length};
-ghost use Rattle.nfs_share.specs.Opens.{next_stateid_of};
-ghost use Rattle.nfs_xdr.specs.OpResult.{op_result};
+ghost use Rattle.std.specs.Prelude.{Some};
 ghost use Rattle.nfs_state.specs.Entries.{IsSendable};
 ghost use Rattle.nfs_state.specs.Room.{IsWithinLimits, state_of};
 ghost use Rattle.nfs_rules.specs.declared.passage.Passage.{Passage};
@@ -10,8 +8,8 @@ use crate::demand::Demand;
 use crate::ruling::Ruling;
 use crate::stateids::verdict;
 use nfs_operations::open_downgrade::OpenDowngrade;
-use nfs_share::{OpenState, Share};
-use nfs_state::{ANSWER_LIMIT, Change, Journal, Tables};
+use nfs_share::Share;
+use nfs_state::{Change, Journal, Tables};
 use nfs_xdr::{Answer, Op, OpResult, Opnum, Refusal};
 
 /// The own rule of OPEN_DOWNGRADE, under the current filehandle `node`.
@@ -31,7 +29,7 @@ pub(super) fn rule(tables: &Tables, journal: &Journal, node: u32, args: &OpenDow
     };
     match Share::from_numbers(args.access, args.deny) {
         Some(share) if found.state.shares.can_downgrade_to(share) => Ruling {
-            answer: ok_answer(&found.state),
+            answer: OpResult::OpenDowngrade(Answer::Done(found.state.next_stateid())),
             change: Change::Downgrades {
                 node: found.node,
                 number: found.state.number,
@@ -40,14 +38,4 @@ pub(super) fn rule(tables: &Tables, journal: &Journal, node: u32, args: &OpenDow
         },
         _ => Ruling::refusal(Opnum::OpenDowngrade, Refusal::Inval),
     }
-}
-
-// The answer to an OPEN_DOWNGRADE that is granted: the open's stateid with the next seqid.
-#[tactic(auto, unfolding(nfs_xdr::specs::OpResult::op_result, nfs_xdr::specs::Opnum::opnum, nfs_forms::specs::Status::status, xdr::specs::Writing::written_number, nfs_forms::specs::Answer::answer, nfs_forms::specs::Stateid::stateid, nfs_forms::specs::ClientId::client_id))]
-fn ok_answer(state: &OpenState) -> OpResult
-    ensures value { result ≡ OpResult.OpenDowngrade (Answer.Done (next_stateid_of state.now)) }
-    ensures form { op_result.Fits result }
-    ensures short { length (op_result.encoding result) ≤ ANSWER_LIMIT }
-{
-    OpResult::OpenDowngrade(Answer::Done(state.next_stateid()))
 }

@@ -9,7 +9,6 @@ use nfs_state::{Change, Effect, Shortage, Tables};
 use nfs_xdr::{Answer, Op, OpResult, Refusal};
 
 /// Decides a RELEASE_LOCKOWNER: its answer and its change.
-#[tactic(auto, unfolding(nfs_xdr::specs::OpResult::op_result, nfs_xdr::specs::Opnum::opnum, nfs_forms::specs::Status::status, xdr::specs::Writing::written_number, nfs_forms::specs::Answer::answer))]
 pub(super) fn decide(tables: &Tables, args: &ReleaseLockowner) -> Result<Decision, Shortage>
     ensures { Decides (λ d. d ≡ rule (state_of tables.now) args.now) (state_of tables.now)
         (Op.ReleaseLockowner args.now) result }

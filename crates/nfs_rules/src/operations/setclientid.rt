@@ -9,7 +9,6 @@ use nfs_state::{Change, Effect, Journal, Request, Shortage, Tables};
 use nfs_xdr::{Op, OpResult};
 
 /// Decides a SETCLIENTID: its answer and its change.
-#[tactic(auto, unfolding(nfs_xdr::specs::OpResult::op_result, nfs_xdr::specs::Opnum::opnum, nfs_forms::specs::Status::status, xdr::specs::Writing::written_number, nfs_forms::specs::Answer::answer, nfs_operations::specs::SetclientidConfirm::arguments, nfs_forms::specs::ClientId::client_id, nfs_forms::specs::Callback::address))]
 pub(super) fn decide(
     tables: &Tables,
     journal: &Journal,

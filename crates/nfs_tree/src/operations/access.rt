@@ -1,8 +1,6 @@
-ghost use Rattle.std.specs.Prelude.{◌≡◌, ◌≤◌, length};
-ghost use Rattle.nfs_tree.specs.declared.filehandles.TheConstants.{TREE_ANSWER_LIMIT};
+ghost use Rattle.std.specs.Prelude.{◌≡◌};
 ghost use Rattle.nfs_tree.specs.operations.Access.{access, access_of};
 ghost use Rattle.nfs_tree.specs.Tree.{is_directory};
-ghost use Rattle.nfs_xdr.specs.OpResult.{op_result};
 
 use crate::{Filehandles, Tree};
 use nfs_operations::access::AccessBits;
@@ -52,12 +50,9 @@ impl Tree {
 impl Filehandles {
     /// ACCESS (RFC 7530, section 16.1): returns which of the requested access rights the client has on the current
     /// object.
-    #[tactic(auto, unfolding(nfs_xdr::specs::OpResult::op_result, nfs_xdr::specs::Opnum::opnum, nfs_forms::specs::Answer::answer, nfs_operations::specs::Access::access_bits, nfs_forms::specs::Status::status, xdr::specs::Writing::written_number))]
     pub(crate) fn access(&self, tree: &Tree, requested: u32) -> OpResult
         ensures effect { record { answer = result; after = self.now }
             ≡ access tree.now self.now requested }
-        ensures short { length (op_result.encoding result) ≤ TREE_ANSWER_LIMIT }
-        ensures form { op_result.Fits result }
     {
         match self.current {
             Some(node) => OpResult::Access(Answer::Done(tree.access(node, requested))),

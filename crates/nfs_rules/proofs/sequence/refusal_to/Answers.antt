@@ -5,4 +5,4 @@ use Rattle.nfs_rules.proofs.sequence.refusal_to.Goals as goal
 
 pub returns-clause-sendable : goal.returns-clause-sendable
 returns-clause-sendable c =
-    refusal_sendable c.args.op.now c.args.refusal c.refusal.result c.requires (c.refusal.ensures.value ∙ ap (λ o. refusal_of o c.args.refusal) c.opnum.ensures) c.refusal.ensures.form c.refusal.ensures.short
+    refusal_sendable c.args.op.now c.args.refusal c.refusal.result c.requires (c.refusal.ensures.value ∙ ap (λ o. refusal_of o c.args.refusal) c.opnum.ensures)

@@ -1,22 +1,19 @@
 -- The greatest length of the attributes of a node.
-use Rattle.std.proofs.Common.{◌≡◌, ℕ, zero, suc, ◌*◌, ◌<◌, ◌≤◌, ◌^◌, Bool, true, false, List, [], ◌∷◌, length, arith}
+use Rattle.std.proofs.Common.{◌≡◌, ℕ, zero, suc, ◌*◌, ◌<◌, ◌≤◌, ◌^◌, Bool, true, false, List, [], ◌∷◌, length, sym, subst, arith}
 use Rattle.std.specs.Prelude.{◌==◌, if◌then◌else◌}
 use Rattle.std.specs.List.{All, flat_map}
 use Rattle.std.proofs.lemmas.List.Elements.{All-nil}
 use Rattle.std.proofs.lemmas.Nat.{and_le_r}
 use Rattle.std.proofs.lemmas.List.{length-append, length-take}
 use Rattle.nfs_forms.specs.declared.fattr.Fattr.{Fattr}
-use Rattle.nfs_forms.specs.declared.answer.Answer.TheVariants.{Done}
-use Rattle.nfs_forms.specs.Answer.{answer}
 use Rattle.nfs_forms.specs.Fattr.{fattr}
-use Rattle.nfs_forms.specs.Status.{status}
-use Rattle.nfs_operations.specs.Getattr as getattr
 use Rattle.xdr.specs.Layout.{padding_of}
 use Rattle.xdr.specs.Writing.{written_number, written_opaque, written_u32, zeros}
 use Rattle.nfs_tree.specs.declared.attribute.Attribute.{Attribute}
 use Rattle.nfs_tree.specs.declared.attribute.Attribute.TheVariants as attributes
 use Rattle.nfs_tree.specs.declared.attribute.Subject.{Subject}
 use Rattle.nfs_tree.specs.Attributes.{all_attributes, requested_bits, attributes_of, has, mask_of, supported_bits, value_requested, value_of, values_of}
+use Rattle.nfs_xdr.specs.Short.{AreFewAttributes}
 use Rattle.nfs_rules.proofs.operations.getattr.attributes.Goals as goal
 
 value_len : (s : Subject) (a : Attribute) → length (value_of s a) ≤ 16
@@ -61,15 +58,11 @@ mask_written [] few = omega arith
 mask_written (word ∷ []) few = omega arith
 mask_written (word ∷ next ∷ words) few = omega (arith, few)
 
-told_len : (f : Fattr) → length f.mask ≤ 1 → length f.values ≤ 224 → length (getattr.result.encoding (Done f)) ≤ 2032
-unfolding answer fattr status written_number written_opaque
+told_len : (f : Fattr) → length f.mask ≤ 1 → length f.values ≤ 224 → length (fattr.encoding f) ≤ 1024
+unfolding fattr written_number written_opaque
 told_len f mask values =
     let pad : length (zeros (padding_of (length f.values))) ≤ 4 = omega (arith, length-take {A = ℕ} (padding_of (length f.values)) (0 ∷ 0 ∷ 0 ∷ 0 ∷ [])) in
     simp length-append (omega (arith, mask_written f.mask mask, values, pad))
-
--- the result of GETATTR has at most 2032 bytes
-attributes_len : (f : Fattr) (s : Subject) (words : List ℕ) → f ≡ attributes_of s words → length (getattr.result.encoding (Done f)) ≤ 2032
-attributes_len f s words is = rw is (told_len (attributes_of s words) (mask_len words) (all_len s (requested_bits words)))
 
 -- The attributes in an answer fit their form: the mask is a word of four bytes, and the values are few.
 one_word : (word : ℕ) → word < 2 ^ 32 → All (λ w. w < 2 ^ 32) (word ∷ [])
@@ -84,13 +77,14 @@ asked_fits : (words : List ℕ) → requested_bits words < 2 ^ 32
 asked_fits [] = omega arith
 asked_fits (word ∷ words) = omega (arith, and_le_r word supported_bits)
 
-attributes_fit : (f : Fattr) (s : Subject) (words : List ℕ) → f ≡ attributes_of s words → getattr.result.Fits (Done f)
-unfolding answer fattr status
-attributes_fit f s words is =
-    rw is (omega arith, ((omega (arith, mask_len words), omega (arith, mask_len words), mask_fits (requested_bits words == 0) (requested_bits words) (asked_fits words)), (omega (arith, all_len s (requested_bits words)), omega (arith, all_len s (requested_bits words)))))
+attributes_fit : (s : Subject) (words : List ℕ) → fattr.Fits (attributes_of s words)
+unfolding fattr
+attributes_fit s words =
+    ((omega (arith, mask_len words), omega (arith, mask_len words), mask_fits (requested_bits words == 0) (requested_bits words) (asked_fits words)), (omega (arith, all_len s (requested_bits words)), omega (arith, all_len s (requested_bits words))))
+
+attributes_short : (f : Fattr) (s : Subject) (words : List ℕ) → f ≡ attributes_of s words → AreFewAttributes f
+attributes_short f s words is =
+    subst AreFewAttributes (sym is) (attributes_fit s words, told_len (attributes_of s words) (mask_len words) (all_len s (requested_bits words)))
 
 pub returns-clause-short : goal.returns-clause-short
-returns-clause-short c = attributes_len c.in_ok-found.found _ _ c.in_ok-found.ensures
-
-pub returns-clause-form : goal.returns-clause-form
-returns-clause-form c = attributes_fit c.in_ok-found.found _ _ c.in_ok-found.ensures
+returns-clause-short c = attributes_short c.in_ok-found.found _ _ c.in_ok-found.ensures

@@ -23,7 +23,7 @@ returns-in-Ok c = λ args.
         ap (λ d. Some (record { answer = results.Lock (Denied d); change = Nothing })) c.in-Ok.ensures.denied
             ∙ sym (cond-true (can_be_written report) _ None c.in-Ok.ensures.within),
       ),
-      denied_sendable args c.in-Ok.denied c.in-Ok.ensures.fits c.in-Ok.ensures.short,
+      denied_sendable args c.in-Ok.denied c.in-Ok.ensures.short,
       tt,
     )
 

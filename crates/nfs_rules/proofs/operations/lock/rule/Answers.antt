@@ -6,7 +6,8 @@ use Rattle.nfs_rules.specs.Finding.{locking_seen}
 use Rattle.nfs_rules.specs.declared.ruling.Ruling.{Ruling}
 use Rattle.nfs_rules.specs.operations.Lock as lock
 use Rattle.nfs_rules.specs.operations.Lock.{IsAllowed, IsLock, Locking, allows, locking_of, refusal_of}
-use Rattle.nfs_rules.proofs.Sendable.{lock_refused, locking_refusal}
+use Rattle.nfs_rules.proofs.Sendable.{locking_refusal}
+use Rattle.nfs_rules.proofs.Sequencing.{refusal_sendable}
 use Rattle.nfs_rules.proofs.Sequenced.{rules_onto}
 use Rattle.nfs_rules.proofs.operations.lock.rule.Goals as goal
 use Rattle.nfs_share.specs.AllOpens.{opens_of}
@@ -22,9 +23,9 @@ returns-in-Err c = λ passage.
     let found : Result Locking Refusal = locking_of c.args.journal.now state c.args.node args args.locker in
     let P : Ruling → Type 0 = λ ruling. IsLock state args found (Some ruling) × IsSendable (ops.Lock args) ruling.answer × IsWithinLimits ruling.change state in
     let Q : Result Locking Refusal → Type 0 = λ v. IsLock state args v (Some (refusal_of c.in-Err.refusal)) in
-    subst P (sym c.refusal.ensures.value) (
+    subst P (sym c.refusal.ensures) (
       subst Q c.in-Err.ensures refl,
-      lock_refused args c.in-Err.refusal (locking_refusal c.args.journal.now state c.args.node args c.in-Err.refusal c.in-Err.ensures),
+      refusal_sendable (ops.Lock args) c.in-Err.refusal _ (locking_refusal c.args.journal.now state c.args.node args c.in-Err.refusal c.in-Err.ensures) refl,
       tt,
     )
 

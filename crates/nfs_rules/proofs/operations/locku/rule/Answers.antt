@@ -6,7 +6,8 @@ use Rattle.nfs_locks.specs.LockFound.{lock_found_seen}
 use Rattle.nfs_rules.specs.Stateids.{lock_verdict}
 use Rattle.nfs_rules.specs.declared.ruling.Ruling.{Ruling}
 use Rattle.nfs_rules.specs.operations.Locku.{IsUnlock, refusal_of, unlocking}
-use Rattle.nfs_rules.proofs.Sendable.{lock_verdict_other, unlock_refused}
+use Rattle.nfs_rules.proofs.Sendable.{lock_verdict_other}
+use Rattle.nfs_rules.proofs.Sequencing.{refusal_sendable}
 use Rattle.nfs_rules.proofs.Sequenced.{rules_onto}
 use Rattle.nfs_rules.proofs.operations.locku.rule.Goals as goal
 use Rattle.nfs_state.specs.Entries.{IsSendable}
@@ -21,9 +22,9 @@ returns-in-Err c = λ passage.
     let is : Err c.in-Err.refusal ≡ verdict_of = c.in-Err.ensures ∙ ap (λ e. lock_verdict c.args.node e state args.stateid) c.epoch.ensures in
     let P : Ruling → Type 0 = λ ruling. IsUnlock state args verdict_of (Some ruling) × IsSendable (ops.Locku args) ruling.answer × IsWithinLimits ruling.change state in
     let Q : Result LockAt Refusal → Type 0 = λ v. IsUnlock state args v (Some (refusal_of c.in-Err.refusal)) in
-    subst P (sym c.refusal.ensures.value) (
+    subst P (sym c.refusal.ensures) (
       subst Q is refl,
-      unlock_refused args c.in-Err.refusal (lock_verdict_other c.args.node c.epoch.result state args.stateid c.in-Err.refusal c.in-Err.ensures),
+      refusal_sendable (ops.Locku args) c.in-Err.refusal _ (lock_verdict_other c.args.node c.epoch.result state args.stateid c.in-Err.refusal c.in-Err.ensures) refl,
       tt,
     )
 

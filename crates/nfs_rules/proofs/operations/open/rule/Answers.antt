@@ -7,6 +7,8 @@ use Rattle.nfs_rules.specs.declared.ruling.Ruling.{Ruling}
 use Rattle.nfs_rules.specs.operations.Open.{opening, ruling_of}
 use Rattle.nfs_rules.proofs.OpeningLaws.{not_resource, opening_same}
 use Rattle.nfs_xdr.specs.declared.op.Op.TheVariants as ops
+use Rattle.nfs_xdr.specs.OpResult as results
+use Rattle.nfs_xdr.specs.Short.{IsShort}
 use Rattle.nfs_rules.proofs.operations.open.rule.Goals as goal
 
 pub returns-in-Ok-clause-rules : goal.returns-in-Ok-clause-rules
@@ -27,11 +29,11 @@ returns-in-Err-clause-rules c =
     let seen = before_own c.args.passage args.owner state in
     let same : Err c.in-Err.refusal ≡ opening journal seen c.args.directory args =
     sym c.in-Err.is ∙ c.find_opening.ensures ∙ sym (opening_same c.args.passage journal state c.args.directory args) in (
-      ap (λ r. Some r) c.refusal.ensures.value ∙ ap (ruling_of seen c.args.passage args.owner) same,
+      ap (λ r. Some r) c.refusal.ensures ∙ ap (ruling_of seen c.args.passage args.owner) same,
       record {
-        not_resource = not_resource journal seen c.args.directory args c.in-Err.refusal c.refusal.result.answer (sym same) (ap (λ r. r.answer) c.refusal.ensures.value);
-        form = c.refusal.ensures.form;
-        short = c.refusal.ensures.short;
+        not_resource = not_resource journal seen c.args.directory args c.in-Err.refusal c.refusal.result.answer (sym same) (ap (λ r. r.answer) c.refusal.ensures);
+        opnum = ap (λ (r : Ruling). results.opnum_of r.answer) c.refusal.ensures;
+        short = subst (λ (r : Ruling). IsShort r.answer) (sym c.refusal.ensures) tt;
       },
-      subst (λ r. IsWithinLimits r.change state) (sym c.refusal.ensures.value) tt,
+      subst (λ r. IsWithinLimits r.change state) (sym c.refusal.ensures) tt,
     )

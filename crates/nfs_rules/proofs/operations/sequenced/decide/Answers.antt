@@ -17,7 +17,7 @@ returns-in_default-clause-decides c =
     let journal = c.args.journal.now in
     let state = state_of c.args.tables.now in
     let refused : Opnum → OpResult = λ o. refusal_of o NoFileHandle in
-    without_filehandle (own_of request.op journal state) journal state (requester_seen c.args.requester) request request.filehandle c.refusal.result c.answer_alone.result c.in_default.not-Some (c.refusal.ensures.value ∙ ap refused c.opnum.ensures) c.refusal.ensures.form c.refusal.ensures.short c.answer_alone.ensures
+    without_filehandle (own_of request.op journal state) journal state (requester_seen c.args.requester) request request.filehandle c.refusal.result c.answer_alone.result c.in_default.not-Some (c.refusal.ensures.value ∙ ap refused c.opnum.ensures) c.answer_alone.ensures
 
 pub returns-in_err-answer-clause-decides : goal.returns-in_err-answer-clause-decides
 returns-in_err-answer-clause-decides c =

@@ -1,0 +1,57 @@
+-- The answers of the operations on the tree are those of the operation, and short.
+use Rattle.std.proofs.Common.{◌≡◌, ℕ, Option, Some, None, Result, Ok, Err, List, refl, sym, ap, subst}
+use Rattle.nfs_forms.specs.declared.status.Refusal.{Refusal}
+use Rattle.nfs_tree.specs.Effect.{Effect}
+use Rattle.nfs_tree.specs.Tree.{Files, node_of, resolution}
+use Rattle.nfs_tree.specs.declared.filehandles.Filehandles.{Filehandles}
+use Rattle.nfs_tree.specs.operations.{effect_of}
+use Rattle.nfs_tree.specs.operations.Lookup.{lookup_at, lookup_found}
+use Rattle.nfs_tree.specs.operations.Putfh.{putfh_at}
+use Rattle.nfs_tree.specs.operations.Restorefh.{restorefh_of}
+use Rattle.nfs_tree.specs.operations.Savefh.{savefh_of}
+use Rattle.nfs_xdr.specs.Op.{opnum_of}
+use Rattle.nfs_xdr.specs.OpResult as results
+use Rattle.nfs_xdr.specs.Short.{IsShort}
+use Rattle.nfs_xdr.specs.declared.op.Op.{Op}
+use Rattle.nfs_xdr.specs.declared.op.Op.TheVariants as ops
+use Rattle.nfs_xdr.specs.declared.opnum.Opnum.{Opnum}
+use Rattle.nfs_xdr.specs.declared.opnum.Opnum.TheVariants as opnums
+
+abbrev pub Answers : Opnum → Effect → Type 0
+Answers o e = IsShort e.answer × (results.opnum_of e.answer ≡ o)
+
+found_answers : (old : Filehandles) (found : Result ℕ Refusal) → Answers opnums.Lookup (lookup_found old found)
+found_answers old (Err refusal) = (tt, refl)
+found_answers old (Ok node) = (tt, refl)
+
+lookup_answers : (tree : Files) (old : Filehandles) (current : Option ℕ) (name : List ℕ) → Answers opnums.Lookup (lookup_at tree old current name)
+lookup_answers tree old None name = (tt, refl)
+lookup_answers tree old (Some node) name = found_answers old (resolution tree.nodes node name)
+
+putfh_answers : (old : Filehandles) (node : Option ℕ) → Answers opnums.Putfh (putfh_at old node)
+putfh_answers old None = (tt, refl)
+putfh_answers old (Some node) = (tt, refl)
+
+restorefh_answers : (old : Filehandles) (saved : Option ℕ) → Answers opnums.Restorefh (restorefh_of old saved)
+restorefh_answers old None = (tt, refl)
+restorefh_answers old (Some node) = (tt, refl)
+
+savefh_answers : (old : Filehandles) (current : Option ℕ) → Answers opnums.Savefh (savefh_of old current)
+savefh_answers old None = (tt, refl)
+savefh_answers old (Some node) = (tt, refl)
+
+some_same : (made e : Effect) → Some made ≡ Some e → made ≡ e
+some_same made e is = cc
+
+of_some : (o : Opnum) (made e : Effect) → Answers o made → Some made ≡ Some e → Answers o e
+of_some o made e answers is = subst (Answers o) (some_same made e is) answers
+
+pub effect_answers : (tree : Files) (old : Filehandles) (op : Op) (e : Effect) → effect_of tree old op ≡ Some e → Answers (opnum_of op) e
+effect_answers tree old (ops.Access requested) e is = of_some _ _ e (tt, refl) is
+effect_answers tree old ops.Getfh e is = of_some _ _ e (tt, refl) is
+effect_answers tree old (ops.Lookup name) e is = of_some _ _ e (lookup_answers tree old old.current name) is
+effect_answers tree old (ops.Putfh handle) e is = of_some _ _ e (putfh_answers old (node_of tree.nodes handle)) is
+effect_answers tree old ops.Putrootfh e is = of_some _ _ e (tt, refl) is
+effect_answers tree old ops.Restorefh e is = of_some _ _ e (restorefh_answers old old.saved) is
+effect_answers tree old ops.Savefh e is = of_some _ _ e (savefh_answers old old.current) is
+effect_answers tree old op e is = absurd cc
