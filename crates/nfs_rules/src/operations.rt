@@ -36,11 +36,11 @@ pub fn decide(
     request: &Request,
 ) -> Result<Decision, Shortage>
     requires entry { IsTrue (has_entry request.now.op) }
-    requires node { IsFilehandle journal.now request.now.filehandle }
+    requires node { IsFilehandle journal.now.history request.now.filehandle }
     requires numbers { tables.now.clients.registry.last_confirm < 2 ^ 64 - 1 }
     requires states { tables.now.numbers < 2 ^ 32 - 1 }
-    requires kept { Agrees journal.now tables.now.owners.owners }
-    ensures { Decides (IsRuled request.now.op journal.now (state_of tables.now) request.now)
+    requires kept { Agrees journal.now.history tables.now.owners.owners }
+    ensures { Decides (IsRuled request.now.op journal.now.history (state_of tables.now) request.now)
         (state_of tables.now) request.now.op result }
 {
     match &request.op {
@@ -76,10 +76,10 @@ fn by_stateid(
     requires sequenced { IsTrue (is_sequenced request.now.op) }
     requires other { IsFalse (is_open request.now.op) }
     requires states { tables.now.numbers < 2 ^ 32 - 1 }
-    requires kept { Agrees journal.now tables.now.owners.owners }
-    ensures { Decides (IsSequenced journal.now (state_of tables.now)
-        (requester_of_stateid journal.now (state_of tables.now) stateid)
-        (own_of request.now.op journal.now (state_of tables.now)) request.now)
+    requires kept { Agrees journal.now.history tables.now.owners.owners }
+    ensures { Decides (IsSequenced journal.now.history (state_of tables.now)
+        (requester_of_stateid journal.now.history (state_of tables.now) stateid)
+        (own_of request.now.op journal.now.history (state_of tables.now)) request.now)
         (state_of tables.now) request.now.op result }
 {
     let requester = requester_of_stateid(tables, journal, stateid);

@@ -9,7 +9,7 @@ use Rattle.nfs_xdr.specs.declared.op.Op.{Op}
 
 pub returns-in-Open : goal.returns-in-Open
 returns-in-Open c =
-    let journal = c.args.journal.now in
+    let journal = c.args.journal.now.history in
     let state = state_of c.args.tables.now in
     let request = c.args.request.now in
     let result = c.decide-in-Open.result in
@@ -20,7 +20,7 @@ returns-in-Open c =
 
 pub returns-in-OpenDowngrade : goal.returns-in-OpenDowngrade
 returns-in-OpenDowngrade c =
-    let journal = c.args.journal.now in
+    let journal = c.args.journal.now.history in
     let state = state_of c.args.tables.now in
     let request = c.args.request.now in
     let result = c.by_stateid-in-OpenDowngrade.result in
@@ -30,7 +30,7 @@ returns-in-OpenDowngrade c =
 
 pub returns-in-Lock : goal.returns-in-Lock
 returns-in-Lock c =
-    let journal = c.args.journal.now in
+    let journal = c.args.journal.now.history in
     let state = state_of c.args.tables.now in
     let request = c.args.request.now in
     let result = c.by_stateid-in-Lock.result in
