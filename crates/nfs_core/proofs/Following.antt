@@ -5,6 +5,9 @@ use Rattle.nfs_core.proofs.Journals.{decides_something}
 use Rattle.nfs_core.proofs.SoundSequences.{some_equal}
 use Rattle.nfs_core.specs.Following.{HasEffect, not_followed_for}
 use Rattle.nfs_core.specs.Step.{HasNoAnswer, HasNoStep}
+use Rattle.nfs_core.specs.declared.not_followed.NotFollowed.{NotFollowed}
+use Rattle.nfs_core.specs.declared.not_followed.NotFollowed.TheVariants as reasons
+use Rattle.nfs_state.specs.declared.effect.Effect.{Effect}
 use Rattle.nfs_rules.specs.Deciding.{Decides}
 use Rattle.nfs_rules.specs.declared.decision.Decision.{Decision}
 use Rattle.nfs_rules.specs.operations.{AtMostOneDecision, IsRuled}
@@ -79,11 +82,24 @@ failed_effect once journal old call (Err shortages.Memory) shortages.Memory deci
 -- what it does where its rule decides its answer
 pub decided_effect : (journal : History) (old : State) (call : Call) (decision : Decision) → IsFilehandle journal call.request.filehandle → Decides (IsRuled call.request.op journal old call.request) old call.request.op (Ok decision) → decision.answer ≡ call.answer → HasEffect journal old (entries.Call call) (Ok decision.effect)
 decided_effect journal old call decision node decides same =
-    let sendable = subst (λ a. IsSendable call.request.op a) same decides.1 in (
+    let sendable = subst (λ (a : OpResult). IsSendable call.request.op a) same decides.1 in (
       record {
-        rule = subst (λ a. IsRuled call.request.op journal old call.request (Some (record { answer = a; effect = decision.effect }))) same decides.0;
+        rule = subst (λ (a : OpResult). IsRuled call.request.op journal old call.request (Some (record { answer = a; effect = decision.effect }))) same decides.0;
         other = sendable.not_resource;
         node = node;
       },
       record { kept = sendable; numbers = decides.2.0; place = decides.2.1 },
     )
+
+-- an entry that isn't followed as wrong may not come next, and none isn't followed for a limit of its rule
+pub wrong_effect : (journal : History) (old : State) (entry : Entry) (result : Result Effect NotFollowed) → HasEffect journal old entry result → IsErrOf result reasons.Wrong → HasNoStep journal old entry
+wrong_effect journal old entry (Ok effect) has is = absurd cc
+wrong_effect journal old entry (Err reasons.Wrong) has is = has
+wrong_effect journal old entry (Err reasons.Limit) has is = absurd has
+wrong_effect journal old entry (Err reasons.Memory) has is = absurd cc
+
+pub unlimited_effect : (journal : History) (old : State) (entry : Entry) (result : Result Effect NotFollowed) → HasEffect journal old entry result → IsErrOf result reasons.Limit → ⊥
+unlimited_effect journal old entry (Ok effect) has is = absurd cc
+unlimited_effect journal old entry (Err reasons.Wrong) has is = absurd cc
+unlimited_effect journal old entry (Err reasons.Limit) has is = has
+unlimited_effect journal old entry (Err reasons.Memory) has is = absurd cc

@@ -66,7 +66,7 @@ decides_something once journal old request decision is none =
 -- the same, where the longer journal has a name of its own
 pub Lawful-entered : (journal journal' : History) (old new : State) (entry : Entry) → Lawful journal old → journal' ≡ with_entry entry journal → Step journal old entry new → Lawful journal' new
 Lawful-entered journal journal' old new entry lawful is step =
-    subst (λ j. Lawful j new) (sym is) (Lawful-step journal old new entry lawful step)
+    subst (λ (j : History). Lawful j new) (sym is) (Lawful-step journal old new entry lawful step)
 
 -- an entry has at most one effect
 Allows-once : AtMostOneDecision → (journal : History) (old : State) (entry : Entry) (effect effect' : Effect) → Allows journal old entry effect → Allows journal old entry effect' → effect ≡ effect'
@@ -78,7 +78,7 @@ Allows-once once journal old (entries.Call call) effect effect' a a' =
 -- an entry leads to at most one state
 Step-once : AtMostOneDecision → (journal : History) (old : State) (entry : Entry) (new new' : State) → Step journal old entry new → Step journal old entry new' → new ≡ new'
 Step-once once journal old entry new new' s s' =
-    s.state ∙ ap (λ e. after (length journal.entries) e old) (Allows-once once journal old entry s.effect s'.effect s.allowed s'.allowed) ∙ sym s'.state
+    s.state ∙ ap (λ (e : Effect). after (length journal.entries) e old) (Allows-once once journal old entry s.effect s'.effect s.allowed s'.allowed) ∙ sym s'.state
 
 -- a request has at most one answer, and leads to at most one state
 pub Step-unique : AtMostOneDecision → AtMostOneStep
@@ -93,7 +93,7 @@ Leads-once once journal old new new' [] leads leads' = leads ∙ sym leads'
 Leads-once once journal old new new' (entry ∷ entries) leads leads' =
     let longer = with_entry entry journal in
     let same = Step-once once journal old entry leads.0 leads'.0 leads.1 leads'.1 in
-    Leads-once once longer leads'.0 new new' entries (subst (λ mid. Leads longer mid entries new) same leads.2) leads'.2
+    Leads-once once longer leads'.0 new new' entries (subst (λ (mid : State). Leads longer mid entries new) same leads.2) leads'.2
 
 -- a journal leads to at most one state
 pub Lawful-once : AtMostOneDecision → AtMostOneState

@@ -12,12 +12,14 @@ use Rattle.nfs_xdr.specs.declared.op_result.OpResult.{OpResult}
 pub record Server : Type 0 where
   pub journal : History
   pub stored : Stored
+  -- how many entries the journal can gain without memory
+  pub room : ℕ
 
 -- the server's journal leads to the state that is stored
 abbrev pub IsLawful : Server → Type 0
 IsLawful server = Lawful server.journal (meaning server.stored)
 
--- Two servers have the same journal, and store the same.
+-- Two servers have the same journal, and store the same, no matter how much room they have.
 abbrev pub AreAlike : Server → Server → Type 0
 AreAlike old new = (new.journal ≡ old.journal) × (new.stored ≡ old.stored)
 

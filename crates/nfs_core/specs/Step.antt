@@ -14,8 +14,8 @@ use Rattle.nfs_xdr.specs.declared.op_result.OpResult.{OpResult}
 
 -- In the state old, the rule of the call's request decides this answer and this effect. Calls that are answered
 -- NFS4ERR_RESOURCE, or whose filehandle belongs to no node, are never in the journal.
-pub record IsAnswered (journal : History) (old : State) (call : Call) (effect : Effect)
-    : Type 0 where
+pub record IsAnswered (journal : History) (old : State) (call : Call)
+    (effect : Effect) : Type 0 where
   pub rule : IsRuled call.request.op journal old call.request
       (Some (record { answer = call.answer; effect = effect }))
   pub other : call.answer ≢ resource call.request.op

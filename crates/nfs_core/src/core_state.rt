@@ -40,10 +40,14 @@ impl Model for Core {
 
     ghost Value = { Server };
 
-    ghost view = { λ c. record { journal = c.journal; stored = stored_of c.tables } };
+    ghost view = { λ c. record {
+      journal = c.journal.history;
+      stored = stored_of c.tables;
+      room = c.journal.room;
+    } };
 
-    ghost invariant = { λ c.
-        Lawful c.journal (state_of c.tables) × Agrees c.journal c.tables.owners.owners };
+    ghost invariant = { λ c. Lawful c.journal.history (state_of c.tables)
+        × Agrees c.journal.history c.tables.owners.owners };
 }
 
 impl Core {
@@ -57,16 +61,14 @@ impl Core {
         policy: Policy,
     ) -> Result<Core, CoreError>
         requires { (LEASE_MIN ≤ lease) × (lease ≤ LEASE_MAX) }
-        ensures value { IfOk result (λ core. core ≡ record {
-          journal = record {
-            nodes = tree.now.nodes;
-            epoch = epoch;
-            lease = lease;
-            policy = policy;
-            entries = [];
-          };
-          stored = empty_store tree.now.nodes;
+        ensures journal { IfOk result (λ core. core.journal ≡ record {
+          nodes = tree.now.nodes;
+          epoch = epoch;
+          lease = lease;
+          policy = policy;
+          entries = [];
         }) }
+        ensures stored { IfOk result (λ core. core.stored ≡ empty_store tree.now.nodes) }
         ensures lawful { IfOk result (λ core. IsLawful core) }
     {
         Ok(Core {
@@ -108,7 +110,7 @@ impl Core {
 
     /// The journal of the changes that led to the state.
     pub fn journal(&self) -> &Journal
-        ensures journal { result.now ≡ self.now.journal }
+        ensures journal { result.now.history ≡ self.now.journal }
         ensures lawful { IsLawful self.now }
         ensures safe { IsSafe (meaning self.now.stored) }
     {

@@ -19,11 +19,12 @@ pub(crate) fn effect_of(
     journal: &Journal,
     entry: &Entry,
 ) -> Result<Effect, NotFollowed>
-    requires below { length journal.now.entries < JOURNAL_LIMIT }
-    requires numbers { tables.now.clients.registry.last_confirm ≤ length journal.now.entries }
-    requires states { tables.now.numbers ≤ length journal.now.entries }
-    requires kept { Agrees journal.now tables.now.owners.owners }
-    ensures { HasEffect journal.now (state_of tables.now) entry.now result }
+    requires below { length journal.now.history.entries < JOURNAL_LIMIT }
+    requires numbers { tables.now.clients.registry.last_confirm
+        ≤ length journal.now.history.entries }
+    requires states { tables.now.numbers ≤ length journal.now.history.entries }
+    requires kept { Agrees journal.now.history tables.now.owners.owners }
+    ensures { HasEffect journal.now.history (state_of tables.now) entry.now result }
 {
     match entry {
         Entry::Call(call) => effect_of_call(alloc, tables, journal, call),
@@ -37,11 +38,12 @@ fn effect_of_call(
     journal: &Journal,
     call: &Call,
 ) -> Result<Effect, NotFollowed>
-    requires below { length journal.now.entries < JOURNAL_LIMIT }
-    requires numbers { tables.now.clients.registry.last_confirm ≤ length journal.now.entries }
-    requires states { tables.now.numbers ≤ length journal.now.entries }
-    requires kept { Agrees journal.now tables.now.owners.owners }
-    ensures { HasEffect journal.now (state_of tables.now) (Entry.Call call.now) result }
+    requires below { length journal.now.history.entries < JOURNAL_LIMIT }
+    requires numbers { tables.now.clients.registry.last_confirm
+        ≤ length journal.now.history.entries }
+    requires states { tables.now.numbers ≤ length journal.now.history.entries }
+    requires kept { Agrees journal.now.history tables.now.owners.owners }
+    ensures { HasEffect journal.now.history (state_of tables.now) (Entry.Call call.now) result }
 {
     at_most_one_decision();
     let request = &call.request;
@@ -57,8 +59,8 @@ fn effect_of_call(
 
 // Whether the filehandle, if there is one, is that of a node of the journal's tree.
 fn is_filehandle(journal: &Journal, filehandle: Option<u32>) -> bool
-    ensures { MatchBool result (IsFilehandle journal.now filehandle)
-        (IsFilehandle journal.now filehandle → ⊥) }
+    ensures { MatchBool result (IsFilehandle journal.now.history filehandle)
+        (IsFilehandle journal.now.history filehandle → ⊥) }
 {
     match filehandle {
         Some(node) => node < journal.tree().len(),

@@ -35,11 +35,11 @@ pub fn decide(
     request: &Request,
 ) -> Result<Decision, Shortage>
     requires entry { IsTrue (has_entry request.now.op) }
-    requires node { IsFilehandle journal.now request.now.filehandle }
+    requires node { IsFilehandle journal.now.history request.now.filehandle }
     requires numbers { tables.now.clients.registry.last_confirm < 2 ^ 64 - 1 }
     requires states { tables.now.numbers < 2 ^ 32 - 1 }
-    requires kept { Agrees journal.now tables.now.owners.owners }
-    ensures { Decides (IsRuled request.now.op journal.now (state_of tables.now) request.now)
+    requires kept { Agrees journal.now.history tables.now.owners.owners }
+    ensures { Decides (IsRuled request.now.op journal.now.history (state_of tables.now) request.now)
         (state_of tables.now) request.now.op result }
 {
     match request.op.names() {
@@ -64,9 +64,9 @@ fn decide_plain(
 ) -> Result<Decision, Shortage>
     requires entry { IsTrue (has_entry request.now.op) }
     requires other { IsFalse (is_sequenced request.now.op) }
-    requires node { IsFilehandle journal.now request.now.filehandle }
+    requires node { IsFilehandle journal.now.history request.now.filehandle }
     requires numbers { tables.now.clients.registry.last_confirm < 2 ^ 64 - 1 }
-    ensures { Decides (IsPlain request.now.op journal.now (state_of tables.now) request.now)
+    ensures { Decides (IsPlain request.now.op journal.now.history (state_of tables.now) request.now)
         (state_of tables.now) request.now.op result }
 {
     match &request.op {

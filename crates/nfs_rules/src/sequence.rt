@@ -52,9 +52,9 @@ pub(crate) fn requester_of_stateid<'a>(
     stateid: Stateid,
     seqid: u32,
 ) -> Requester<'a>
-    requires { Agrees journal.now tables.now.owners.owners }
+    requires { Agrees journal.now.history tables.now.owners.owners }
     ensures requester { requester_seen result
-        ≡ requester_of_stateid journal.now (state_of tables.now) stateid seqid }
+        ≡ requester_of_stateid journal.now.history (state_of tables.now) stateid seqid }
     ensures refusal { HasOtherRefusal (requester_seen result) }
 {
     match target_of(tables, journal.epoch(), stateid) {
@@ -84,13 +84,13 @@ pub(crate) fn sequence_of<'a>(
     request: &Request,
     requester: Requester<'a>,
 ) -> Result<Sequence<'a>, AllocError>
-    requires kept { Agrees journal.now tables.now.owners.owners }
+    requires kept { Agrees journal.now.history tables.now.owners.owners }
     requires refusal { HasOtherRefusal (requester_seen requester) }
-    ensures sequence { IfOk result (λ s. IsSequence journal.now (state_of tables.now)
+    ensures sequence { IfOk result (λ s. IsSequence journal.now.history (state_of tables.now)
         (requester_seen requester.entry) request.now (sequence_seen s)) }
     ensures sendable { IfOk result (λ s. IsSendableSequence request.now.op (sequence_seen s)) }
     ensures passage { IfOk result (λ s. HasPassage (state_of tables.now) (sequence_seen s)) }
-    ensures memory { OnErr result (IsReplay journal.now (state_of tables.now)
+    ensures memory { OnErr result (IsReplay journal.now.history (state_of tables.now)
         (requester_seen requester.entry) request.now) }
 {
     let (name, seqid) = match requester {

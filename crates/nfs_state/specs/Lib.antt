@@ -1,5 +1,6 @@
 pub mod Owners
 pub mod State
+pub mod Journal
 pub mod Stored
 pub mod Entries
 pub mod Kept

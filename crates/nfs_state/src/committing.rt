@@ -22,17 +22,17 @@ pub fn commit_entry(
     entry: Entry,
     effect: Effect,
 ) -> Result<u32, Shortage>
-    requires below { length journal.old.entries < JOURNAL_LIMIT }
+    requires below { length journal.old.history.entries < JOURNAL_LIMIT }
     requires fits { Fits entry effect (state_of tables.old) }
-    requires kept { Agrees journal.old tables.old.owners.owners }
-    ensures number { IfOk result (λ n. n ≡ length journal.old.entries) }
-    ensures entry { OnOk result (journal.new ≡ with_entry entry journal.old) }
+    requires kept { Agrees journal.old.history tables.old.owners.owners }
+    ensures number { IfOk result (λ n. n ≡ length journal.old.history.entries) }
+    ensures entry { OnOk result (journal.new.history ≡ with_entry entry journal.old.history) }
     ensures state { OnOk result (state_of tables.new
-        ≡ after (length journal.old.entries) effect (state_of tables.old)) }
-    ensures kept { OnOk result (Agrees journal.new tables.new.owners.owners) }
+        ≡ after (length journal.old.history.entries) effect (state_of tables.old)) }
+    ensures kept { OnOk result (Agrees journal.new.history tables.new.owners.owners) }
     ensures memory { IfErr result (λ e. e ≡ Shortage.Memory) }
-    ensures same { OnErr result
-        ((journal.new ≡ journal.old) × (stored_of tables.new ≡ stored_of tables.old)) }
+    ensures same { OnErr result ((journal.new.history ≡ journal.old.history)
+        × (stored_of tables.new ≡ stored_of tables.old)) }
 {
     journal.entries.reserve(1)?;
     let number = journal.entries.len() as u32;

@@ -24,18 +24,22 @@ pub struct Journal {
 }
 
 impl Model for Journal {
-    ghost use Rattle.std.specs.Prelude.{◌≤◌};
-    ghost use Rattle.nfs_state.specs.State.{History};
+    ghost use Rattle.std.specs.Prelude.{◌≤◌, ◌-◌};
+    ghost use Rattle.std.specs.Vec.{vec_len, vec_capacity};
+    ghost use Rattle.nfs_state.specs.Journal.{RoomyJournal};
     ghost use Rattle.nfs_state.specs.declared.journal.TheConstants.{LEASE_MIN, LEASE_MAX};
 
-    ghost Value = { History };
+    ghost Value = { RoomyJournal };
 
     ghost view = { λ j. record {
-      nodes = j.tree.nodes;
-      epoch = j.epoch;
-      lease = j.lease;
-      policy = j.policy;
-      entries = j.entries.items;
+      history = record {
+        nodes = j.tree.nodes;
+        epoch = j.epoch;
+        lease = j.lease;
+        policy = j.policy;
+        entries = j.entries.items;
+      };
+      room = vec_capacity j.entries - vec_len j.entries;
     } };
 
     ghost invariant = { λ j. (LEASE_MIN ≤ j.lease) × (j.lease ≤ LEASE_MAX) };
@@ -45,7 +49,7 @@ impl Journal {
     /// An empty journal, taking no memory.
     pub fn new(alloc: Global, tree: Tree, lease: u32, epoch: u32, policy: Policy) -> Journal
         requires { (LEASE_MIN ≤ lease) × (lease ≤ LEASE_MAX) }
-        ensures { result ≡ record {
+        ensures { result.history ≡ record {
           nodes = tree.nodes;
           epoch = epoch;
           lease = lease;
@@ -64,28 +68,28 @@ impl Journal {
 
     /// A tree with the nodes of the one that the server was started with.
     pub fn tree(&self) -> &Tree
-        ensures { result.now.nodes ≡ self.now.nodes }
+        ensures { result.now.nodes ≡ self.now.history.nodes }
     {
         &self.tree
     }
 
     /// The policy that the server was started with.
     pub fn policy(&self) -> Policy
-        ensures { result ≡ self.now.policy }
+        ensures { result ≡ self.now.history.policy }
     {
         self.policy
     }
 
     /// The number of the server's run, the upper half of each clientid that it gives out.
     pub fn epoch(&self) -> u32
-        ensures { result ≡ self.now.epoch }
+        ensures { result ≡ self.now.history.epoch }
     {
         self.epoch
     }
 
     /// The lease in seconds, from `LEASE_MIN` to `LEASE_MAX`.
     pub fn lease(&self) -> u32
-        ensures value { result ≡ self.now.lease }
+        ensures value { result ≡ self.now.history.lease }
         ensures range { (LEASE_MIN ≤ result) × (result ≤ LEASE_MAX) }
     {
         self.lease
@@ -93,21 +97,20 @@ impl Journal {
 
     /// The entries in order.
     pub fn entries(&self) -> &[Entry]
-        ensures { result.now ≡ self.now.entries }
+        ensures { result.now ≡ self.now.history.entries }
     {
         self.entries.as_slice()
     }
 
     /// Whether the journal has as many entries as it can have.
     pub fn is_full(&self) -> bool
-        ensures { result ≡ nat_le JOURNAL_LIMIT (length self.now.entries) }
+        ensures { result ≡ nat_le JOURNAL_LIMIT (length self.now.history.entries) }
     {
         self.entries.len() >= JOURNAL_LIMIT
     }
 }
 
-/// Adds the entry at the end, where there has to be room, and returns its number. It takes only the entries because the
-/// contract of a journal says nothing about the room in it.
+/// Adds the entry at the end, where there has to be room, and returns its number.
 pub(crate) fn push_entry(entries: &mut Vec<Entry>, entry: Entry) -> u32
     requires below { length entries.old.items < JOURNAL_LIMIT }
     requires room { vec_len entries.old < vec_capacity entries.old }

@@ -14,7 +14,7 @@ use nfs_xdr::{Answer, Op, OpResult, Opnum};
 /// The own rule of CLOSE, under the current filehandle `node`.
 pub(super) fn rule(tables: &Tables, journal: &Journal, node: u32, args: &Close) -> Ruling
     ensures own { (passage : Passage)
-        → own journal.now (state_of tables.now) args.now node passage (Some result) }
+        → own journal.now.history (state_of tables.now) args.now node passage (Some result) }
     ensures sendable { IsSendable (Op.Close args.now) result.answer }
     ensures numbers { IsWithinLimits result.change (state_of tables.now) }
 {

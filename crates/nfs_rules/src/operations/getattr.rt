@@ -18,9 +18,9 @@ pub(super) fn decide(
     request: &Request,
     mask: &Bitmap,
 ) -> Result<Decision, Shortage>
-    requires node { IsFilehandle journal.now request.now.filehandle }
+    requires node { IsFilehandle journal.now.history request.now.filehandle }
     ensures { Decides (λ d.
-        d ≡ rule journal.now (state_of tables.now) request.now.filehandle mask.now)
+        d ≡ rule journal.now.history (state_of tables.now) request.now.filehandle mask.now)
         (state_of tables.now) (Op.Getattr mask.now) result }
 {
     let answer = attributes(alloc, tables, journal, mask, request.filehandle)?;
@@ -37,9 +37,9 @@ fn attributes(
     mask: &Bitmap,
     filehandle: Option<u32>,
 ) -> Result<Answer<Fattr>, AllocError>
-    requires node { IsFilehandle journal.now filehandle }
+    requires node { IsFilehandle journal.now.history filehandle }
     ensures attributes { IfOk result (λ r.
-        r ≡ attributes journal.now (state_of tables.now) filehandle mask.now) }
+        r ≡ attributes journal.now.history (state_of tables.now) filehandle mask.now) }
     ensures short { IfOk result (λ r. IsShort (OpResult.Getattr r)) }
 {
     let Some(node) = filehandle else {

@@ -47,9 +47,9 @@ pub(super) fn rule(
     args: &Lock,
 ) -> Result<Ruling, Shortage>
     requires states { tables.now.numbers < 2 ^ 32 - 1 }
-    requires kept { Agrees journal.now tables.now.owners.owners }
+    requires kept { Agrees journal.now.history tables.now.owners.owners }
     ensures { (passage : Passage)
-        → Rules (own journal.now (state_of tables.now) args.now node passage)
+        → Rules (own journal.now.history (state_of tables.now) args.now node passage)
         (state_of tables.now) (Op.Lock args.now) result }
 {
     at_most_one_range();
@@ -76,9 +76,9 @@ fn locking_of<'a>(
     node: u32,
     args: &'a Lock,
 ) -> Result<Locking<'a>, Refusal>
-    requires { Agrees journal.now tables.now.owners.owners }
+    requires { Agrees journal.now.history tables.now.owners.owners }
     ensures { locking_or_refusal_seen result
-        ≡ locking_of journal.now (state_of tables.now) node args.now args.now.locker }
+        ≡ locking_of journal.now.history (state_of tables.now) node args.now args.now.locker }
 {
     match &args.locker {
         Locker::New(locker) => {

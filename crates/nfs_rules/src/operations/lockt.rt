@@ -20,8 +20,8 @@ pub(super) fn decide(
     request: &Request,
     args: &Lockt,
 ) -> Result<Decision, Shortage>
-    ensures { Decides (IsRuled journal.now (state_of tables.now) request.now.filehandle args.now)
-        (state_of tables.now) (Op.Lockt args.now) result }
+    ensures { Decides (IsRuled journal.now.history (state_of tables.now) request.now.filehandle
+        args.now) (state_of tables.now) (Op.Lockt args.now) result }
 {
     let answer = match lockt_file(tables, journal, request.filehandle, args) {
         Ok(node) => test(tables, node, args)?,
@@ -41,7 +41,7 @@ fn lockt_file(
     args: &Lockt,
 ) -> Result<u32, Refusal>
     ensures { result
-        ≡ lockt_file journal.now (state_of tables.now) filehandle args.now }
+        ≡ lockt_file journal.now.history (state_of tables.now) filehandle args.now }
 {
     let node = filehandle.ok_or(Refusal::NoFileHandle)?;
     if tables.clients.of(args.owner.client).is_none() {

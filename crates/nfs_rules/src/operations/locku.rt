@@ -23,7 +23,7 @@ pub(super) fn rule(
     args: &Locku,
 ) -> Result<Ruling, Shortage>
     ensures { (passage : Passage)
-        → Rules (own journal.now (state_of tables.now) args.now node passage)
+        → Rules (own journal.now.history (state_of tables.now) args.now node passage)
         (state_of tables.now) (Op.Locku args.now) result }
 {
     at_most_one_range();

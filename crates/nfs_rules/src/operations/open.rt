@@ -37,10 +37,10 @@ pub(super) fn rule(
 ) -> Result<Ruling, Shortage>
     requires states { tables.now.numbers < 2 ^ 32 - 1 }
     requires passage { IsPassage passage (open_owner args.now.owner) (state_of tables.now) }
-    ensures rules { Rules (own journal.now (state_of tables.now) args.now directory passage)
+    ensures rules { Rules (own journal.now.history (state_of tables.now) args.now directory passage)
         (state_of tables.now) (Op.Open args.now) result }
     ensures error { OnErr result
-        (IsOk (opening journal.now (state_of tables.now) directory args.now)) }
+        (IsOk (opening journal.now.history (state_of tables.now) directory args.now)) }
 {
     match find_opening(tables, journal, directory, args) {
         Ok(opening) => grant(alloc, tables, passage, args, opening),
@@ -56,7 +56,7 @@ fn find_opening(
     directory: u32,
     args: &Open,
 ) -> Result<Opening, Refusal>
-    ensures { result ≡ opening journal.now (state_of tables.now) directory args.now }
+    ensures { result ≡ opening journal.now.history (state_of tables.now) directory args.now }
 {
     let name = name_of(&args.claim)?;
     let share = Share::from_numbers(args.access, args.deny).ok_or(Refusal::Inval)?;
@@ -100,7 +100,7 @@ fn wants_new(how: &OpenHow) -> bool
 
 // The node, if it is a file that the OPEN may open.
 fn file_at(journal: &Journal, how: &OpenHow, node: u32) -> Result<u32, Refusal>
-    ensures { result ≡ file_at journal.now how.now node }
+    ensures { result ≡ file_at journal.now.history how.now node }
 {
     if journal.tree().is_directory(node) {
         Err(Refusal::IsDir)
@@ -118,7 +118,7 @@ fn unless_delegated(
     claim: &Claim,
     node: u32,
 ) -> Result<u32, Refusal>
-    ensures { result ≡ unless_delegated journal.now (state_of tables.now) claim.now node }
+    ensures { result ≡ unless_delegated journal.now.history (state_of tables.now) claim.now node }
 {
     let Claim::DelegateCur { stateid, .. } = claim else {
         return Ok(node);

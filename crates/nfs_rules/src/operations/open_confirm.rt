@@ -22,11 +22,12 @@ pub(super) fn rule(
     args: &OpenConfirm,
 ) -> Result<Ruling, AllocError>
     ensures own { IfOk result (λ r. (passage : Passage)
-        → own journal.now (state_of tables.now) args.now node passage (Some r)) }
+        → own journal.now.history (state_of tables.now) args.now node passage (Some r)) }
     ensures sendable { IfOk result (λ r. IsSendable (Op.OpenConfirm args.now) r.answer) }
     ensures numbers { IfOk result (λ r. IsWithinLimits r.change (state_of tables.now)) }
     ensures memory { OnErr result (IsConfirmable (state_of tables.now)
-        (stateids.verdict (record { node = node; also_unconfirmed = true }) journal.now.epoch
+        (stateids.verdict (record { node = node; also_unconfirmed = true })
+        journal.now.history.epoch
         (state_of tables.now) args.now.stateid)) }
 {
     let demand = Demand {

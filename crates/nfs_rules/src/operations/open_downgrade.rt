@@ -15,7 +15,7 @@ use nfs_xdr::{Answer, Op, OpResult, Opnum, Refusal};
 /// The own rule of OPEN_DOWNGRADE, under the current filehandle `node`.
 pub(super) fn rule(tables: &Tables, journal: &Journal, node: u32, args: &OpenDowngrade) -> Ruling
     ensures own { (passage : Passage)
-        → own journal.now (state_of tables.now) args.now node passage (Some result) }
+        → own journal.now.history (state_of tables.now) args.now node passage (Some result) }
     ensures sendable { IsSendable (Op.OpenDowngrade args.now) result.answer }
     ensures numbers { IsWithinLimits result.change (state_of tables.now) }
 {

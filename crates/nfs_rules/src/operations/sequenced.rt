@@ -35,12 +35,13 @@ pub(super) fn decide(
     requires refusal { HasOtherRefusal (requester_seen requester) }
     requires sequenced { IsTrue (is_sequenced request.now.op) }
     requires states { tables.now.numbers < 2 ^ 32 - 1 }
-    requires kept { Agrees journal.now tables.now.owners.owners }
+    requires kept { Agrees journal.now.history tables.now.owners.owners }
     requires owner { IsRequesterOf request.now.op (requester_seen requester) }
-    ensures decides { Decides (IsSequenced journal.now (state_of tables.now)
-        (requester_seen requester.entry) (own_of request.now.op journal.now (state_of tables.now))
+    ensures decides { Decides (IsSequenced journal.now.history (state_of tables.now)
+        (requester_seen requester.entry)
+        (own_of request.now.op journal.now.history (state_of tables.now))
         request.now) (state_of tables.now) request.now.op result }
-    ensures error { OnErr result (IsAdmitted journal.now (state_of tables.now)
+    ensures error { OnErr result (IsAdmitted journal.now.history (state_of tables.now)
         (requester_seen requester.entry) request.now) }
 {
     at_most_one_range();
@@ -79,9 +80,9 @@ fn rule(
 ) -> Result<Ruling, Shortage>
     requires sequenced { IsTrue (is_sequenced op.now) }
     requires states { tables.now.numbers < 2 ^ 32 - 1 }
-    requires kept { Agrees journal.now tables.now.owners.owners }
+    requires kept { Agrees journal.now.history tables.now.owners.owners }
     requires passage { IsPassageOf op.now passage (state_of tables.now) }
-    ensures { Rules (own_of op.now journal.now (state_of tables.now) node passage)
+    ensures { Rules (own_of op.now journal.now.history (state_of tables.now) node passage)
         (state_of tables.now) op.now result }
 {
     match op {

@@ -16,7 +16,7 @@ pub(super) fn decide(
     args: &Setclientid,
 ) -> Result<Decision, Shortage>
     requires { tables.now.clients.registry.last_confirm < 2 ^ 64 - 1 }
-    ensures { Decides (λ d. d ≡ rule journal.now (state_of tables.now) request.now args.now)
+    ensures { Decides (λ d. d ≡ rule journal.now.history (state_of tables.now) request.now args.now)
         (state_of tables.now) (Op.Setclientid args.now) result }
 {
     let has_state = tables.record_has_state(tables.clients.confirmed_of(args.id.as_slice()));

@@ -17,7 +17,7 @@ pub(super) fn decide(
     request: &Request,
     args: &SetclientidConfirm,
 ) -> Result<Decision, Shortage>
-    ensures { Decides (λ d. d ≡ rule journal.now (state_of tables.now) request.now args.now)
+    ensures { Decides (λ d. d ≡ rule journal.now.history (state_of tables.now) request.now args.now)
         (state_of tables.now) (Op.SetclientidConfirm args.now) result }
 {
     let has_state = tables.record_has_state(tables.clients.holder_of(args));

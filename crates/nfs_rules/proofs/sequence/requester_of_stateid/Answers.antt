@@ -12,8 +12,8 @@ returns-in-NoState-clause-requester c =
     let state = state_of c.args.tables.now in
     let id = c.args.stateid in
     c.closer_of.ensures
-    ∙ sym (closer_known c.args.journal.now id c.args.seqid c.args.tables.now.owners.owners c.requires)
-    ∙ ap (requester_of_target c.args.journal.now state id c.args.seqid) (sym (ap target_seen c.in-NoState.is) ∙ c.target_of.ensures ∙ ap (λ e. target_of e state id) c.epoch.ensures)
+    ∙ sym (closer_known c.args.journal.now.history id c.args.seqid c.args.tables.now.owners.owners c.requires)
+    ∙ ap (requester_of_target c.args.journal.now.history state id c.args.seqid) (sym (ap target_seen c.in-NoState.is) ∙ c.target_of.ensures ∙ ap (λ e. target_of e state id) c.epoch.ensures)
 
 pub returns-in-Refused-clause-refusal : goal.returns-in-Refused-clause-refusal
 returns-in-Refused-clause-refusal c =

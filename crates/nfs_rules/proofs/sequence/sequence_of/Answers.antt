@@ -16,13 +16,13 @@ none : (c : goal.After-begin) → owner_of (owner_seen c.in-Owner.name) c.args.t
 none c = sym c.find.ensures ∙ ap option_copied c.in-None.is
 
 pub resume-requires : goal.resume-requires
-resume-requires c = (kept_found c.args.journal.now (owner_seen c.in-Owner.name) c.args.tables.now.owners.owners c.in-Some.owner.now c.requires.kept (sym c.find.ensures ∙ ap option_copied c.in-Some.is)).sendable
+resume-requires c = (kept_found c.args.journal.now.history (owner_seen c.in-Owner.name) c.args.tables.now.owners.owners c.in-Some.owner.now c.requires.kept (sym c.find.ensures ∙ ap option_copied c.in-Some.is)).sendable
 
 pub returns-in-None-clause-sequence : goal.returns-in-None-clause-sequence
 returns-in-None-clause-sequence c =
-    let is_sequence : Requester → Type 0 = λ r. IsSequence c.args.journal.now (state_of c.args.tables.now) (requester_seen r) c.args.request.now (sequence_seen c.begin.result) in
+    let is_sequence : Requester → Type 0 = λ r. IsSequence c.args.journal.now.history (state_of c.args.tables.now) (requester_seen r) c.args.request.now (sequence_seen c.begin.result) in
     subst is_sequence (sym c.in-Owner.is)
-    (unknown_sequence c.args.journal.now (owner_seen c.in-Owner.name) c.args.tables.now.owners.owners c.in-Owner.seqid c.args.request.now (sequence_seen c.begin.result) (none c) c.begin.ensures.sequence)
+    (unknown_sequence c.args.journal.now.history (owner_seen c.in-Owner.name) c.args.tables.now.owners.owners c.in-Owner.seqid c.args.request.now (sequence_seen c.begin.result) (none c) c.begin.ensures.sequence)
 
 pub returns-in-None-clause-passage : goal.returns-in-None-clause-passage
 returns-in-None-clause-passage c =
@@ -30,9 +30,9 @@ returns-in-None-clause-passage c =
 
 pub returns-in-Some-clause-sequence : goal.returns-in-Some-clause-sequence
 returns-in-Some-clause-sequence c =
-    let is_sequence : Requester → Sequence → Type 0 = λ r s. IsSequence c.args.journal.now (state_of c.args.tables.now) (requester_seen r) c.args.request.now (sequence_seen s) in
+    let is_sequence : Requester → Sequence → Type 0 = λ r s. IsSequence c.args.journal.now.history (state_of c.args.tables.now) (requester_seen r) c.args.request.now (sequence_seen s) in
     IfOk-weaker c.resume.result _ _
-    (λ s is. subst (λ r. is_sequence r s) (sym c.in-Owner.is) (known_sequence c.args.journal.now (owner_seen c.in-Owner.name) c.args.tables.now.owners.owners c.in-Some.owner.now c.in-Owner.seqid c.args.request.now (sequence_seen s) c.requires.kept (sym c.find.ensures ∙ ap option_copied c.in-Some.is) is))
+    (λ s is. subst (λ r. is_sequence r s) (sym c.in-Owner.is) (known_sequence c.args.journal.now.history (owner_seen c.in-Owner.name) c.args.tables.now.owners.owners c.in-Some.owner.now c.in-Owner.seqid c.args.request.now (sequence_seen s) c.requires.kept (sym c.find.ensures ∙ ap option_copied c.in-Some.is) is))
     c.resume.ensures.sequence
 
 pub returns-in-Some-clause-passage : goal.returns-in-Some-clause-passage
@@ -43,7 +43,7 @@ returns-in-Some-clause-passage c =
 
 pub returns-in-Some-clause-memory : goal.returns-in-Some-clause-memory
 returns-in-Some-clause-memory c =
-    let is_replay : Requester → Type 0 = λ r. IsReplay c.args.journal.now (state_of c.args.tables.now) (requester_seen r) c.args.request.now in
+    let is_replay : Requester → Type 0 = λ r. IsReplay c.args.journal.now.history (state_of c.args.tables.now) (requester_seen r) c.args.request.now in
     on_err_weaker c.resume.result
-    (λ again. subst is_replay (sym c.in-Owner.is) (known_replay c.args.journal.now (owner_seen c.in-Owner.name) c.args.tables.now.owners.owners c.in-Some.owner.now c.in-Owner.seqid c.args.request.now c.requires.kept (sym c.find.ensures ∙ ap option_copied c.in-Some.is) again))
+    (λ again. subst is_replay (sym c.in-Owner.is) (known_replay c.args.journal.now.history (owner_seen c.in-Owner.name) c.args.tables.now.owners.owners c.in-Some.owner.now c.in-Owner.seqid c.args.request.now c.requires.kept (sym c.find.ensures ∙ ap option_copied c.in-Some.is) again))
     c.resume.ensures.memory

@@ -1,10 +1,9 @@
-use Rattle.std.proofs.Common.{◌≡◌, ◌∙◌, ap, sym, subst}
-use Rattle.nfs_state.specs.Changes.{with_owner_change, with_state_change}
+use Rattle.std.proofs.Common.{◌∙◌, ap, sym, subst}
 use Rattle.nfs_state.specs.Entries.{call_of}
 use Rattle.nfs_state.specs.Kept.{Agrees, owners_after, update_by}
-use Rattle.nfs_state.specs.Room.{HasOwnerPlace, HasUpdateRoom, IsWithinLimits, state_of}
+use Rattle.nfs_state.specs.Room.{HasOwnerPlace, HasUpdateRoom}
 use Rattle.nfs_state.specs.Stored.{Stored, meaning}
-use Rattle.nfs_state.proofs.OwnerRoom.{limits_after, owners_changed, update_room_by}
+use Rattle.nfs_state.proofs.OwnerRoom.{update_room_by}
 use Rattle.nfs_state.proofs.committing.make_changes.Goals as goal
 
 pub commit_owner-requires : goal.commit_owner-requires

@@ -20,12 +20,12 @@ pub returns-in-Err : goal.returns-in-Err
 returns-in-Err c = λ passage.
     let args = c.args.args.now in
     let state = state_of c.args.tables.now in
-    let found : Result Locking Refusal = locking_of c.args.journal.now state c.args.node args args.locker in
+    let found : Result Locking Refusal = locking_of c.args.journal.now.history state c.args.node args args.locker in
     let P : Ruling → Type 0 = λ ruling. IsLock state args found (Some ruling) × IsSendable (ops.Lock args) ruling.answer × IsWithinLimits ruling.change state in
     let Q : Result Locking Refusal → Type 0 = λ v. IsLock state args v (Some (refusal_of c.in-Err.refusal)) in
     subst P (sym c.refusal.ensures) (
       subst Q c.in-Err.ensures refl,
-      refusal_sendable (ops.Lock args) c.in-Err.refusal _ (locking_refusal c.args.journal.now state c.args.node args c.in-Err.refusal c.in-Err.ensures) refl,
+      refusal_sendable (ops.Lock args) c.in-Err.refusal _ (locking_refusal c.args.journal.now.history state c.args.node args c.in-Err.refusal c.in-Err.ensures) refl,
       tt,
     )
 
@@ -35,7 +35,7 @@ returns c = λ passage.
     let state = state_of c.args.tables.now in
     let l = locking_seen c.in-Ok.locking in
     let range = c.in-Some.range in
-    let found : Result Locking Refusal = locking_of c.args.journal.now state c.args.node args args.locker in
+    let found : Result Locking Refusal = locking_of c.args.journal.now.history state c.args.node args args.locker in
     let may : allows l.mode (open_with_number l.open_number (opens_of l.node state.opens)) ≡ true =
     sym (c.allows.ensures ∙ ap (allows l.mode) c.open_numbered-open.ensures) ∙ c.if-not-allows.false in
     let Q : Option Ruling → Result Locking Refusal → Type 0 = λ r v. IsLock state args v r in

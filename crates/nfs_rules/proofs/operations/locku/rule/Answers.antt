@@ -18,7 +18,7 @@ pub returns-in-Err : goal.returns-in-Err
 returns-in-Err c = λ passage.
     let args = c.args.args.now in
     let state = state_of c.args.tables.now in
-    let verdict_of : Result LockAt Refusal = lock_verdict c.args.node c.args.journal.now.epoch state args.stateid in
+    let verdict_of : Result LockAt Refusal = lock_verdict c.args.node c.args.journal.now.history.epoch state args.stateid in
     let is : Err c.in-Err.refusal ≡ verdict_of = c.in-Err.ensures ∙ ap (λ e. lock_verdict c.args.node e state args.stateid) c.epoch.ensures in
     let P : Ruling → Type 0 = λ ruling. IsUnlock state args verdict_of (Some ruling) × IsSendable (ops.Locku args) ruling.answer × IsWithinLimits ruling.change state in
     let Q : Result LockAt Refusal → Type 0 = λ v. IsUnlock state args v (Some (refusal_of c.in-Err.refusal)) in
@@ -33,7 +33,7 @@ returns-in-Some c = λ passage.
     let args = c.args.args.now in
     let state = state_of c.args.tables.now in
     let at = lock_found_seen c.in-Ok.found in
-    let verdict_of : Result LockAt Refusal = lock_verdict c.args.node c.args.journal.now.epoch state args.stateid in
+    let verdict_of : Result LockAt Refusal = lock_verdict c.args.node c.args.journal.now.history.epoch state args.stateid in
     let is : Ok at ≡ verdict_of = c.in-Ok.ensures ∙ ap (λ e. lock_verdict c.args.node e state args.stateid) c.epoch.ensures in
     let P : Option Ruling → Type 0 = λ r. r ≡ unlocking state at (Some c.in-Some.range) in
     let Q : Option Ruling → Type 0 = λ r. IsUnlock state args verdict_of r in

@@ -17,14 +17,14 @@ returns-in-Ok-clause-rules c =
     let state = state_of c.args.tables.now in
     let seen = before_own c.args.passage args.owner state in
     let rules : Option Ruling → Type 0 = λ r. Rules (λ ruling. ruling ≡ r) state (ops.Open args) c.grant.result in
-    let same : Ok c.in-Ok.opening ≡ opening c.args.journal.now seen c.args.directory args =
-    sym c.in-Ok.is ∙ c.find_opening.ensures ∙ sym (opening_same c.args.passage c.args.journal.now state c.args.directory args) in
+    let same : Ok c.in-Ok.opening ≡ opening c.args.journal.now.history seen c.args.directory args =
+    sym c.in-Ok.is ∙ c.find_opening.ensures ∙ sym (opening_same c.args.passage c.args.journal.now.history state c.args.directory args) in
     subst rules (ap (ruling_of seen c.args.passage args.owner) same) c.grant.ensures
 
 pub returns-in-Err-clause-rules : goal.returns-in-Err-clause-rules
 returns-in-Err-clause-rules c =
     let args = c.args.args.now in
-    let journal = c.args.journal.now in
+    let journal = c.args.journal.now.history in
     let state = state_of c.args.tables.now in
     let seen = before_own c.args.passage args.owner state in
     let same : Err c.in-Err.refusal ≡ opening journal seen c.args.directory args =

@@ -14,7 +14,7 @@ use Rattle.nfs_xdr.specs.OpResult.{refusal_of}
 pub returns-in_default-clause-decides : goal.returns-in_default-clause-decides
 returns-in_default-clause-decides c =
     let request = c.args.request.now in
-    let journal = c.args.journal.now in
+    let journal = c.args.journal.now.history in
     let state = state_of c.args.tables.now in
     let refused : Opnum → OpResult = λ o. refusal_of o NoFileHandle in
     without_filehandle (own_of request.op journal state) journal state (requester_seen c.args.requester) request request.filehandle c.refusal.result c.answer_alone.result c.in_default.not-Some (c.refusal.ensures.value ∙ ap refused c.opnum.ensures) c.answer_alone.ensures
@@ -22,7 +22,7 @@ returns-in_default-clause-decides c =
 pub returns-in_err-answer-clause-decides : goal.returns-in_err-answer-clause-decides
 returns-in_err-answer-clause-decides c =
     let request = c.args.request.now in
-    let journal = c.args.journal.now in
+    let journal = c.args.journal.now.history in
     let state = state_of c.args.tables.now in
     let requester = requester_seen c.args.requester in
     let own = own_of request.op journal state in
@@ -31,7 +31,7 @@ returns-in_err-answer-clause-decides c =
 pub returns-in_err-decision_of-in-GoesOn-clause-decides : goal.returns-in_err-decision_of-in-GoesOn-clause-decides
 returns-in_err-decision_of-in-GoesOn-clause-decides c =
     let request = c.args.request.now in
-    let journal = c.args.journal.now in
+    let journal = c.args.journal.now.history in
     let state = state_of c.args.tables.now in
     let requester = requester_seen c.args.requester in
     let own = own_of request.op journal state in
@@ -42,7 +42,7 @@ returns-in_err-decision_of-in-GoesOn-clause-decides c =
 pub returns-in-Answered-clause-decides : goal.returns-in-Answered-clause-decides
 returns-in-Answered-clause-decides c =
     let request = c.args.request.now in
-    let journal = c.args.journal.now in
+    let journal = c.args.journal.now.history in
     let state = state_of c.args.tables.now in
     let found = c.in_ok-answer in
     answered (own_of request.op journal state) journal state (requester_seen c.args.requester) request request.filehandle c.in-Some.node (sequence_seen found.field-0) c.in-Answered.answer c.answer_alone-in-Answered.result c.in-Some.is (ap sequence_seen c.in-Answered.is) found.ensures.sequence found.ensures.sendable c.answer_alone-in-Answered.ensures
@@ -50,7 +50,7 @@ returns-in-Answered-clause-decides c =
 pub returns-in_ok-decision_of-in-GoesOn-clause-decides : goal.returns-in_ok-decision_of-in-GoesOn-clause-decides
 returns-in_ok-decision_of-in-GoesOn-clause-decides c =
     let request = c.args.request.now in
-    let journal = c.args.journal.now in
+    let journal = c.args.journal.now.history in
     let state = state_of c.args.tables.now in
     let found = c.in_ok-answer in
     goes_on journal state (requester_seen c.args.requester) request request.filehandle c.in-Some.node (sequence_seen found.field-0) c.in-GoesOn.passage (owner_seen c.in-GoesOn.name) c.in_ok-ruling-in-GoesOn.ruling c.in_ok-decision_of-in-GoesOn.field-0 c.in-Some.is c.requires.owner (ap sequence_seen c.in-GoesOn.is) found.ensures.sequence found.ensures.passage c.in_ok-ruling-in-GoesOn.ensures
