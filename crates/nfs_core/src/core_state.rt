@@ -15,8 +15,8 @@ use crate::CoreError;
 use crate::laws::lawful_is_safe;
 use nfs_rules::{at_most_one_decision, decide};
 use nfs_state::{
-    Call, JOURNAL_LIMIT, Journal, LEASE_MAX, LEASE_MIN, Moment, Request, Shortage,
-    Tables, copy_of_answer, take_in,
+    Call, JOURNAL_LIMIT, Journal, LEASE_MAX, LEASE_MIN, Moment, Request, Shortage, Tables,
+    copy_of_answer, take_in,
 };
 use nfs_tree::{Policy, Tree};
 use nfs_xdr::{Op, OpResult, Principal, Refusal};

@@ -9,6 +9,6 @@ pub use core_error::CoreError;
 pub use core_state::{Core, at_most_one_step};
 pub use laws::lawful_is_safe;
 pub use nfs_state::{
-    Call, Entry, JOURNAL_LIMIT, Journal, LEASE_MAX, LEASE_MIN, Moment, Request,
-    STATE_LIMIT, StoredFile, limits_of_the_state,
+    Call, Entry, JOURNAL_LIMIT, Journal, LEASE_MAX, LEASE_MIN, Moment, Request, STATE_LIMIT,
+    StoredFile, limits_of_the_state,
 };
