@@ -20,34 +20,26 @@ use Rattle.nfs_owners.specs.Owners.{with_kept, without_owner}
 use Rattle.nfs_owners.specs.Kept.{request_of}
 use Rattle.nfs_state.specs.Owners.{KnownOwner}
 use Rattle.nfs_state.specs.declared.entry.Call.{Call}
+use Rattle.nfs_xdr.specs.Names.{seqid_of}
 use Rattle.nfs_xdr.specs.declared.op.Op.{Op}
 use Rattle.nfs_xdr.specs.declared.op.Op.TheVariants as ops
 
--- The sequence ids in the arguments of a LOCK: that of the stateid's owner, and that of the lock owner. They differ where
--- the LOCK has a new lock owner.
-abbrev pub locker_seqid : Locker → ℕ
-locker_seqid (lockers.New locker) = locker.open_seqid
-locker_seqid (lockers.Known locker) = locker.lock_seqid
-
+-- the sequence id in a LOCK of the lock owner
 abbrev pub lock_owner_seqid : Locker → ℕ
 lock_owner_seqid (lockers.New locker) = locker.lock_seqid
 lock_owner_seqid (lockers.Known locker) = locker.lock_seqid
 
--- the sequence id in the operation's arguments; 0 if it has none
-abbrev pub seqid_of : Op → ℕ
-seqid_of (ops.Open args) = args.seqid
-seqid_of (ops.OpenConfirm args) = args.seqid
-seqid_of (ops.OpenDowngrade args) = args.seqid
-seqid_of (ops.Close args) = args.seqid
-seqid_of (ops.Lock args) = locker_seqid args.locker
-seqid_of (ops.Locku args) = args.seqid
-seqid_of op = 0
+-- nobody keeps an operation that goes by no sequence id
+abbrev pub given_seqid : Option ℕ → ℕ
+given_seqid (Some seqid) = seqid
+given_seqid None = 0
 
--- the sequence id that an owner of this kind keeps of the operation
+-- The sequence id that an owner of this kind keeps of the operation. A LOCK that introduces a lock owner has one for each
+-- kind.
 abbrev pub seqid_for : OwnerKind → Op → ℕ
-seqid_for kinds.Open op = seqid_of op
+seqid_for kinds.Open op = given_seqid (seqid_of op)
 seqid_for kinds.Lock (ops.Lock args) = lock_owner_seqid args.locker
-seqid_for kinds.Lock op = seqid_of op
+seqid_for kinds.Lock op = given_seqid (seqid_of op)
 
 -- the request and the answer, as they are kept for an owner of this kind
 abbrev pub kept_of : OwnerKind → Call → Kept

@@ -1,10 +1,11 @@
 ghost use Rattle.std.specs.Prelude.{◌≡◌, IfOk};
-ghost use Rattle.nfs_state.specs.Kept.{kept_of, lock_owner_seqid, locker_seqid, seqid_for, seqid_of};
+ghost use Rattle.nfs_state.specs.Kept.{given_seqid, kept_of, lock_owner_seqid, seqid_for};
+ghost use Rattle.nfs_xdr.specs.Names.{seqid_of};
 
 use crate::Request;
 use nfs_forms::Locker;
 use nfs_owners::{Kept, KeptRequest, OwnerKind};
-use nfs_xdr::{Op, OpResult};
+use nfs_xdr::{Names, Op, OpResult};
 use std::alloc::AllocError;
 
 /// One event that the journal records.
@@ -54,39 +55,23 @@ pub fn copy_of_answer(answer: &OpResult) -> Result<OpResult, AllocError>
     answer.clone()
 }
 
-/// The sequence id in the operation's arguments, in a LOCK that of the owner which its stateid names; 0 if there is
-/// none.
-pub fn seqid_of(op: &Op) -> u32
-    ensures { result ≡ seqid_of op.now }
-{
-    match op {
-        Op::Open(args) => args.seqid,
-        Op::OpenConfirm(args) => args.seqid,
-        Op::OpenDowngrade(args) => args.seqid,
-        Op::Close(args) => args.seqid,
-        Op::Lock(args) => locker_seqid(&args.locker),
-        Op::Locku(args) => args.seqid,
-        _ => 0,
-    }
-}
-
 // The sequence id that an owner of this kind keeps of the operation.
 fn seqid_for(kind: OwnerKind, op: &Op) -> u32
     ensures { result ≡ seqid_for kind op.now }
 {
     match (kind, op) {
         (OwnerKind::Lock, Op::Lock(args)) => lock_owner_seqid(&args.locker),
-        _ => seqid_of(op),
+        _ => given_seqid(op),
     }
 }
 
-// The sequence id in a LOCK of the owner that its stateid names.
-fn locker_seqid(locker: &Locker) -> u32
-    ensures { result ≡ locker_seqid locker.now }
+// The sequence id by which the operation goes.
+fn given_seqid(op: &Op) -> u32
+    ensures { result ≡ given_seqid (seqid_of op.now) }
 {
-    match locker {
-        Locker::New(locker) => locker.open_seqid,
-        Locker::Known(locker) => locker.lock_seqid,
+    match op.names() {
+        Names::Opener(_, seqid) | Names::Owned(_, seqid) => seqid,
+        Names::Nothing | Names::Client(_) => 0,
     }
 }
 
