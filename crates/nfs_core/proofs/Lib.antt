@@ -1,4 +1,4 @@
-pub mod Following
+pub mod Followed
 pub mod Journals
 pub mod SafeFiles
 pub mod SafeLists
