@@ -1,4 +1,4 @@
-pub mod Followed
+pub mod Entering
 pub mod Journals
 pub mod SafeFiles
 pub mod SafeLists
