@@ -1,4 +1,4 @@
-pub mod Following
+pub mod Entering
 pub mod Journals
 pub mod SafeFiles
 pub mod SafeLists

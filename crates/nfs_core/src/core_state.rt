@@ -1,7 +1,7 @@
 ghost use Rattle.std.specs.Prelude.{◌≡◌, None, ◌≤◌, ◌<◌, [], IfErr, IfOk, OnErr, IsErrOf, IsTrue, length};
 ghost use Rattle.nfs_core.specs.Safe.{IsSafe};
 ghost use Rattle.nfs_core.specs.Server.{Applies, AreAlike, Enters, IsLawful};
-ghost use Rattle.nfs_core.specs.Step.{Allows, HasNoAnswer, HasNoStep};
+ghost use Rattle.nfs_core.specs.Step.{Allows, HasNoAnswer};
 ghost use Rattle.nfs_rules.specs.operations.{IsRuled};
 ghost use Rattle.nfs_state.specs.Entries.{IsFilehandle, IsSendable, entry_of, request_of};
 ghost use Rattle.nfs_state.specs.Room.{Fits};
@@ -11,9 +11,7 @@ ghost use Rattle.nfs_xdr.specs.OpResult.{op_result};
 ghost use Rattle.nfs_xdr.specs.Opnum.{answer_limit};
 
 use crate::CoreError;
-use crate::following::effect_of;
 use crate::laws::lawful_is_safe;
-use crate::not_followed::NotFollowed;
 use nfs_rules::{at_most_one_decision, decide};
 use nfs_state::{
     Call, Effect, Entry, JOURNAL_LIMIT, Journal, LEASE_MAX, LEASE_MIN, Moment,
@@ -142,23 +140,6 @@ impl Core {
         let answer = copy_of_answer(&decision.answer)?;
         let number = self.enter(Entry::Call(Call { request, answer }), decision.effect)?;
         Ok((decision.answer, number))
-    }
-
-    // Follows an entry that is handed in, if it may come next, and returns its number.
-    fn follow(&mut self, entry: Entry) -> Result<u32, NotFollowed>
-        ensures entered { IfOk result (λ n. Enters self.old self.new entry n) }
-        ensures wrong { IsErrOf result NotFollowed.Wrong
-            → HasNoStep self.old.journal (meaning self.old.stored) entry }
-        ensures limit { IsErrOf result NotFollowed.Limit
-            → JOURNAL_LIMIT ≤ length self.old.journal.entries }
-        ensures alike { OnErr result (AreAlike self.old self.new) }
-        ensures lawful { IsLawful self.new }
-    {
-        if self.journal.is_full() {
-            return Err(NotFollowed::Limit);
-        }
-        let effect = effect_of(self.alloc, &self.tables, &self.journal, &entry)?;
-        Ok(self.enter(entry, effect)?)
     }
 
     // Enters an entry that may come next with this effect, and returns its number. Fails for want of memory alone.

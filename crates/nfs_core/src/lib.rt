@@ -3,9 +3,7 @@
 
 mod core_error;
 mod core_state;
-mod following;
 mod laws;
-mod not_followed;
 
 pub use core_error::CoreError;
 pub use core_state::Core;

@@ -2,7 +2,7 @@ use Rattle.std.proofs.Common.{rules, ◌<◌, length, arith, subst, sym}
 use Rattle.nfs_state.specs.Entries.{entry_of}
 use Rattle.nfs_state.specs.Room.{state_of}
 use Rattle.nfs_state.specs.declared.entry.TheConstants.{JOURNAL_LIMIT}
-use Rattle.nfs_core.proofs.Following.{decided_effect, no_answer}
+use Rattle.nfs_core.proofs.Entering.{decided_effect, no_answer}
 use Rattle.nfs_core.proofs.Journals.{Lawful-confirm, Lawful-state, decides_something}
 use Rattle.nfs_core.specs.Server.{Enters}
 use Rattle.nfs_core.proofs.core_state.Core.answer.Goals as goal
