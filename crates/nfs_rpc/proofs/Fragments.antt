@@ -55,15 +55,17 @@ IsRecord-open body f m t a r = (
   body ∷ r.0,
   r.1,
   ap (λ l. body ++ l) r.2 ∙ sym (append_assoc body (concat r.0) r.1),
-  f ++ r.3,
-  r.4,
-  ap (λ l. f ++ l) r.5 ∙ sym (append_assoc f r.3 r.4),
-  (f, r.3, refl, a, r.6),
-  r.7,
+  (
+    f ++ r.3.0,
+    r.3.1,
+    ap (λ l. f ++ l) r.3.2 ∙ sym (append_assoc f r.3.0 r.3.1),
+    (f, r.3.0, refl, a, r.3.3),
+    r.3.4,
+  ),
 )
 
 pub IsRecord-last : (body f : List ℕ) → IsFragment true body f → IsRecord body f
-IsRecord-last body f a = ([], body, refl, [], f, refl, refl, a)
+IsRecord-last body f a = ([], body, refl, ([], f, refl, refl, a))
 
 -- the text begins with a fragment that isn't the last of its record, and the rest of this record follows
 abbrev pub Opened : List ℕ → List ℕ → Type 0
@@ -84,12 +86,12 @@ cases_of (b ∷ bs) body front back m text e o a is =
       o.1 ++ back,
       e ∙ ap (λ l. l ++ back) o.2 ∙ append_assoc o.0 o.1 back,
       o.3,
-      (bs, body, refl, o.1, back, refl, o.4, a),
+      (bs, body, refl, (o.1, back, refl, o.4, a)),
       is ∙ append_assoc b (concat bs) body,
     )
 
 pub IsRecord-cases : (m text : List ℕ) → IsRecord m text → IsFragment true m text ⊎ Opened m text
-IsRecord-cases m text r = cases_of r.0 r.1 r.3 r.4 m text r.5 r.6 r.7 r.2
+IsRecord-cases m text r = cases_of r.0 r.1 r.3.0 r.3.1 m text r.3.2 r.3.3 r.3.4 r.2
 
 -- A record's text begins with a fragment whose body is no longer than the record.
 pub IsRecord-head : (m text : List ℕ) → IsRecord m text
@@ -117,15 +119,15 @@ IsRecord-beyond (b ∷ bs) front back m f t o r e =
 -- Two records at the front of the same text are equal.
 pub IsRecord-same : (m m' f f' t t' : List ℕ) → IsRecord m f → IsRecord m' f' → f ++ t ≡ f' ++ t' → (m ≡ m') × (t ≡ t')
 IsRecord-same m m' f f' t t' r s e =
-    let whole : r.3 ++ (r.4 ++ t) ≡ f' ++ t' = sym (append_assoc r.3 r.4 t) ∙ ap (λ l. l ++ t) (sym r.5) ∙ e in
-    let w = IsRecord-beyond r.0 r.3 (r.4 ++ t) m' f' t' r.6 s whole in
+    let whole : r.3.0 ++ (r.3.1 ++ t) ≡ f' ++ t' = sym (append_assoc r.3.0 r.3.1 t) ∙ ap (λ l. l ++ t) (sym r.3.2) ∙ e in
+    let w = IsRecord-beyond r.0 r.3.0 (r.3.1 ++ t) m' f' t' r.3.3 s whole in
     elim (IsRecord-cases w.0 w.1 w.2) [
       | inl a ↦
-          let same = IsFragment-same true true r.1 w.0 r.4 w.1 t t' r.7 a w.3 in
+          let same = IsFragment-same true true r.1 w.0 r.3.1 w.1 t t' r.3.4 a w.3 in
           (r.2 ∙ ap (λ l. concat r.0 ++ l) same.1 ∙ sym w.4, same.2)
       | inr o ↦
-          let split : r.4 ++ t ≡ o.1 ++ (o.3 ++ t') = w.3 ∙ ap (λ l. l ++ t') o.4 ∙ append_assoc o.1 o.3 t' in
-          let same = IsFragment-same true false r.1 o.0 r.4 o.1 t (o.3 ++ t') r.7 o.5 split in
+          let split : r.3.1 ++ t ≡ o.1 ++ (o.3 ++ t') = w.3 ∙ ap (λ l. l ++ t') o.4 ∙ append_assoc o.1 o.3 t' in
+          let same = IsFragment-same true false r.1 o.0 r.3.1 o.1 t (o.3 ++ t') r.3.4 o.5 split in
           absurd (let no : true ≡ false = same.0 in cc)
     ]
 
@@ -163,6 +165,6 @@ AreOpen-push (b ∷ bs) front body f o a =
 -- one more record at the end
 pub AreRecords-push : (messages : List (List ℕ)) (front m f : List ℕ) → AreRecords messages front → IsRecord m f → length m ≤ RECORD_LIMIT
     → AreRecords (messages ++ m ∷ []) (front ++ f)
-AreRecords-push [] front m f o r fits = (fits, f, [], ap (λ l. l ++ f) o ∙ sym (append-nil f), r, refl)
+AreRecords-push [] front m f o r fits = (fits, (f, [], ap (λ l. l ++ f) o ∙ sym (append-nil f), r, refl))
 AreRecords-push (n ∷ ns) front m f o r fits =
-    (o.0, o.1, o.2 ++ f, ap (λ l. l ++ f) o.3 ∙ append_assoc o.1 o.2 f, o.4, AreRecords-push ns o.2 m f o.5 r fits)
+    (o.0, (o.1.0, o.1.1 ++ f, ap (λ l. l ++ f) o.1.2 ∙ append_assoc o.1.0 o.1.1 f, o.1.3, AreRecords-push ns o.1.1 m f o.1.4 r fits))

@@ -9,14 +9,14 @@ AreRecords-same : (records others : List (List ℕ)) (front ahead rest remainder
 AreRecords-same [] [] front ahead rest remainder a b p q e =
     (refl, ap (λ l. l ++ rest) (sym a) ∙ e ∙ ap (λ l. l ++ remainder) b)
 AreRecords-same [] (m ∷ ms) front ahead rest remainder a b p q e =
-    absurd (p m b.1 (b.2 ++ remainder) (ap (λ l. l ++ rest) (sym a) ∙ e ∙ ap (λ l. l ++ remainder) b.3 ∙ append_assoc b.1 b.2 remainder) b.4 b.0)
+    absurd (p m b.1.0 (b.1.1 ++ remainder) (ap (λ l. l ++ rest) (sym a) ∙ e ∙ ap (λ l. l ++ remainder) b.1.2 ∙ append_assoc b.1.0 b.1.1 remainder) b.1.3 b.0)
 AreRecords-same (m ∷ ms) [] front ahead rest remainder a b p q e =
-    absurd (q m a.1 (a.2 ++ rest) (ap (λ l. l ++ remainder) (sym b) ∙ sym e ∙ ap (λ l. l ++ rest) a.3 ∙ append_assoc a.1 a.2 rest) a.4 a.0)
+    absurd (q m a.1.0 (a.1.1 ++ rest) (ap (λ l. l ++ remainder) (sym b) ∙ sym e ∙ ap (λ l. l ++ rest) a.1.2 ∙ append_assoc a.1.0 a.1.1 rest) a.1.3 a.0)
 AreRecords-same (m ∷ ms) (n ∷ ns) front ahead rest remainder a b p q e =
-    let both : a.1 ++ (a.2 ++ rest) ≡ b.1 ++ (b.2 ++ remainder) =
-    sym (append_assoc a.1 a.2 rest) ∙ ap (λ l. l ++ rest) (sym a.3) ∙ e ∙ ap (λ l. l ++ remainder) b.3 ∙ append_assoc b.1 b.2 remainder in
-    let first = IsRecord-same m n a.1 b.1 (a.2 ++ rest) (b.2 ++ remainder) a.4 b.4 both in
-    let more = AreRecords-same ms ns a.2 b.2 rest remainder a.5 b.5 p q first.1 in
+    let both : a.1.0 ++ (a.1.1 ++ rest) ≡ b.1.0 ++ (b.1.1 ++ remainder) =
+    sym (append_assoc a.1.0 a.1.1 rest) ∙ ap (λ l. l ++ rest) (sym a.1.2) ∙ e ∙ ap (λ l. l ++ remainder) b.1.2 ∙ append_assoc b.1.0 b.1.1 remainder in
+    let first = IsRecord-same m n a.1.0 b.1.0 (a.1.1 ++ rest) (b.1.1 ++ remainder) a.1.3 b.1.3 both in
+    let more = AreRecords-same ms ns a.1.1 b.1.1 rest remainder a.1.4 b.1.4 p q first.1 in
     let same : m ≡ n = first.0 in
     let others : ms ≡ ns = more.0 in
     (cc, more.1)
@@ -29,7 +29,7 @@ AreRecords-append : (records found : List (List ℕ)) (front back : List ℕ)
     → AreRecords records front → AreRecords found back → AreRecords (records ++ found) (front ++ back)
 AreRecords-append [] found front back a b = rw a b
 AreRecords-append (m ∷ ms) found front back a b =
-    (a.0, a.1, a.2 ++ back, ap (λ l. l ++ back) a.3 ∙ append_assoc a.1 a.2 back, a.4, AreRecords-append ms found a.2 back a.5 b)
+    (a.0, (a.1.0, a.1.1 ++ back, ap (λ l. l ++ back) a.1.2 ∙ append_assoc a.1.0 a.1.1 back, a.1.3, AreRecords-append ms found a.1.1 back a.1.4 b))
 
 pub split_goes_on : SplitGoesOn
 split_goes_on text piece records found rest remainder a b = record {

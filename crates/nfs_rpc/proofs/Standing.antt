@@ -72,7 +72,7 @@ at_open text bodies bytes a = (
 
 -- after the last fragment the bytes are a whole record
 pub at_last : (text bodies : List ℕ) → IsAt text bodies (InBody 0 true) → IsRecord bodies text
-at_last text bodies a = (a.0, a.3, a.7, a.1, a.2 ++ a.3, a.4, a.5, fragment_here true a.2 a.3 a.6)
+at_last text bodies a = (a.0, a.3, a.7, (a.1, a.2 ++ a.3, a.4, a.5, fragment_here true a.2 a.3 a.6))
 
 -- What follows from the bytes `back` after open fragments at the front of a text.
 module _ (text front back : List ℕ) (bodies : List (List ℕ)) (whole : text ≡ front ++ back) (o : AreOpen bodies front) where

@@ -62,7 +62,7 @@ ends_unread device rules before = (record { turns = []; last = idle [] }, (befor
 -- each record of a split is within the limit
 within_limit : (found : List (List ℕ)) (front : List ℕ) → AreRecords found front → AllByRecursion (λ message. length message ≤ RECORD_LIMIT) found
 within_limit [] front are = tt
-within_limit (message ∷ found) front are = (are.0, within_limit found are.2 are.5)
+within_limit (message ∷ found) front are = (are.0, within_limit found are.1.1 are.1.4)
 
 -- the records that a piece completes are the ready ones
 found_ready : (old new : Stream) (piece : List ℕ) → old.ready ≡ [] → (takes : TakesPiece old new piece) → new.ready ≡ takes.found
