@@ -42,5 +42,5 @@ decided_effect journal old call decision node decides same =
         other = sendable.not_resource;
         node = node;
       },
-      record { kept = sendable; numbers = decides.2.0; place = decides.2.1 },
+      record { kept = sendable; numbers = decides.2; place = decides.3 },
     )

@@ -1,10 +1,11 @@
-ghost use Rattle.std.specs.Prelude.{◌≡◌, None, ◌≤◌, ◌<◌, [], IfErr, IfOk, OnErr, IsErrOf, IsTrue, length};
+ghost use Rattle.std.specs.Prelude.{◌≡◌, None, ◌≤◌, ◌<◌, [], IfOk, OnErr, IsErrOf, IsTrue, length};
 ghost use Rattle.nfs_core.specs.Safe.{IsSafe};
-ghost use Rattle.nfs_core.specs.Server.{Applies, AreAlike, Enters, IsLawful};
-ghost use Rattle.nfs_core.specs.Step.{Allows, HasNoAnswer};
+ghost use Rattle.nfs_core.specs.Server.{Applies, Enters, IsLawful};
+ghost use Rattle.nfs_core.specs.Step.{HasNoAnswer};
 ghost use Rattle.nfs_rules.specs.operations.{IsRuled};
 ghost use Rattle.nfs_state.specs.Entries.{IsFilehandle, IsSendable, entry_of, request_of};
-ghost use Rattle.nfs_state.specs.Room.{Fits};
+ghost use Rattle.nfs_state.specs.Kept.{Agrees};
+ghost use Rattle.nfs_state.specs.Room.{state_of, stored_of};
 ghost use Rattle.nfs_state.specs.Stored.{empty_store, meaning};
 ghost use Rattle.nfs_xdr.specs.Op.{has_entry, opnum_of};
 ghost use Rattle.nfs_xdr.specs.OpResult.{op_result};
@@ -14,8 +15,8 @@ use crate::CoreError;
 use crate::laws::lawful_is_safe;
 use nfs_rules::{at_most_one_decision, decide};
 use nfs_state::{
-    Call, Effect, Entry, JOURNAL_LIMIT, Journal, LEASE_MAX, LEASE_MIN, Moment,
-    Request, Shortage, Tables, commit_entry, copy_of_answer,
+    Call, Entry, JOURNAL_LIMIT, Journal, LEASE_MAX, LEASE_MIN, Moment, Request, Shortage, Tables,
+    commit_entry, copy_of_answer,
 };
 use nfs_tree::{Policy, Tree};
 use nfs_xdr::{Op, OpResult, Principal, Refusal};
@@ -94,10 +95,12 @@ impl Core {
         ensures form { op_result.Fits result.0 }
         ensures lawful { IsLawful self.new }
     {
+        let tables = &mut self.tables;
+        let journal = &mut self.journal;
         let Ok(request) = Request::of_copy(moment, principal, op, filehandle) else {
             return (op.opnum().refusal(Refusal::Resource), None);
         };
-        match self.answer(request) {
+        match enter(self.alloc, tables, journal, request) {
             Ok((answer, number)) => {
                 answer.fits();
                 (answer, Some(number))
@@ -115,46 +118,50 @@ impl Core {
         lawful_is_safe();
         &self.journal
     }
+}
 
-    // Answers the request by its rule, and enters it in the journal. Returns the answer and the entry's number. Fails
-    // with Limit only if no answer may come next, and with Memory only if no limit would be exceeded.
-    fn answer(&mut self, request: Request) -> Result<(OpResult, u32), Shortage>
-        requires entry { IsTrue (has_entry request.op) }
-        requires node { IsFilehandle self.old.journal request.filehandle }
-        ensures entered { IfOk result (λ r.
-            Enters self.old self.new (entry_of request r.0) r.1) }
-        ensures sendable { IfOk result (λ r. IsSendable request.op r.0) }
-        ensures limit { IsErrOf result Shortage.Limit
-            → HasNoAnswer self.old.journal (meaning self.old.stored) request }
-        ensures memory { IsErrOf result Shortage.Memory
-            → (length self.old.journal.entries < JOURNAL_LIMIT)
-            × (IsRuled request.op self.old.journal (meaning self.old.stored) request None → ⊥) }
-        ensures alike { OnErr result (AreAlike self.old self.new) }
-        ensures lawful { IsLawful self.new }
-    {
-        at_most_one_decision();
-        if self.journal.is_full() {
-            return Err(Shortage::Limit);
-        }
-        let decision = decide(self.alloc, &self.tables, &self.journal, &request)?;
-        let answer = copy_of_answer(&decision.answer)?;
-        let number = self.enter(Entry::Call(Call { request, answer }), decision.effect)?;
-        Ok((decision.answer, number))
+// Answers the request and enters it in the journal. Returns the answer and the entry's number. Fails with Limit only if
+// no answer may come next, and with Memory only if no limit would be exceeded.
+fn enter(
+    alloc: Global,
+    tables: &mut Tables,
+    journal: &mut Journal,
+    request: Request,
+) -> Result<(OpResult, u32), Shortage>
+    requires entry { IsTrue (has_entry request.op) }
+    requires node { IsFilehandle journal.old.history request.filehandle }
+    requires numbers { tables.old.clients.registry.last_confirm ≤ length journal.old.history.entries }
+    requires states { tables.old.numbers ≤ length journal.old.history.entries }
+    requires kept { Agrees journal.old.history tables.old.owners.owners }
+    ensures entered { IfOk result (λ r. Enters
+        (record {
+          journal = journal.old.history;
+          stored = stored_of tables.old;
+          room = journal.old.room;
+        })
+        (record {
+          journal = journal.new.history;
+          stored = stored_of tables.new;
+          room = journal.new.room;
+        })
+        (entry_of request r.0) r.1) }
+    ensures kept { Agrees journal.new.history tables.new.owners.owners }
+    ensures sendable { IfOk result (λ r. IsSendable request.op r.0) }
+    ensures limit { IsErrOf result Shortage.Limit
+        → HasNoAnswer journal.old.history (state_of tables.old) request }
+    ensures memory { IsErrOf result Shortage.Memory
+        → (length journal.old.history.entries < JOURNAL_LIMIT)
+        × (IsRuled request.op journal.old.history (state_of tables.old) request None → ⊥) }
+    ensures same { OnErr result ((journal.new.history ≡ journal.old.history)
+        × (stored_of tables.new ≡ stored_of tables.old)) }
+{
+    at_most_one_decision();
+    if journal.is_full() {
+        return Err(Shortage::Limit);
     }
-
-    // Enters an entry that may come next with this effect, and returns its number. Fails for want of memory alone.
-    fn enter(&mut self, entry: Entry, effect: Effect) -> Result<u32, Shortage>
-        requires below { length self.old.journal.entries < JOURNAL_LIMIT }
-        requires allowed { Allows self.old.journal (meaning self.old.stored) entry effect }
-        requires fits { Fits entry effect (meaning self.old.stored) }
-        ensures entered { IfOk result (λ n. Enters self.old self.new entry n) }
-        ensures memory { IfErr result (λ e. e ≡ Shortage.Memory) }
-        ensures alike { OnErr result (AreAlike self.old self.new) }
-        ensures lawful { IsLawful self.new }
-    {
-        let tables = &mut self.tables;
-        let journal = &mut self.journal;
-        let number = commit_entry(self.alloc, tables, journal, entry, effect)?;
-        Ok(number)
-    }
+    let decision = decide(alloc, tables, journal, &request)?;
+    let answer = copy_of_answer(&decision.answer)?;
+    let entry = Entry::Call(Call { request, answer });
+    let number = commit_entry(alloc, tables, journal, entry, decision.effect)?;
+    Ok((decision.answer, number))
 }
