@@ -44,8 +44,8 @@ texts_go_on continues device rules before after text messages carried (turn ∷ 
 -- no record is at the front of an empty text
 none_begins : IsRest []
 none_begins message front back whole is within =
-    let last = is.6 in
-    omega (arith, ap length whole, length-append front back, ap length is.4, length-append is.2 is.3, ap length last.2, length-append last.0 is.1, last.1.four)
+    let last = is.3.4 in
+    omega (arith, ap length whole, length-append front back, ap length is.3.2, length-append is.3.0 is.3.1, ap length last.2, length-append last.0 is.1, last.1.four)
 
 pub is_one_text : {D S C : Type 0} (continues : SplitGoesOn) (device : Device D) (rules : Rules S C) → IsOneText device rules
 is_one_text continues device rules before after turns are =
