@@ -18,7 +18,7 @@ use Rattle.nfs_owners.specs.declared.kept.Verdict.{Verdict}
 use Rattle.nfs_owners.specs.declared.kept.Verdict.TheVariants as verdicts
 use Rattle.nfs_owners.specs.declared.state_owner.StateOwner.{StateOwner}
 use Rattle.nfs_rules.specs.Newcomers.{Newcomer, Nobody, Known, Unknown, is_next, newcomer_by, newcomer_if, newcomer_in, newcomer_of}
-use Rattle.nfs_rules.specs.Sequences.{Answered, GoesOn, IsDecided, IsOfKnown, IsOfOwner, IsSequence, IsSequenced, IsUnder, Own, Owner, Refused, Requester, Sequence, by_verdict, counts, decision_of, is_ok_status, is_open, kept_with, only, owner_change_of, refusal_to}
+use Rattle.nfs_rules.specs.Sequences.{Answered, GoesOn, IsDecided, IsOfKnown, IsOfOwner, IsSequence, IsSequenced, IsUnder, Own, Owner, Refused, Requester, SequenceStep, by_verdict, counts, decision_of, is_ok_status, is_open, kept_with, only, owner_change_of, refusal_to}
 use Rattle.nfs_rules.specs.declared.decision.Decision.{Decision}
 use Rattle.nfs_rules.specs.declared.passage.Passage.{Passage}
 use Rattle.nfs_rules.specs.declared.passage.Passage.TheVariants as passages
@@ -113,7 +113,7 @@ rules_ready number journal state requester op own ready node passage owner (Some
     as_decided number state d (decision_of passage owner (newcomer_of journal state owner.client op) ruling) is (ready node passage owner ruling of fit h)
 
 decided_ready : (number : ℕ) (journal : History) (state : State) (requester : Requester) (request : Request) (own : Own) → IsOwnReady number journal state requester request.op own
-    → (node : ℕ) (sequence : Sequence) (d : Decision) → IsSequence journal state requester request sequence
+    → (node : ℕ) (sequence : SequenceStep) (d : Decision) → IsSequence journal state requester request sequence
     → IsDecided sequence (λ client. newcomer_of journal state client request.op) (own node) (Some d) → IsReady number state d
 decided_ready number journal state requester request own ready node (Answered answer) d h is =
     as_decided number state d (only answer) is (tt, tt)
@@ -130,7 +130,7 @@ pub sequenced_ready : (number : ℕ) (journal : History) (state : State) (reques
     → (d : Decision) → IsSequenced journal state requester own request (Some d) → IsReady number state d
 sequenced_ready number journal state requester request own ready d h =
     under_ready number state request.op
-    (λ node. (sequence : Sequence) × IsSequence journal state requester request sequence × IsDecided sequence (λ client. newcomer_of journal state client request.op) (own node) (Some d))
+    (λ node. (sequence : SequenceStep) × IsSequence journal state requester request sequence × IsDecided sequence (λ client. newcomer_of journal state client request.op) (own node) (Some d))
     request.filehandle d (λ node k. decided_ready number journal state requester request own ready node k.0 d k.1 k.2) h
 
 -- The lock owner that a request introduces is of the same client as the owner of the request.

@@ -13,9 +13,9 @@ stateid = of (λ p. record { seqid = p.0; client = p.1.0; number = p.1.1 })
     (λ p. refl) (λ s. refl) (u32 and client_id and u32)
 
 -- the seqid that comes after this one at the state's next change: after 2^32 - 1 comes 1 (section 9.1.4)
-abbrev pub next_seqid : ℕ → ℕ
-next_seqid seqid = if seqid == 2 ^ 32 - 1 then 1 else seqid + 1
+abbrev pub seqid_after_change : ℕ → ℕ
+seqid_after_change seqid = if seqid == 2 ^ 32 - 1 then 1 else seqid + 1
 
 -- the stateid after the state's next change
 abbrev pub next_stateid : Stateid → Stateid
-next_stateid s = record s { seqid = next_seqid s.seqid }
+next_stateid s = record s { seqid = seqid_after_change s.seqid }

@@ -2,7 +2,7 @@
 use Rattle.std.specs.Prelude.{ℕ, Bool, ◌&&◌, ◌==◌, nat_lt, not, if◌then◌else◌, List, [], ◌∷◌, ◌++◌, filter, find, map, Option}
 use Rattle.nfs_forms.specs.ClientId.{is_same_client}
 use Rattle.nfs_forms.specs.LockOwner.{is_same_lock_owner}
-use Rattle.nfs_forms.specs.Stateid.{next_seqid, next_stateid}
+use Rattle.nfs_forms.specs.Stateid.{seqid_after_change, next_stateid}
 use Rattle.nfs_forms.specs.declared.client_id.ClientId.{ClientId}
 use Rattle.nfs_forms.specs.declared.lock_owner.LockOwner.{LockOwner}
 use Rattle.nfs_forms.specs.declared.stateid.Stateid.{Stateid}
@@ -76,7 +76,7 @@ first_state first number = record {
 -- the lock state after a LOCK or LOCKU of the bytes of a range
 abbrev pub after_change : Piece → ByteLocks → ByteLocks
 after_change change l = record l {
-  seqid = next_seqid l.seqid;
+  seqid = seqid_after_change l.seqid;
   modes = with_change change l.modes;
 }
 

@@ -10,15 +10,15 @@ use Rattle.nfs_xdr.specs.declared.compound.Compound.{Compound as CompoundArgs}
 use Rattle.nfs_forms.specs.declared.principal.Principal.{Principal}
 use Rattle.nfs_forms.specs.declared.principal.Principal.TheVariants as principals
 use Rattle.nfs_xdr.specs.Compound.{OneCompoundIsEncoded, compound_at, head, request_at}
-use Rattle.nfs_rpc.specs.declared.call.Call.{Call}
-use Rattle.nfs_rpc.specs.declared.call.Call.TheVariants.{Silent, Null, Compound, Answer}
-use Rattle.nfs_rpc.specs.declared.call.Start.{Start}
-use Rattle.nfs_rpc.specs.declared.call.TheConstants.{NFS_PROGRAM, NFS_VERSION, PROC_COMPOUND, PROC_NULL, RPC_VERSION}
+use Rattle.nfs_rpc.specs.declared.rpc_call.RpcCall.{RpcCall}
+use Rattle.nfs_rpc.specs.declared.rpc_call.RpcCall.TheVariants.{Silent, Null, Compound, Answer}
+use Rattle.nfs_rpc.specs.declared.rpc_call.Start.{Start}
+use Rattle.nfs_rpc.specs.declared.rpc_call.TheConstants.{NFS_PROGRAM, NFS_VERSION, PROC_COMPOUND, PROC_NULL, RPC_VERSION}
 use Rattle.nfs_rpc.specs.declared.credential.TheConstants.{AUTH_NONE, AUTH_SYS}
 use Rattle.nfs_rpc.specs.declared.reply.Reply.TheVariants.{RpcMismatch, AuthError, ProcUnavail, SystemError}
 use Rattle.nfs_rpc.specs.AuthSys.{AuthSys, auth_sys}
 use Rattle.nfs_rpc.specs.Credential.{IsOf, OpaqueAuth, principal_of, user_of}
-use Rattle.nfs_rpc.specs.Call.{Body, CallHeader, CallsFor, First, HasAnotherProcedure, HasAnotherProgram, HasAnotherRpc, HasAnotherVersion, HasCompound, HasGarbage, HasHeader, HasNoHeader, HasNoPrincipal, HasNull, IsCall, OneCall, OrSystemError, body, header, start}
+use Rattle.nfs_rpc.specs.RpcCall.{Body, CallHeader, CallsFor, First, HasAnotherProcedure, HasAnotherProgram, HasAnotherRpc, HasAnotherVersion, HasCompound, HasGarbage, HasHeader, HasNoHeader, HasNoPrincipal, HasNull, IsCall, OneCall, OrSystemError, body, header, start}
 use Rattle.nfs_rpc.specs.ReadingCalls.{call_of, compound_or_garbage, header_call, header_of, procedure_call, read_or, some_or, start_call}
 
 -- what the bytes encode is read
@@ -74,10 +74,10 @@ no_header : (message : List ℕ) (e : WireError) → header.at message ≡ Err e
 no_header = lacks header.layout header.at header.reads
 
 -- The rules in their order: those from the procedure on, and those from the program on.
-abbrev ProcedureRules : List ℕ → List (Call → Type 0)
+abbrev ProcedureRules : List ℕ → List (RpcCall → Type 0)
 ProcedureRules message = HasNull message ∷ HasAnotherProcedure message ∷ HasCompound message ∷ HasGarbage message ∷ []
 
-abbrev ProgramRules : List ℕ → List (Call → Type 0)
+abbrev ProgramRules : List ℕ → List (RpcCall → Type 0)
 ProgramRules message = HasAnotherProgram message ∷ HasAnotherVersion message ∷ ProcedureRules message
 
 -- The header of a record was read: a start and a body. `beyond` are the bytes after it.
@@ -184,7 +184,7 @@ pub calls_for : OneCompoundIsEncoded → (message : List ℕ) → CallsFor messa
 calls_for law message = start_case law message (start.at message) refl
 
 -- A call that was read is the call of the record, also where SYSTEM_ERR answers a COMPOUND for which memory ran out.
-pub call_stands : OneCompoundIsEncoded → (message : List ℕ) (call : Call) → OrSystemError (λ c. c ≡ call_of message) call → IsCall message call
+pub call_stands : OneCompoundIsEncoded → (message : List ℕ) (call : RpcCall) → OrSystemError (λ c. c ≡ call_of message) call → IsCall message call
 call_stands law message call (inl e) = inl (subst (CallsFor message) (sym e) (calls_for law message))
 call_stands law message call (inr refused) =
     inr (refused.0, refused.1, refused.2, subst (CallsFor message) (sym refused.3) (calls_for law message), refused.4)
@@ -204,14 +204,14 @@ refused_compound xid principal bytes ok =
     inr (xid, principal, found.0, ap (compound_or_garbage xid principal) (sym found.1), refl)
 
 -- Each rule gives at most one call, and so does the first rule that applies.
-abbrev Single : (Call → Type 0) → Type 0
-Single rule = (a b : Call) → rule a → rule b → a ≡ b
+abbrev Single : (RpcCall → Type 0) → Type 0
+Single rule = (a b : RpcCall) → rule a → rule b → a ≡ b
 
-abbrev AllSingle : List (Call → Type 0) → Type 0
+abbrev AllSingle : List (RpcCall → Type 0) → Type 0
 AllSingle [] = Unit {0}
 AllSingle (rule ∷ rules) = Single rule × AllSingle rules
 
-first_single : (rules : List (Call → Type 0)) → AllSingle rules → (a b : Call) → First rules a → First rules b → a ≡ b
+first_single : (rules : List (RpcCall → Type 0)) → AllSingle rules → (a b : RpcCall) → First rules a → First rules b → a ≡ b
 first_single [] single a b x y = absurd x
 first_single (rule ∷ rules) single a b (inl x) (inl y) = single.0 a b x y
 first_single (rule ∷ rules) single a b (inl x) (inr y) = absurd (y.0 a x)
@@ -223,7 +223,7 @@ single_start message a b x y =
     let same : (x.0, x.1) ≡ (y.0, y.1) = ok_is (x.0, x.1) (y.0, y.1) (sym (reads_there start message x.0 x.1 x.2) ∙ reads_there start message y.0 y.1 y.2) in
     x.4 ∙ ap (λ (s : Start × List ℕ). Answer s.0.xid RpcMismatch) same ∙ sym y.4
 
-single_header : (message : List ℕ) (Is : Call → CallHeader → List ℕ → Type 0) → ((h : CallHeader) (rest : List ℕ) (a b : Call) → Is a h rest → Is b h rest → a ≡ b) → Single (λ call. HasHeader (Is call) message)
+single_header : (message : List ℕ) (Is : RpcCall → CallHeader → List ℕ → Type 0) → ((h : CallHeader) (rest : List ℕ) (a b : RpcCall) → Is a h rest → Is b h rest → a ≡ b) → Single (λ call. HasHeader (Is call) message)
 single_header message Is single a b x y =
     single x.0 x.1 a b x.3 (the_header (Is b) message x.0 x.1 (reads_there header message x.0 x.1 x.2) y)
 

@@ -8,18 +8,18 @@ use Rattle.xdr.specs.Layout.{Opaque}
 use Rattle.xdr.specs.Reading.{Read, Reads, Answers, ◌>>=◌}
 use Rattle.xdr.specs.Writing.{written_number, written_opaque}
 use Rattle.xdr.specs.laws.Reads.{ok_is}
-use Rattle.nfs_rpc.specs.declared.call.Header.{Header}
-use Rattle.nfs_rpc.specs.declared.call.Start.{Start}
+use Rattle.nfs_rpc.specs.declared.rpc_call.Header.{Header}
+use Rattle.nfs_rpc.specs.declared.rpc_call.Start.{Start}
 use Rattle.nfs_rpc.specs.declared.credential.TheConstants.{BODY_LIMIT}
 use Rattle.nfs_rpc.specs.declared.reply.Reply.TheVariants as replies
 use Rattle.nfs_rpc.specs.Credential.{OpaqueAuth, opaque_auth}
 use Rattle.nfs_xdr.specs.declared.compound.Compound.{Compound}
-use Rattle.nfs_xdr.specs.declared.compound.Request.{Request}
-use Rattle.nfs_xdr.specs.declared.compound.Request.TheVariants.{MinorVersion, TooMany, Operations}
+use Rattle.nfs_xdr.specs.declared.compound.CompoundRequest.{CompoundRequest}
+use Rattle.nfs_xdr.specs.declared.compound.CompoundRequest.TheVariants.{MinorVersion, TooMany, Operations}
 use Rattle.nfs_xdr.specs.declared.arg_op.ArgOp.{ArgOp}
 use Rattle.nfs_xdr.specs.Compound.{HoldOperations, IsRequest, IsCompound}
 use Rattle.nfs_xdr.specs.ArgOp.{ends_list}
-use Rattle.nfs_rpc.specs.Call.{Body, HasFewOperations, IsWithinLimits, body, start}
+use Rattle.nfs_rpc.specs.RpcCall.{Body, HasFewOperations, IsWithinLimits, body, start}
 use Rattle.nfs_rpc.specs.ReadingCalls.{header_at, header_of}
 use Rattle.nfs_rpc.specs.declared.reply.TheConstants.{ACCEPTED_LEN, SHORT_REPLY_LEN}
 use Rattle.nfs_rpc.specs.Reply.{written_accepted, written_reply}
@@ -34,7 +34,7 @@ few_held (suc count) bytes [] held = absurd held
 few_held (suc count) bytes (op ∷ ops) held =
     let rest : length ops ≤ count = held_rest count held.0 ops (ends_list op) (λ others. few_held count held.0 others) held.2 in omega arith
 
-few_asked : (minor count : ℕ) (bytes : List ℕ) (request : Request) → IsRequest minor count bytes request → HasFewOperations request
+few_asked : (minor count : ℕ) (bytes : List ℕ) (request : CompoundRequest) → IsRequest minor count bytes request → HasFewOperations request
 few_asked minor count bytes (MinorVersion other) is = tt
 few_asked minor count bytes (TooMany many) is = tt
 few_asked minor count bytes (Operations ops) is = let few = few_held count bytes ops is.2 in omega (arith, is.1, few)

@@ -3,6 +3,6 @@ pub mod Keeping
 pub mod AuthSys
 pub mod Credential
 pub mod Reply
-pub mod Call
+pub mod RpcCall
 pub mod ReadingCalls
 pub mod RecordError

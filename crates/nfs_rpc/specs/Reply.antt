@@ -1,7 +1,7 @@
 -- RPC replies (RFC 5531, section 9).
 use Rattle.std.specs.Prelude.{ℕ, ◌+◌, ◌^◌, List, [], ◌++◌, length}
 use Rattle.std.proofs.Common.{refl}
-use Rattle.nfs_rpc.specs.declared.call.TheConstants.{NFS_VERSION, RPC_VERSION}
+use Rattle.nfs_rpc.specs.declared.rpc_call.TheConstants.{NFS_VERSION, RPC_VERSION}
 use Rattle.nfs_rpc.specs.declared.credential.TheConstants.{AUTH_NONE}
 use Rattle.nfs_rpc.specs.declared.reply.CompoundReply.{CompoundReply}
 use Rattle.nfs_rpc.specs.declared.reply.Reply.{Reply}

@@ -2,7 +2,7 @@
 #![tactic(auto)]
 
 mod auth_sys;
-mod call;
+mod rpc_call;
 mod credential;
 mod numbers;
 mod place;
@@ -11,8 +11,8 @@ mod reply;
 mod unfinished;
 
 pub use auth_sys::{GID_LIMIT, MACHINE_NAME_LIMIT};
-pub use call::{
-    Call, MESSAGE_CALL, NFS_PROGRAM, NFS_VERSION, PROC_COMPOUND, PROC_NULL, RPC_VERSION, one_call,
+pub use rpc_call::{
+    RpcCall, MESSAGE_CALL, NFS_PROGRAM, NFS_VERSION, PROC_COMPOUND, PROC_NULL, RPC_VERSION, one_call,
     read_call,
 };
 pub use credential::{AUTH_NONE, AUTH_SYS, BODY_LIMIT};

@@ -1,7 +1,7 @@
 ghost use Rattle.std.specs.Prelude.{◌≡◌, ◌^◌};
 
 use crate::auth_sys::{GID_LIMIT, MACHINE_NAME_LIMIT};
-use crate::call::{MESSAGE_CALL, NFS_PROGRAM, NFS_VERSION, PROC_COMPOUND, PROC_NULL, RPC_VERSION};
+use crate::rpc_call::{MESSAGE_CALL, NFS_PROGRAM, NFS_VERSION, PROC_COMPOUND, PROC_NULL, RPC_VERSION};
 use crate::credential::{AUTH_NONE, AUTH_SYS, BODY_LIMIT};
 use crate::records::{HEADER_LEN, LAST_FRAGMENT, RECORD_LIMIT};
 use crate::reply::{

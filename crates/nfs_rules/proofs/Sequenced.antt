@@ -40,13 +40,13 @@ use Rattle.nfs_state.specs.declared.request.Request.{Request}
 use Rattle.nfs_rules.specs.declared.ruling.Ruling.{Ruling}
 use Rattle.nfs_state.specs.declared.shortage.Shortage.{Shortage}
 use Rattle.nfs_state.specs.declared.shortage.Shortage.TheVariants.{Limit, Memory}
-use Rattle.nfs_rules.specs.Deciding.{Decides, HasPassage, IsReplay, IsRequesterOf, IsReplayOf, IsSendableSequence, Rules, IsPassage}
+use Rattle.nfs_rules.specs.Deciding.{Decides, HasPassage, IsReplay, IsRequesterOf, IsReplayOf, IsSendableSequence, ByOwnRule, IsPassage}
 use Rattle.nfs_state.specs.Entries.{IsSendable}
 use Rattle.nfs_rules.specs.operations.{own_of}
 use Rattle.nfs_rules.specs.operations.Open.{has_open_place, opening, ruling_of}
 use Rattle.nfs_state.specs.Owners.{KnownOwner, owner_of}
 use Rattle.nfs_state.specs.Room.{HasOwnerPlace, IsNewcomer, is_known}
-use Rattle.nfs_rules.specs.Sequences.{Answered, GoesOn, IsDecided, IsJudged, IsOfKnown, IsOfOwner, IsSequence, Own, Owner, Refused, Requester, Sequence, counts, decision_of, is_ok_status, is_open, kept_with, only, owner_change_of}
+use Rattle.nfs_rules.specs.Sequences.{Answered, GoesOn, IsDecided, IsJudged, IsOfKnown, IsOfOwner, IsSequence, Own, Owner, Refused, Requester, SequenceStep, counts, decision_of, is_ok_status, is_open, kept_with, only, owner_change_of}
 use Rattle.nfs_state.specs.Kept.{kept_for}
 use Rattle.nfs_state.specs.State.{State, History}
 use Rattle.nfs_forms.specs.declared.client_id.ClientId.{ClientId}
@@ -67,9 +67,9 @@ use Rattle.nfs_xdr.specs.OpResult.{refusal_of, status_of}
 use Rattle.nfs_rules.proofs.Sequencing.{refusal_sendable}
 
 -- the own rule of an operation that is known to be this one
-pub rules_as : (op op' : Op) (journal : History) (state : State) (node : ℕ) (passage : Passage) (ruling : Ruling) → op ≡ op' → Rules (own_of op' journal state node passage) state op' (Ok ruling) → Rules (own_of op journal state node passage) state op (Ok ruling)
+pub rules_as : (op op' : Op) (journal : History) (state : State) (node : ℕ) (passage : Passage) (ruling : Ruling) → op ≡ op' → ByOwnRule (own_of op' journal state node passage) state op' (Ok ruling) → ByOwnRule (own_of op journal state node passage) state op (Ok ruling)
 rules_as op op' journal state node passage ruling same rules =
-    let P : Op → Type 0 = λ o. Rules (own_of o journal state node passage) state o (Ok ruling) in
+    let P : Op → Type 0 = λ o. ByOwnRule (own_of o journal state node passage) state o (Ok ruling) in
     subst P (sym same) rules
 
 -- without a current filehandle the operation is refused
@@ -82,12 +82,12 @@ without_filehandle own journal state requester request None answer decision none
     subst P (sym made) (ap with_answer is, sendable, tt, tt)
 
 -- a request that is answered without the operation's own rule
-pub answered : (own : Own) (journal : History) (state : State) (requester : Requester) (request : Request) (filehandle : Option ℕ) (node : ℕ) (sequence : Sequence) (answer : OpResult) (decision : Decision) → filehandle ≡ Some node → sequence ≡ Answered answer → IsSequence journal state requester request sequence → IsSendableSequence request.op sequence → decision ≡ only answer → Decides (IsSequencedUnder journal state requester own filehandle request) state request.op (Ok decision)
+pub answered : (own : Own) (journal : History) (state : State) (requester : Requester) (request : Request) (filehandle : Option ℕ) (node : ℕ) (sequence : SequenceStep) (answer : OpResult) (decision : Decision) → filehandle ≡ Some node → sequence ≡ Answered answer → IsSequence journal state requester request sequence → IsSendableSequence request.op sequence → decision ≡ only answer → Decides (IsSequencedUnder journal state requester own filehandle request) state request.op (Ok decision)
 answered own journal state requester request None node sequence answer decision has is sequenced sendable made = absurd cc
 answered own journal state requester request (Some at) node sequence answer decision has is sequenced sendable made =
     let P : Decision → Type 0 = λ d. Decides (IsSequencedUnder journal state requester own (Some at) request) state request.op (Ok d) in
-    let Q : Sequence → Type 0 = λ s. IsSequence journal state requester request s in
-    let S : Sequence → Type 0 = λ s. IsSendableSequence request.op s in
+    let Q : SequenceStep → Type 0 = λ s. IsSequence journal state requester request s in
+    let S : SequenceStep → Type 0 = λ s. IsSendableSequence request.op s in
     subst P (sym made) ((Answered answer, subst Q is sequenced, refl), subst S is sendable, tt, tt)
 
 judged_goes_on : (kept : Kept) (name owner : StateOwner) (seqid : ℕ) (request : Request) → IsJudged kept name seqid request (GoesOn passages.Begins owner) → ⊥
@@ -357,14 +357,14 @@ owner_place journal state requester request node passages.Restarts name ruling s
     restarts_place (is_ok_status (status_of ruling.answer)) name state kind known
 
 -- what is decided by the operation's own rule
-pub goes_on : (journal : History) (state : State) (requester : Requester) (request : Request) (filehandle : Option ℕ) (node : ℕ) (sequence : Sequence) (passage : Passage) (name : StateOwner) (ruling : Ruling) (decision : Decision) → filehandle ≡ Some node → IsRequesterOf request.op requester → sequence ≡ GoesOn passage name → IsSequence journal state requester request sequence → HasPassage state sequence → Rules (own_of request.op journal state node passage) state request.op (Ok ruling) → decision ≡ decision_of passage name (newcomer_of journal state name.client request.op) ruling → Decides (IsSequencedUnder journal state requester (own_of request.op journal state) filehandle request) state request.op (Ok decision)
+pub goes_on : (journal : History) (state : State) (requester : Requester) (request : Request) (filehandle : Option ℕ) (node : ℕ) (sequence : SequenceStep) (passage : Passage) (name : StateOwner) (ruling : Ruling) (decision : Decision) → filehandle ≡ Some node → IsRequesterOf request.op requester → sequence ≡ GoesOn passage name → IsSequence journal state requester request sequence → HasPassage state sequence → ByOwnRule (own_of request.op journal state node passage) state request.op (Ok ruling) → decision ≡ decision_of passage name (newcomer_of journal state name.client request.op) ruling → Decides (IsSequencedUnder journal state requester (own_of request.op journal state) filehandle request) state request.op (Ok decision)
 goes_on journal state requester request filehandle node sequence passage name ruling decision has asked is sequenced passes ruled made =
     let own = own_of request.op journal state in
     let newcomer = newcomer_of journal state name.client request.op in
     let P : Decision → Type 0 = λ d. Decides (IsSequencedUnder journal state requester own filehandle request) state request.op (Ok d) in
     let F : Option ℕ → Type 0 = λ f. Decides (IsSequencedUnder journal state requester own f request) state request.op (Ok (decision_of passage name newcomer ruling)) in
-    let Q : Sequence → Type 0 = λ s. IsSequence journal state requester request s in
-    let H : Sequence → Type 0 = λ s. HasPassage state s in
+    let Q : SequenceStep → Type 0 = λ s. IsSequence journal state requester request s in
+    let H : SequenceStep → Type 0 = λ s. HasPassage state s in
     let on : IsSequence journal state requester request (GoesOn passage name) = subst Q is sequenced in
     subst P (sym made) (subst F (sym has) (
       (GoesOn passage name, on, (Some ruling, ruled.0, refl)),
@@ -383,11 +383,11 @@ own_once laws (ops.Locku args) journal state = unlocks_once laws journal state a
 own_once laws op journal state = λ n p r u x y. absurd x
 
 -- where the own rule gives a ruling, the limits leave room
-pub ruled_has_room : LockLaws → (journal : History) (state : State) (requester : Requester) (request : Request) (filehandle : Option ℕ) (node : ℕ) (sequence : Sequence) (passage : Passage) (name : StateOwner) (ruling : Ruling) → filehandle ≡ Some node → sequence ≡ GoesOn passage name → IsSequence journal state requester request sequence → own_of request.op journal state node passage (Some ruling) → IsSequencedUnder journal state requester (own_of request.op journal state) filehandle request None → ⊥
+pub ruled_has_room : LockLaws → (journal : History) (state : State) (requester : Requester) (request : Request) (filehandle : Option ℕ) (node : ℕ) (sequence : SequenceStep) (passage : Passage) (name : StateOwner) (ruling : Ruling) → filehandle ≡ Some node → sequence ≡ GoesOn passage name → IsSequence journal state requester request sequence → own_of request.op journal state node passage (Some ruling) → IsSequencedUnder journal state requester (own_of request.op journal state) filehandle request None → ⊥
 ruled_has_room laws journal state requester request filehandle node sequence passage name ruling has is sequenced ruled none =
     let own = own_of request.op journal state in
     let decision = decision_of passage name (newcomer_of journal state name.client request.op) ruling in
-    let Q : Sequence → Type 0 = λ s. IsSequence journal state requester request s in
+    let Q : SequenceStep → Type 0 = λ s. IsSequence journal state requester request s in
     let F : Option ℕ → Type 0 = λ f. IsSequencedUnder journal state requester own f request (Some decision) in
     let decided : IsSequencedUnder journal state requester own filehandle request (Some decision) =
     subst F (sym has) (GoesOn passage name, subst Q is sequenced, (Some ruling, ruled, refl)) in
@@ -421,7 +421,7 @@ pub replay_stays : (journal : History) (state : State) (requester : Requester) (
 replay_stays journal state (Refused refusal) request replay passage owner is = absurd replay
 replay_stays journal state (Owner name seqid) request replay passage owner is = owner_stays journal (owner_of name state.owners) name seqid request replay passage owner is
 
-no_decision : (s : Sequence) (node : ℕ) (newcomer : ClientId → Newcomer) (own : Own) → ((passage : Passage) (name : StateOwner) → s ≡ GoesOn passage name → ⊥) → IsDecided s newcomer (own node) None → ⊥
+no_decision : (s : SequenceStep) (node : ℕ) (newcomer : ClientId → Newcomer) (own : Own) → ((passage : Passage) (name : StateOwner) → s ≡ GoesOn passage name → ⊥) → IsDecided s newcomer (own node) None → ⊥
 no_decision (Answered answer) node newcomer own stays none = absurd cc
 no_decision (GoesOn passage name) node newcomer own stays none = stays passage name refl
 
@@ -429,26 +429,26 @@ no_decision (GoesOn passage name) node newcomer own stays none = stays passage n
 pub answered_has_room : (own : Own) (journal : History) (state : State) (requester : Requester) (request : Request) (filehandle : Option ℕ) (node : ℕ) → filehandle ≡ Some node → IsReplay journal state requester request → IsSequencedUnder journal state requester own filehandle request None → ⊥
 answered_has_room own journal state requester request None node has replay none = absurd cc
 answered_has_room own journal state requester request (Some at) node has replay none =
-    let Q : Sequence → Type 0 = λ s. IsSequence journal state requester request s in
+    let Q : SequenceStep → Type 0 = λ s. IsSequence journal state requester request s in
     no_decision none.0 at (λ client. newcomer_of journal state client request.op) own (λ passage name is. replay_stays journal state requester request replay passage name (subst Q is none.1)) none.2
 
 -- what one relation of an own rule says, another one says too
-pub rules_onto : (P Q : Option Ruling → Type 0) (state : State) (op : Op) (result : Result Ruling Shortage) → ((r : Option Ruling) → P r → Q r) → (Q None → P None) → Rules P state op result → Rules Q state op result
+pub rules_onto : (P Q : Option Ruling → Type 0) (state : State) (op : Op) (result : Result Ruling Shortage) → ((r : Option Ruling) → P r → Q r) → (Q None → P None) → ByOwnRule P state op result → ByOwnRule Q state op result
 rules_onto P Q state op (Ok ruling) onto back h = (onto (Some ruling) h.0, h.1, h.2)
 rules_onto P Q state op (Err Limit) onto back h = onto None h
 rules_onto P Q state op (Err Memory) onto back h = λ q. h (back q)
 
 -- the rule of an operation that is known to be this one
-pub rules_of : (op op' : Op) (journal : History) (state : State) (node : ℕ) (passage : Passage) (result : Result Ruling Shortage) → op ≡ op' → Rules (own_of op' journal state node passage) state op' result → Rules (own_of op journal state node passage) state op result
+pub rules_of : (op op' : Op) (journal : History) (state : State) (node : ℕ) (passage : Passage) (result : Result Ruling Shortage) → op ≡ op' → ByOwnRule (own_of op' journal state node passage) state op' result → ByOwnRule (own_of op journal state node passage) state op result
 rules_of op op' journal state node passage result same rules =
-    let P : Op → Type 0 = λ o. Rules (own_of o journal state node passage) state o result in
+    let P : Op → Type 0 = λ o. ByOwnRule (own_of o journal state node passage) state o result in
     subst P (sym same) rules
 
 -- A LOCK that meets another owner's lock, where the report of it isn't made.
 pub not_reported : ((locks : List ByteLocks) (owner : LockOwner) (range : Range) (mode : Mode) (a b : Option Report) → IsReport locks owner range mode a → IsReport locks owner range mode b → a ≡ b) → (state : State) (locking : Locking) (range : Range) (report : Report) (op : Op) (shortage : Shortage)
     → IsReport (locks_of locking.node state.locks) locking.owner range locking.mode (Some report)
     → (IsErrOf {T = LockDenied} (Err shortage) Limit → can_be_written report ≡ false) → (IsErrOf {T = LockDenied} (Err shortage) Memory → can_be_written report ≡ true)
-    → Rules (IsAllowed true state locking range) state op (Err shortage)
+    → ByOwnRule (IsAllowed true state locking range) state op (Err shortage)
 not_reported one_report state locking range report op Limit met limit memory =
     (Some report, met, sym (cond-false (can_be_written report) (Some (record { answer = results.Lock (Denied (denied_by report)); change = changes.Nothing })) None (limit refl)))
 not_reported one_report state locking range report op Memory met limit memory = λ none.

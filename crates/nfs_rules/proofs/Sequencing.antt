@@ -13,7 +13,7 @@ use Rattle.nfs_state.specs.Room.{is_known}
 use Rattle.nfs_forms.specs.declared.locker.NewLocker.{NewLocker}
 use Rattle.nfs_owners.specs.Kept.{precedes}
 use Rattle.nfs_rules.specs.Newcomers.{Nobody, Known, Unknown, is_next, newcomer_if}
-use Rattle.nfs_rules.specs.Sequences.{IsOfKnown, IsOfOwner, IsOfUnknown, IsRestart, Sequence, Answered, GoesOn, by_verdict, has_closed, is_open, owner_or_bad, refusal_to}
+use Rattle.nfs_rules.specs.Sequences.{IsOfKnown, IsOfOwner, IsOfUnknown, IsRestart, SequenceStep, Answered, GoesOn, by_verdict, has_closed, is_open, owner_or_bad, refusal_to}
 use Rattle.nfs_state.specs.State.{State, History}
 use Rattle.nfs_state.specs.Stored.{known_owner}
 use Rattle.nfs_owners.specs.declared.state_owner.StateOwner.{StateOwner}
@@ -103,7 +103,7 @@ refusal_sendable op refusal answer other is = record {
 }
 
 -- A sequence that the stored owner gives is one that the known owner gives.
-pub known_sequence : (journal : History) (name : StateOwner) (stored : List Owner) (o : Owner) (seqid : ℕ) (request : Request) (s : Sequence) → Agrees journal stored → owners.owner_of name stored ≡ Some o → IsOfKnown (is_open request.op && not o.confirmed) o.kept name seqid request s → IsOfOwner journal (owner_of name (map known_owner stored)) name seqid request s
+pub known_sequence : (journal : History) (name : StateOwner) (stored : List Owner) (o : Owner) (seqid : ℕ) (request : Request) (s : SequenceStep) → Agrees journal stored → owners.owner_of name stored ≡ Some o → IsOfKnown (is_open request.op && not o.confirmed) o.kept name seqid request s → IsOfOwner journal (owner_of name (map known_owner stored)) name seqid request s
 known_sequence journal name stored o seqid request s agrees found is =
     let of_owner : Option KnownOwner → Type 0 = λ known. IsOfOwner journal known name seqid request s in
     subst of_owner (sym (owner_known name stored ∙ ap (option_map known_owner) found)) (o.kept, (kept_found journal name stored o agrees found).entry, is)
@@ -114,13 +114,13 @@ known_replay journal name stored o seqid request agrees found again =
     let of_owner : Option KnownOwner → Type 0 = λ known. IsReplayOf journal known seqid request in
     subst of_owner (sym (owner_known name stored ∙ ap (option_map known_owner) found)) (o.kept, (kept_found journal name stored o agrees found).entry, again)
 
-pub unknown_sequence : (journal : History) (name : StateOwner) (stored : List Owner) (seqid : ℕ) (request : Request) (s : Sequence) → owners.owner_of name stored ≡ None → IsOfUnknown name request s → IsOfOwner journal (owner_of name (map known_owner stored)) name seqid request s
+pub unknown_sequence : (journal : History) (name : StateOwner) (stored : List Owner) (seqid : ℕ) (request : Request) (s : SequenceStep) → owners.owner_of name stored ≡ None → IsOfUnknown name request s → IsOfOwner journal (owner_of name (map known_owner stored)) name seqid request s
 unknown_sequence journal name stored seqid request s none is =
     let of_owner : Option KnownOwner → Type 0 = λ known. IsOfOwner journal known name seqid request s in
     subst of_owner (sym (owner_known name stored ∙ ap (option_map known_owner) none)) is
 
 -- How a request goes on fits what is known of its owner.
-restart_passage : (state : State) (kept : Kept) (name : StateOwner) (seqid : ℕ) (request : Request) (s : Sequence) → is_known name state ≡ true → IsRestart kept name seqid request s → HasPassage state s
+restart_passage : (state : State) (kept : Kept) (name : StateOwner) (seqid : ℕ) (request : Request) (s : SequenceStep) → is_known name state ≡ true → IsRestart kept name seqid request s → HasPassage state s
 restart_passage state kept name seqid request (Answered answer) known is = tt
 restart_passage state kept name seqid request (GoesOn passage owner) known is = rw (is.1, is.2) known
 
@@ -129,11 +129,11 @@ verdict_passage state name op verdicts.New known = known
 verdict_passage state name op (verdicts.Replay answer) known = tt
 verdict_passage state name op verdicts.Bad known = tt
 
-known_passage : (b : Bool) (state : State) (kept : Kept) (name : StateOwner) (seqid : ℕ) (request : Request) (s : Sequence) → is_known name state ≡ true → IsOfKnown b kept name seqid request s → HasPassage state s
+known_passage : (b : Bool) (state : State) (kept : Kept) (name : StateOwner) (seqid : ℕ) (request : Request) (s : SequenceStep) → is_known name state ≡ true → IsOfKnown b kept name seqid request s → HasPassage state s
 known_passage true state kept name seqid request s known is = restart_passage state kept name seqid request s known is
 known_passage false state kept name seqid request s known is = subst (HasPassage state) (sym is.2) (verdict_passage state name request.op is.0 known)
 
-pub passage_known : (state : State) (name : StateOwner) (stored : List Owner) (o : Owner) (seqid : ℕ) (request : Request) (s : Sequence) → state.owners ≡ map known_owner stored → owners.owner_of name stored ≡ Some o → IsOfKnown (is_open request.op && not o.confirmed) o.kept name seqid request s → HasPassage state s
+pub passage_known : (state : State) (name : StateOwner) (stored : List Owner) (o : Owner) (seqid : ℕ) (request : Request) (s : SequenceStep) → state.owners ≡ map known_owner stored → owners.owner_of name stored ≡ Some o → IsOfKnown (is_open request.op && not o.confirmed) o.kept name seqid request s → HasPassage state s
 passage_known state name stored o seqid request s are found is =
     known_passage _ state o.kept name seqid request s
     (ap is_some (ap (owner_of name) are ∙ owner_known name stored ∙ ap (option_map known_owner) found)) is
@@ -142,7 +142,7 @@ begin_passage : (b : Bool) (state : State) (name : StateOwner) (op : Op) → is_
 begin_passage true state name op unknown = unknown
 begin_passage false state name op unknown = tt
 
-pub passage_unknown : (state : State) (name : StateOwner) (stored : List Owner) (request : Request) (s : Sequence) → state.owners ≡ map known_owner stored → owners.owner_of name stored ≡ None → IsOfUnknown name request s → HasPassage state s
+pub passage_unknown : (state : State) (name : StateOwner) (stored : List Owner) (request : Request) (s : SequenceStep) → state.owners ≡ map known_owner stored → owners.owner_of name stored ≡ None → IsOfUnknown name request s → HasPassage state s
 passage_unknown state name stored request s are none is =
     subst (HasPassage state) (sym is) (begin_passage (is_open request.op) state name request.op
     (ap is_some (ap (owner_of name) are ∙ owner_known name stored ∙ ap (option_map known_owner) none)))

@@ -20,7 +20,7 @@ use Rattle.nfs_rules.specs.Stateids.{lock_verdict, verdict}
 use Rattle.nfs_share.specs.AllOpens.{OpenAt, opens_of}
 use Rattle.nfs_share.specs.Opens.{open_with_number}
 use Rattle.nfs_rules.specs.declared.ruling.Ruling.{Ruling}
-use Rattle.nfs_rules.specs.Sequences.{IsDecided, IsJudged, IsOfKnown, IsOfOwner, IsRestart, IsSequence, IsUnder, Own, Requester, Sequence, Answered, GoesOn, Refused, Owner, by_verdict, decision_of, is_open, requester_of_open, requester_of_stateid}
+use Rattle.nfs_rules.specs.Sequences.{IsDecided, IsJudged, IsOfKnown, IsOfOwner, IsRestart, IsSequence, IsUnder, Own, Requester, SequenceStep, Answered, GoesOn, Refused, Owner, by_verdict, decision_of, is_open, requester_of_open, requester_of_stateid}
 use Rattle.nfs_state.specs.Kept.{kept_for}
 use Rattle.nfs_state.specs.State.{State, History}
 use Rattle.nfs_owners.specs.declared.state_owner.StateOwner.{StateOwner}
@@ -65,16 +65,16 @@ by_same_verdict kept name seqid request verdicts.Bad verdicts.New a b = absurd (
 by_same_verdict kept name seqid request (verdicts.Replay x) verdicts.Bad a b = absurd (b.1 a.0)
 by_same_verdict kept name seqid request verdicts.Bad (verdicts.Replay y) a b = absurd (a.1 b.0)
 
-judged_once : (kept : Kept) (name : StateOwner) (seqid : ℕ) (request : Request) (s t : Sequence) → IsJudged kept name seqid request s → IsJudged kept name seqid request t → s ≡ t
+judged_once : (kept : Kept) (name : StateOwner) (seqid : ℕ) (request : Request) (s t : SequenceStep) → IsJudged kept name seqid request s → IsJudged kept name seqid request t → s ≡ t
 judged_once kept name seqid request s t a b = a.2 ∙ by_same_verdict kept name seqid request a.0 b.0 a.1 b.1 ∙ sym b.2
 
-restarted_once : (kept : Kept) (name : StateOwner) (seqid : ℕ) (request : Request) (s t : Sequence) → IsRestart kept name seqid request s → IsRestart kept name seqid request t → s ≡ t
+restarted_once : (kept : Kept) (name : StateOwner) (seqid : ℕ) (request : Request) (s t : SequenceStep) → IsRestart kept name seqid request s → IsRestart kept name seqid request t → s ≡ t
 restarted_once kept name seqid request (Answered x) (Answered y) a b = ap Answered (a.1 ∙ sym b.1)
 restarted_once kept name seqid request (GoesOn p n) (GoesOn q m) a b = ap (λ r. GoesOn r n) (a.1 ∙ sym b.1) ∙ ap (GoesOn q) (a.2 ∙ sym b.2)
 restarted_once kept name seqid request (Answered x) (GoesOn q m) a b = absurd (b.0 a.0)
 restarted_once kept name seqid request (GoesOn p n) (Answered y) a b = absurd (a.0 b.0)
 
-known_once : (is_restart : Bool) (kept : Kept) (name : StateOwner) (seqid : ℕ) (request : Request) (s t : Sequence) → IsOfKnown is_restart kept name seqid request s → IsOfKnown is_restart kept name seqid request t → s ≡ t
+known_once : (is_restart : Bool) (kept : Kept) (name : StateOwner) (seqid : ℕ) (request : Request) (s t : SequenceStep) → IsOfKnown is_restart kept name seqid request s → IsOfKnown is_restart kept name seqid request t → s ≡ t
 known_once true kept name seqid request s t a b = restarted_once kept name seqid request s t a b
 known_once false kept name seqid request s t a b = judged_once kept name seqid request s t a b
 
@@ -82,18 +82,18 @@ pub some_once : {A : Type 0} (o : Option A) (x y : A) → o ≡ Some x → o ≡
 some_once None x y a b = absurd cc
 some_once (Some z) x y a b = search (a, b)
 
-pub decided_once : (newcomer : ClientId → Newcomer) (own : Own) → ((node : ℕ) (passage : Passage) (r u : Option Ruling) → own node passage r → own node passage u → r ≡ u) → (s : Sequence) (node : ℕ) (d e : Option Decision) → IsDecided s newcomer (own node) d → IsDecided s newcomer (own node) e → d ≡ e
+pub decided_once : (newcomer : ClientId → Newcomer) (own : Own) → ((node : ℕ) (passage : Passage) (r u : Option Ruling) → own node passage r → own node passage u → r ≡ u) → (s : SequenceStep) (node : ℕ) (d e : Option Decision) → IsDecided s newcomer (own node) d → IsDecided s newcomer (own node) e → d ≡ e
 decided_once newcomer own once (Answered answer) node d e a b = a ∙ sym b
 decided_once newcomer own once (GoesOn passage name) node d e a b = a.2 ∙ ap (option_map (decision_of passage name (newcomer name.client))) (once node passage a.0 b.0 a.1 b.1) ∙ sym b.2
 
-owner_once : (journal : History) (found : Option KnownOwner) (name : StateOwner) (seqid : ℕ) (request : Request) (s t : Sequence) → IsOfOwner journal found name seqid request s → IsOfOwner journal found name seqid request t → s ≡ t
+owner_once : (journal : History) (found : Option KnownOwner) (name : StateOwner) (seqid : ℕ) (request : Request) (s t : SequenceStep) → IsOfOwner journal found name seqid request s → IsOfOwner journal found name seqid request t → s ≡ t
 owner_once journal None name seqid request s t a b = a ∙ sym b
 owner_once journal (Some o) name seqid request s t a b =
     let same : a.0 ≡ b.0 = some_once (kept_for journal o) a.0 b.0 a.1 b.1 in
     let is_known : Kept → Type 0 = λ kept. IsOfKnown (is_open request.op && not o.confirmed) kept name seqid request s in
     known_once (is_open request.op && not o.confirmed) b.0 name seqid request s t (subst is_known same a.2) b.2
 
-pub sequence_once : (journal : History) (state : State) (requester : Requester) (request : Request) (s t : Sequence) → IsSequence journal state requester request s → IsSequence journal state requester request t → s ≡ t
+pub sequence_once : (journal : History) (state : State) (requester : Requester) (request : Request) (s t : SequenceStep) → IsSequence journal state requester request s → IsSequence journal state requester request t → s ≡ t
 sequence_once journal state (Refused refusal) request s t a b = a ∙ sym b
 sequence_once journal state (Owner name seqid) request s t a b = owner_once journal (owner_of name state.owners) name seqid request s t a b
 
@@ -105,7 +105,7 @@ abbrev pub IsSequencedUnder : History → State → Requester → Own → Option
 IsSequencedUnder journal state requester own filehandle request decision =
     IsUnder filehandle request.op
     (λ node.
-    (sequence : Sequence)
+    (sequence : SequenceStep)
     × IsSequence journal state requester request sequence
     × IsDecided sequence (λ client. newcomer_of journal state client request.op) (own node) decision)
     decision
@@ -115,7 +115,7 @@ sequenced_once journal state requester own once None request d e a b = a ∙ sym
 sequenced_once journal state requester own once (Some node) request d e a b =
     let newcomer : ClientId → Newcomer = λ client. newcomer_of journal state client request.op in
     let same = sequence_once journal state requester request a.0 b.0 a.1 b.1 in
-    let is_decided : Sequence → Type 0 = λ s. IsDecided s newcomer (own node) d in
+    let is_decided : SequenceStep → Type 0 = λ s. IsDecided s newcomer (own node) d in
     decided_once newcomer own once b.0 node d e (subst is_decided same a.2) b.2
 
 downgrade_once : (at : OpenAt) (share : Option Share) (r u : Ruling) → IsDowngrade at share r → IsDowngrade at share u → r ≡ u

@@ -5,7 +5,7 @@ use Rattle.nfs_state.specs.declared.shortage.Shortage.{Shortage}
 use Rattle.nfs_state.specs.declared.shortage.Shortage.TheVariants.{Limit, Memory}
 use Rattle.nfs_rules.specs.declared.ruling.Ruling.{Ruling}
 use Rattle.nfs_state.specs.Room.{IsWithinLimits, HasOwnerPlace, is_known}
-use Rattle.nfs_rules.specs.Sequences.{IsSequence, Requester, Refused, Owner, Sequence, Answered, GoesOn}
+use Rattle.nfs_rules.specs.Sequences.{IsSequence, Requester, Refused, Owner, SequenceStep, Answered, GoesOn}
 use Rattle.nfs_rules.specs.declared.passage.Passage.{Passage}
 use Rattle.nfs_state.specs.State.{State, History}
 use Rattle.nfs_state.specs.Kept.{kept_for}
@@ -38,12 +38,12 @@ Decides ruled state op (Err Limit) = ruled None
 Decides ruled state op (Err Memory) = ruled None → ⊥
 
 -- an answer that is given without the operation's own rule can be sent
-abbrev pub IsSendableSequence : Op → Sequence → Type 0
+abbrev pub IsSendableSequence : Op → SequenceStep → Type 0
 IsSendableSequence op (Answered answer) = IsSendable op answer
 IsSendableSequence op (GoesOn passage name) = ⊤
 
 -- how a request goes on fits what is known of its owner
-abbrev pub HasPassage : State → Sequence → Type 0
+abbrev pub HasPassage : State → SequenceStep → Type 0
 HasPassage state (Answered answer) = ⊤
 HasPassage state (GoesOn passage name) = IsPassage passage name state
 
@@ -84,11 +84,11 @@ IsPassageOf (ops.Open args) passage state = IsPassage passage (open_owner args.o
 IsPassageOf op passage state = ⊤
 
 -- In this state, the answer and the change of the operation's own rule. Limit is returned exactly if it gives none.
-abbrev pub Rules : (Option Ruling → Type 0) → State → Op → Result Ruling Shortage → Type 0
-Rules own state op (Ok ruling) =
+abbrev pub ByOwnRule : (Option Ruling → Type 0) → State → Op → Result Ruling Shortage → Type 0
+ByOwnRule own state op (Ok ruling) =
     own (Some ruling) × IsSendable op ruling.answer × IsWithinLimits ruling.change state
-Rules own state op (Err Limit) = own None
-Rules own state op (Err Memory) = own None → ⊥
+ByOwnRule own state op (Err Limit) = own None
+ByOwnRule own state op (Err Memory) = own None → ⊥
 
 -- OPEN_CONFIRM's stateid names an open, by the verdict on it, whose owner isn't confirmed yet.
 abbrev pub IsConfirmable : State → Result OpenAt Refusal → Type 0

@@ -15,8 +15,8 @@ use Rattle.nfs_rules.specs.declared.stateids.Target.{Target}
 use Rattle.nfs_rules.specs.declared.stateids.Target.TheVariants as targets
 use Rattle.nfs_rules.specs.declared.sequence.Requester.{Requester}
 use Rattle.nfs_rules.specs.declared.sequence.Requester.TheVariants as requesters
-use Rattle.nfs_rules.specs.declared.sequence.Sequence.{Sequence}
-use Rattle.nfs_rules.specs.declared.sequence.Sequence.TheVariants as found_sequences
+use Rattle.nfs_rules.specs.declared.sequence.SequenceStep.{SequenceStep}
+use Rattle.nfs_rules.specs.declared.sequence.SequenceStep.TheVariants as found_sequences
 use Rattle.nfs_rules.specs.Newcomers as newcomers
 use Rattle.nfs_rules.specs.Sequences as sequences
 use Rattle.nfs_rules.specs.Stateids as stateids
@@ -69,6 +69,6 @@ abbrev pub stored_or_bad : ℕ → Option Owner → sequences.Requester
 stored_or_bad seqid None = sequences.Refused refusals.BadStateId
 stored_or_bad seqid (Some o) = sequences.Owner o.name seqid
 
-abbrev pub sequence_seen : Sequence → sequences.Sequence
+abbrev pub sequence_seen : SequenceStep → sequences.SequenceStep
 sequence_seen (found_sequences.Answered answer) = sequences.Answered answer
 sequence_seen (found_sequences.GoesOn passage name) = sequences.GoesOn passage (owner_seen name)

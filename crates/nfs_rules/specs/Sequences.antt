@@ -99,20 +99,20 @@ requester_of_stateid journal state id seqid =
     requester_of_target journal state id seqid (target_of journal.epoch state id)
 
 -- Whether a request is answered without its own rule, or goes on to it, as one of this owner's.
-pub data Sequence : Type 0 where
-  Answered : OpResult → Sequence
-  GoesOn : Passage → StateOwner → Sequence
+pub data SequenceStep : Type 0 where
+  Answered : OpResult → SequenceStep
+  GoesOn : Passage → StateOwner → SequenceStep
 
-abbrev pub refusal_to : Op → Refusal → Sequence
+abbrev pub refusal_to : Op → Refusal → SequenceStep
 refusal_to op refusal = Answered (refusal_of (opnum_of op) refusal)
 
-abbrev pub by_verdict : StateOwner → Op → Verdict → Sequence
+abbrev pub by_verdict : StateOwner → Op → Verdict → SequenceStep
 by_verdict name op verdicts.New = GoesOn passages.Continues name
 by_verdict name op (verdicts.Replay answer) = Answered answer.now
 by_verdict name op verdicts.Bad = refusal_to op refusals.BadSeqId
 
 -- The owner's next request goes on, its kept one again is answered as it was, and any other is NFS4ERR_BAD_SEQID.
-abbrev pub IsJudged : Kept → StateOwner → ℕ → Request → Sequence → Type 0
+abbrev pub IsJudged : Kept → StateOwner → ℕ → Request → SequenceStep → Type 0
 IsJudged kept name seqid request sequence =
     (verdict : Verdict)
     × IsVerdict kept seqid (request_of request.op request.filehandle) verdict
@@ -120,7 +120,7 @@ IsJudged kept name seqid request sequence =
 
 -- An OPEN of an unconfirmed owner: the kept one again is answered as it was. Any other starts the owner anew, whatever
 -- its sequence id.
-abbrev pub IsRestart : Kept → StateOwner → ℕ → Request → Sequence → Type 0
+abbrev pub IsRestart : Kept → StateOwner → ℕ → Request → SequenceStep → Type 0
 IsRestart kept name seqid request (Answered answer) =
     IsAgain kept seqid (request_of request.op request.filehandle)
     × (answer ≡ kept.answer)
@@ -129,25 +129,25 @@ IsRestart kept name seqid request (GoesOn passage owner) =
     × (passage ≡ passages.Restarts) × (owner ≡ name)
 
 -- A known owner's request, by whether it is an OPEN of an unconfirmed one.
-abbrev pub IsOfKnown : Bool → Kept → StateOwner → ℕ → Request → Sequence → Type 0
+abbrev pub IsOfKnown : Bool → Kept → StateOwner → ℕ → Request → SequenceStep → Type 0
 IsOfKnown true kept name seqid request sequence = IsRestart kept name seqid request sequence
 IsOfKnown false kept name seqid request sequence = IsJudged kept name seqid request sequence
 
 -- An owner that isn't known begins with an OPEN of any sequence id; no other request comes from one.
-abbrev pub IsOfUnknown : StateOwner → Request → Sequence → Type 0
+abbrev pub IsOfUnknown : StateOwner → Request → SequenceStep → Type 0
 IsOfUnknown name request sequence =
     sequence ≡ (if is_open request.op then GoesOn passages.Begins name
     else refusal_to request.op refusals.BadStateId)
 
 -- A request of this owner, by whether it is known.
-abbrev pub IsOfOwner : History → Option KnownOwner → StateOwner → ℕ → Request → Sequence → Type 0
+abbrev pub IsOfOwner : History → Option KnownOwner → StateOwner → ℕ → Request → SequenceStep → Type 0
 IsOfOwner journal None name seqid request sequence = IsOfUnknown name request sequence
 IsOfOwner journal (Some o) name seqid request sequence =
     (kept : Kept)
     × (kept_for journal o ≡ Some kept)
     × IsOfKnown (is_open request.op && not o.confirmed) kept name seqid request sequence
 
-abbrev pub IsSequence : History → State → Requester → Request → Sequence → Type 0
+abbrev pub IsSequence : History → State → Requester → Request → SequenceStep → Type 0
 IsSequence journal state (Refused refusal) request sequence =
     sequence ≡ refusal_to request.op refusal
 IsSequence journal state (Owner name seqid) request sequence =
@@ -189,7 +189,7 @@ abbrev pub only : OpResult → Decision
 only answer = record { answer = answer; effect = change_alone changes.Nothing }
 
 -- by the lock owner that a request of each client introduces, and the own rule under its filehandle
-abbrev pub IsDecided : Sequence → (ClientId → Newcomer) → (Passage → Option Ruling → Type 0)
+abbrev pub IsDecided : SequenceStep → (ClientId → Newcomer) → (Passage → Option Ruling → Type 0)
     → Option Decision → Type 0
 IsDecided (Answered answer) newcomer own decision = decision ≡ Some (only answer)
 IsDecided (GoesOn passage name) newcomer own decision =
@@ -207,7 +207,7 @@ abbrev pub IsSequenced : History → State → Requester → Own → Request →
 IsSequenced journal state requester own request decision =
     IsUnder request.filehandle request.op
     (λ node.
-    (sequence : Sequence)
+    (sequence : SequenceStep)
     × IsSequence journal state requester request sequence
     × IsDecided sequence (λ client. newcomer_of journal state client request.op) (own node)
     decision)

@@ -24,7 +24,7 @@ pub(crate) enum Requester<'a> {
 
 /// Whether a request is answered without its own rule, or goes on to it, as one of this owner's.
 #[derive(Debug, Drop)]
-pub(crate) enum Sequence<'a> {
+pub(crate) enum SequenceStep<'a> {
     Answered(OpResult),
     GoesOn(Passage, OwnerRef<'a>),
 }
@@ -83,7 +83,7 @@ pub(crate) fn sequence_of<'a>(
     journal: &Journal,
     request: &Request,
     requester: Requester<'a>,
-) -> Result<Sequence<'a>, AllocError>
+) -> Result<SequenceStep<'a>, AllocError>
     requires kept { Agrees journal.now.history tables.now.owners.owners }
     requires refusal { HasOtherRefusal (requester_seen requester) }
     ensures sequence { IfOk result (λ s. IsSequence journal.now.history (state_of tables.now)
@@ -104,12 +104,12 @@ pub(crate) fn sequence_of<'a>(
 }
 
 // A request of an owner that isn't known: only an OPEN goes on.
-fn begin<'a>(request: &Request, name: OwnerRef<'a>) -> Sequence<'a>
+fn begin<'a>(request: &Request, name: OwnerRef<'a>) -> SequenceStep<'a>
     ensures sequence { IsOfUnknown (owner_seen name.entry) request.now (sequence_seen result) }
     ensures sendable { IsSendableSequence request.now.op (sequence_seen result) }
 {
     if is_open(&request.op) {
-        Sequence::GoesOn(Passage::Begins, name)
+        SequenceStep::GoesOn(Passage::Begins, name)
     } else {
         refusal_to(&request.op, Refusal::BadStateId)
     }
@@ -121,7 +121,7 @@ fn resume<'a>(
     request: &Request,
     name: OwnerRef<'a>,
     seqid: u32,
-) -> Result<Sequence<'a>, AllocError>
+) -> Result<SequenceStep<'a>, AllocError>
     requires { IsSendable owner.now.kept.request.op owner.now.kept.answer }
     ensures sequence { IfOk result (λ s. IsOfKnown
         (is_open request.now.op && not owner.now.confirmed)
@@ -143,7 +143,7 @@ fn judge<'a>(
     request: &Request,
     name: OwnerRef<'a>,
     seqid: u32,
-) -> Result<Sequence<'a>, AllocError>
+) -> Result<SequenceStep<'a>, AllocError>
     requires { IsSendable kept.now.request.op kept.now.answer }
     ensures sequence { IfOk result (λ s.
         IsJudged kept.now (owner_seen name.entry) seqid request.now (sequence_seen s)) }
@@ -152,8 +152,8 @@ fn judge<'a>(
         (request_of request.now.op request.now.filehandle)) }
 {
     match kept.judge(seqid, &request.op, request.filehandle) {
-        Verdict::New => Ok(Sequence::GoesOn(Passage::Continues, name)),
-        Verdict::Replay(answer) => Ok(Sequence::Answered(answer.clone()?)),
+        Verdict::New => Ok(SequenceStep::GoesOn(Passage::Continues, name)),
+        Verdict::Replay(answer) => Ok(SequenceStep::Answered(answer.clone()?)),
         Verdict::Bad => Ok(refusal_to(&request.op, Refusal::BadSeqId)),
     }
 }
@@ -164,7 +164,7 @@ fn restart<'a>(
     request: &Request,
     name: OwnerRef<'a>,
     seqid: u32,
-) -> Result<Sequence<'a>, AllocError>
+) -> Result<SequenceStep<'a>, AllocError>
     requires { IsSendable kept.now.request.op kept.now.answer }
     ensures sequence { IfOk result (λ s.
         IsRestart kept.now (owner_seen name.entry) seqid request.now (sequence_seen s)) }
@@ -173,18 +173,18 @@ fn restart<'a>(
         (request_of request.now.op request.now.filehandle)) }
 {
     match kept.judge(seqid, &request.op, request.filehandle) {
-        Verdict::Replay(answer) => Ok(Sequence::Answered(answer.clone()?)),
-        Verdict::New | Verdict::Bad => Ok(Sequence::GoesOn(Passage::Restarts, name)),
+        Verdict::Replay(answer) => Ok(SequenceStep::Answered(answer.clone()?)),
+        Verdict::New | Verdict::Bad => Ok(SequenceStep::GoesOn(Passage::Restarts, name)),
     }
 }
 
 // The operation is refused with this status.
-fn refusal_to<'a>(op: &Op, refusal: Refusal) -> Sequence<'a>
+fn refusal_to<'a>(op: &Op, refusal: Refusal) -> SequenceStep<'a>
     requires { refusal ≢ Refusal.Resource }
     ensures sequence { sequence_seen result ≡ refusal_to op.now refusal }
     ensures sendable { IsSendableSequence op.now (sequence_seen result) }
 {
-    Sequence::Answered(op.opnum().refusal(refusal))
+    SequenceStep::Answered(op.opnum().refusal(refusal))
 }
 
 fn is_open(op: &Op) -> bool

@@ -12,8 +12,8 @@ use Rattle.nfs_server.specs.declared.serve_error.ServeError.TheVariants as error
 use Rattle.nfs_server.specs.Asking.{GivenByCore, Question}
 use Rattle.nfs_server.specs.declared.service.Lent.{Lent}
 use Rattle.nfs_core.specs.Server.{AreAlike}
-use Rattle.nfs_rpc.specs.declared.call.Call.{Call}
-use Rattle.nfs_rpc.specs.declared.call.Call.TheVariants as calls
+use Rattle.nfs_rpc.specs.declared.rpc_call.RpcCall.{RpcCall}
+use Rattle.nfs_rpc.specs.declared.rpc_call.RpcCall.TheVariants as calls
 use Rattle.nfs_server.proofs.JournalGains.{Gains, gains_after, gains_nothing, gains_then, questions_are_entries}
 use Rattle.nfs_server.specs.Connection.{Scene, Turn, Course, AreTurns, EndsWith, IsCourse, IsIdle, IsTurn, all_exchanges, exchanges_of, rest_after, text_of}
 use Rattle.nfs_server.specs.CourseLaws.{GainsEntries, HasBytes, IsOneText, TellsBytes}
@@ -118,7 +118,7 @@ of_core tree tells =
     rules tree (λ (old : Lent) question answer (new : Lent). GivenByCore old.core question answer new.core) (λ (old new : Lent). AreAlike old.core new.core) tells
 
 -- before the first question of a call the core is alike
-ready_alike : (old ready : Lent) (call : Call) → MakesRoom (λ (old new : Lent). AreAlike old.core new.core) old call ready → AreAlike old.core ready.core
+ready_alike : (old ready : Lent) (call : RpcCall) → MakesRoom (λ (old new : Lent). AreAlike old.core new.core) old call ready → AreAlike old.core ready.core
 ready_alike old ready (calls.Compound xid principal compound) made = made
 ready_alike old ready calls.Silent made = rw made (refl, refl)
 ready_alike old ready (calls.Null xid) made = rw made (refl, refl)

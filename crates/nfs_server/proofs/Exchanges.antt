@@ -1,11 +1,11 @@
 -- A record that was answered, as an exchange.
 use Rattle.std.proofs.Common.{◌≡◌, ℕ, List, [], ◌++◌, map, refl, sym, ap, ◌∙◌}
 use Rattle.std.proofs.lemmas.List.{append-nil}
-use Rattle.nfs_rpc.specs.declared.call.Call.TheVariants as calls
+use Rattle.nfs_rpc.specs.declared.rpc_call.RpcCall.TheVariants as calls
 use Rattle.nfs_rpc.specs.declared.reply.CompoundReply.{CompoundReply}
 use Rattle.nfs_rpc.specs.declared.reply.Reply.{Reply}
 use Rattle.nfs_rpc.specs.declared.reply.Reply.TheVariants as replies
-use Rattle.nfs_rpc.specs.Call.{IsCall}
+use Rattle.nfs_rpc.specs.RpcCall.{IsCall}
 use Rattle.nfs_rpc.specs.Reply.{written_record, written_reply}
 use Rattle.nfs_server.specs.Answering.{compound_outcome, compound_reply}
 use Rattle.nfs_server.specs.Asking.{Asks, question_of}

@@ -1,7 +1,7 @@
 -- A COMPOUND (RFC 7530, section 15.2): a fold over its operations, given the service's answers.
 use Rattle.std.specs.Prelude.{ℕ, ◌+◌, ◌-◌, slice_get, Bool, true, false, not, nat_le, List, [], ◌∷◌, length, Option, Some, None, if◌then◌else◌}
-use Rattle.nfs_rpc.specs.declared.call.Call.{Call}
-use Rattle.nfs_rpc.specs.declared.call.Call.TheVariants as calls
+use Rattle.nfs_rpc.specs.declared.rpc_call.RpcCall.{RpcCall}
+use Rattle.nfs_rpc.specs.declared.rpc_call.RpcCall.TheVariants as calls
 use Rattle.nfs_rpc.specs.declared.records.TheConstants.{RECORD_LIMIT}
 use Rattle.nfs_rpc.specs.declared.reply.CompoundReply.{CompoundReply}
 use Rattle.nfs_rpc.specs.declared.reply.Reply.TheVariants as replies
@@ -16,8 +16,8 @@ use Rattle.nfs_state.specs.Entries.{resource}
 use Rattle.nfs_xdr.specs.declared.arg_op.ArgOp.{ArgOp}
 use Rattle.nfs_xdr.specs.declared.arg_op.ArgOp.TheVariants.{Run, BadArgs, Unsupported, Illegal}
 use Rattle.nfs_xdr.specs.declared.compound.Compound.{Compound}
-use Rattle.nfs_xdr.specs.declared.compound.Request.{Request}
-use Rattle.nfs_xdr.specs.declared.compound.Request.TheVariants.{MinorVersion, TooMany, Operations}
+use Rattle.nfs_xdr.specs.declared.compound.CompoundRequest.{CompoundRequest}
+use Rattle.nfs_xdr.specs.declared.compound.CompoundRequest.TheVariants.{MinorVersion, TooMany, Operations}
 use Rattle.nfs_xdr.specs.declared.op.Op.{Op}
 use Rattle.nfs_xdr.specs.declared.op_result.OpResult.{OpResult}
 use Rattle.nfs_xdr.specs.declared.opnum.Opnum.TheVariants as opnums
@@ -116,12 +116,12 @@ abbrev pub head_size : List ℕ → ℕ
 head_size tag = ACCEPTED_LEN + (4 + (length (written_opaque tag) + 4))
 
 -- the operations that are answered one after the other: none if the whole COMPOUND is refused
-abbrev pub operations_of : Request → List ArgOp
+abbrev pub operations_of : CompoundRequest → List ArgOp
 operations_of (MinorVersion minor) = []
 operations_of (TooMany count) = []
 operations_of (Operations ops) = ops
 
-abbrev pub request_status : List OpResult → Request → Status
+abbrev pub request_status : List OpResult → CompoundRequest → Status
 request_status results (MinorVersion minor) = status.Refused refusals.MinorVersMismatch
 request_status results (TooMany count) = status.Refused refusals.Resource
 request_status results (Operations ops) = last_status results
@@ -136,12 +136,12 @@ compound_reply tree c answers =
     record { status = request_status results c.request; tag = c.tag; results = results }
 
 -- what the service is asked for a call, given its answers
-abbrev pub asked : Files → Call → List OpResult → List Asked
+abbrev pub asked : Files → RpcCall → List OpResult → List Asked
 asked tree (calls.Compound xid principal c) answers = (compound_outcome tree c answers).asked
 asked tree call answers = []
 
 -- the reply to a call, if there is one, given the service's answers
-abbrev pub reply : Files → Call → List OpResult → Option (List ℕ)
+abbrev pub reply : Files → RpcCall → List OpResult → Option (List ℕ)
 reply tree calls.Silent answers = None
 reply tree (calls.Null xid) answers = Some (written_reply xid replies.Null)
 reply tree (calls.Compound xid principal c) answers =

@@ -3,9 +3,9 @@ use Rattle.std.specs.Prelude.{◌≡◌, ℕ, List, [], ◌∷◌, map, Option, 
 use Rattle.std.specs.List.{flat_map}
 use Rattle.nfs_forms.specs.declared.principal.Principal.{Principal}
 use Rattle.nfs_forms.specs.declared.principal.Principal.TheVariants.{AuthNone}
-use Rattle.nfs_rpc.specs.declared.call.Call.{Call}
-use Rattle.nfs_rpc.specs.declared.call.Call.TheVariants as calls
-use Rattle.nfs_rpc.specs.Call.{IsCall}
+use Rattle.nfs_rpc.specs.declared.rpc_call.RpcCall.{RpcCall}
+use Rattle.nfs_rpc.specs.declared.rpc_call.RpcCall.TheVariants as calls
+use Rattle.nfs_rpc.specs.RpcCall.{IsCall}
 use Rattle.nfs_rpc.specs.Reply.{written_record}
 use Rattle.nfs_tree.specs.Tree.{Files}
 use Rattle.nfs_server.specs.Answering.{asked, reply}
@@ -15,7 +15,7 @@ use Rattle.nfs_xdr.specs.declared.op_result.OpResult.{OpResult}
 -- A record, the call in it, the moment that was read from the clock for it, and the service's answers.
 pub record Exchange : Type 0 where
   pub message : List ℕ
-  pub call : Call
+  pub call : RpcCall
   pub moment : ℕ
   pub answers : List OpResult
 
@@ -31,7 +31,7 @@ abbrev pub rules : {S C : Type 0} → Files → (S → Question → OpResult →
     → (S → S → Type 0) → (C → ℕ → C → Type 0) → Rules S C
 rules tree gives alike tells = record { tree = tree; gives = gives; alike = alike; tells = tells }
 
-abbrev pub principal_of : Call → Principal
+abbrev pub principal_of : RpcCall → Principal
 principal_of (calls.Compound xid principal compound) = principal
 principal_of call = AuthNone
 
@@ -48,12 +48,12 @@ abbrev pub written_for : Files → Exchange → List ℕ
 written_for tree e = written_or_nothing (reply tree e.call e.answers)
 
 -- The clock is read once for a COMPOUND, and not at all for other calls.
-abbrev pub ReadsClock : {C : Type 0} → (C → ℕ → C → Type 0) → C → Call → ℕ → C → Type 0
+abbrev pub ReadsClock : {C : Type 0} → (C → ℕ → C → Type 0) → C → RpcCall → ℕ → C → Type 0
 ReadsClock tells old (calls.Compound xid principal compound) moment new = tells old moment new
 ReadsClock tells old call moment new = new ≡ old
 
 -- For a COMPOUND room is made in the service, which stays alike. For other calls the service isn't called.
-abbrev pub MakesRoom : {S : Type 0} → (S → S → Type 0) → S → Call → S → Type 0
+abbrev pub MakesRoom : {S : Type 0} → (S → S → Type 0) → S → RpcCall → S → Type 0
 MakesRoom alike old (calls.Compound xid principal compound) new = alike old new
 MakesRoom alike old call new = new ≡ old
 

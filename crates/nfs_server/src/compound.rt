@@ -2,7 +2,7 @@ ghost use Rattle.std.specs.Prelude.{◌≡◌, ◌+◌, ◌-◌, ◌^◌, ◌<�
 ghost use Rattle.std.specs.List.{All, flat_map};
 ghost use Rattle.nfs_server.specs.Answering.{compound_outcome, compound_reply, head_size, is_ok, operations_of, request_status};
 ghost use Rattle.nfs_server.specs.Asking.{Asks, question_of};
-ghost use Rattle.nfs_rpc.specs.Call.{HasFewOperations, IsWithinLimits};
+ghost use Rattle.nfs_rpc.specs.RpcCall.{HasFewOperations, IsWithinLimits};
 ghost use Rattle.nfs_tree.specs.Filehandles.{AreNodes};
 ghost use Rattle.nfs_server.specs.Folding.{IsAnswered, IsDetermined, asker_of, start};
 ghost use Rattle.nfs_xdr.specs.Compound.{compound_result};
@@ -14,7 +14,7 @@ use nfs_core::Moment;
 use nfs_rpc::{ACCEPTED_LEN, CompoundReply, RECORD_LIMIT};
 use nfs_tree::{Filehandles, Tree};
 use nfs_xdr::{
-    ArgOp, Compound, OPERATION_LIMIT, OpResult, Opnum, Principal, Refusal, Request, Status,
+    ArgOp, Compound, OPERATION_LIMIT, OpResult, Opnum, Principal, Refusal, CompoundRequest, Status,
 };
 use std::alloc::AllocError;
 use xdr::{Bytes, Measure, Sequence, padding_of};
@@ -77,7 +77,7 @@ pub(crate) fn make_result_room(results: &mut Vec<OpResult>) -> Result<(), AllocE
 }
 
 /// How many operations of a COMPOUND may be answered one after the other.
-pub(crate) fn operation_count(request: &Request) -> usize
+pub(crate) fn operation_count(request: &CompoundRequest) -> usize
     requires few { HasFewOperations request.now }
     ensures { result ≡ length (operations_of request.now) }
 {
@@ -93,14 +93,14 @@ struct Context<'a> {
 }
 
 // The operations that are answered one after the other: none if the whole COMPOUND is refused.
-fn operations(request: &Request) -> &[ArgOp]
+fn operations(request: &CompoundRequest) -> &[ArgOp]
     requires few { HasFewOperations request.now }
     ensures operations { result.now ≡ operations_of request.now }
     ensures few { length result.now ≤ OPERATION_LIMIT }
 {
     match request {
-        Request::MinorVersion(_) | Request::TooMany(_) => &[],
-        Request::Operations(ops) => ops.as_slice(),
+        CompoundRequest::MinorVersion(_) | CompoundRequest::TooMany(_) => &[],
+        CompoundRequest::Operations(ops) => ops.as_slice(),
     }
 }
 
@@ -116,13 +116,13 @@ fn head_len(tag: &Bytes) -> usize
 }
 
 // The status of the whole COMPOUND: that of the last result, if its operations were answered.
-fn reply_status(request: &Request, results: &[OpResult]) -> Status
+fn reply_status(request: &CompoundRequest, results: &[OpResult]) -> Status
     ensures { result ≡ request_status results.now request.now }
 {
     match request {
-        Request::MinorVersion(_) => Status::Refused(Refusal::MinorVersMismatch),
-        Request::TooMany(_) => Status::Refused(Refusal::Resource),
-        Request::Operations(_) => match results.last() {
+        CompoundRequest::MinorVersion(_) => Status::Refused(Refusal::MinorVersMismatch),
+        CompoundRequest::TooMany(_) => Status::Refused(Refusal::Resource),
+        CompoundRequest::Operations(_) => match results.last() {
             Some(answer) => answer.status(),
             None => Status::Ok,
         },

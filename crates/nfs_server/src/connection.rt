@@ -90,7 +90,7 @@ pub fn serve_duplex<D: Duplex, S: Service, C: Clock>(
         if count as u64 > STREAM_LIMIT - records.fed() {
             return Err(ServeError::TooMuch);
         }
-        take_in(&mut records, &buffer[..count])?;
+        feed(&mut records, &buffer[..count])?;
         serve_ready(&mut records, &mut replies, device, service, tree, clock)?;
         if records.is_too_long() {
             return Err(ServeError::TooLong);
@@ -107,7 +107,7 @@ fn room_for_a_piece(alloc: Global) -> Result<Vec<u8>, ServeError>
 }
 
 // Adds the next piece to the stream. If a record is too long now, `Records::is_too_long` says so afterwards.
-fn take_in(records: &mut Records, piece: &[u8]) -> Result<(), ServeError>
+fn feed(records: &mut Records, piece: &[u8]) -> Result<(), ServeError>
     requires room { records.old.fed + length piece.now ≤ 2 ^ 40 }
     requires goes { records.old.is_too_long ≡ false }
     ensures ok { OnOk result (TakesPiece records.old records.new piece.now) }

@@ -6,7 +6,7 @@ use crate::compound::{make_result_room, operation_count};
 use crate::{Clock, Service, run_compound};
 use byteorder::{BigEndian, ByteOrder};
 use nfs_rpc::{
-    Call, CompoundReply, HEADER_LEN, LAST_FRAGMENT, RECORD_LIMIT, Reply, read_call, write_reply,
+    RpcCall, CompoundReply, HEADER_LEN, LAST_FRAGMENT, RECORD_LIMIT, Reply, read_call, write_reply,
 };
 use nfs_tree::Tree;
 use nfs_xdr::OpResult;
@@ -72,10 +72,10 @@ impl Replies {
     {
         self.gathered.reserve(REPLY_ROOM)?;
         match read_call(self.alloc, message) {
-            Call::Silent => Ok(()),
-            Call::Null(xid) => put_record(&mut self.gathered, xid, &Reply::Null),
-            Call::Answer(xid, reply) => put_record(&mut self.gathered, xid, &reply),
-            Call::Compound(xid, principal, compound) => {
+            RpcCall::Silent => Ok(()),
+            RpcCall::Null(xid) => put_record(&mut self.gathered, xid, &Reply::Null),
+            RpcCall::Answer(xid, reply) => put_record(&mut self.gathered, xid, &reply),
+            RpcCall::Compound(xid, principal, compound) => {
                 make_result_room(&mut self.results)?;
                 service.room(operation_count(&compound.request))?;
                 let results = mem::replace(&mut self.results, Vec::new(self.alloc));

@@ -3,7 +3,7 @@ use Rattle.std.specs.Prelude.{ℕ, Bool, ◌&&◌, ◌==◌, not, if◌then◌el
 use Rattle.std.specs.List.{list_any}
 use Rattle.nfs_forms.specs.ClientId.{is_same_client}
 use Rattle.nfs_forms.specs.OpenOwner.{is_same_owner}
-use Rattle.nfs_forms.specs.Stateid.{next_seqid, next_stateid}
+use Rattle.nfs_forms.specs.Stateid.{seqid_after_change, next_stateid}
 use Rattle.nfs_forms.specs.declared.client_id.ClientId.{ClientId}
 use Rattle.nfs_forms.specs.declared.open_owner.OpenOwner.{OpenOwner}
 use Rattle.nfs_forms.specs.declared.stateid.Stateid.{Stateid}
@@ -75,17 +75,17 @@ first_open owner share number =
 
 -- the open with its next seqid
 abbrev pub with_next_seqid : OpenState → OpenState
-with_next_seqid o = record o { seqid = next_seqid o.seqid }
+with_next_seqid o = record o { seqid = seqid_after_change o.seqid }
 
 -- the open after one more OPEN of its owner (section 9.11)
 abbrev pub after_open : Share → OpenState → OpenState
 after_open share o =
-    record o { shares = with_share share o.shares; seqid = next_seqid o.seqid }
+    record o { shares = with_share share o.shares; seqid = seqid_after_change o.seqid }
 
 -- the open after OPEN_DOWNGRADE to the share (section 9.11)
 abbrev pub after_downgrade : Share → OpenState → OpenState
 after_downgrade share o =
-    record o { shares = filter (contains share) o.shares; seqid = next_seqid o.seqid }
+    record o { shares = filter (contains share) o.shares; seqid = seqid_after_change o.seqid }
 
 -- the opens, with a change of each that passes the test
 abbrev pub with_each : (OpenState → Bool) → (OpenState → OpenState) → List OpenState

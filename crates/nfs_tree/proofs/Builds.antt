@@ -3,7 +3,7 @@ use Rattle.std.proofs.Common.{◌≡◌, ℕ, ◌+◌, ◌<◌, ◌≤◌, List,
 use Rattle.std.proofs.lemmas.List.{drop_more}
 use Rattle.std.proofs.Math.ListN.{drop_of_length-le}
 use Rattle.nfs_tree.specs.declared.document.Document.{Document}
-use Rattle.nfs_tree.specs.declared.node.Entry.{Entry}
+use Rattle.nfs_tree.specs.declared.node.TreeEntry.{TreeEntry}
 use Rattle.nfs_tree.specs.declared.tree_error.TreeError.{TreeError}
 use Rattle.nfs_tree.specs.declared.tree_error.TreeError.TheVariants as errors
 use Rattle.nfs_tree.specs.Building.{◌>>=◌, add_entry, add_entries, tree_of, or_syntax, tree_of_document, FailsToMake}
@@ -13,11 +13,11 @@ use Rattle.nfs_tree.specs.Tree.{Files}
 pub tree_started : (text : List ℕ) (d : Document) → document_at text ≡ Some d → add_entries (record { nodes = []; policy = d.policy }) d.entries ≡ tree_of text
 tree_started text d read = sym (ap (λ o. or_syntax o >>= tree_of_document) read)
 
-built_from : (tree : Files) (entries : List Entry) (i : ℕ) (entry : Entry) → i < length entries → entry ≡ get_or entries i entry → add_entries tree (drop i entries) ≡ (add_entry tree entry >>= λ new. add_entries new (drop (i + 1) entries))
+built_from : (tree : Files) (entries : List TreeEntry) (i : ℕ) (entry : TreeEntry) → i < length entries → entry ≡ get_or entries i entry → add_entries tree (drop i entries) ≡ (add_entry tree entry >>= λ new. add_entries new (drop (i + 1) entries))
 built_from tree entries i entry within is =
     ap (add_entries tree) (drop_more entries i entry within) ∙ ap (λ e. add_entry tree e >>= λ new. add_entries new (drop (i + 1) entries)) (sym is)
 
-pub entry_added : (tree new : Files) (entries : List Entry) (i : ℕ) (entry : Entry) (whole : Result Files TreeError) → i < length entries → entry ≡ get_or entries i entry → add_entry tree entry ≡ Ok new → add_entries tree (drop i entries) ≡ whole → add_entries new (drop (i + 1) entries) ≡ whole
+pub entry_added : (tree new : Files) (entries : List TreeEntry) (i : ℕ) (entry : TreeEntry) (whole : Result Files TreeError) → i < length entries → entry ≡ get_or entries i entry → add_entry tree entry ≡ Ok new → add_entries tree (drop i entries) ≡ whole → add_entries new (drop (i + 1) entries) ≡ whole
 entry_added tree new entries i entry whole within is adds so_far =
     sym (ap (λ r. r >>= λ new. add_entries new (drop (i + 1) entries)) adds) ∙ sym (built_from tree entries i entry within is) ∙ so_far
 
@@ -28,12 +28,12 @@ fails_on errors.Name part f fails = ap (λ r. r >>= f) fails
 fails_on errors.TooMany part f fails = ap (λ r. r >>= f) fails
 fails_on errors.Duplicate part f fails = ap (λ r. r >>= f) fails
 
-pub entry_refused : (tree : Files) (entries : List Entry) (i : ℕ) (entry : Entry) (whole : Result Files TreeError) (e : TreeError) → i < length entries → entry ≡ get_or entries i entry → FailsToMake e (add_entry tree entry) → add_entries tree (drop i entries) ≡ whole → FailsToMake e whole
+pub entry_refused : (tree : Files) (entries : List TreeEntry) (i : ℕ) (entry : TreeEntry) (whole : Result Files TreeError) (e : TreeError) → i < length entries → entry ≡ get_or entries i entry → FailsToMake e (add_entry tree entry) → add_entries tree (drop i entries) ≡ whole → FailsToMake e whole
 entry_refused tree entries i entry whole e within is fails so_far =
     let same = sym (built_from tree entries i entry within is) ∙ so_far in
     subst (FailsToMake e) same (fails_on e (add_entry tree entry) (λ new. add_entries new (drop (i + 1) entries)) fails)
 
-pub tree_done : (tree : Files) (entries : List Entry) (i : ℕ) (whole : Result Files TreeError) → length entries ≤ i → add_entries tree (drop i entries) ≡ whole → whole ≡ Ok tree
+pub tree_done : (tree : Files) (entries : List TreeEntry) (i : ℕ) (whole : Result Files TreeError) → length entries ≤ i → add_entries tree (drop i entries) ≡ whole → whole ≡ Ok tree
 tree_done tree entries i whole past so_far = sym so_far ∙ ap (add_entries tree) (drop_of_length-le entries past)
 
 pub text_refused : (text : List ℕ) (e : TreeError) → FailsToRead e (document_at text) → FailsToMake e (tree_of text)

@@ -9,7 +9,7 @@ use Rattle.std.proofs.lemmas.List.Elements.{All-nil, All-push, All-weaker, Conta
 use Rattle.std.proofs.lemmas.List.Quantifiers.{Any-push, all_pairs_push}
 use Rattle.std.proofs.Math.ListN.{drop_of_length-le}
 use Rattle.std.proofs.Math.Seq.{take-append-add}
-use Rattle.nfs_tree.specs.declared.node.Entry.{Entry}
+use Rattle.nfs_tree.specs.declared.node.TreeEntry.{TreeEntry}
 use Rattle.nfs_tree.specs.declared.node.Node.{Node}
 use Rattle.nfs_tree.specs.declared.node.NodeKind.{NodeKind}
 use Rattle.nfs_tree.specs.declared.node.NodeKind.TheVariants.{Directory, File}
@@ -25,7 +25,7 @@ use Rattle.nfs_tree.proofs.Paths.{names_are_names, path_complete, path_sound}
 use Rattle.nfs_tree.proofs.Ways.{leads_stay, leads_on, chain_leads, way_leads, way_of, slice_get-beyond, text_cases, text_before, chain_kinds, is_kind, kind_stays, one_way, not_both_kinds}
 
 -- What is found in a tree when an entry is added, and which nodes the tree has after that.
-record Comes (nodes : List Node) (entry : Entry) (new : List Node) : Type 0 where
+record Comes (nodes : List Node) (entry : TreeEntry) (new : List Node) : Type 0 where
   names : List (List ℕ)
   found : List (List ℕ)
   missing : List (List ℕ)
@@ -45,7 +45,7 @@ passes true taken left new h = cc
 passes false true left new h = cc
 passes false false left new h = (refl, refl, cc)
 
-comes_named : (old new : Files) (entry : Entry) (o : Option (List (List ℕ))) → names_of entry.path ≡ o → add_named old entry.kind o ≡ Ok new → (new.policy ≡ old.policy) × Comes old.nodes entry new.nodes
+comes_named : (old new : Files) (entry : TreeEntry) (o : Option (List (List ℕ))) → names_of entry.path ≡ o → add_named old entry.kind o ≡ Ok new → (new.policy ≡ old.policy) × Comes old.nodes entry new.nodes
 comes_named old new entry None are h = cc
 comes_named old new entry (Some names) are h =
     let w = way old.nodes 0 names in
@@ -71,17 +71,17 @@ comes_named old new entry (Some names) are h =
       },
     )
 
-leads_to : (nodes : List Node) (entry : Entry) (names : List (List ℕ)) (n : ℕ) → IsPath names entry.path → Leads nodes 0 names n → LeadsTo nodes entry n
+leads_to : (nodes : List Node) (entry : TreeEntry) (names : List (List ℕ)) (n : ℕ) → IsPath names entry.path → Leads nodes 0 names n → LeadsTo nodes entry n
 leads_to nodes entry names n are_names leads = record { names = names; are_names = are_names; leads = leads }
 
 -- what holds for the nodes of a tree still holds once more nodes are added
-leads_to_stays : (nodes more : List Node) (entry : Entry) (n : ℕ) → LeadsTo nodes entry n → LeadsTo (nodes ++ more) entry n
+leads_to_stays : (nodes more : List Node) (entry : TreeEntry) (n : ℕ) → LeadsTo nodes entry n → LeadsTo (nodes ++ more) entry n
 leads_to_stays nodes more entry n l = leads_to (nodes ++ more) entry l.names n l.are_names (leads_stay nodes more 0 l.names n l.leads)
 
-there_stays : (nodes more : List Node) (entry : Entry) → IsThere nodes entry → IsThere (nodes ++ more) entry
+there_stays : (nodes more : List Node) (entry : TreeEntry) → IsThere nodes entry → IsThere (nodes ++ more) entry
 there_stays nodes more entry t = (t.0, leads_to_stays nodes more entry t.0 t.1, kind_stays nodes more t.0 entry.kind t.2)
 
-on_way_stays : (nodes more : List Node) (n : ℕ) (entry : Entry) → IsOnWay nodes n entry → IsOnWay (nodes ++ more) n entry
+on_way_stays : (nodes more : List Node) (n : ℕ) (entry : TreeEntry) → IsOnWay nodes n entry → IsOnWay (nodes ++ more) n entry
 on_way_stays nodes more n entry w = record {
   names = w.names;
   are_names = w.are_names;
@@ -89,7 +89,7 @@ on_way_stays nodes more n entry w = record {
   leads = leads_stay nodes more 0 (take w.count w.names) n w.leads;
 }
 
-file_stays : (nodes more : List Node) (n : ℕ) (text : List ℕ) (entry : Entry) → IsFileAt nodes n text entry → IsFileAt (nodes ++ more) n text entry
+file_stays : (nodes more : List Node) (n : ℕ) (text : List ℕ) (entry : TreeEntry) → IsFileAt nodes n text entry → IsFileAt (nodes ++ more) n text entry
 file_stays nodes more n text entry f = (leads_to_stays nodes more entry n f.0, f.1)
 
 any_stays : {A : Type 0} (P Q : A → Type 0) → ((x : A) → P x → Q x) → (xs : List A) (y : A) → Any P xs → Any Q (xs ++ y ∷ [])
@@ -98,7 +98,7 @@ any_stays P Q f xs y some =
     (at.0, some.1, at.1, at.2, f some.1 some.4)
 
 -- The names of an entry's path lead to each node that was added for the entry.
-comes_leads : (nodes new : List Node) (entry : Entry) (c : Comes nodes entry new) (count : ℕ) → IsTree nodes → count < length c.missing → Leads new 0 (take (length c.found + suc count) c.names) (length nodes + suc count)
+comes_leads : (nodes new : List Node) (entry : TreeEntry) (c : Comes nodes entry new) (count : ℕ) → IsTree nodes → count < length c.missing → Leads new 0 (take (length c.found + suc count) c.names) (length nodes + suc count)
 comes_leads nodes new entry c count tree some =
     let more = chain c.end (length nodes + 1) c.missing entry.kind in
     let parents : ParentsWithin (length nodes) nodes = parents_of [] nodes tt tree.each_fits in
@@ -110,7 +110,7 @@ comes_leads nodes new entry c count tree some =
     (subst (λ (names : List (List ℕ)). Leads (nodes ++ more) 0 names (length nodes + suc count)) (sym first) all)
 
 -- the kind of a node that was added for the entry
-comes_kinds : (nodes new : List Node) (entry : Entry) (c : Comes nodes entry new) (count : ℕ) → count < length c.missing → (node : Node) × (slice_get new (length nodes + count) ≡ Some node) × (node.kind ≡ kind_before (drop (suc count) c.missing) entry.kind)
+comes_kinds : (nodes new : List Node) (entry : TreeEntry) (c : Comes nodes entry new) (count : ℕ) → count < length c.missing → (node : Node) × (slice_get new (length nodes + count) ≡ Some node) × (node.kind ≡ kind_before (drop (suc count) c.missing) entry.kind)
 comes_kinds nodes new entry c count some =
     let more = chain c.end (length nodes + 1) c.missing entry.kind in
     let at = chain_kinds c.end (length nodes + 1) c.missing entry.kind count some in
@@ -120,18 +120,18 @@ chain_length : (parent number : ℕ) (names : List (List ℕ)) (kind : NodeKind)
 chain_length parent number [] kind = refl
 chain_length parent number (name ∷ names) kind = ap suc (chain_length number (number + 1) names kind)
 
-comes_length : (nodes new : List Node) (entry : Entry) (c : Comes nodes entry new) → length new ≡ length nodes + length c.missing
+comes_length : (nodes new : List Node) (entry : TreeEntry) (c : Comes nodes entry new) → length new ≡ length nodes + length c.missing
 comes_length nodes new entry c =
     let more = chain c.end (length nodes + 1) c.missing entry.kind in
     ap length c.is ∙ length-append nodes more ∙ ap (λ n. length nodes + n) (chain_length c.end (length nodes + 1) c.missing entry.kind)
 
 -- the position of such a node among those that were added, given its number
-comes_count : (nodes new : List Node) (entry : Entry) (c : Comes nodes entry new) (n : ℕ) → length nodes < n → n ≤ length new → (count : ℕ) × (n ≡ length nodes + suc count) × (count < length c.missing)
+comes_count : (nodes new : List Node) (entry : TreeEntry) (c : Comes nodes entry new) (n : ℕ) → length nodes < n → n ≤ length new → (count : ℕ) × (n ≡ length nodes + suc count) × (count < length c.missing)
 comes_count nodes new entry c n past within =
     let long = comes_length nodes new entry c in
     (n - length nodes - 1, omega arith, omega arith)
 
-comes_on_way : (nodes new : List Node) (entry : Entry) → Comes nodes entry new → IsTree nodes → (n : ℕ) → length nodes < n → n ≤ length new → IsOnWay new n entry
+comes_on_way : (nodes new : List Node) (entry : TreeEntry) → Comes nodes entry new → IsTree nodes → (n : ℕ) → length nodes < n → n ≤ length new → IsOnWay new n entry
 comes_on_way nodes new entry c tree n past within =
     let at = comes_count nodes new entry c n past within in
     record {
@@ -145,7 +145,7 @@ take_all : {A : Type 0} (count : ℕ) (xs : List A) → drop count xs ≡ [] →
 take_all count xs none = sym (append-nil (take count xs)) ∙ ap (λ ys. take count xs ++ ys) (sym none) ∙ take-append-drop count xs
 
 -- if no names of the path follow, the first names are the whole path
-comes_whole : (nodes new : List Node) (entry : Entry) (c : Comes nodes entry new) (count : ℕ) → drop (suc count) c.missing ≡ [] → take (length c.found + suc count) c.names ≡ c.names
+comes_whole : (nodes new : List Node) (entry : TreeEntry) (c : Comes nodes entry new) (count : ℕ) → drop (suc count) c.missing ≡ [] → take (length c.found + suc count) c.names ≡ c.names
 comes_whole nodes new entry c count none =
     ap (take (length c.found + suc count)) (sym c.parts)
     ∙ take-append-add c.found c.missing (suc count)
@@ -159,7 +159,7 @@ last_kind (name ∷ names) kind text is =
     let none : None ≡ Some text = ap text_of_kind (sym (kind_of_next name names kind)) ∙ is in cc
 
 -- if a node that was added for the entry is a file, it is the file of the entry
-comes_file : (nodes new : List Node) (entry : Entry) → Comes nodes entry new → IsTree nodes → (n : ℕ) (text : List ℕ) → length nodes < n → text_of new n ≡ Some text → IsFileAt new n text entry
+comes_file : (nodes new : List Node) (entry : TreeEntry) → Comes nodes entry new → IsTree nodes → (n : ℕ) (text : List ℕ) → length nodes < n → text_of new n ≡ Some text → IsFileAt new n text entry
 comes_file nodes new entry c tree n text past is =
     let place = text_cases new n text is in
     let number = place.1 in
@@ -184,12 +184,12 @@ no_names [] none = refl
 no_names (x ∷ xs) none = absurd (omega arith)
 
 -- an entry for which no node was added is a directory, and was there as one
-comes_directory : (nodes new : List Node) (entry : Entry) (c : Comes nodes entry new) → length c.missing ≡ 0 → is_directory_kind entry.kind ≡ true
+comes_directory : (nodes new : List Node) (entry : TreeEntry) (c : Comes nodes entry new) → length c.missing ≡ 0 → is_directory_kind entry.kind ≡ true
 comes_directory nodes new entry c none =
     let test : (length c.missing == 0) ≡ true = grind (arith, nat_tests) in
     not-false _ (sym (ap (λ b. b && not (is_directory_kind entry.kind)) test) ∙ c.free)
 
-comes_there : (nodes new : List Node) (entry : Entry) → Comes nodes entry new → IsTree nodes → IsThere new entry
+comes_there : (nodes new : List Node) (entry : TreeEntry) → Comes nodes entry new → IsTree nodes → IsThere new entry
 comes_there nodes new entry c tree =
     elim (decided (length c.missing == 0)) [
       | inl test ↦
@@ -220,7 +220,7 @@ at_directory nodes n Directory kind directory = refl
 at_directory nodes n (File text) kind directory = absurd (not_both_kinds nodes n text kind directory)
 
 -- if an entry's path was there already, both this entry and the earlier one are directories
-comes_again : (nodes new : List Node) (entry other : Entry) → Comes nodes entry new → IsThere nodes other → Agree other entry
+comes_again : (nodes new : List Node) (entry other : TreeEntry) → Comes nodes entry new → IsThere nodes other → Agree other entry
 comes_again nodes new entry other c there path =
     let by = there.1 in
     let names : Some by.names ≡ Some c.names = sym (path_complete other.path by.names by.are_names) ∙ ap names_of path ∙ path_complete entry.path c.names c.are_names in
@@ -230,14 +230,14 @@ comes_again nodes new entry other c there path =
     let directory : is_directory nodes there.0 ≡ true = ap (λ (w : Way). is_directory nodes w.end) (sym ends) ∙ c.directory in
     (at_directory nodes there.0 other.kind there.2 directory, of_directory_kind entry.kind (comes_directory nodes new entry c none))
 
-comes_tree : (nodes new : List Node) (entry : Entry) → Comes nodes entry new → IsTree nodes → IsTree new
+comes_tree : (nodes new : List Node) (entry : TreeEntry) → Comes nodes entry new → IsTree nodes → IsTree new
 comes_tree nodes new entry c tree =
     let names = names_are_names entry.path c.names (path_complete entry.path c.names c.are_names) in
     let missing : list_all is_name c.missing ≡ true = ap (λ (w : Way). list_all is_name w.missing) (sym c.way_is) ∙ way_names nodes 0 c.names names in
     subst IsTree (sym c.is) (tree_grows nodes c.end c.missing entry.kind tree c.few c.directory c.fresh missing)
 
 -- the tree of some entries, with one more entry added, is the tree of all of them
-comes_holds : (nodes new : List Node) (done : List Entry) (entry : Entry) → Comes nodes entry new → IsTree nodes → IsTreeOf done nodes → IsTreeOf (done ++ entry ∷ []) new
+comes_holds : (nodes new : List Node) (done : List TreeEntry) (entry : TreeEntry) → Comes nodes entry new → IsTree nodes → IsTreeOf done nodes → IsTreeOf (done ++ entry ∷ []) new
 comes_holds nodes new done entry c tree holds =
     let more = chain c.end (length nodes + 1) c.missing entry.kind in
     let there : All (IsThere new) done = subst (λ (ns : List Node). All (IsThere ns) done) (sym c.is) (All-weaker (IsThere nodes) (IsThere (nodes ++ more)) (there_stays nodes more) done holds.each_entry) in
@@ -266,7 +266,7 @@ bind_ok : {A B : Type 0} (r : Result A TreeError) (f : A → Result B TreeError)
 bind_ok (Ok a) f b h = (a, refl, h)
 bind_ok (Err e) f b h = cc
 
-built_holds : (old new : Files) (done rest : List Entry) → IsTree old.nodes → IsTreeOf done old.nodes → add_entries old rest ≡ Ok new → (new.policy ≡ old.policy) × IsTreeOf (done ++ rest) new.nodes
+built_holds : (old new : Files) (done rest : List TreeEntry) → IsTree old.nodes → IsTreeOf done old.nodes → add_entries old rest ≡ Ok new → (new.policy ≡ old.policy) × IsTreeOf (done ++ rest) new.nodes
 built_holds old new done [] tree holds is =
     let same : old ≡ new = cc in
     (ap (λ (f : Files). f.policy) (sym same), rw append-nil (subst (λ (f : Files). IsTreeOf done f.nodes) same holds))
@@ -274,7 +274,7 @@ built_holds old new done (entry ∷ rest) tree holds is =
     let first = bind_ok (add_entry old entry) (λ middle. add_entries middle rest) new is in
     let comes = comes_named old first.0 entry (names_of entry.path) refl first.1 in
     let after = built_holds first.0 new (done ++ entry ∷ []) rest (comes_tree old.nodes first.0.nodes entry comes.1 tree) (comes_holds old.nodes first.0.nodes done entry comes.1 tree holds) first.2 in
-    (after.0 ∙ comes.0, subst (λ (entries : List Entry). IsTreeOf entries new.nodes) (append_assoc done (entry ∷ []) rest) after.1)
+    (after.0 ∙ comes.0, subst (λ (entries : List TreeEntry). IsTreeOf entries new.nodes) (append_assoc done (entry ∷ []) rest) after.1)
 
 no_nodes : IsTree []
 no_nodes = record { each_fits = tt; few_directories = omega arith; few_files = omega arith }

@@ -2,7 +2,7 @@
 use Rattle.std.specs.Prelude.{◌≡◌, ℕ, ◌+◌, ◌-◌, ◌≤◌, ◌==◌, nat_le, nat_lt, Bool, true, false, not, ◌&&◌, ◌||◌, if◌then◌else◌, List, [], ◌∷◌, ◌++◌, length, Option, Some, None, Result, Ok, Err}
 use Rattle.std.specs.List.{list_all}
 use Rattle.nfs_tree.specs.declared.document.Document.{Document}
-use Rattle.nfs_tree.specs.declared.node.Entry.{Entry}
+use Rattle.nfs_tree.specs.declared.node.TreeEntry.{TreeEntry}
 use Rattle.nfs_tree.specs.declared.node.Node.{Node}
 use Rattle.nfs_tree.specs.declared.node.NodeKind.{NodeKind}
 use Rattle.nfs_tree.specs.declared.node.NodeKind.TheVariants.{Directory, File}
@@ -112,7 +112,7 @@ abbrev pub add_named : Files → NodeKind → Option (List (List ℕ)) → Resul
 add_named old kind None = Err errors.Name
 add_named old kind (Some names) = add_on old kind (way old.nodes 0 names)
 
-abbrev pub add_entry : Files → Entry → Result Files TreeError
+abbrev pub add_entry : Files → TreeEntry → Result Files TreeError
 add_entry old entry = add_named old entry.kind (names_of entry.path)
 
 -- the tree with all entries added, or why the first one that can't be added is refused
@@ -122,7 +122,7 @@ abbrev pub ◌>>=◌ : {A B : Type 0} → Result A TreeError → (A → Result B
 (Ok x) >>= f = f x
 (Err e) >>= f = Err e
 
-abbrev pub add_entries : Files → List Entry → Result Files TreeError
+abbrev pub add_entries : Files → List TreeEntry → Result Files TreeError
 add_entries old [] = Ok old
 add_entries old (entry ∷ entries) = add_entry old entry >>= λ new. add_entries new entries
 

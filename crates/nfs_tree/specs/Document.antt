@@ -7,7 +7,7 @@ use Rattle.toml.specs.Parse.{parse_document}
 use Rattle.nfs_tree.specs.declared.document.Document.{Document}
 use Rattle.nfs_tree.specs.declared.document.Listing.{Listing}
 use Rattle.nfs_tree.specs.declared.document.Listing.TheVariants as listings
-use Rattle.nfs_tree.specs.declared.node.Entry.{Entry}
+use Rattle.nfs_tree.specs.declared.node.TreeEntry.{TreeEntry}
 use Rattle.nfs_tree.specs.declared.node.NodeKind.TheVariants.{Directory, File}
 use Rattle.nfs_tree.specs.declared.policy.Callbacks.{Callbacks}
 use Rattle.nfs_tree.specs.declared.policy.Callbacks.TheVariants as callbacks
@@ -43,7 +43,7 @@ table_of keys value =
     as_table value >>= λ members. if has_only keys members then Some members else None
 
 -- the entry that a table in an array describes: a directory, with a path, or a file, with a path and an optional text
-abbrev pub entry_of : Listing → Data → Option Entry
+abbrev pub entry_of : Listing → Data → Option TreeEntry
 entry_of listings.Directories value =
     table_of (codes "path" ∷ []) value >>= λ table.
     get_member (codes "path") table >>= as_str >>= λ path.
@@ -54,13 +54,13 @@ entry_of listings.Files value =
     or_absent [] as_str (get_member (codes "text") table) >>= λ text.
     Some (record { path = path; kind = File text })
 
-abbrev pub entries_of : Listing → Items → Option (List Entry)
+abbrev pub entries_of : Listing → Items → Option (List TreeEntry)
 entries_of listing no_items = Some []
 entries_of listing (item value more) =
     entry_of listing value >>= λ entry.
     entries_of listing more >>= λ entries. Some (entry ∷ entries)
 
-abbrev pub entries_in : Listing → Data → Option (List Entry)
+abbrev pub entries_in : Listing → Data → Option (List TreeEntry)
 entries_in listing value = as_array value >>= entries_of listing
 
 -- the words that a policy can contain

@@ -2,7 +2,7 @@
 use Rattle.std.specs.Prelude.{◌≡◌, ℕ, ◌<◌, ◌≤◌, true, List, [], ◌∷◌, take, Some, Ok}
 use Rattle.std.specs.List.{All, AllPairs, Any}
 use Rattle.nfs_tree.specs.declared.document.Document.{Document}
-use Rattle.nfs_tree.specs.declared.node.Entry.{Entry}
+use Rattle.nfs_tree.specs.declared.node.TreeEntry.{TreeEntry}
 use Rattle.nfs_tree.specs.declared.node.Node.{Node}
 use Rattle.nfs_tree.specs.declared.node.NodeKind.{NodeKind}
 use Rattle.nfs_tree.specs.declared.node.NodeKind.TheVariants.{Directory, File}
@@ -23,28 +23,28 @@ IsOfKind nodes n Directory = is_directory nodes n ≡ true
 IsOfKind nodes n (File text) = text_of nodes n ≡ Some text
 
 -- The names of the entry's path lead from the root to the node.
-pub record LeadsTo (nodes : List Node) (entry : Entry) (n : ℕ) : Type 0 where
+pub record LeadsTo (nodes : List Node) (entry : TreeEntry) (n : ℕ) : Type 0 where
   pub names : List (List ℕ)
   pub are_names : IsPath names entry.path
   pub leads : Leads nodes ROOT names n
 
 -- The first `count` names of the entry's path lead from the root to the node.
-pub record IsOnWay (nodes : List Node) (n : ℕ) (entry : Entry) : Type 0 where
+pub record IsOnWay (nodes : List Node) (n : ℕ) (entry : TreeEntry) : Type 0 where
   pub names : List (List ℕ)
   pub are_names : IsPath names entry.path
   pub count : ℕ
   pub leads : Leads nodes ROOT (take count names) n
 
 -- The entry's path leads to a node of its kind.
-abbrev pub IsThere : List Node → Entry → Type 0
+abbrev pub IsThere : List Node → TreeEntry → Type 0
 IsThere nodes entry = (n : ℕ) × LeadsTo nodes entry n × IsOfKind nodes n entry.kind
 
 -- The entry is a file with this text, and its path leads to the node.
-abbrev pub IsFileAt : List Node → ℕ → List ℕ → Entry → Type 0
+abbrev pub IsFileAt : List Node → ℕ → List ℕ → TreeEntry → Type 0
 IsFileAt nodes n text entry = LeadsTo nodes entry n × (entry.kind ≡ File text)
 
 -- If two entries have the same path, both are directories.
-abbrev pub Agree : Entry → Entry → Type 0
+abbrev pub Agree : TreeEntry → TreeEntry → Type 0
 Agree one other = one.path ≡ other.path → (one.kind ≡ Directory) × (other.kind ≡ Directory)
 
 -- Only these names lead from the root to the node.
@@ -53,7 +53,7 @@ IsOneWay nodes n names = (others : List (List ℕ)) → Leads nodes ROOT others 
 
 -- The nodes are those of the entries: each entry is in the tree, each node other than the root is on the way to an
 -- entry, each file is that of an entry, and only one way leads to each node.
-pub record IsTreeOf (entries : List Entry) (nodes : List Node) : Type 0 where
+pub record IsTreeOf (entries : List TreeEntry) (nodes : List Node) : Type 0 where
   pub each_entry : All (IsThere nodes) entries
   pub each_node : (n : ℕ) → 1 ≤ n → n < node_count nodes → Any (IsOnWay nodes n) entries
   pub each_file :

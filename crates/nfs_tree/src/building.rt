@@ -7,7 +7,7 @@ ghost use Rattle.nfs_tree.specs.Tree.{directories, files};
 use crate::document::read_document;
 use crate::path::names_of;
 use crate::{
-    DIRECTORY_LIMIT, Entry, FILE_LIMIT, Node, NodeKind, PATH_LIMIT, TEXT_LIMIT, Tree, TreeError,
+    DIRECTORY_LIMIT, TreeEntry, FILE_LIMIT, Node, NodeKind, PATH_LIMIT, TEXT_LIMIT, Tree, TreeError,
 };
 use std::alloc::{AllocError, Global};
 use xdr::Bytes;
@@ -46,7 +46,7 @@ impl Tree {
     }
 
     // Adds an entry to the tree.
-    fn add(&mut self, alloc: Global, entry: &Entry) -> Result<(), TreeError>
+    fn add(&mut self, alloc: Global, entry: &TreeEntry) -> Result<(), TreeError>
         ensures ok { OnOk result (add_entry self.old entry.now ≡ Ok self.new) }
         ensures err { IfErr result (λ e. FailsToMake e (add_entry self.old entry.now)) }
     {

@@ -5,7 +5,7 @@ ghost use Rattle.nfs_tree.specs.Document.{Reads, callbacks_of, delegations_of, d
 ghost use Rattle.toml.specs.Data.{as_str, get_member};
 ghost use Rattle.toml.specs.View.{items_view, table_view, view};
 
-use crate::{Callbacks, DEFAULT_POLICY, Delegations, Entry, NodeKind, Policy, TreeError};
+use crate::{Callbacks, DEFAULT_POLICY, Delegations, TreeEntry, NodeKind, Policy, TreeError};
 use std::alloc::Global;
 use toml::{Table, Value};
 use xdr::{Bytes, Sequence};
@@ -20,7 +20,7 @@ pub enum Listing {
 /// What a document contains: its entries, first those of directories, and its policy.
 #[derive(Debug, Drop)]
 pub struct Document {
-    pub entries: Sequence<Entry>,
+    pub entries: Sequence<TreeEntry>,
     pub policy: Policy,
 }
 
@@ -61,7 +61,7 @@ fn read_listing(
     alloc: Global,
     listing: Listing,
     value: Option<&Value>,
-) -> Result<Sequence<Entry>, TreeError>
+) -> Result<Sequence<TreeEntry>, TreeError>
     ensures { Reads result (or_absent [] (entries_in listing)
         (option_map (λ v. view v.now) value.entry)) }
 {
@@ -78,7 +78,7 @@ fn read_entries(
     alloc: Global,
     listing: Listing,
     array: &[Value],
-) -> Result<Sequence<Entry>, TreeError>
+) -> Result<Sequence<TreeEntry>, TreeError>
     ensures { Reads result (entries_of listing (items_view array.now)) }
 {
     let mut entries = Vec::new(alloc);
@@ -90,7 +90,7 @@ fn read_entries(
     Ok(Sequence::new(entries))
 }
 
-fn read_entry(alloc: Global, listing: Listing, value: &Value) -> Result<Entry, TreeError>
+fn read_entry(alloc: Global, listing: Listing, value: &Value) -> Result<TreeEntry, TreeError>
     ensures { Reads result (entry_of listing (view value.now)) }
 {
     match listing {
@@ -99,20 +99,20 @@ fn read_entry(alloc: Global, listing: Listing, value: &Value) -> Result<Entry, T
     }
 }
 
-fn read_directory(alloc: Global, value: &Value) -> Result<Entry, TreeError>
+fn read_directory(alloc: Global, value: &Value) -> Result<TreeEntry, TreeError>
     ensures { Reads result (entry_of Listing.Directories (view value.now)) }
 {
     let Some(table) = table_of(value, &["path"]) else {
         return Err(TreeError::Syntax);
     };
     let path = read_bytes(alloc, member(table, "path"))?;
-    Ok(Entry {
+    Ok(TreeEntry {
         path,
         kind: NodeKind::Directory,
     })
 }
 
-fn read_file(alloc: Global, value: &Value) -> Result<Entry, TreeError>
+fn read_file(alloc: Global, value: &Value) -> Result<TreeEntry, TreeError>
     ensures { Reads result (entry_of Listing.Files (view value.now)) }
 {
     let Some(table) = table_of(value, &["path", "text"]) else {
@@ -123,7 +123,7 @@ fn read_file(alloc: Global, value: &Value) -> Result<Entry, TreeError>
         None => Bytes::new(Vec::new(alloc)),
         text => read_bytes(alloc, text)?,
     };
-    Ok(Entry {
+    Ok(TreeEntry {
         path,
         kind: NodeKind::File(text),
     })

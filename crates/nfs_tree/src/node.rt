@@ -22,7 +22,7 @@ pub struct Node {
 
 /// An entry of a document: the tree has a node of this kind at the end of this path.
 #[derive(Debug, Drop)]
-pub struct Entry {
+pub struct TreeEntry {
     /// Names starting below the root, joined by `/`.
     pub path: Bytes,
     pub kind: NodeKind,

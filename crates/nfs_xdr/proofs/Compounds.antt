@@ -3,8 +3,8 @@ use Rattle.std.proofs.Common.{◌≡◌, ℕ, zero, suc, Bool, true, false, cond
 use Rattle.std.specs.Prelude.{IfOk, OnErr, MatchBool}
 use Rattle.std.proofs.lemmas.Bool.{eqb-true, leb-true, le-leb}
 use Rattle.nfs_xdr.specs.declared.compound.Compound.{Compound}
-use Rattle.nfs_xdr.specs.declared.compound.Request.{Request}
-use Rattle.nfs_xdr.specs.declared.compound.Request.TheVariants.{MinorVersion, TooMany, Operations}
+use Rattle.nfs_xdr.specs.declared.compound.CompoundRequest.{CompoundRequest}
+use Rattle.nfs_xdr.specs.declared.compound.CompoundRequest.TheVariants.{MinorVersion, TooMany, Operations}
 use Rattle.nfs_xdr.specs.declared.compound.TheConstants.{OPERATION_LIMIT}
 use Rattle.nfs_xdr.specs.declared.arg_op.ArgOp.{ArgOp}
 use Rattle.xdr.specs.declared.wire_error.WireError.{WireError}
@@ -59,7 +59,7 @@ operations_complete (suc count) bytes (op ∷ ops) h =
     ap (λ (x : ArgOp × List ℕ). or_more x (operations_at count)) (arg_op_complete bytes op h.0 h.1)
     ∙ more_complete count (ends_list op) op ops h.0 (operations_complete count h.0 ops) h.2
 
-request_complete : (minor count : ℕ) (bytes : List ℕ) (request : Request) → IsRequest minor count bytes request → request_at minor count bytes ≡ request
+request_complete : (minor count : ℕ) (bytes : List ℕ) (request : CompoundRequest) → IsRequest minor count bytes request → request_at minor count bytes ≡ request
 request_complete minor count bytes (MinorVersion other) h = rw h.1 (ap MinorVersion h.0)
 request_complete minor count bytes (TooMany many) h = rw (h.0, h.2) (ap TooMany h.1)
 request_complete minor count bytes (Operations ops) h = rw (h.0, le-leb _ _ h.1) (ap Operations (operations_complete count bytes ops h.2))
@@ -70,7 +70,7 @@ compound_complete bytes compound encoded =
     let value : List ℕ × (ℕ × ℕ) = (compound.tag, (encoded.0, encoded.1)) in
     let given : head.at bytes ≡ Ok (value, encoded.2) = ap head.at encoded.3.1 ∙ head.reads.complete value encoded.3.0 encoded.2 encoded.3.2 in
     ap (λ (r : Read (List ℕ × (ℕ × ℕ))). r >>= λ h. Ok (compound_of h)) given
-    ∙ ap (λ (r : Request). Ok (record { tag = compound.tag; request = r })) (request_complete encoded.0 encoded.1 encoded.2 compound.request encoded.4)
+    ∙ ap (λ (r : CompoundRequest). Ok (record { tag = compound.tag; request = r })) (request_complete encoded.0 encoded.1 encoded.2 compound.request encoded.4)
 
 pub no_compound : (bytes : List ℕ) (error : WireError) → compound_at bytes ≡ Err error → (compound : Compound) → IsCompound compound bytes → ⊥
 no_compound bytes error failed compound encoded = let clash : Err error ≡ Ok compound = sym failed ∙ compound_complete bytes compound encoded in cc

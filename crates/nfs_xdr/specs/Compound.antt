@@ -2,8 +2,8 @@
 use Rattle.std.specs.Prelude.{◌≡◌, ◌↔◌, ℕ, zero, suc, ◌≤◌, ◌==◌, nat_le, List, [], ◌∷◌, Result, Ok, IsFalse, MatchBool, if◌then◌else◌}
 use Rattle.nfs_xdr.specs.declared.arg_op.ArgOp.{ArgOp}
 use Rattle.nfs_xdr.specs.declared.compound.Compound.{Compound}
-use Rattle.nfs_xdr.specs.declared.compound.Request.{Request}
-use Rattle.nfs_xdr.specs.declared.compound.Request.TheVariants.{MinorVersion, TooMany, Operations}
+use Rattle.nfs_xdr.specs.declared.compound.CompoundRequest.{CompoundRequest}
+use Rattle.nfs_xdr.specs.declared.compound.CompoundRequest.TheVariants.{MinorVersion, TooMany, Operations}
 use Rattle.nfs_xdr.specs.declared.compound.TheConstants.{OPERATION_LIMIT}
 use Rattle.nfs_xdr.specs.declared.op_result.OpResult.{OpResult}
 use Rattle.nfs_forms.specs.declared.status.Status.{Status}
@@ -30,7 +30,7 @@ HoldOperations (suc count) bytes (op ∷ ops) =
 
 -- What a minor version and a count of operations ask for. Only version 0 is served, and no more operations than the
 -- limit.
-abbrev pub IsRequest : ℕ → ℕ → List ℕ → Request → Type 0
+abbrev pub IsRequest : ℕ → ℕ → List ℕ → CompoundRequest → Type 0
 IsRequest minor count bytes (MinorVersion other) = (minor ≡ other) × IsFalse (minor == 0)
 IsRequest minor count bytes (TooMany many) =
     (minor ≡ 0) × (count ≡ many) × IsFalse (nat_le count OPERATION_LIMIT)
@@ -52,7 +52,7 @@ unfoldable pub operations_at : ℕ → List ℕ → List ArgOp
 operations_at zero bytes = []
 operations_at (suc count) bytes = or_more (arg_op_at bytes) (operations_at count)
 
-abbrev pub request_at : ℕ → ℕ → List ℕ → Request
+abbrev pub request_at : ℕ → ℕ → List ℕ → CompoundRequest
 request_at minor count bytes =
     if minor == 0 then
     (if nat_le count OPERATION_LIMIT then Operations (operations_at count bytes)

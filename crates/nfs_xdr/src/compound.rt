@@ -17,12 +17,12 @@ pub const OPERATION_LIMIT: u32 = 64;
 pub struct Compound {
     /// The client's label, which the reply repeats.
     pub tag: Bytes,
-    pub request: Request,
+    pub request: CompoundRequest,
 }
 
 /// What a COMPOUND asks for.
 #[derive(Debug, Drop)]
-pub enum Request {
+pub enum CompoundRequest {
     /// A minor version other than 0.
     MinorVersion(u32),
     /// More operations than the limit of 64; this is their count.
@@ -67,16 +67,16 @@ fn read_head(bytes: &[u8]) -> Result<((&[u8], (u32, u32)), &[u8]), WireError>
     Ok(((tag, (minor, count)), rest))
 }
 
-fn read_request(alloc: Global, minor: u32, count: u32, bytes: &[u8]) -> Result<Request, AllocError>
+fn read_request(alloc: Global, minor: u32, count: u32, bytes: &[u8]) -> Result<CompoundRequest, AllocError>
     ensures { IfOk result (λ request. request ≡ request_at minor count bytes.now) }
 {
     if minor != 0 {
-        return Ok(Request::MinorVersion(minor));
+        return Ok(CompoundRequest::MinorVersion(minor));
     }
     if count > OPERATION_LIMIT {
-        return Ok(Request::TooMany(count));
+        return Ok(CompoundRequest::TooMany(count));
     }
-    Ok(Request::Operations(read_operations(alloc, count, bytes)?))
+    Ok(CompoundRequest::Operations(read_operations(alloc, count, bytes)?))
 }
 
 // The operations at the front, as many as the count says, or up to the first one that ends the list.

@@ -12,7 +12,7 @@ mod opnum;
 
 pub use arg_op::{ArgOp, read_op};
 pub use compound::{
-    Compound, OPERATION_LIMIT, Request, one_request_is_encoded, read_compound, write_results,
+    Compound, OPERATION_LIMIT, CompoundRequest, one_request_is_encoded, read_compound, write_results,
 };
 pub use limits::limit_of_compounds;
 pub use names::Names;

@@ -3,7 +3,7 @@ ghost use Rattle.std.specs.Option.{option_copied};
 ghost use Rattle.nfs_locks.specs.LockFound.{lock_found_seen};
 ghost use Rattle.nfs_locks.specs.StoredLocks.{lock_seen};
 ghost use Rattle.nfs_operations.specs.declared.lock.Lock.{Lock};
-ghost use Rattle.nfs_rules.specs.Deciding.{Rules};
+ghost use Rattle.nfs_rules.specs.Deciding.{ByOwnRule};
 ghost use Rattle.nfs_rules.specs.Finding.{locking_or_refusal_seen, locking_seen};
 ghost use Rattle.nfs_rules.specs.declared.passage.Passage.{Passage};
 ghost use Rattle.nfs_rules.specs.operations.Lock.{IsAllowed, addition, allows, beginning, first_stateid, grant, introduction, locking_of_state, locking_of, own};
@@ -49,7 +49,7 @@ pub(super) fn rule(
     requires states { tables.now.numbers < 2 ^ 32 - 1 }
     requires kept { Agrees journal.now.history tables.now.owners.owners }
     ensures { (passage : Passage)
-        → Rules (own journal.now.history (state_of tables.now) args.now node passage)
+        → ByOwnRule (own journal.now.history (state_of tables.now) args.now node passage)
         (state_of tables.now) (Op.Lock args.now) result }
 {
     at_most_one_range();
@@ -160,7 +160,7 @@ fn allows(mode: Mode, found: Option<&OpenState>) -> bool
 fn lock(tables: &Tables, locking: Locking<'_>, range: Range) -> Result<Ruling, Shortage>
     requires { tables.now.numbers < 2 ^ 32 - 1 }
     ensures { (args : Lock)
-        → Rules (IsAllowed true (state_of tables.now) (locking_seen locking.entry) range)
+        → ByOwnRule (IsAllowed true (state_of tables.now) (locking_seen locking.entry) range)
         (state_of tables.now) (Op.Lock args) result }
 {
     at_most_one_report();
@@ -186,7 +186,7 @@ fn lock(tables: &Tables, locking: Locking<'_>, range: Range) -> Result<Ruling, S
 fn grant(tables: &Tables, locking: Locking<'_>, range: Range) -> Result<Ruling, Shortage>
     requires { tables.now.numbers < 2 ^ 32 - 1 }
     ensures { (args : Lock) → let l = locking_seen locking.entry in
-        Rules (λ ruling. ruling ≡ grant (state_of tables.now) l range l.state)
+        ByOwnRule (λ ruling. ruling ≡ grant (state_of tables.now) l range l.state)
         (state_of tables.now) (Op.Lock args) result }
 {
     match locking.state {
@@ -198,7 +198,7 @@ fn grant(tables: &Tables, locking: Locking<'_>, range: Range) -> Result<Ruling, 
 // A lock state begins.
 fn begin(tables: &Tables, locking: Locking<'_>, range: Range) -> Result<Ruling, Shortage>
     requires { tables.now.numbers < 2 ^ 32 - 1 }
-    ensures { (args : Lock) → Rules (λ ruling. ruling
+    ensures { (args : Lock) → ByOwnRule (λ ruling. ruling
         ≡ beginning (state_of tables.now) (locking_seen locking.entry) range)
         (state_of tables.now) (Op.Lock args) result }
 {
@@ -234,7 +234,7 @@ fn add(
     range: Range,
     state: &LockState,
 ) -> Result<Ruling, Shortage>
-    ensures { (args : Lock) → Rules (λ ruling. ruling
+    ensures { (args : Lock) → ByOwnRule (λ ruling. ruling
         ≡ addition (state_of tables.now) (locking_seen locking.entry) range (lock_seen state.now))
         (state_of tables.now) (Op.Lock args) result }
 {

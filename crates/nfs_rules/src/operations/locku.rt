@@ -1,7 +1,7 @@
 ghost use Rattle.std.specs.Prelude.{◌≡◌, Some};
 ghost use Rattle.nfs_locks.specs.LockFound.{lock_found_seen};
 ghost use Rattle.nfs_operations.specs.declared.locku.Locku.{Locku};
-ghost use Rattle.nfs_rules.specs.Deciding.{Rules};
+ghost use Rattle.nfs_rules.specs.Deciding.{ByOwnRule};
 ghost use Rattle.nfs_rules.specs.declared.passage.Passage.{Passage};
 ghost use Rattle.nfs_rules.specs.operations.Locku.{own, unlocking};
 ghost use Rattle.nfs_state.specs.Room.{state_of};
@@ -23,7 +23,7 @@ pub(super) fn rule(
     args: &Locku,
 ) -> Result<Ruling, Shortage>
     ensures { (passage : Passage)
-        → Rules (own journal.now.history (state_of tables.now) args.now node passage)
+        → ByOwnRule (own journal.now.history (state_of tables.now) args.now node passage)
         (state_of tables.now) (Op.Locku args.now) result }
 {
     at_most_one_range();
@@ -38,7 +38,7 @@ pub(super) fn rule(
 
 // Frees the bytes, unless the runs of the lock state would be too many.
 fn unlock(tables: &Tables, found: LockFound<'_>, range: Range) -> Result<Ruling, Shortage>
-    ensures { (args : Locku) → Rules (λ ruling. ruling
+    ensures { (args : Locku) → ByOwnRule (λ ruling. ruling
         ≡ unlocking (state_of tables.now) (lock_found_seen found.entry) (Some range))
         (state_of tables.now) (Op.Locku args) result }
 {

@@ -2,7 +2,7 @@ ghost use Rattle.std.specs.Prelude.{◌≡◌, ◌≤◌, ◌<◌, ◌-◌, ◌^
 ghost use Rattle.std.specs.Option.{option_copied};
 ghost use Rattle.std.specs.Result.{IsOk, result_map_both};
 ghost use Rattle.nfs_owners.specs.StateOwner.{open_owner};
-ghost use Rattle.nfs_rules.specs.Deciding.{Rules, IsPassage};
+ghost use Rattle.nfs_rules.specs.Deciding.{ByOwnRule, IsPassage};
 ghost use Rattle.nfs_rules.specs.Finding.{target_seen};
 ghost use Rattle.nfs_state.specs.Room.{state_of};
 ghost use Rattle.nfs_rules.specs.Sequences.{before_own};
@@ -37,7 +37,7 @@ pub(super) fn rule(
 ) -> Result<Ruling, Shortage>
     requires states { tables.now.numbers < 2 ^ 32 - 1 }
     requires passage { IsPassage passage (open_owner args.now.owner) (state_of tables.now) }
-    ensures rules { Rules (own journal.now.history (state_of tables.now) args.now directory passage)
+    ensures rules { ByOwnRule (own journal.now.history (state_of tables.now) args.now directory passage)
         (state_of tables.now) (Op.Open args.now) result }
     ensures error { OnErr result
         (IsOk (opening journal.now.history (state_of tables.now) directory args.now)) }
@@ -161,7 +161,7 @@ fn grant(
 ) -> Result<Ruling, Shortage>
     requires states { tables.now.numbers < 2 ^ 32 - 1 }
     requires passage { IsPassage passage (open_owner args.now.owner) (state_of tables.now) }
-    ensures { Rules (λ ruling. ruling ≡ ruling_of
+    ensures { ByOwnRule (λ ruling. ruling ≡ ruling_of
         (before_own passage args.now.owner (state_of tables.now))
         passage args.now.owner (Ok opening))
         (state_of tables.now) (Op.Open args.now) result }

@@ -1,7 +1,7 @@
 //! The frame of the operations that go by the sequence id of an owner (RFC 7530, sections 9.1.7 to 9.1.11).
 
 ghost use Rattle.std.specs.Prelude.{◌≡◌, ◌<◌, ◌-◌, ◌^◌, IfOk, IsTrue, OnErr};
-ghost use Rattle.nfs_rules.specs.Deciding.{Decides, HasOtherRefusal, IsAdmitted, IsPassageOf, IsRequesterOf, Rules};
+ghost use Rattle.nfs_rules.specs.Deciding.{Decides, HasOtherRefusal, IsAdmitted, IsPassageOf, IsRequesterOf, ByOwnRule};
 ghost use Rattle.nfs_owners.specs.StateOwner.{owner_seen};
 ghost use Rattle.nfs_rules.specs.Finding.{newcomer_seen, requester_seen};
 ghost use Rattle.nfs_state.specs.Kept.{Agrees};
@@ -15,7 +15,7 @@ use crate::decision::Decision;
 use crate::newcomer::{Newcomer, newcomer_of};
 use crate::passage::Passage;
 use crate::ruling::Ruling;
-use crate::sequence::{Requester, Sequence, sequence_of};
+use crate::sequence::{Requester, SequenceStep, sequence_of};
 use nfs_locks::at_most_one_report;
 use nfs_owners::OwnerRef;
 use nfs_ranges::at_most_one_range;
@@ -50,8 +50,8 @@ pub(super) fn decide(
         return Ok(answer_alone(request.op.opnum().refusal(Refusal::NoFileHandle)));
     };
     match sequence_of(tables, journal, request, requester)? {
-        Sequence::Answered(answer) => Ok(answer_alone(answer)),
-        Sequence::GoesOn(passage, name) => {
+        SequenceStep::Answered(answer) => Ok(answer_alone(answer)),
+        SequenceStep::GoesOn(passage, name) => {
             let ruling = rule(alloc, tables, journal, node, passage, &request.op)?;
             let newcomer = newcomer_of(tables, name.client, &request.op);
             Ok(decision_of(passage, name, newcomer, ruling)?)
@@ -82,7 +82,7 @@ fn rule(
     requires states { tables.now.numbers < 2 ^ 32 - 1 }
     requires kept { Agrees journal.now.history tables.now.owners.owners }
     requires passage { IsPassageOf op.now passage (state_of tables.now) }
-    ensures { Rules (own_of op.now journal.now.history (state_of tables.now) node passage)
+    ensures { ByOwnRule (own_of op.now journal.now.history (state_of tables.now) node passage)
         (state_of tables.now) op.now result }
 {
     match op {

@@ -3,7 +3,7 @@ use Rattle.std.specs.Option.{option_copied}
 use Rattle.std.proofs.lemmas.Result.{IfOk-weaker, on_err_weaker}
 use Rattle.nfs_rules.specs.Deciding.{IsReplay}
 use Rattle.nfs_rules.specs.declared.sequence.Requester.{Requester}
-use Rattle.nfs_rules.specs.declared.sequence.Sequence.{Sequence}
+use Rattle.nfs_rules.specs.declared.sequence.SequenceStep.{SequenceStep}
 use Rattle.nfs_rules.specs.Finding.{requester_seen, sequence_seen}
 use Rattle.nfs_state.specs.Room.{state_of}
 use Rattle.nfs_rules.specs.Sequences.{IsSequence}
@@ -30,7 +30,7 @@ returns-in-None-clause-passage c =
 
 pub returns-in-Some-clause-sequence : goal.returns-in-Some-clause-sequence
 returns-in-Some-clause-sequence c =
-    let is_sequence : Requester → Sequence → Type 0 = λ r s. IsSequence c.args.journal.now.history (state_of c.args.tables.now) (requester_seen r) c.args.request.now (sequence_seen s) in
+    let is_sequence : Requester → SequenceStep → Type 0 = λ r s. IsSequence c.args.journal.now.history (state_of c.args.tables.now) (requester_seen r) c.args.request.now (sequence_seen s) in
     IfOk-weaker c.resume.result _ _
     (λ s is. subst (λ r. is_sequence r s) (sym c.in-Owner.is) (known_sequence c.args.journal.now.history (owner_seen c.in-Owner.name) c.args.tables.now.owners.owners c.in-Some.owner.now c.in-Owner.seqid c.args.request.now (sequence_seen s) c.requires.kept (sym c.find.ensures ∙ ap option_copied c.in-Some.is) is))
     c.resume.ensures.sequence

@@ -48,11 +48,11 @@ returns-then-count-fed-clause-course g c =
     c.loop-records.records piece (Err errors.TooMuch) c.read.new.self c.loop-records.invariant.under_way c.loop-records.invariant.sound
     ((refl, refl, c.in-Ok.ensures.gives), λ within. omega (arith, within, length-take c.in-Ok.count c.read.new.buffer, c.loop-records.invariant.under_way.fed, c.fed.ensures.value, c.in-Ok.ensures.within, c.if-count-fed.true))
 
-pub returns-in_err-take_in-clause-course : goal.returns-in_err-take_in-clause-course
-returns-in_err-take_in-clause-course g c =
+pub returns-in_err-feed-clause-course : goal.returns-in_err-feed-clause-course
+returns-in_err-feed-clause-course g c =
     let piece = take c.in-Ok.count c.read.new.buffer in
-    let p = err_from_is_err_and c.from_residual-in_err-take_in.result c.from_residual-in_err-take_in.ensures.1 in
-    let memory : c.from_residual-in_err-take_in.result ≡ Err errors.Memory = p.1 ∙ ap (λ (e : ServeError). Err e) (p.2 ∙ error_is c.in_err-take_in.field-0.0 errors.Memory c.in_err-take_in.ensures.memory) in
+    let p = err_from_is_err_and c.from_residual-in_err-feed.result c.from_residual-in_err-feed.ensures.1 in
+    let memory : c.from_residual-in_err-feed.result ≡ Err errors.Memory = p.1 ∙ ap (λ (e : ServeError). Err e) (p.2 ∙ error_is c.in_err-feed.field-0.0 errors.Memory c.in_err-feed.ensures.memory) in
     rw memory
     (ends_idle g.D.Duplex.device (rules c.args.tree.now g.S.Service.gives g.S.Service.alike g.C.Clock.tells) (scene c.args.device.now c.args.service.now c.args.clock.now) (scene c.loop-records.device c.loop-records.service c.loop-records.clock)
     c.loop-records.records piece (Err errors.Memory) c.read.new.self c.loop-records.invariant.under_way c.loop-records.invariant.sound (inr (inl (
@@ -64,20 +64,20 @@ returns-in_err-take_in-clause-course g c =
 pub serve_ready-requires-clause-limits : goal.serve_ready-requires-clause-limits
 serve_ready-requires-clause-limits g c =
     let u = c.loop-records.invariant.under_way in
-    ready_within c.loop-records.records c.take_in.new.records (take c.in-Ok.count c.read.new.buffer) _ u.idle u.keeps c.in_ok-take_in.ensures.ok
+    ready_within c.loop-records.records c.feed.new.records (take c.in-Ok.count c.read.new.buffer) _ u.idle u.keeps c.in_ok-feed.ensures.ok
 
 pub returns-in_err-serve_ready-clause-course : goal.returns-in_err-serve_ready-clause-course
 returns-in_err-serve_ready-clause-course g c =
     let piece = take c.in-Ok.count c.read.new.buffer in
     let p = err_from_is_err_and c.from_residual-in_err-serve_ready.result c.from_residual-in_err-serve_ready.ensures.1 in
     ends_failed {T = Unit {0}} g.D.Duplex.device (rules c.args.tree.now g.S.Service.gives g.S.Service.alike g.C.Clock.tells) (scene c.args.device.now c.args.service.now c.args.clock.now) (scene c.loop-records.device c.loop-records.service c.loop-records.clock)
-    c.loop-records.records c.take_in.new.records piece c.in_err-serve_ready.field-0.0 c.from_residual-in_err-serve_ready.result (scene c.serve_ready.new.device c.serve_ready.new.service c.serve_ready.new.clock)
+    c.loop-records.records c.feed.new.records piece c.in_err-serve_ready.field-0.0 c.from_residual-in_err-serve_ready.result (scene c.serve_ready.new.device c.serve_ready.new.service c.serve_ready.new.clock)
     (p.1 ∙ ap (λ (e : ServeError). Err e) p.2) c.in_err-serve_ready.ensures.errors c.loop-records.invariant.sound (record {
       mid = c.read.new.self;
       under_way = c.loop-records.invariant.under_way;
       some = some_piece c.read.new.buffer c.in-Ok.count c.in-Ok.ensures.within c.in-Ok.count-test.1;
       reads = c.in-Ok.ensures.gives;
-      takes = c.in_ok-take_in.ensures.ok;
+      takes = c.in_ok-feed.ensures.ok;
       served = c.in_err-serve_ready.ensures.served;
       within = omega (arith, length-take c.in-Ok.count c.read.new.buffer, c.loop-records.invariant.sound.bounded, c.fed.ensures.value, c.in-Ok.ensures.within, c.if-count-fed.false);
     })
@@ -98,12 +98,12 @@ pub returns-then-is_too_long-clause-course : goal.returns-then-is_too_long-claus
 returns-then-is_too_long-clause-course g c =
     let piece = take c.in-Ok.count c.read.new.buffer in
     ends_too_long {T = Unit {0}} g.D.Duplex.device (rules c.args.tree.now g.S.Service.gives g.S.Service.alike g.C.Clock.tells) (scene c.args.device.now c.args.service.now c.args.clock.now) (scene c.loop-records.device c.loop-records.service c.loop-records.clock)
-    c.loop-records.records c.take_in.new.records c.serve_ready.new.records piece tt (scene c.serve_ready.new.device c.serve_ready.new.service c.serve_ready.new.clock) c.loop-records.invariant.sound (record {
+    c.loop-records.records c.feed.new.records c.serve_ready.new.records piece tt (scene c.serve_ready.new.device c.serve_ready.new.service c.serve_ready.new.clock) c.loop-records.invariant.sound (record {
       mid = c.read.new.self;
       under_way = c.loop-records.invariant.under_way;
       some = some_piece c.read.new.buffer c.in-Ok.count c.in-Ok.ensures.within c.in-Ok.count-test.1;
       reads = c.in-Ok.ensures.gives;
-      takes = c.in_ok-take_in.ensures.ok;
+      takes = c.in_ok-feed.ensures.ok;
       served = c.in_ok-serve_ready.ensures.served;
       within = omega (arith, length-take c.in-Ok.count c.read.new.buffer, c.loop-records.invariant.sound.bounded, c.fed.ensures.value, c.in-Ok.ensures.within, c.if-count-fed.false);
     }) c.in_ok-serve_ready.ensures.taken (sym c.is_too_long.ensures.value ∙ c.if-is_too_long.true)
@@ -113,16 +113,16 @@ loop-records-preserved g c =
     let piece = take c.in-Ok.count c.read.new.buffer in
     record {
       under_way = more_served {T = Unit {0}} g.D.Duplex.device (rules c.args.tree.now g.S.Service.gives g.S.Service.alike g.C.Clock.tells) (scene c.args.device.now c.args.service.now c.args.clock.now) (scene c.loop-records.device c.loop-records.service c.loop-records.clock)
-          c.loop-records.records c.take_in.new.records c.serve_ready.new.records piece tt (scene c.serve_ready.new.device c.serve_ready.new.service c.serve_ready.new.clock) (record {
+          c.loop-records.records c.feed.new.records c.serve_ready.new.records piece tt (scene c.serve_ready.new.device c.serve_ready.new.service c.serve_ready.new.clock) (record {
             mid = c.read.new.self;
             under_way = c.loop-records.invariant.under_way;
             some = some_piece c.read.new.buffer c.in-Ok.count c.in-Ok.ensures.within c.in-Ok.count-test.1;
             reads = c.in-Ok.ensures.gives;
-            takes = c.in_ok-take_in.ensures.ok;
+            takes = c.in_ok-feed.ensures.ok;
             served = c.in_ok-serve_ready.ensures.served;
             within = omega (arith, length-take c.in-Ok.count c.read.new.buffer, c.loop-records.invariant.sound.bounded, c.fed.ensures.value, c.in-Ok.ensures.within, c.if-count-fed.false);
           }) c.in_ok-serve_ready.ensures.taken (sym c.is_too_long.ensures.value ∙ c.if-is_too_long.false);
-      sound = still_stream c.take_in.new.records c.serve_ready.new.records c.in_ok-serve_ready.ensures.taken c.in_ok-take_in.ensures.sound;
+      sound = still_stream c.feed.new.records c.serve_ready.new.records c.in_ok-serve_ready.ensures.taken c.in_ok-feed.ensures.sound;
       goes = sym c.is_too_long.ensures.value ∙ c.if-is_too_long.false;
       room = search c.loop-records.invariant.room;
       idle = c.in_ok-serve_ready.ensures.idle;

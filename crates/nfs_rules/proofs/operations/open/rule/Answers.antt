@@ -1,6 +1,6 @@
 use Rattle.std.proofs.Common.{◌≡◌, Ok, Err, Some, sym, ap, ◌∙◌, subst}
 use Rattle.std.specs.Prelude.{Option}
-use Rattle.nfs_rules.specs.Deciding.{Rules}
+use Rattle.nfs_rules.specs.Deciding.{ByOwnRule}
 use Rattle.nfs_state.specs.Room.{IsWithinLimits, state_of}
 use Rattle.nfs_rules.specs.Sequences.{before_own}
 use Rattle.nfs_rules.specs.declared.ruling.Ruling.{Ruling}
@@ -16,7 +16,7 @@ returns-in-Ok-clause-rules c =
     let args = c.args.args.now in
     let state = state_of c.args.tables.now in
     let seen = before_own c.args.passage args.owner state in
-    let rules : Option Ruling → Type 0 = λ r. Rules (λ ruling. ruling ≡ r) state (ops.Open args) c.grant.result in
+    let rules : Option Ruling → Type 0 = λ r. ByOwnRule (λ ruling. ruling ≡ r) state (ops.Open args) c.grant.result in
     let same : Ok c.in-Ok.opening ≡ opening c.args.journal.now.history seen c.args.directory args =
     sym c.in-Ok.is ∙ c.find_opening.ensures ∙ sym (opening_same c.args.passage c.args.journal.now.history state c.args.directory args) in
     subst rules (ap (ruling_of seen c.args.passage args.owner) same) c.grant.ensures

@@ -1,10 +1,10 @@
 -- RPC calls (RFC 5531, section 9): which call a record is, and how it is to be handled.
 use Rattle.std.specs.Prelude.{◌≡◌, ℕ, ◌+◌, ◌≤◌, ◌⊎◌, List, [], ◌∷◌, length}
 use Rattle.std.proofs.Common.{refl}
-use Rattle.nfs_rpc.specs.declared.call.Call.{Call}
-use Rattle.nfs_rpc.specs.declared.call.Call.TheVariants.{Silent, Null, Compound, Answer}
-use Rattle.nfs_rpc.specs.declared.call.Start.{Start}
-use Rattle.nfs_rpc.specs.declared.call.TheConstants.{MESSAGE_CALL, NFS_PROGRAM, NFS_VERSION, PROC_COMPOUND, PROC_NULL, RPC_VERSION}
+use Rattle.nfs_rpc.specs.declared.rpc_call.RpcCall.{RpcCall}
+use Rattle.nfs_rpc.specs.declared.rpc_call.RpcCall.TheVariants.{Silent, Null, Compound, Answer}
+use Rattle.nfs_rpc.specs.declared.rpc_call.Start.{Start}
+use Rattle.nfs_rpc.specs.declared.rpc_call.TheConstants.{MESSAGE_CALL, NFS_PROGRAM, NFS_VERSION, PROC_COMPOUND, PROC_NULL, RPC_VERSION}
 use Rattle.nfs_rpc.specs.declared.reply.Reply.{Reply}
 use Rattle.nfs_rpc.specs.declared.reply.Reply.TheVariants.{RpcMismatch, AuthError, ProgUnavail, ProgMismatch, ProcUnavail, GarbageArgs, SystemError}
 use Rattle.nfs_rpc.specs.declared.reply.TheConstants.{SHORT_REPLY_LEN}
@@ -13,8 +13,8 @@ use Rattle.nfs_rpc.specs.Reply.{IsWritable, written_reply}
 use Rattle.nfs_forms.specs.declared.principal.Principal.{Principal}
 use Rattle.nfs_xdr.specs.Compound.{IsCompound}
 use Rattle.nfs_xdr.specs.declared.compound.Compound.{Compound as CompoundArgs}
-use Rattle.nfs_xdr.specs.declared.compound.Request.{Request}
-use Rattle.nfs_xdr.specs.declared.compound.Request.TheVariants.{MinorVersion, TooMany, Operations}
+use Rattle.nfs_xdr.specs.declared.compound.CompoundRequest.{CompoundRequest}
+use Rattle.nfs_xdr.specs.declared.compound.CompoundRequest.TheVariants.{MinorVersion, TooMany, Operations}
 use Rattle.nfs_xdr.specs.declared.compound.TheConstants.{OPERATION_LIMIT}
 use Rattle.xdr.specs.Form.{Form, ◌and◌, of, u32, constant}
 use Rattle.xdr.specs.Reading.{Begins}
@@ -63,13 +63,13 @@ header = start and body
 -- The rules that decide what is to be done with a record, in the order in which they are tried.
 
 -- A call of another version of RPC is denied.
-abbrev pub HasAnotherRpc : List ℕ → Call → Type 0
+abbrev pub HasAnotherRpc : List ℕ → RpcCall → Type 0
 HasAnotherRpc message call =
     (s : Start) × (rest : List ℕ) × Begins (start.layout s) message rest
     × (s.rpc_version ≡ RPC_VERSION → ⊥) × (call ≡ Answer s.xid RpcMismatch)
 
 -- A record without a whole header gets no reply.
-abbrev pub HasNoHeader : List ℕ → Call → Type 0
+abbrev pub HasNoHeader : List ℕ → RpcCall → Type 0
 HasNoHeader message call =
     ((h : CallHeader) (rest : List ℕ) → Begins (header.layout h) message rest → ⊥) × (call ≡ Silent)
 
@@ -79,32 +79,32 @@ HasHeader Is message =
     (h : CallHeader) × (rest : List ℕ) × Begins (header.layout h) message rest × Is h rest
 
 -- A call is denied if no principal belongs to its credential.
-abbrev pub HasNoPrincipal : List ℕ → Call → Type 0
+abbrev pub HasNoPrincipal : List ℕ → RpcCall → Type 0
 HasNoPrincipal message call =
     HasHeader (λ h rest.
     ((p : Principal) → IsOf h.1.credential p → ⊥) × (call ≡ Answer h.0.xid AuthError)) message
 
-abbrev pub HasAnotherProgram : List ℕ → Call → Type 0
+abbrev pub HasAnotherProgram : List ℕ → RpcCall → Type 0
 HasAnotherProgram message call =
     HasHeader (λ h rest.
     (h.1.program ≡ NFS_PROGRAM → ⊥) × (call ≡ Answer h.0.xid ProgUnavail)) message
 
-abbrev pub HasAnotherVersion : List ℕ → Call → Type 0
+abbrev pub HasAnotherVersion : List ℕ → RpcCall → Type 0
 HasAnotherVersion message call =
     HasHeader (λ h rest.
     (h.1.version ≡ NFS_VERSION → ⊥) × (call ≡ Answer h.0.xid ProgMismatch)) message
 
-abbrev pub HasNull : List ℕ → Call → Type 0
+abbrev pub HasNull : List ℕ → RpcCall → Type 0
 HasNull message call =
     HasHeader (λ h rest. (h.1.procedure ≡ PROC_NULL) × (call ≡ Null h.0.xid)) message
 
-abbrev pub HasAnotherProcedure : List ℕ → Call → Type 0
+abbrev pub HasAnotherProcedure : List ℕ → RpcCall → Type 0
 HasAnotherProcedure message call =
     HasHeader (λ h rest.
     (h.1.procedure ≡ PROC_COMPOUND → ⊥) × (call ≡ Answer h.0.xid ProcUnavail)) message
 
 -- After the header come the arguments of a COMPOUND.
-abbrev pub HasCompound : List ℕ → Call → Type 0
+abbrev pub HasCompound : List ℕ → RpcCall → Type 0
 HasCompound message call =
     HasHeader (λ h rest.
     (principal : Principal) × (compound : CompoundArgs)
@@ -112,7 +112,7 @@ HasCompound message call =
     × (call ≡ Compound h.0.xid principal compound)) message
 
 -- Any other arguments of a COMPOUND are garbage.
-abbrev pub HasGarbage : List ℕ → Call → Type 0
+abbrev pub HasGarbage : List ℕ → RpcCall → Type 0
 HasGarbage message call = HasHeader (λ h rest. call ≡ Answer h.0.xid GarbageArgs) message
 
 -- the value that the first rule that applies gives
@@ -121,7 +121,7 @@ First [] value = ⊥
 First {V = V} (rule ∷ rules) value = rule value ⊎ (((any : V) → rule any → ⊥) × First rules value)
 
 -- The call that a record is. Each rule is used only if none before it applies.
-abbrev pub CallsFor : List ℕ → Call → Type 0
+abbrev pub CallsFor : List ℕ → RpcCall → Type 0
 CallsFor message =
     First (
     HasAnotherRpc message ∷ HasNoHeader message ∷ HasNoPrincipal message
@@ -132,22 +132,22 @@ CallsFor message =
 abbrev pub OneCall : Type 0
 OneCall =
     (message : List ℕ)
-    → (call : Call) × CallsFor message call
-    × ((other : Call) → CallsFor message other → other ≡ call)
+    → (call : RpcCall) × CallsFor message call
+    × ((other : RpcCall) → CallsFor message other → other ≡ call)
 
 -- The call itself, or SYSTEM_ERR in place of a COMPOUND for which memory ran out.
-abbrev pub OrSystemError : (Call → Type 0) → Call → Type 0
+abbrev pub OrSystemError : (RpcCall → Type 0) → RpcCall → Type 0
 OrSystemError Is call =
     Is call
     ⊎ ((xid : ℕ) × (principal : Principal) × (compound : CompoundArgs)
     × Is (Compound xid principal compound) × (call ≡ Answer xid SystemError))
 
 -- The call that is read. SYSTEM_ERR is answered only to a COMPOUND, and garbage is always answered GARBAGE_ARGS.
-abbrev pub IsCall : List ℕ → Call → Type 0
+abbrev pub IsCall : List ℕ → RpcCall → Type 0
 IsCall message = OrSystemError (CallsFor message)
 
 -- there are no more operations than a COMPOUND may have
-abbrev pub HasFewOperations : Request → Type 0
+abbrev pub HasFewOperations : CompoundRequest → Type 0
 HasFewOperations (MinorVersion minor) = Unit {0}
 HasFewOperations (TooMany count) = Unit {0}
 HasFewOperations (Operations ops) = length ops ≤ OPERATION_LIMIT
@@ -161,7 +161,7 @@ IsShortReply xid reply = (length (written_reply xid reply) ≤ SHORT_REPLY_LEN) 
 abbrev pub IsWithinLimits : ℕ → CompoundArgs → Type 0
 IsWithinLimits len c = (length c.tag + 52 ≤ len) × HasFewOperations c.request
 
-abbrev pub IsCallWithinLimits : ℕ → Call → Type 0
+abbrev pub IsCallWithinLimits : ℕ → RpcCall → Type 0
 IsCallWithinLimits len (Compound xid principal c) = IsWithinLimits len c
 IsCallWithinLimits len (Answer xid reply) = IsShortReply xid reply
 IsCallWithinLimits len call = Unit {0}

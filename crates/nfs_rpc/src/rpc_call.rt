@@ -1,5 +1,5 @@
 ghost use Rattle.std.specs.Prelude.{◌≡◌, ◌+◌, ◌≤◌, IfOk, length};
-ghost use Rattle.nfs_rpc.specs.Call.{IsCall, IsCallWithinLimits, OneCall, OrSystemError, start};
+ghost use Rattle.nfs_rpc.specs.RpcCall.{IsCall, IsCallWithinLimits, OneCall, OrSystemError, start};
 ghost use Rattle.nfs_rpc.specs.ReadingCalls.{call_of, compound_or_garbage, header_at};
 ghost use Rattle.nfs_xdr.specs.Compound.{compound_at};
 ghost use Rattle.xdr.specs.Reading.{Answers};
@@ -26,7 +26,7 @@ pub const PROC_COMPOUND: u32 = 1;
 
 /// What a record asks of the server.
 #[derive(Debug, Drop)]
-pub enum Call {
+pub enum RpcCall {
     /// Nothing: the record gets no reply.
     Silent,
     /// A call of NULL, with its xid.
@@ -61,7 +61,7 @@ struct Header {
 /// that can't be read. There is no reply to a record that isn't a call, that ends before its verifier does, or whose
 /// credential or verifier has more than 400 bytes; only the RPC version is checked before that. If memory runs out for
 /// a COMPOUND whose arguments are there, the reply is SYSTEM_ERR.
-pub fn read_call(alloc: Global, message: &[u8]) -> Call
+pub fn read_call(alloc: Global, message: &[u8]) -> RpcCall
     ensures call { IsCall message.now result }
     ensures limits { IsCallWithinLimits (length message.now) result }
 {
@@ -69,45 +69,45 @@ pub fn read_call(alloc: Global, message: &[u8]) -> Call
     call_from(alloc, message)
 }
 
-fn call_from(alloc: Global, message: &[u8]) -> Call
+fn call_from(alloc: Global, message: &[u8]) -> RpcCall
     ensures call { OrSystemError (λ call. call ≡ call_of message.now) result }
     ensures limits { IsCallWithinLimits (length message.now) result }
 {
     let Ok((start, rest)) = read_start(message) else {
-        return Call::Silent;
+        return RpcCall::Silent;
     };
     if start.rpc_version != RPC_VERSION {
-        return Call::Answer(start.xid, Reply::RpcMismatch);
+        return RpcCall::Answer(start.xid, Reply::RpcMismatch);
     }
     let Ok((header, arguments)) = read_header(rest) else {
-        return Call::Silent;
+        return RpcCall::Silent;
     };
     let Some(principal) = header.principal else {
-        return Call::Answer(start.xid, Reply::AuthError);
+        return RpcCall::Answer(start.xid, Reply::AuthError);
     };
     if header.program != NFS_PROGRAM {
-        return Call::Answer(start.xid, Reply::ProgUnavail);
+        return RpcCall::Answer(start.xid, Reply::ProgUnavail);
     }
     if header.version != NFS_VERSION {
-        return Call::Answer(start.xid, Reply::ProgMismatch);
+        return RpcCall::Answer(start.xid, Reply::ProgMismatch);
     }
     match header.procedure {
-        PROC_NULL => Call::Null(start.xid),
+        PROC_NULL => RpcCall::Null(start.xid),
         PROC_COMPOUND => compound_call(alloc, start.xid, principal, arguments),
-        _ => Call::Answer(start.xid, Reply::ProcUnavail),
+        _ => RpcCall::Answer(start.xid, Reply::ProcUnavail),
     }
 }
 
 // The call of COMPOUND with these arguments, which follow a header of at least 40 bytes.
-fn compound_call(alloc: Global, xid: u32, principal: Principal, bytes: &[u8]) -> Call
+fn compound_call(alloc: Global, xid: u32, principal: Principal, bytes: &[u8]) -> RpcCall
     ensures call { OrSystemError
         (λ call. call ≡ compound_or_garbage xid principal (compound_at bytes.now)) result }
     ensures limits { IsCallWithinLimits (40 + length bytes.now) result }
 {
     match read_compound(alloc, bytes) {
-        Ok(compound) => Call::Compound(xid, principal, compound),
-        Err(WireError::Memory) => Call::Answer(xid, Reply::SystemError),
-        Err(_) => Call::Answer(xid, Reply::GarbageArgs),
+        Ok(compound) => RpcCall::Compound(xid, principal, compound),
+        Err(WireError::Memory) => RpcCall::Answer(xid, Reply::SystemError),
+        Err(_) => RpcCall::Answer(xid, Reply::GarbageArgs),
     }
 }
 
@@ -118,7 +118,7 @@ fn read_start(bytes: &[u8]) -> Result<(Start, &[u8]), WireError>
     start_from(bytes)
 }
 
-#[tactic(auto, unfolding(crate::specs::Call::start))]
+#[tactic(auto, unfolding(crate::specs::RpcCall::start))]
 fn start_from(bytes: &[u8]) -> Result<(Start, &[u8]), WireError>
     ensures { Answers (λ x. (x.0, x.1.now)) result (start.at bytes.now) }
 {
@@ -135,7 +135,7 @@ fn read_header(bytes: &[u8]) -> Result<(Header, &[u8]), WireError>
     header_from(bytes)
 }
 
-#[tactic(auto, unfolding(crate::specs::Call::body))]
+#[tactic(auto, unfolding(crate::specs::RpcCall::body))]
 fn header_from(bytes: &[u8]) -> Result<(Header, &[u8]), WireError>
     ensures { Answers (λ x. (x.0, x.1.now)) result (header_at bytes.now) }
 {

@@ -1,7 +1,7 @@
 use Rattle.std.proofs.Common.{Err, ap, arith}
 use Rattle.nfs_rpc.proofs.Calls.{refused_compound}
 use Rattle.nfs_rpc.proofs.Limits.{accepted_is_short, within_limits}
-use Rattle.nfs_rpc.proofs.call.compound_call.Goals as goal
+use Rattle.nfs_rpc.proofs.rpc_call.compound_call.Goals as goal
 
 pub returns-in-Ok-clause-limits : goal.returns-in-Ok-clause-limits
 returns-in-Ok-clause-limits c = within_limits c.in-Ok.compound c.args.bytes.now c.in-Ok.ensures.encoded
