@@ -31,7 +31,8 @@ Asks gives old [] (answer ∷ answers) new = ⊥
 Asks gives old (question ∷ questions) [] new = ⊥
 
 -- How a core answers a question: an operation with its answer becomes the journal's next entry, or the answer is
--- NFS4ERR_RESOURCE and the core stays as it was. It has no leases, so by a renewal it stays as it was.
+-- NFS4ERR_RESOURCE and nothing changes but room. It has no leases: a renewal changes nothing but room, and no operation
+-- asks for one.
 abbrev pub GivenByCore : Server → Question → OpResult → Server → Type 0
 GivenByCore old (Operation request) answer new =
     ((number : ℕ) × Applies old new request answer (Some number))

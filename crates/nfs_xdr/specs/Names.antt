@@ -11,7 +11,7 @@ use Rattle.nfs_xdr.specs.declared.op.Op.{Op}
 use Rattle.nfs_xdr.specs.declared.op.Op.TheVariants as ops
 
 pub data Names : Type 0 where
-  -- neither an owner nor a state nor a client that is confirmed already
+  -- neither an owner nor a state; nor a client, but for the id of SETCLIENTID and the client that is confirmed
   Nothing : Names
   Client : ClientId → Names
   -- an open owner, with the sequence id of its request

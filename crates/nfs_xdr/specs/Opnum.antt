@@ -72,7 +72,7 @@ is_of_tree OnTree = true
 is_of_tree OnState = false
 is_of_tree OnNothing = false
 
--- the greatest length of the operation's result
+-- No result of the operation is longer than this.
 abbrev pub answer_limit : Opnum → ℕ
 answer_limit o = 2_036
 

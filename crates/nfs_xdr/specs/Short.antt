@@ -1,5 +1,5 @@
--- What bounds the length of a result where its form doesn't. A new operation has a line here only if its result has data
--- of any length.
+-- What bounds the length of a result where neither its form nor its type does. A new operation has a line here only if
+-- its result has data of any length.
 use Rattle.std.specs.Prelude.{◌≡◌, ◌≤◌, [], length, ⊤}
 use Rattle.nfs_forms.specs.Fattr.{fattr}
 use Rattle.nfs_forms.specs.declared.answer.Answer.{Answer}
@@ -29,7 +29,7 @@ SetsNothing answer = answer.attrset ≡ []
 abbrev pub IsShortAddress : Address → Type 0
 IsShortAddress address = (length address.netid ≤ 128) × (length address.addr ≤ 128)
 
--- the form bounds each value
+-- each value is bounded by its type
 abbrev pub Any : {A : Type 0} → A → Type 0
 Any value = ⊤
 

@@ -1,4 +1,4 @@
-//! The law that results fit their forms, and how long they are at most.
+//! The law that results fit their forms, and that none is longer than its operation's limit.
 
 ghost use Rattle.std.specs.Prelude.{ℕ, ◌+◌, ◌^◌, ◌<◌, ◌≤◌, length};
 ghost use Rattle.nfs_xdr.specs.Opnum.{answer_limit};
@@ -15,7 +15,7 @@ use nfs_operations::open::OpenOk;
 use nfs_operations::setclientid_confirm::SetclientidConfirm;
 use xdr::Wire;
 
-/// The data of an answer: it fits its form, and is at most so many bytes long, if what the form doesn't bound is short.
+/// The data of an answer: it fits its form, and is at most so many bytes long, if what its type doesn't bound is short.
 trait Bounded: Wire {
     ghost most: { ℕ };
 
@@ -201,7 +201,7 @@ impl<T: Bounded, D: Bounded, C: Bounded> Bounded for Answer<T, D, C> {
 }
 
 impl OpResult {
-    /// The law that the result fits its form and the room of its operation, if what its form doesn't bound is short.
+    /// The law that the result fits its form and the room of its operation, if what its type doesn't bound is short.
     #[tactic(auto, using(crate::proofs::Refusals::unsupported_fits, crate::proofs::Refusals::unsupported_len), unfolding(crate::specs::OpResult::op_result, crate::specs::Opnum::opnum, xdr::specs::Writing::written_number))]
     pub fn fits(&self)
         requires short { IsShort self.now }

@@ -6,11 +6,11 @@ ghost use Rattle.nfs_xdr.specs.Names.{locker_names, names_of, names_seen};
 use crate::Op;
 use nfs_forms::{ClientId, Locker, OpenOwner, Stateid};
 
-/// What the arguments of an operation name of the state. By it the owner is found that the request comes from, and by
-/// whose sequence id it goes.
+/// What the arguments of an operation name of the state. By an open owner or a stateid the owner is found that the
+/// request comes from, and by whose sequence id it goes.
 #[derive(Clone, Copy, Debug)]
 pub enum Names<'a> {
-    /// Neither an owner nor a state nor a client that is confirmed already.
+    /// Neither an owner nor a state; nor a client, but for the id of SETCLIENTID and the client that is confirmed.
     Nothing,
     Client(ClientId),
     /// An open owner, with the sequence id of its request.
