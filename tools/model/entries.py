@@ -1,5 +1,5 @@
-"""The entries of a journal as bytes: docs/JOURNAL.md has the layout. An operation's arguments are written here; `wire.py`
-reads them.
+"""The entries of a journal as bytes: docs/JOURNAL.md has the layout. Arguments of operations are read by `wire.py`, and
+written here; answers are read here.
 
 There is one spelling: what is read here is written again by the same bytes, so padding has to be zero.
 """

@@ -1,19 +1,19 @@
 #!/usr/bin/env python3
-"""journal.py FILE: audits the file of a journal. It says `lawful: K entries`, or with status 1 that the file is no journal,
-or at which entry an answer is wrong.
+"""journal.py FILE: audits the file of a journal. It says `lawful: K entries`, or with status 1 that the file is no
+journal, or at which entry an answer is wrong.
 
-A journal has what a server began with, and an entry for each change of its state and each answer about it: docs/JOURNAL.md
-has the file's layout. It is lawful where each entry may come next, by the model's rules, after those before it. `Recorder`
-is a model that keeps its journal."""
+A journal has what a server began with, and an entry for each operation on its state and each other change of it:
+docs/JOURNAL.md has the file's layout. It is lawful where each entry may come next, by the model's rules, after those
+before it. `Recorder` is a model that keeps its journal."""
 import sys
 from collections import namedtuple
 from dataclasses import dataclass, field
 
 sys.dont_write_bytecode = True
 
-from entries import (Answer, Call, Expire, NotJournal, StrictReader, entry_bytes, read_entry)
+from entries import Answer, Call, Expire, NotJournal, StrictReader, entry_bytes, read_entry
 from model import JOURNAL_LIMIT, Server
-from tree import CALLBACKS, DELEGATIONS, Node, Policy, Refused, TEXT_LIMIT, NAME_LIMIT, tree_of
+from tree import CALLBACKS, DELEGATIONS, NAME_LIMIT, Node, Policy, Refused, TEXT_LIMIT, tree_of
 from wire import Status, Unreadable, opaque, u32
 
 HEAD = b"NFSJRN01"
