@@ -12,7 +12,7 @@ import sys
 sys.dont_write_bytecode = True
 
 import rows
-from entries import ARGUMENT_BYTES, Expire, NotJournal, RESTS, answer_bytes, entry_bytes
+from entries import ARGUMENT_BYTES, Call, Expire, NotJournal, RESTS, answer_bytes, entry_bytes
 from journal import Recorder, audit, head_bytes, journal_bytes, read_journal, verdict
 from journal_cases import (NOT_JOURNAL, broken_answers, broken_entries, broken_heads, broken_lengths, broken_nodes,
                            broken_operations, broken_padding, file_of, sample, small, verdicts, whole_files,
@@ -47,11 +47,15 @@ def wrong_with(journal):
         yield verdict(data)[1]
     if journal_bytes(read_journal(data)) != data:
         yield "read as another one"
-    for entry in journal.entries:
+    for entry in calls_of(journal):
         head = u32(entry.opnum) + ARGUMENT_BYTES[entry.opnum](entry.arguments)
         sent, got = rows.spelled(operation_words(entry)), rows.spelled(answer_words(entry.answer))
         if (sent, got) != (head, answer_bytes(entry.answer)):
             yield f"words that spell other bytes: {line_of(entry, journal.tree)}"
+
+
+def calls_of(journal):
+    return [entry for entry in journal.entries if isinstance(entry, Call)]
 
 
 def answer_places(journal):
@@ -59,7 +63,8 @@ def answer_places(journal):
     places, at = [], len(head_bytes(journal)) + 4
     for number, entry in enumerate(journal.entries):
         at += len(entry_bytes(entry))
-        places += [(number, place) for place in range(at - len(answer_bytes(entry.answer)), at, 4)]
+        length = len(answer_bytes(entry.answer)) if isinstance(entry, Call) else 0
+        places += [(number, place) for place in range(at - length, at, 4)]
     return places
 
 
@@ -180,7 +185,7 @@ def check_sample():
     if audit(journal).journal().entries != journal.entries:
         wrong.append("an audit makes another journal")
     missing = {key for key in RESTS if key[0] in STATEFUL}
-    missing -= {(entry.answer.number, entry.answer.status) for entry in journal.entries}
+    missing -= {(call.answer.number, call.answer.status) for call in calls_of(journal)}
     if missing or set(ARGUMENT_BYTES) != STATEFUL:
         wrong.append(f"the sample misses {missing}, or an operation with an entry has no bytes")
     return wrong
