@@ -3,8 +3,8 @@
 
 For each row it makes the journal, which has to be lawful, to be read as it was written, and to be shown in words that
 spell it. With one word of one answer changed it has to be wrong at just that entry, or no journal: each word of the
-journals whose answers are short, and some words of the others, drawn with a fixed seed. Then come files that are no
-journals, each with the reason, lists of nodes, and entries that can't follow."""
+journals whose answers are short, and some words of the others, drawn with a fixed seed. Before these come files that
+are no journals, each with the reason, lists of nodes, and entries that can't follow."""
 import itertools
 import random
 import sys
@@ -47,6 +47,11 @@ def wrong_with(journal):
         yield verdict(data)[1]
     if journal_bytes(read_journal(data)) != data:
         yield "read as another one"
+    yield from wrong_words(journal)
+
+
+def wrong_words(journal):
+    """The lines of entries whose words spell other bytes than the entry has."""
     for entry in calls_of(journal):
         head = u32(entry.opnum) + ARGUMENT_BYTES[entry.opnum](entry.arguments)
         sent, got = rows.spelled(operation_words(entry)), rows.spelled(answer_words(entry.answer))
@@ -115,16 +120,25 @@ def reason_of(data):
     return None
 
 
-def check_files():
+def check_broken_files():
     wrong = []
     for broken in (broken_padding, broken_lengths, broken_heads, broken_entries, broken_operations, broken_answers,
                    broken_nodes):
         wrong += [f"{name}: {reason_of(data)}, not {reason}" for name, data, reason in broken()
                   if reason_of(data) != reason]
-    wrong += [f"{data.hex()} is written for {words}" for data, words in written_out() if data != bytes.fromhex(words)]
+    return wrong
+
+
+def check_whole_files():
+    wrong = [f"{data.hex()} is written for {words}" for data, words in written_out() if data != bytes.fromhex(words)]
     for name, data in whole_files():
-        if reason_of(data) is not None or journal_bytes(read_journal(data)) != data:
+        if reason_of(data) is not None:
             wrong.append(f"{name}: {reason_of(data)}")
+            continue
+        journal = read_journal(data)
+        wrong += [f"{name}: {what}" for what in wrong_words(journal)]
+        if journal_bytes(journal) != data:
+            wrong.append(f"{name}: read as another one")
     return wrong
 
 
@@ -192,7 +206,7 @@ def check_sample():
 
 
 def main(files):
-    wrong = check_files() + check_node_lists() + check_verdicts() + check_sample()
+    wrong = check_broken_files() + check_whole_files() + check_node_lists() + check_verdicts() + check_sample()
     for what in wrong:
         print(f"check_journals: {what}")
     try:

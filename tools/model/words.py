@@ -36,6 +36,10 @@ class WordReader(wire.Reader):
     def opaque(self, limit=2**32 - 1):
         return self.taken(opaque_words, super().opaque, limit)
 
+    def fixed_words(self, *words):
+        for _ in words:
+            self.u32()
+
 
 def number_word(value):
     return str(value) if value <= DECIMAL_LIMIT else f"0x{value:08x}"
