@@ -1,11 +1,13 @@
 #!/usr/bin/env python3
-"""The model in place of `nfs4state once`, with the same options: records from standard input to its end, replies to
-standard output. So the other scripts can be tried without a built program."""
+"""The model in place of `nfs4state once`, with its options: records from standard input to its end, replies to standard
+output. So the other scripts can be tried without a built program. And it can write its journal, which `nfs4state` can't
+yet."""
 import argparse
 import sys
 
 sys.dont_write_bytecode = True
 
+from journal import Recorder, journal_bytes
 from model import Server
 from tree import DEFAULT, Refused, Tree
 
@@ -19,24 +21,30 @@ def options(description):
     return parser
 
 
-def server_of(given):
+def server_of(given, kind=Server):
     """A new server with these options; or the end of the program where the tree is refused."""
     document = DEFAULT
     if given.tree is not None:
         with open(given.tree, encoding="utf-8") as source:
             document = source.read()
     try:
-        return Server(Tree(document), given.lease, given.epoch)
+        return kind(Tree(document), given.lease, given.epoch)
     except Refused as refused:
         sys.exit(f"fault: tree refused ({refused.args[0]})")
 
 
 def main():
     parser = options(__doc__)
+    parser.add_argument("--journal", metavar="FILE", help="where to write the journal at the end, also after a fault")
     parser.add_argument("command", nargs="?", choices=["once"], help="may be left out")
-    replies, fault = server_of(parser.parse_args()).converse(sys.stdin.buffer.read())
+    given = parser.parse_args()
+    server = server_of(given, Recorder)
+    replies, fault = server.converse(sys.stdin.buffer.read())
     sys.stdout.buffer.write(replies)
     sys.stdout.flush()
+    if given.journal is not None:
+        with open(given.journal, "wb") as file:
+            file.write(journal_bytes(server.journal()))
     if fault:
         sys.exit(f"fault: {fault}")
 

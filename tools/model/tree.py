@@ -17,6 +17,11 @@ path = "d/c"
 """
 
 Node = namedtuple("Node", "parent name is_file text")
+ROOT = Node(None, b"", False, b"")
+
+# Which delegations may be given, and whether a client's callback path is tried first: words of the document.
+Policy = namedtuple("Policy", "delegations callbacks")
+DELEGATIONS, CALLBACKS = ("none", "read", "all"), ("probe", "assume")
 
 
 class Refused(Exception):
@@ -24,11 +29,14 @@ class Refused(Exception):
 
 
 class Tree:
-    """Nodes by their numbers, from the root, which is 0."""
+    """Nodes by their numbers, from the root, which is 0; and the policy."""
 
     def __init__(self, document=DEFAULT):
-        directories, files = read_document(document)
-        self.nodes = [Node(None, b"", False, b"")]
+        self.policy, directories, files = read_document(document)
+        self.nodes = [ROOT]
+        self.add_all(directories, files)
+
+    def add_all(self, directories, files):
         for path in directories:
             self.add_directory(path)
         for path, text in files:
@@ -82,6 +90,44 @@ class Tree:
         return at
 
 
+def tree_of(nodes, policy):
+    """The tree with these nodes beside the root, which some document has to give.
+
+    One that gives them can name each directory before the first file, and each file, and nothing else: so these paths
+    give the nodes again, or no document does."""
+    tree, paths = Tree(""), path_texts(nodes)
+    first = next((place for place, node in enumerate(nodes) if node.is_file), len(nodes))
+    files = [(path, node.text) for path, node in zip(paths, nodes) if node.is_file]
+    tree.policy = policy
+    try:
+        tree.add_all(paths[:first], files)
+    except Refused:
+        raise Refused(SYNTAX) from None
+    if tree.nodes[1:] != list(nodes) or not all(is_text(text) for _, text in files):
+        raise Refused(SYNTAX)
+    return tree
+
+
+def path_texts(nodes):
+    """The path of each node beside the root; a parent has to come before its children."""
+    paths = [None]
+    for node in nodes:
+        if not node.parent < len(paths) or not is_text(node.name):
+            raise Refused(SYNTAX)
+        name = node.name.decode()
+        paths.append(name if node.parent == 0 else f"{paths[node.parent]}/{name}")
+    return paths[1:]
+
+
+def is_text(value):
+    """A document is UTF-8, and so is each of its names and texts."""
+    try:
+        value.decode()
+    except UnicodeDecodeError:
+        return False
+    return True
+
+
 def split_path(path):
     names = path.encode().split(b"/")
     if len(names) > DEPTH or not all(is_name(name) for name in names):
@@ -94,22 +140,21 @@ def is_name(name):
 
 
 def read_document(text):
-    """The paths of the directories, and the paths and texts of the files."""
+    """The policy, the paths of the directories, and the paths and texts of the files."""
     try:
         document = tomllib.loads(text)
     except tomllib.TOMLDecodeError:
         raise Refused(SYNTAX) from None
     expect_keys(document, "directory", "file", "policy")
-    policy = document.get("policy", {})
-    expect_keys(policy, "delegations", "callbacks")
-    if policy.get("delegations", "all") not in ("none", "read", "all"):
-        raise Refused(SYNTAX)
-    if policy.get("callbacks", "probe") not in ("probe", "assume"):
+    table = document.get("policy", {})
+    expect_keys(table, "delegations", "callbacks")
+    policy = Policy(table.get("delegations", "all"), table.get("callbacks", "probe"))
+    if policy.delegations not in DELEGATIONS or policy.callbacks not in CALLBACKS:
         raise Refused(SYNTAX)
     directories = [text_of(table, "path") for table in tables(document, "directory", "path")]
     files = [(text_of(table, "path"), text_of(table, "text", "").encode())
              for table in tables(document, "file", "path", "text")]
-    return directories, files
+    return policy, directories, files
 
 
 def tables(document, key, *allowed):

@@ -1,0 +1,221 @@
+#!/usr/bin/env python3
+"""check_journals.py FOLDER|FILE.rows..: the model's journals beside their rules.
+
+For each row it makes the journal, which has to be lawful, to be read as it was written, and to be shown in words that
+spell it. With one word of one answer changed it has to be wrong at just that entry, or no journal: each word of the
+journals whose answers are short, and some words of the others, drawn with a fixed seed. Before these come files that
+are no journals, each with the reason, lists of nodes, and entries that can't follow."""
+import itertools
+import random
+import sys
+
+sys.dont_write_bytecode = True
+
+import rows
+from entries import ARGUMENT_BYTES, Call, Expire, NotJournal, RESTS, answer_bytes, entry_bytes
+from journal import Recorder, audit, head_bytes, journal_bytes, read_journal, verdict
+from journal_cases import (NOT_JOURNAL, broken_answers, broken_entries, broken_heads, broken_lengths, broken_nodes,
+                           broken_operations, broken_padding, file_of, sample, small, verdicts, whole_files,
+                           written_out)
+from model import STATEFUL
+from tree import DEFAULT, Node, Refused, Tree, tree_of
+from wire import u32
+from words import answer_words, line_of, operation_words
+
+# Of a journal whose answers have at most so many words, each is changed; of any other, so many.
+SHORT, DRAWN = 30, 2
+
+
+# The journals of rows.
+
+def journal_of(row):
+    """The journal of the row's calls, or None where the row's tree is refused."""
+    try:
+        server = Recorder(Tree(DEFAULT if row.document is None else row.document), row.lease, row.epoch)
+    except Refused:
+        return None
+    for connection in row.connections:
+        server.moment = connection.moment
+        server.converse(connection.sent)
+    return server.journal()
+
+
+def wrong_with(journal):
+    """What is wrong with a journal that the model made."""
+    data = journal_bytes(journal)
+    if verdict(data) != (True, f"lawful: {len(journal.entries)} entries"):
+        yield verdict(data)[1]
+    if journal_bytes(read_journal(data)) != data:
+        yield "read as another one"
+    yield from wrong_words(journal)
+
+
+def wrong_words(journal):
+    """The lines of entries whose words spell other bytes than the entry has."""
+    for entry in calls_of(journal):
+        head = u32(entry.opnum) + ARGUMENT_BYTES[entry.opnum](entry.arguments)
+        sent, got = rows.spelled(operation_words(entry)), rows.spelled(answer_words(entry.answer))
+        if (sent, got) != (head, answer_bytes(entry.answer)):
+            yield f"words that spell other bytes: {line_of(entry, journal.tree)}"
+
+
+def calls_of(journal):
+    return [entry for entry in journal.entries if isinstance(entry, Call)]
+
+
+def answer_places(journal):
+    """The place in the file of each word of each answer, with the entry's number."""
+    places, at = [], len(head_bytes(journal)) + 4
+    for number, entry in enumerate(journal.entries):
+        at += len(entry_bytes(entry))
+        length = len(answer_bytes(entry.answer)) if isinstance(entry, Call) else 0
+        places += [(number, place) for place in range(at - length, at, 4)]
+    return places
+
+
+def with_other_word(data, place, draw):
+    word = int.from_bytes(data[place:place + 4], "big")
+    others = {(word + 1) % 2**32, (word - 1) % 2**32, word ^ 1 << draw.randrange(32), draw.getrandbits(32)} - {word}
+    return data[:place] + u32(draw.choice(sorted(others))) + data[place + 4:]
+
+
+def changed(journal, draw):
+    """For words of answers: the entry's number, and the file with that word changed."""
+    data, places = journal_bytes(journal), answer_places(journal)
+    for number, place in places if len(places) <= SHORT else draw.sample(places, DRAWN):
+        yield number, with_other_word(data, place, draw)
+
+
+def check_rows(files):
+    """How many things are wrong."""
+    draw, wrong = random.Random(1), 0
+    counts = {"journals": 0, "entries": 0, "wrong answers": 0, "no journals": 0}
+    for row in (row for path in files for file in rows.files_of(path) for row in rows.File(file).rows):
+        journal = journal_of(row)
+        if journal is None:
+            continue
+        counts["journals"] += 1
+        counts["entries"] += len(journal.entries)
+        found = list(wrong_with(journal))
+        for number, data in changed(journal, draw):
+            line = verdict(data)[1]
+            counts["no journals" if line == NOT_JOURNAL else "wrong answers"] += 1
+            if line not in (NOT_JOURNAL, f"fault: wrong answer at entry {number}"):
+                found.append(f"a word changed in entry {number}: {line}")
+        for what in found:
+            print(f"{row.file}:{row.line}: {row.name}: {what}")
+        wrong += len(found)
+    print("check_journals: " + ", ".join(f"{count} {name}" for name, count in counts.items()))
+    return wrong + (counts["journals"] == 0)
+
+
+# Files and lists of nodes.
+
+def reason_of(data):
+    """Why the file is no journal, or None where it is one."""
+    try:
+        read_journal(data)
+    except NotJournal as wrong:
+        return str(wrong)
+    return None
+
+
+def check_broken_files():
+    wrong = []
+    for broken in (broken_padding, broken_lengths, broken_heads, broken_entries, broken_operations, broken_answers,
+                   broken_nodes):
+        wrong += [f"{name}: {reason_of(data)}, not {reason}" for name, data, reason in broken()
+                  if reason_of(data) != reason]
+    return wrong
+
+
+def check_whole_files():
+    wrong = [f"{data.hex()} is written for {words}" for data, words in written_out() if data != bytes.fromhex(words)]
+    for name, data in whole_files():
+        if reason_of(data) is not None:
+            wrong.append(f"{name}: {reason_of(data)}")
+            continue
+        journal = read_journal(data)
+        wrong += [f"{name}: {what}" for what in wrong_words(journal)]
+        if journal_bytes(journal) != data:
+            wrong.append(f"{name}: read as another one")
+    return wrong
+
+
+def check_node_lists():
+    """Of all lists of at most three nodes by two names, those are taken that some document gives."""
+    paths = ["/".join(names) for depth in (1, 2, 3) for names in itertools.product("ab", repeat=depth)]
+    documents = ((chosen[:first_file], chosen[first_file:]) for chosen in at_most_three(paths)
+                 for first_file in range(len(chosen) + 1))
+    given = {nodes_given(*document) for document in documents}
+    nodes = [Node(parent, name, is_file, b"")
+             for parent in range(4) for name in (b"a", b"b") for is_file in (False, True)]
+    return [f"the nodes {found}" for found in at_most_three(nodes) if is_taken(found) != (found in given)]
+
+
+def at_most_three(choices):
+    """All lists of up to three of these."""
+    return itertools.chain(*(itertools.product(choices, repeat=count) for count in range(4)))
+
+
+def nodes_given(directories, files):
+    """The nodes beside the root of a document with these paths, or None where it is refused."""
+    tree = Tree("")
+    try:
+        tree.add_all(directories, [(path, b"") for path in files])
+    except Refused:
+        return None
+    return tuple(tree.nodes[1:])
+
+
+def is_taken(nodes):
+    try:
+        tree_of(nodes, Tree("").policy)
+    except Refused:
+        return False
+    return True
+
+
+# What is said of a journal.
+
+def check_verdicts():
+    wrong = [f"{name}: {verdict(data)[1]}" for name, data, line in verdicts() if verdict(data)[1] != line]
+    data = file_of(small().entries + [Expire(1, 100, 191)])
+    for limit, line in ((4, "lawful: 4 entries"), (3, "fault: wrong answer at entry 3"),
+                        (2, "fault: wrong answer at entry 2")):
+        if verdict(data, limit)[1] != line:
+            wrong.append(f"a limit of {limit} entries: {verdict(data, limit)[1]}")
+    for place in range(0, len(data), 4):
+        for other in (data[:place] + data[place + 4:], data[:place] + bytes(4) + data[place:]):
+            if verdict(other)[0]:
+                wrong.append(f"a word too few or too many at {place}")
+    return wrong
+
+
+def check_sample():
+    """That it has all that there is, and is lawful."""
+    journal = sample()
+    wrong = list(wrong_with(journal))
+    if audit(journal).journal().entries != journal.entries:
+        wrong.append("an audit makes another journal")
+    missing = {key for key in RESTS if key[0] in STATEFUL}
+    missing -= {(call.answer.number, call.answer.status) for call in calls_of(journal)}
+    if missing or set(ARGUMENT_BYTES) != STATEFUL:
+        wrong.append(f"the sample misses {missing}, or an operation with an entry has no bytes")
+    return wrong
+
+
+def main(files):
+    wrong = check_broken_files() + check_whole_files() + check_node_lists() + check_verdicts() + check_sample()
+    for what in wrong:
+        print(f"check_journals: {what}")
+    try:
+        return 1 if check_rows(files) + len(wrong) else 0
+    except (OSError, UnicodeDecodeError, rows.Bad) as error:
+        sys.exit(f"check_journals: {error}")
+
+
+if __name__ == "__main__":
+    if len(sys.argv) < 2:
+        sys.exit(__doc__)
+    sys.exit(main(sys.argv[1:]))

@@ -1,0 +1,252 @@
+"""The entries of a journal as bytes: docs/JOURNAL.md has the layout. Arguments of operations are read by `wire.py`, and
+written here; answers are read here.
+
+There is one spelling: what is read here is written again by the same bytes, so padding has to be zero.
+"""
+from collections import namedtuple
+
+import wire
+from wire import (CLAIM_DELEGATE_CUR, CLAIM_PREVIOUS, EXCLUSIVE4, NewLocker, OPEN4_NOCREATE, Opnum, READ_LT, Status,
+                  Unreadable, bitmap, opaque, read_lock_owner, read_stateid, u32, u64)
+
+MOMENT_LIMIT = 2**40
+
+# The statuses that an answer may have: the server's, and those that it gets with READ, WRITE and delegations (FBIG,
+# DELAY, LOCKED).
+STATUSES = set(Status) | {27, 10008, 10012}
+
+# A request with its answer: when it came, who sent it, and the current filehandle's node, or None.
+Call = namedtuple("Call", "moment principal filehandle opnum arguments answer")
+# The operation that is answered, by its number; the status; and the bytes after it.
+Answer = namedtuple("Answer", "number status rest")
+# A client's lease is over: it was seen last, and now it is removed.
+Expire = namedtuple("Expire", "client seen now")
+# A delegation that was called back and not given back is taken.
+Revoke = namedtuple("Revoke", "state now")
+# A client can be called back, or can't.
+Path = namedtuple("Path", "client is_up")
+
+
+class NotJournal(Unreadable):
+    """The bytes are no journal; the argument says why."""
+
+
+class StrictReader(wire.Reader):
+    """Takes values that have one spelling, and says what is wrong with them."""
+
+    def fixed(self, count):
+        if len(self.data) - self.at < count:
+            raise NotJournal("it ends too early")
+        return super().fixed(count)
+
+    def opaque(self, limit=2**32 - 1):
+        if int.from_bytes(self.data[self.at:self.at + 4], "big") > limit:
+            raise NotJournal(f"more than {limit} bytes")
+        value = super().opaque(limit)
+        padding = -len(value) % 4
+        if any(self.data[self.at - padding:self.at]):
+            raise NotJournal("padding that isn't zero")
+        return value
+
+    def one_of(self, count, first=0):
+        number = self.u32()
+        if not first <= number < first + count:
+            raise NotJournal(f"a number that isn't {first} to {first + count - 1}")
+        return number
+
+    def fixed_words(self, *words):
+        """Words that the layout leaves no choice of."""
+        if self.fixed(4 * len(words)) != u32(*words):
+            raise NotJournal("other words than the layout has")
+
+
+# The arguments of each operation that makes an entry.
+
+def owner_bytes(owner):
+    return u32(owner.epoch, owner.client) + opaque(owner.name)
+
+
+def range_bytes(arguments):
+    return u64(arguments.offset) + u64(arguments.length)
+
+
+def locker_bytes(locker):
+    if isinstance(locker, NewLocker):
+        return u32(1, locker.open_seqid, *locker.open_stateid, locker.lock_seqid) + owner_bytes(locker.owner)
+    return u32(0, *locker.lock_stateid, locker.lock_seqid)
+
+
+def openhow_bytes(how):
+    if how.create == OPEN4_NOCREATE:
+        return u32(how.create)
+    if how.mode == EXCLUSIVE4:
+        return u32(how.create, how.mode) + how.value
+    mask, values = how.value
+    return u32(how.create, how.mode) + bitmap(mask) + opaque(values)
+
+
+def claim_bytes(claim):
+    if claim.kind == CLAIM_PREVIOUS:
+        return u32(claim.kind, claim.delegation)
+    stateid = claim.delegation if claim.kind == CLAIM_DELEGATE_CUR else ()
+    return u32(claim.kind, *stateid) + opaque(claim.name)
+
+
+def open_bytes(arguments):
+    head = u32(arguments.seqid, arguments.access, arguments.deny) + owner_bytes(arguments.owner)
+    return head + openhow_bytes(arguments.how) + claim_bytes(arguments.claim)
+
+
+def setclientid_bytes(arguments):
+    callback = arguments.callback
+    address = opaque(callback.netid) + opaque(callback.address)
+    return arguments.verifier + opaque(arguments.id) + u32(callback.program) + address + u32(callback.ident)
+
+
+ARGUMENT_BYTES = {
+    Opnum.CLOSE: lambda a: u32(a.seqid, *a.stateid),
+    Opnum.GETATTR: lambda a: bitmap(a.mask),
+    Opnum.LOCK: lambda a: u32(a.locktype, a.reclaim) + range_bytes(a) + locker_bytes(a.locker),
+    Opnum.LOCKT: lambda a: u32(a.locktype) + range_bytes(a) + owner_bytes(a.owner),
+    Opnum.LOCKU: lambda a: u32(a.locktype, a.seqid, *a.stateid) + range_bytes(a),
+    Opnum.OPEN: open_bytes,
+    Opnum.OPEN_CONFIRM: lambda a: u32(*a.stateid, a.seqid),
+    Opnum.OPEN_DOWNGRADE: lambda a: u32(*a.stateid, a.seqid, a.access, a.deny),
+    Opnum.RELEASE_LOCKOWNER: lambda a: owner_bytes(a.owner),
+    Opnum.SETCLIENTID: setclientid_bytes,
+    Opnum.SETCLIENTID_CONFIRM: lambda a: u32(a.epoch, a.client) + u64(a.confirm),
+}
+
+
+# What follows the status of an answer, by the operation and the status; for all others nothing does.
+
+def read_fattr(reader):
+    return reader.bitmap(), reader.opaque()
+
+
+def read_denied(reader):
+    return reader.u64(), reader.u64(), reader.one_of(4, first=READ_LT), read_lock_owner(reader)
+
+
+def read_delegation(reader):
+    """What the server can't choose of a delegation is fixed: it isn't called back, its space is 65,536 bytes, and its
+    access list entry permits nobody anything."""
+    kind = reader.one_of(3)
+    if kind != 0:
+        read_stateid(reader)
+        reader.fixed_words(0)
+    if kind == 2:
+        reader.fixed_words(1, 0, 65536)
+    if kind != 0:
+        reader.fixed_words(0, 0, 0, 0)
+
+
+def read_open_answer(reader):
+    read_stateid(reader), reader.one_of(2), reader.u64(), reader.u64()
+    reader.u32(), reader.bitmap(), read_delegation(reader)
+
+
+RESTS = {
+    (Opnum.ACCESS, Status.OK): lambda r: (r.u32(), r.u32()),
+    (Opnum.CLOSE, Status.OK): read_stateid,
+    (Opnum.GETATTR, Status.OK): read_fattr,
+    (Opnum.GETFH, Status.OK): lambda r: r.opaque(wire.FILEHANDLE_LIMIT),
+    (Opnum.LOCK, Status.OK): read_stateid,
+    (Opnum.LOCK, Status.DENIED): read_denied,
+    (Opnum.LOCKT, Status.DENIED): read_denied,
+    (Opnum.LOCKU, Status.OK): read_stateid,
+    (Opnum.OPEN, Status.OK): read_open_answer,
+    (Opnum.OPEN_CONFIRM, Status.OK): read_stateid,
+    (Opnum.OPEN_DOWNGRADE, Status.OK): read_stateid,
+    (Opnum.SETATTR, Status.NOTSUPP): lambda r: r.fixed_words(0),
+    (Opnum.SETCLIENTID, Status.OK): lambda r: (r.u32(), r.u32(), r.u64()),
+    (Opnum.SETCLIENTID, Status.CLID_INUSE): lambda r: (r.opaque(), r.opaque()),
+}
+
+
+def read_answer(reader):
+    number, status = reader.u32(), reader.u32()
+    if not 3 <= number <= 39 and number != Opnum.ILLEGAL:
+        raise NotJournal("an answer to no operation")
+    if status not in STATUSES:
+        raise NotJournal("no status")
+    has_rule = number in wire.ARGUMENTS or number == Opnum.ILLEGAL
+    if not has_rule and status != Status.NOTSUPP:
+        raise NotJournal("an operation without a rule has another answer than NOTSUPP")
+    begin = reader.at
+    RESTS.get((number, status), lambda r: None)(reader)
+    return Answer(number, status, reader.data[begin:reader.at])
+
+
+def answer_bytes(answer):
+    return u32(answer.number, answer.status) + answer.rest
+
+
+# The entries by their kinds. `nodes` is how many there are, with the root.
+
+def read_moment(reader):
+    moment = reader.u64()
+    if moment >= MOMENT_LIMIT:
+        raise NotJournal("a moment of 2^40 or more")
+    return moment
+
+
+def read_principal(reader):
+    flavor, uid = reader.one_of(2), reader.u32()
+    if flavor == wire.AUTH_NONE and uid != 0:
+        raise NotJournal("a uid behind AUTH_NONE")
+    return flavor, uid
+
+
+def read_filehandle(reader, nodes):
+    is_present, node = reader.one_of(2), reader.u32()
+    if not is_present and node != 0:
+        raise NotJournal("a node without a filehandle")
+    if node >= nodes:
+        raise NotJournal("a node that isn't there")
+    return node if is_present else None
+
+
+def read_operation(reader):
+    number = reader.u32()
+    if number not in ARGUMENT_BYTES:
+        raise NotJournal("an operation that makes no entry")
+    return Opnum(number), wire.ARGUMENTS[number](reader)
+
+
+def read_call(reader, nodes):
+    moment, principal, filehandle = read_moment(reader), read_principal(reader), read_filehandle(reader, nodes)
+    return Call(moment, principal, filehandle, *read_operation(reader), read_answer(reader))
+
+
+def request_bytes(call):
+    """A call up to its answer."""
+    filehandle = u32(0, 0) if call.filehandle is None else u32(1, call.filehandle)
+    head = u64(call.moment) + u32(*call.principal) + filehandle
+    return head + u32(call.opnum) + ARGUMENT_BYTES[call.opnum](call.arguments)
+
+
+CALL, EXPIRE, REVOKE, PATH = 1, 2, 3, 4
+
+
+def read_entry(reader, nodes):
+    kind = reader.u32()
+    if kind == CALL:
+        return read_call(reader, nodes)
+    if kind == EXPIRE:
+        return Expire(reader.u32(), read_moment(reader), read_moment(reader))
+    if kind == REVOKE:
+        return Revoke(reader.u32(), read_moment(reader))
+    if kind == PATH:
+        return Path(reader.u32(), reader.one_of(2))
+    raise NotJournal("no kind of entry")
+
+
+def entry_bytes(entry):
+    if isinstance(entry, Call):
+        return u32(CALL) + request_bytes(entry) + answer_bytes(entry.answer)
+    if isinstance(entry, Expire):
+        return u32(EXPIRE, entry.client) + u64(entry.seen) + u64(entry.now)
+    if isinstance(entry, Revoke):
+        return u32(REVOKE, entry.state) + u64(entry.now)
+    return u32(PATH, entry.client, entry.is_up)

@@ -1,0 +1,171 @@
+#!/usr/bin/env python3
+"""journal.py FILE: audits the file of a journal. It says `lawful: K entries`, or with status 1 that the file is no
+journal, or at which entry an answer is wrong.
+
+A journal has what a server began with, and an entry for each operation on its state and each other change of it:
+docs/JOURNAL.md has the file's layout. It is lawful where each entry may come next, by the model's rules, after those
+before it. `Recorder` is a model that keeps its journal."""
+import sys
+from collections import namedtuple
+from dataclasses import dataclass, field
+
+sys.dont_write_bytecode = True
+
+from entries import Answer, Call, Expire, NotJournal, StrictReader, entry_bytes, read_entry
+from model import JOURNAL_LIMIT, Server
+from tree import CALLBACKS, DELEGATIONS, NAME_LIMIT, Node, Policy, Refused, TEXT_LIMIT, tree_of
+from wire import Status, Unreadable, opaque, u32
+
+HEAD = b"NFSJRN01"
+LEASE_LIMIT = 86400
+
+Journal = namedtuple("Journal", "epoch lease tree entries")
+
+
+class WrongAnswer(Exception):
+    """The entries before that of this number are lawful, and it can't follow them."""
+
+
+class NoRule(Exception):
+    """The model has no rule yet for entries of this kind; the entries before that of this number are lawful."""
+
+
+@dataclass
+class Recorder(Server):
+    """A server that keeps its journal."""
+    moment: int = 0
+    recorded: list = field(default_factory=list)
+
+    def apply(self, opnum, arguments, filehandle, principal, is_refused=False):
+        result = super().apply(opnum, arguments, filehandle, principal, is_refused)
+        if result.status != Status.RESOURCE:
+            answer = Answer(opnum, result.status, result.rest)
+            self.recorded.append(Call(self.moment, principal, filehandle, opnum, arguments, answer))
+        return result
+
+    def journal(self):
+        return Journal(self.epoch, self.lease, self.tree, self.recorded)
+
+
+# The file.
+
+def journal_bytes(journal):
+    entries = b"".join(entry_bytes(entry) for entry in journal.entries)
+    return head_bytes(journal) + u32(len(journal.entries)) + entries
+
+
+def head_bytes(journal):
+    """What the server began with."""
+    policy, nodes = journal.tree.policy, journal.tree.nodes[1:]
+    numbers = DELEGATIONS.index(policy.delegations), CALLBACKS.index(policy.callbacks)
+    head = HEAD + u32(journal.epoch, journal.lease, *numbers, len(nodes))
+    return head + b"".join(node_bytes(node) for node in nodes)
+
+
+def node_bytes(node):
+    return u32(node.parent, node.is_file) + opaque(node.name) + (opaque(node.text) if node.is_file else b"")
+
+
+def read_journal(data):
+    """The journal of this file; or NotJournal."""
+    reader = StrictReader(data)
+    try:
+        journal = read_whole(reader)
+    except NotJournal:
+        raise
+    except Unreadable:
+        raise NotJournal("it ends too early") from None
+    if reader.at < len(data):
+        raise NotJournal("bytes after the last entry")
+    return journal
+
+
+def read_whole(reader):
+    if reader.fixed(len(HEAD)) != HEAD:
+        raise NotJournal("it begins with other bytes")
+    epoch, lease = reader.u32(), reader.u32()
+    if not 1 <= lease <= LEASE_LIMIT:
+        raise NotJournal("a lease outside its limits")
+    policy = Policy(DELEGATIONS[reader.one_of(3)], CALLBACKS[reader.one_of(2)])
+    nodes = [read_node(reader) for _ in range(reader.u32())]
+    try:
+        tree = tree_of(nodes, policy)
+    except Refused:
+        raise NotJournal("nodes that no document gives") from None
+    entries = [read_entry(reader, len(tree.nodes)) for _ in range(reader.u32())]
+    return Journal(epoch, lease, tree, entries)
+
+
+def read_node(reader):
+    parent, is_file, name = reader.u32(), reader.one_of(2) == 1, reader.opaque(NAME_LIMIT)
+    return Node(parent, name, is_file, reader.opaque(TEXT_LIMIT) if is_file else b"")
+
+
+# Whether it is lawful.
+
+def audit(journal, limit=JOURNAL_LIMIT):
+    """The server that the journal leads to; or WrongAnswer, or NoRule."""
+    server = Recorder(journal.tree, journal.lease, journal.epoch, limit)
+    for number, entry in enumerate(journal.entries):
+        if server.entries == limit:
+            raise WrongAnswer(number)
+        if type(entry) not in STEPS:
+            raise NoRule(number, type(entry).__name__)
+        if not STEPS[type(entry)](server, entry):
+            raise WrongAnswer(number)
+    return server
+
+
+def follow_call(server, call):
+    """Whether the server gives this answer; it has the entry then."""
+    server.moment = call.moment
+    result = server.apply(call.opnum, call.arguments, call.filehandle, call.principal)
+    is_entry = result.status != Status.RESOURCE
+    return is_entry and call.answer == Answer(call.opnum, result.status, result.rest)
+
+
+def follow_expire(server, expire):
+    """Whether the client may be removed: it is live, and more seconds than the lease have passed since it was seen (RFC
+    7530, section 9.5). The server has removed it then."""
+    if not server.is_live(expire.client) or expire.seen + server.lease >= expire.now:
+        return False
+    server.remove_client(expire.client)
+    server.entries += 1
+    server.recorded.append(expire)
+    return True
+
+
+# A kind of entry without a line here is read and written, and has no rule yet: Revoke and Path, as there are no
+# delegations.
+STEPS = {Call: follow_call, Expire: follow_expire}
+
+
+def verdict(data, limit=JOURNAL_LIMIT):
+    """Whether the file is a lawful journal, and a line that says so."""
+    try:
+        journal = read_journal(data)
+        audit(journal, limit)
+    except NotJournal:
+        return False, "fault: not a journal"
+    except WrongAnswer as wrong:
+        return False, f"fault: wrong answer at entry {wrong.args[0]}"
+    except NoRule as unknown:
+        return False, "fault: no rule yet at entry {}: {}".format(*unknown.args)
+    return True, f"lawful: {len(journal.entries)} entries"
+
+
+def main(path):
+    try:
+        with open(path, "rb") as source:
+            data = source.read()
+    except OSError:
+        sys.exit("fault: file not read")
+    is_lawful, line = verdict(data)
+    print(line, file=sys.stdout if is_lawful else sys.stderr)
+    return 0 if is_lawful else 1
+
+
+if __name__ == "__main__":
+    if len(sys.argv) != 2:
+        sys.exit(__doc__)
+    sys.exit(main(sys.argv[1]))

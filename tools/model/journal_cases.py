@@ -1,0 +1,365 @@
+"""Journals for check_journals.py: one with each operation, files written out, files that are no journals, each with the
+reason, and files with what is said of them."""
+import wire
+from entries import Answer, Call, Expire, MOMENT_LIMIT, Path, Revoke, StrictReader
+from journal import Journal, Recorder, head_bytes, journal_bytes, read_whole
+from tree import Node, ROOT, Tree
+from wire import (Callback, Claim, KnownLocker, LockOwner, NewLocker, OpenOwner, Openhow, Opnum, Stateid, Status,
+                  opaque, u32, u64)
+
+NOT_JOURNAL = "fault: not a journal"
+OTHER_WORDS = "other words than the layout has"
+
+
+# A journal with each operation, and with each form of its arguments and answers that the model gives.
+
+CALLBACK = Callback(0x40000000, b"tcp", b"127.0.0.1.8.1", 1)
+NOBODY, SOMEBODY = (0, 0), (1, 500)
+OWNER, LOCKER, OTHER = OpenOwner(1, 1, b"A"), LockOwner(1, 1, b"x"), LockOwner(1, 1, b"yy")
+OPENED, LOCKED = Stateid(1, 1, 1, 1), Stateid(1, 1, 1, 2)
+NO_CREATE, EXCLUSIVE = Openhow(0, None, None), Openhow(1, 2, bytes(8))
+BY_NAME, FILE = Claim(0, b"a", None), 1
+
+
+def introduce(server):
+    server.apply(Opnum.SETCLIENTID, wire.Setclientid(bytes(range(1, 9)), b"c1", CALLBACK), None, NOBODY)
+    server.apply(Opnum.SETCLIENTID_CONFIRM, wire.SetclientidConfirm(1, 1, 1), None, NOBODY)
+
+
+def opening(seqid, how=NO_CREATE, claim=BY_NAME):
+    return Opnum.OPEN, wire.Open(seqid, 3, 0, OWNER, how, claim), 0
+
+
+def calls():
+    """Operations with their arguments and the current filehandle."""
+    yield opening(1)
+    yield Opnum.OPEN_CONFIRM, wire.OpenConfirm(OPENED, 2), FILE
+    yield opening(3, Openhow(1, 0, ((2,), b"12345")))
+    yield opening(4, EXCLUSIVE)
+    yield opening(5, NO_CREATE, Claim(1, None, 1))
+    yield opening(6, NO_CREATE, Claim(2, b"a", OPENED))
+    yield opening(6, NO_CREATE, Claim(3, b"a", None))
+    opened = OPENED._replace(seqid=3)
+    yield Opnum.LOCK, wire.Lock(2, 0, 0, 9, NewLocker(7, opened, 1, LOCKER)), FILE
+    yield Opnum.LOCK, wire.Lock(1, 0, 20, 9, KnownLocker(LOCKED, 2)), FILE
+    yield Opnum.LOCK, wire.Lock(2, 0, 0, 2**64 - 1, NewLocker(8, opened, 1, OTHER)), FILE
+    yield Opnum.LOCKT, wire.Lockt(4, 0, 2**64 - 1, OTHER), FILE
+    yield Opnum.LOCKT, wire.Lockt(3, 10, 10, OTHER), FILE
+    yield Opnum.LOCKU, wire.Locku(1, 3, LOCKED._replace(seqid=2), 0, 2**64 - 1), FILE
+    yield Opnum.RELEASE_LOCKOWNER, wire.ReleaseLockowner(LOCKER), None
+    # Names that not all can be shown as texts.
+    for name in (b"", b" #", b"a*b", b'"', b"\n", b"\xff", b"\xc3\xa9"):
+        yield Opnum.RELEASE_LOCKOWNER, wire.ReleaseLockowner(LockOwner(1, 1, name)), None
+    yield Opnum.OPEN_DOWNGRADE, wire.OpenDowngrade(opened, 9, 3, 0), FILE
+    yield Opnum.GETATTR, wire.Getattr((0x00100012, 7)), FILE
+    yield Opnum.GETATTR, wire.Getattr(()), None
+
+
+def sample():
+    server = Recorder(Tree())
+    introduce(server)
+    for call in calls():
+        server.apply(*call, NOBODY)
+    server.moment = 100
+    # Another principal asks for the id of a client that has an open.
+    server.apply(Opnum.SETCLIENTID, wire.Setclientid(bytes(8), b"c1", CALLBACK), None, SOMEBODY)
+    server.apply(Opnum.CLOSE, wire.Close(10, OPENED._replace(seqid=4)), FILE, NOBODY)
+    return server.journal()
+
+
+def small():
+    """A client id, its confirmation, and the confirmation again."""
+    server = Recorder(Tree())
+    introduce(server)
+    server.apply(Opnum.SETCLIENTID_CONFIRM, wire.SetclientidConfirm(1, 1, 1), None, NOBODY)
+    return server.journal()
+
+
+# Files written out, in words of four bytes: of a server with the one empty file b, of `small`, and of the entries that
+# are no calls.
+
+NO_ENTRY = """4e46534a 524e3031 00000001 0000005a 00000002 00000000
+    00000001 00000000 00000001 00000001 62000000 00000000 00000000"""
+THREE_ENTRIES = """4e46534a 524e3031 00000001 0000005a 00000002 00000000
+    00000004
+    00000000 00000001 00000001 61000000 00000005 68656c6c 6f000000
+    00000000 00000001 00000001 62000000 00000000
+    00000000 00000000 00000001 64000000
+    00000003 00000001 00000001 63000000 00000000
+    00000003
+    00000001 00000000 00000000 00000000 00000000 00000000 00000000
+    00000023 01020304 05060708 00000002 63310000 40000000 00000003 74637000
+    0000000d 3132372e 302e302e 312e382e 31000000 00000001
+    00000023 00000000 00000001 00000001 00000000 00000001
+    00000001 00000000 00000000 00000000 00000000 00000000 00000000
+    00000024 00000001 00000001 00000000 00000001 00000024 00000000
+    00000001 00000000 00000000 00000000 00000000 00000000 00000000
+    00000024 00000001 00000001 00000000 00000001 00000024 00000000"""
+
+
+def written_out():
+    """What the model writes, and what it should."""
+    yield file_of([], [file(0, b"b")]), NO_ENTRY
+    yield journal_bytes(small()), THREE_ENTRIES
+    data = file_of([Expire(1, 100, 191), Revoke(2, 2**32), Path(3, 1), Path(4, 0)], [])
+    yield data, """4e46534a 524e3031 00000001 0000005a 00000002 00000000 00000000 00000004
+        00000002 00000001 00000000 00000064 00000000 000000bf 00000003 00000002 00000001 00000000
+        00000004 00000003 00000001 00000004 00000004 00000000"""
+
+
+# Files that are no journals: a name, the file, and the reason.
+
+def with_words(data, place, *words):
+    """The file with these words in place of those from the place on."""
+    return data[:place] + u32(*words) + data[place + 4 * len(words):]
+
+
+class PaddingReader(StrictReader):
+    """Has the places of all bytes of padding."""
+
+    def __init__(self, data):
+        super().__init__(data)
+        self.padding = []
+
+    def opaque(self, limit=2**32 - 1):
+        value = super().opaque(limit)
+        self.padding += range(self.at - -len(value) % 4, self.at)
+        return value
+
+
+def broken_padding():
+    data = journal_bytes(sample())
+    reader = PaddingReader(data)
+    read_whole(reader)
+    for place in reader.padding:
+        yield f"padding at {place}", data[:place] + b"\1" + data[place + 1:], "padding that isn't zero"
+
+
+def broken_lengths():
+    data = journal_bytes(small())
+    for length in range(len(data)):
+        yield f"the first {length} bytes", data[:length], "it ends too early"
+    for more in (b"\0", bytes(4)):
+        yield f"{len(more)} bytes more", data + more, "bytes after the last entry"
+
+
+def broken_heads():
+    data = journal_bytes(small())
+    begins, lease = "it begins with other bytes", "a lease outside its limits"
+    yield "another version", b"NFSJRN02" + data[8:], begins
+    yield "lease 0", with_words(data, 12, 0), lease
+    yield "lease 86,401", with_words(data, 12, 86401), lease
+    yield "delegations 3", with_words(data, 16, 3), "a number that isn't 0 to 2"
+    yield "callbacks 2", with_words(data, 20, 2), "a number that isn't 0 to 1"
+    yield "one node fewer", with_words(data, 24, 3), "nodes that no document gives"
+    yield "a node's kind", with_words(data, 32, 2), "a number that isn't 0 to 1"
+
+
+def broken_entries():
+    """An entry's own fields."""
+    journal = small()
+    first, begin = journal.entries[0], len(head_bytes(journal)) + 4
+    data, path, limit = journal_bytes(journal), file_of([Path(1, 1)]), "a moment of 2^40 or more"
+
+    def put(entry):
+        return file_of([entry])
+
+    for kind in (0, 5, 2**32 - 1):
+        yield f"kind {kind}", with_words(path, begin, kind), "no kind of entry"
+    yield "a moment of 2^40", put(first._replace(moment=MOMENT_LIMIT)), limit
+    yield "seen at 2^40", put(Expire(1, MOMENT_LIMIT, 1)), limit
+    yield "expired at 2^40", put(Expire(1, 1, MOMENT_LIMIT)), limit
+    yield "revoked at 2^40", put(Revoke(1, MOMENT_LIMIT)), limit
+    yield "a path marked 2", put(Path(1, 2)), "a number that isn't 0 to 1"
+    yield "flavor 2", put(first._replace(principal=(2, 0))), "a number that isn't 0 to 1"
+    yield "uid 1 behind AUTH_NONE", put(first._replace(principal=(0, 1))), "a uid behind AUTH_NONE"
+    yield "an absent handle with a node", with_words(data, begin + 24, 1), "a node without a filehandle"
+    yield "handle present 2", with_words(data, begin + 20, 2), "a number that isn't 0 to 1"
+    yield "a node outside the tree", put(first._replace(filehandle=5)), "a node that isn't there"
+
+
+def broken_operations():
+    """The number of an operation, and arguments that can't be read."""
+    data, begin = journal_bytes(small()), len(head_bytes(small())) + 4 + 28
+    without = {Opnum.ACCESS, Opnum.GETFH, Opnum.LOOKUP, Opnum.PUTFH, Opnum.PUTROOTFH, Opnum.RESTOREFH, Opnum.SAVEFH,
+               Opnum.SETATTR, Opnum.ILLEGAL, 0, 2, 8, 25, 30, 38, 40}
+    for number in sorted(without):
+        yield f"operation {number}", with_words(data, begin, number), "an operation that makes no entry"
+    lock, lockt = wire.Lock(2, 0, 0, 9, NewLocker(8, OPENED, 1, LOCKER)), wire.Lockt(2, 0, 9, LOCKER)
+    for number in (0, 5):
+        for opnum, arguments in ((Opnum.LOCK, lock), (Opnum.LOCKT, lockt)):
+            other = asked(opnum, arguments._replace(locktype=number))
+            yield f"{opnum.name} of type {number}", other, "a number that isn't 1 to 4"
+    yield "reclaim 2", asked(Opnum.LOCK, lock._replace(reclaim=2)), "a number that isn't 0 to 1"
+    for how, wrong in ((Openhow(2, 0, ((), b"")), "0 to 1"), (Openhow(1, 3, ((), b"")), "0 to 2")):
+        yield f"OPEN with {how}", asked(*opening(1, how)[:2]), "a number that isn't " + wrong
+    for claim, wrong in ((Claim(4, b"a", None), "0 to 3"), (Claim(1, None, 3), "0 to 2")):
+        yield f"OPEN with {claim}", asked(*opening(1, NO_CREATE, claim)[:2]), "a number that isn't " + wrong
+    long = wire.ReleaseLockowner(LockOwner(1, 1, bytes(1025)))
+    yield "an owner of 1,025 bytes", asked(Opnum.RELEASE_LOCKOWNER, long), "more than 1024 bytes"
+    yield "a bitmap without its words", asked(Opnum.GETATTR, wire.Getattr(range(2**16)))[:-2**18], "it ends too early"
+
+
+def broken_answers():
+    none = "an operation without a rule has another answer than NOTSUPP"
+    for number in (0, 2, 40, 10043):
+        yield f"an answer to {number}", answered(Answer(number, Status.OK, b"")), "an answer to no operation"
+    for status in (1, 5, 10006, 10045, 2**32 - 1):
+        yield f"status {status}", answered(Answer(Opnum.LOCKT, status, b"")), "no status"
+    yield "READ with OK", answered(Answer(25, Status.OK, b"")), none
+    yield "SETATTR with a bitmap", answered(Answer(Opnum.SETATTR, Status.NOTSUPP, u32(1, 0))), OTHER_WORDS
+    for number in (0, 5):
+        yield f"a report of type {number}", answered(report(Opnum.LOCK, number)), "a number that isn't 1 to 4"
+    yield "a delegation of type 3", answered(open_answer(u32(3))), "a number that isn't 0 to 2"
+    yield "atomic 2", answered(open_answer(u32(0), atomic=2)), "a number that isn't 0 to 1"
+    for kind in (1, 2):
+        words = delegation(kind)
+        # Behind the kind and the stateid all words are fixed.
+        for place in range(20, len(words), 4):
+            other = open_answer(with_words(words, place, 7))
+            yield f"word {place // 4} of a delegation of type {kind}", answered(other), OTHER_WORDS
+
+
+def delegation(kind):
+    """A delegation of this type in an OPEN's answer."""
+    limit = u32(1) + u64(65536) if kind == 2 else b""
+    return u32(kind) + (u32(*OPENED, 0) + limit + u32(0, 0, 0, 0) if kind else b"")
+
+
+def open_answer(given, atomic=1):
+    """An OPEN's answer with this delegation."""
+    return Answer(Opnum.OPEN, Status.OK, u32(*OPENED, atomic) + u64(0) + u64(0) + u32(6, 0) + given)
+
+
+def report(opnum, locktype):
+    return Answer(opnum, Status.DENIED, u64(0) + u64(9) + u32(locktype, 1, 1) + opaque(b"x"))
+
+
+def file_of(entries, nodes=Tree().nodes[1:], policy=Tree().policy):
+    """A file of these entries, lawful or not, over these nodes."""
+    tree = Tree("")
+    tree.nodes, tree.policy = [ROOT, *nodes], policy
+    return journal_bytes(Journal(1, 90, tree, entries))
+
+
+def asked(opnum, arguments):
+    return file_of([Call(0, NOBODY, None, opnum, arguments, Answer(opnum, Status.NOFILEHANDLE, b""))])
+
+
+def answered(answer):
+    return file_of([Call(0, NOBODY, FILE, Opnum.LOCKT, wire.Lockt(1, 0, 1, LOCKER), answer)])
+
+
+# Lists of nodes.
+
+def file(parent, name=b"a", text=b""):
+    return Node(parent, name, True, text)
+
+
+def directory(parent, name=b"d"):
+    return Node(parent, name, False, b"")
+
+
+def chain(count):
+    """A directory in the one before, so many deep."""
+    return [directory(parent) for parent in range(count)]
+
+
+def many(count, make):
+    return [make(0, b"%d" % number) for number in range(count)]
+
+
+def broken_nodes():
+    lists = {
+        "a name twice": [file(0), file(0)],
+        "a file by the name of a directory": [directory(0, b"a"), file(0)],
+        "a parent that is a file": [file(0), file(1)],
+        "a parent that is itself": [directory(1)],
+        "a parent that comes later": [file(2), directory(0)],
+        "a directory without a child after a file": [file(0), directory(0)],
+        "a directory after a file, whose child comes later": [file(0), directory(0), file(0, b"b"), file(2)],
+        "two directories after a file, with one child": [file(0), directory(0), directory(0, b"e"), file(3)],
+        "nine names": chain(8) + [file(8)],
+        "nine directories": chain(9),
+        "65 files": many(65, file),
+        "65 directories": many(65, directory),
+        "65 directories, the last after a file": [*many(64, directory), file(0), directory(0), file(66)],
+        "a text that isn't UTF-8": [file(0, text=b"\xff")],
+    }
+    for name in (b"", b".", b"..", b"a/b", b"/", b"a\0", b"\xff"):
+        lists[f"the name {name}"] = [file(0, name)]
+        lists[f"the name {name} of a directory"] = [directory(0, name)]
+    for name, nodes in lists.items():
+        yield name, file_of([], nodes), "nodes that no document gives"
+    yield "a name of 256 bytes", file_of([], [file(0, b"n" * 256)]), "more than 255 bytes"
+    yield "a text of 65,537 bytes", file_of([], [file(0, text=bytes(65537))]), "more than 65536 bytes"
+
+
+def whole_files():
+    """Files that are journals, at the edges of what isn't."""
+    journal = sample()
+    yield "all operations", journal_bytes(journal)
+    yield "all kinds", file_of(journal.entries + [Expire(1, 2, 3), Revoke(4, 5), Path(6, 1), Path(7, 0)])
+    yield "the last moment", file_of([Expire(1, MOMENT_LIMIT - 1, MOMENT_LIMIT - 1), Revoke(1, MOMENT_LIMIT - 1)])
+    for lease in (1, 86400):
+        yield f"lease {lease}", with_words(file_of([]), 12, lease)
+    lists = {
+        "no nodes": [], "eight names": chain(7) + [file(7)], "64 files": many(64, file),
+        "64 directories": many(64, directory), "64 directories, the last after a file": [
+            *many(63, directory), file(0), directory(0), file(65)],
+        "a directory without a child before a file": [directory(0), file(0)],
+        "directories after a file, each followed by a child": [file(0), directory(0), directory(2, b"e"), file(3)],
+        "a name of 255 bytes, and a text of 65,536": [file(0, b"n" * 255, bytes(65536))],
+    }
+    for name, nodes in lists.items():
+        yield name, file_of([], nodes)
+    # Answers that can be read, though no rule gives them to a LOCKT.
+    answers = [open_answer(delegation(kind)) for kind in range(3)]
+    answers += [report(Opnum.LOCK, 3), report(Opnum.LOCKT, 4), Answer(Opnum.ILLEGAL, Status.OK, b"")]
+    answers += [Answer(25, Status.NOTSUPP, b""), Answer(Opnum.SETATTR, Status.NOTSUPP, u32(0))]
+    answers += [Answer(Opnum.LOCKT, status, b"") for status in (27, 10008, 10012, Status.CLID_INUSE)]
+    for answer in answers:
+        yield f"the answer {answer}", answered(answer)
+
+
+# Entries that can't follow.
+
+def verdicts():
+    """A name, a file, and what is said of it."""
+    def wrong(number):
+        return f"fault: wrong answer at entry {number}"
+
+    entries, data = small().entries, journal_bytes(small())
+    yield "three entries", data, "lawful: 3 entries"
+    yield "no entries", file_of([]), "lawful: 0 entries"
+    yield "another confirm value", file_of([with_rest(entries[0], u32(1, 1) + u64(2)), *entries[1:]]), wrong(0)
+    yield "a confirmation first", file_of([entries[1], *entries]), wrong(0)
+    yield "the first entry again", file_of([*entries, entries[0]]), wrong(3)
+    yield "an expiry at the edge", file_of([*entries, Expire(1, 100, 190)]), wrong(3)
+    yield "an expiry", file_of([*entries, Expire(1, 100, 191)]), "lawful: 4 entries"
+    yield "an expiry again", file_of([*entries, Expire(1, 100, 191), Expire(1, 100, 191)]), wrong(4)
+    yield "an expiry of nobody", file_of([*entries, Expire(2, 100, 191)]), wrong(3)
+    yield "a confirmation after the expiry", file_of([*entries, Expire(1, 100, 191), entries[2]]), wrong(4)
+    stale = entries[2]._replace(answer=Answer(Opnum.SETCLIENTID_CONFIRM, Status.STALE_CLIENTID, b""))
+    yield "its refusal", file_of([*entries, Expire(1, 100, 191), stale]), "lawful: 5 entries"
+    yield "a revocation", file_of([*entries, Revoke(1, 100)]), "fault: no rule yet at entry 3: Revoke"
+    yield "a path", file_of([*entries, Path(1, 1)]), "fault: no rule yet at entry 3: Path"
+    yield "a path after a wrong answer", file_of([entries[1], Path(1, 1)]), wrong(0)
+    yield "moments that go down", file_of([entries[0]._replace(moment=5), *entries[1:]]), "lawful: 3 entries"
+    yield "another principal", file_of([entries[0], entries[1]._replace(principal=SOMEBODY)]), wrong(1)
+    refused = entries[0]._replace(answer=Answer(Opnum.SETCLIENTID, Status.RESOURCE, b""))
+    yield "RESOURCE", file_of([refused]), wrong(0)
+    far = wire.Setclientid(bytes(8), b"c1", CALLBACK._replace(netid=bytes(129)))
+    yield "RESOURCE that the rules give", file_of([refused._replace(arguments=far)]), wrong(0)
+    other = with_number(entries[1], Opnum.RELEASE_LOCKOWNER)
+    yield "an answer to another operation", file_of([entries[0], other]), wrong(1)
+    late = file_of([with_rest(entries[0], u32(1, 1) + u64(2)), *entries[1:]]) + b"\0"
+    yield "a wrong answer, and a byte after the last entry", late, NOT_JOURNAL
+
+
+def with_rest(call, rest):
+    return call._replace(answer=call.answer._replace(rest=rest))
+
+
+def with_number(call, number):
+    return call._replace(answer=call.answer._replace(number=number))

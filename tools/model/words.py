@@ -1,0 +1,109 @@
+"""Entries of a journal as text, with operations and answers in the words of rows (crates/rows/README.md)."""
+import rows
+import wire
+from entries import ARGUMENT_BYTES, Call, Expire, RESTS, Revoke
+from wire import Opnum, opaque
+
+STATUS_NAMES = {number: name for name, number in rows.NAMES.items() if name.startswith(("NFS4_OK", "NFS4ERR_"))}
+FLAVOR_NAMES = {wire.AUTH_NONE: "AUTH_NONE", wire.AUTH_SYS: "AUTH_SYS"}
+# Numbers up to this one are shown as decimals.
+DECIMAL_LIMIT = 65535
+
+
+class WordReader(wire.Reader):
+    """Takes values, and has the words of all that it took."""
+
+    def __init__(self, data):
+        super().__init__(data)
+        self.words = []
+
+    def taken(self, words_of, take, *limits):
+        """Takes a value, and puts its words in place of those of its parts."""
+        begin = len(self.words)
+        value = take(*limits)
+        self.words[begin:] = words_of(value)
+        return value
+
+    def fixed(self, count):
+        return self.taken(lambda value: [f"hex:{value.hex()}"], super().fixed, count)
+
+    def u32(self):
+        return self.taken(lambda value: [number_word(value)], super().u32)
+
+    def u64(self):
+        return self.taken(lambda value: [f"u64:{value}"], super().u64)
+
+    def opaque(self, limit=2**32 - 1):
+        return self.taken(opaque_words, super().opaque, limit)
+
+    def fixed_words(self, *words):
+        for _ in words:
+            self.u32()
+
+
+def number_word(value):
+    return str(value) if value <= DECIMAL_LIMIT else f"0x{value:08x}"
+
+
+def opaque_words(value):
+    """A text, or the length and what follows it in fours."""
+    if is_shown_as_text(value):
+        return [f'"{value.decode()}"']
+    data = opaque(value)
+    return [number_word(len(value))] + [f"0x{data[at:at + 4].hex()}" for at in range(4, len(data), 4)]
+
+
+def is_shown_as_text(value):
+    try:
+        text = value.decode()
+    except UnicodeDecodeError:
+        return False
+    return text.isprintable() and '"' not in text
+
+
+def words_read(read, data):
+    """The words of what is read of these bytes, which are read whole."""
+    reader = WordReader(data)
+    read(reader)
+    return reader.words
+
+
+def operation_words(call):
+    data = ARGUMENT_BYTES[call.opnum](call.arguments)
+    return " ".join([call.opnum.name] + words_read(wire.ARGUMENTS[call.opnum], data))
+
+
+def answer_words(answer):
+    name = Opnum(answer.number).name if answer.number in set(Opnum) else str(answer.number)
+    read = RESTS.get((answer.number, answer.status))
+    rest = words_read(read, answer.rest) if read else []
+    return " ".join([name, STATUS_NAMES[answer.status]] + rest)
+
+
+def principal_words(principal):
+    flavor, uid = principal
+    return FLAVOR_NAMES[flavor] + (f" {uid}" if flavor == wire.AUTH_SYS else "")
+
+
+def place_words(node, tree):
+    """The current filehandle, by the path from the root."""
+    if node is None:
+        return "no file"
+    names, at = [], node
+    while at != 0:
+        names.insert(0, tree.nodes[at].name)
+        at = tree.nodes[at].parent
+    kind = "file" if tree.is_file(node) else "directory"
+    return " ".join([kind] + opaque_words(b"/" + b"/".join(names)))
+
+
+def line_of(entry, tree):
+    """An entry as a line."""
+    if isinstance(entry, Call):
+        head = f"moment {entry.moment}, {principal_words(entry.principal)}, {place_words(entry.filehandle, tree)}"
+        return f"{head}: {operation_words(entry)} -> {answer_words(entry.answer)}"
+    if isinstance(entry, Expire):
+        return f"client {entry.client} expires, seen at {entry.seen}, now {entry.now}"
+    if isinstance(entry, Revoke):
+        return f"the delegation of state {entry.state} is revoked, now {entry.now}"
+    return f"the path of client {entry.client} is marked {'up' if entry.is_up else 'down'}"
