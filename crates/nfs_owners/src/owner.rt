@@ -24,8 +24,9 @@ pub struct Owner {
 pub enum OwnerStanding {
     /// Nothing.
     Unknown,
-    /// It has opened a file, and no OPEN_CONFIRM has come.
+    /// It is known, and no OPEN_CONFIRM has come for it. Only an open owner needs one: a lock owner stays so.
     Unconfirmed,
+    /// An OPEN_CONFIRM has come for it.
     Confirmed,
 }
 
