@@ -9,6 +9,8 @@ use Rattle.nfs_owners.specs.declared.owner.OwnerStanding.TheVariants.{Unknown, U
 use Rattle.nfs_forms.specs.ClientId.{is_same_client}
 use Rattle.nfs_owners.specs.StateOwner.{is_same_state_owner}
 use Rattle.nfs_forms.specs.declared.client_id.ClientId.{ClientId}
+use Rattle.nfs_owners.specs.declared.state_owner.OwnerKind.{OwnerKind}
+use Rattle.nfs_owners.specs.declared.state_owner.OwnerKind.TheVariants as kinds
 use Rattle.nfs_owners.specs.declared.state_owner.StateOwner.{StateOwner}
 
 -- the owner is one of this client's
@@ -27,12 +29,13 @@ owner_of name owners = find (has_name name) owners
 abbrev pub is_known : StateOwner → List Owner → Bool
 is_known name owners = list_any (has_name name) owners
 
--- what is known of an owner, given the one with its name
-abbrev pub standing_of : Option Owner → OwnerStanding
-standing_of None = Unknown
-standing_of (Some o) = if o.state.confirmed then Confirmed else Unconfirmed
+-- What is known of an owner of this kind, given the one with its name. Only open owners need an OPEN_CONFIRM.
+abbrev pub standing_of : Option Owner → OwnerKind → OwnerStanding
+standing_of None kind = Unknown
+standing_of (Some o) kinds.Open = if o.state.confirmed then Confirmed else Unconfirmed
+standing_of (Some o) kinds.Lock = Confirmed
 
--- that of an owner that is recorded by its first request, in the journal's entry of this number
+-- the state of an owner that is recorded by its first request, in the journal's entry of this number
 abbrev pub new_state : ℕ → Kept → OwnerState
 new_state number kept =
     record { confirmed = false; recorded = number; number = number; kept = kept }

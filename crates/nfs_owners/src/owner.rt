@@ -30,9 +30,9 @@ pub struct OwnerState {
 pub enum OwnerStanding {
     /// Nothing.
     Unknown,
-    /// It is known, and no OPEN_CONFIRM has come for it. Only an open owner needs one: a lock owner stays so.
+    /// It is an open owner that has opened a file, and no OPEN_CONFIRM has come.
     Unconfirmed,
-    /// An OPEN_CONFIRM has come for it.
+    /// It is an open owner for which an OPEN_CONFIRM has come, or a lock owner, which needs none.
     Confirmed,
 }
 

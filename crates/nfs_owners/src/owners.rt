@@ -7,7 +7,10 @@ ghost use Rattle.nfs_owners.specs.declared.state_owner.StateOwner.{StateOwner};
 ghost use Rattle.nfs_owners.specs.Owner.{has_name, is_known, owner_of, standing_of};
 ghost use Rattle.nfs_owners.specs.Owners.{IsJudged, has_place, with_confirmed, with_kept, without_owner, without_owners_of};
 
-use crate::{Kept, OWNER_LIMIT, Owner, OwnerRef, OwnerStanding, OwnerState, OwnersError, StateOwner, Verdict};
+use crate::{
+    Kept, OWNER_LIMIT, Owner, OwnerKind, OwnerRef, OwnerStanding, OwnerState, OwnersError,
+    StateOwner, Verdict,
+};
 use nfs_xdr::{ClientId, Op};
 use std::alloc::Global;
 use std::marker::Model;
@@ -57,12 +60,16 @@ impl Owners {
 
     /// What is known of the owner with this name.
     pub fn known(&self, name: OwnerRef<'_>) -> OwnerStanding
-        ensures { result ≡ standing_of (owner_of (owner_seen name.entry) self.now.owners) }
+        ensures { result ≡ standing_of
+            (owner_of (owner_seen name.entry) self.now.owners) (owner_seen name.entry).kind }
     {
-        match self.find(name) {
-            None => OwnerStanding::Unknown,
-            Some(owner) if owner.confirmed => OwnerStanding::Confirmed,
-            Some(_) => OwnerStanding::Unconfirmed,
+        let Some(state) = self.find(name) else {
+            return OwnerStanding::Unknown;
+        };
+        match name.kind {
+            OwnerKind::Open if state.confirmed => OwnerStanding::Confirmed,
+            OwnerKind::Open => OwnerStanding::Unconfirmed,
+            OwnerKind::Lock => OwnerStanding::Confirmed,
         }
     }
 

@@ -29,6 +29,7 @@ impl Clients {
         ensures memory { OnErr result (IsTrue (adds_record
             (confirmation path has_state self.now.registry principal args.now).1)) }
     {
+        // A law, for the proof alone: the number of a record that is found is that of its id.
         self.records_are_apart();
         match self.unconfirmed_named_by(args) {
             None => Ok((

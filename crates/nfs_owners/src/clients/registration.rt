@@ -34,6 +34,7 @@ impl Clients {
         ensures kind { IfOk result (λ r. IsOfItsKind r.1 self.now.registry) }
         ensures short { IfOk result (λ r. IsShort (OpResult.Setclientid r.0)) }
     {
+        // A law, for the proof alone: the number of a record that is found is that of its id.
         self.records_are_apart();
         match self.confirmed_of(args.id.as_slice()) {
             Some(record) if record.principal.is(principal) => {
