@@ -1,1 +1,2 @@
+pub mod ClientLists
 pub mod OwnerLists

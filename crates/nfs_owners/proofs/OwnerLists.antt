@@ -9,8 +9,9 @@ use Rattle.std.proofs.lemmas.List.Folds.{list_any-append}
 use Rattle.std.proofs.lemmas.Slice.Eq.{bytes_eq-Decides}
 use Rattle.nfs_owners.specs.declared.kept.Kept.{Kept}
 use Rattle.nfs_owners.specs.declared.owner.Owner.{Owner}
+use Rattle.nfs_owners.specs.declared.owner.OwnerState.{OwnerState}
 use Rattle.nfs_owners.specs.declared.owner.TheConstants.{OWNER_LIMIT}
-use Rattle.nfs_owners.specs.Owner.{has_name, is_known, new_owner}
+use Rattle.nfs_owners.specs.Owner.{has_name, is_known, with_request, new_owner}
 use Rattle.nfs_owners.specs.Owners.{AreApart, AreOwners, has_place, with_change, with_kept, without_owner}
 use Rattle.nfs_owners.specs.StateOwner.{is_same_kind, is_same_state_owner}
 use Rattle.nfs_owners.specs.declared.state_owner.OwnerKind.{OwnerKind}
@@ -63,23 +64,23 @@ pub owners_filter : (p : Owner → Bool) (owners : List Owner) → AreOwners own
 owners_filter p owners are = (omega (arith, length-filter_both p (λ o. not (p o)) (λ x. refl) owners, are.0), apart_filter p owners are.1)
 
 -- a change that keeps an owner's name
-name_kept : (change : Owner → Owner) → ((o : Owner) → (change o).name ≡ o.name) → (b : Bool) (o : Owner) → (if b then change o else o).name ≡ o.name
-name_kept change keeps true o = keeps o
-name_kept change keeps false o = refl
+name_kept : (change : OwnerState → OwnerState) (b : Bool) (o : Owner) → (if b then record o { state = change o.state } else o).name ≡ o.name
+name_kept change true o = refl
+name_kept change false o = refl
 
-has_kept : (change : Owner → Owner) → ((o : Owner) → (change o).name ≡ o.name) → (b : Bool) (other : StateOwner) (o : Owner) → has_name other (if b then change o else o) ≡ has_name other o
-has_kept change keeps b other o = ap (λ (n : StateOwner). is_same_state_owner n other) (name_kept change keeps b o)
+has_kept : (change : OwnerState → OwnerState) (b : Bool) (other : StateOwner) (o : Owner) → has_name other (if b then record o { state = change o.state } else o) ≡ has_name other o
+has_kept change b other o = ap (λ (n : StateOwner). is_same_state_owner n other) (name_kept change b o)
 
-known_change : (change : Owner → Owner) → ((o : Owner) → (change o).name ≡ o.name) → (name other : StateOwner) (owners : List Owner) → is_known other (with_change change name owners) ≡ is_known other owners
-known_change change keeps name other [] = refl
-known_change change keeps name other (o ∷ owners) = grind (arith, known_change change keeps name other owners, has_kept change keeps (has_name name o) other o)
+known_change : (change : OwnerState → OwnerState) (name other : StateOwner) (owners : List Owner) → is_known other (with_change change name owners) ≡ is_known other owners
+known_change change name other [] = refl
+known_change change name other (o ∷ owners) = grind (arith, known_change change name other owners, has_kept change (has_name name o) other o)
 
-apart_change : (change : Owner → Owner) → ((o : Owner) → (change o).name ≡ o.name) → (name : StateOwner) (owners : List Owner) → AreApart owners → AreApart (with_change change name owners)
-apart_change change keeps name [] apart = apart
-apart_change change keeps name (o ∷ owners) apart =
-    (ap (λ n. is_known n (with_change change name owners)) (name_kept change keeps (has_name name o) o) ∙ known_change change keeps name o.name owners ∙ apart.0, apart_change change keeps name owners apart.1)
+apart_change : (change : OwnerState → OwnerState) (name : StateOwner) (owners : List Owner) → AreApart owners → AreApart (with_change change name owners)
+apart_change change name [] apart = apart
+apart_change change name (o ∷ owners) apart =
+    (ap (λ n. is_known n (with_change change name owners)) (name_kept change (has_name name o) o) ∙ known_change change name o.name owners ∙ apart.0, apart_change change name owners apart.1)
 
-pub unknown_change : (change : Owner → Owner) (name : StateOwner) (owners : List Owner) → is_known name owners ≡ false → with_change change name owners ≡ owners
+pub unknown_change : (change : OwnerState → OwnerState) (name : StateOwner) (owners : List Owner) → is_known name owners ≡ false → with_change change name owners ≡ owners
 unknown_change change name [] unknown = refl
 unknown_change change name (o ∷ owners) unknown = grind (arith, unknown_change change name owners)
 
@@ -88,24 +89,24 @@ known_other : (name : StateOwner) (o : Owner) (owners : List Owner) → has_name
 known_other name o owners same = ap (λ n. is_known n owners) (sym (name_exact name o same))
 
 -- the owner at the place of a name is the one that a change of that name changes
-pub change_at : (change : Owner → Owner) (name : StateOwner) (owners : List Owner) (o : Owner) → AreApart owners → position_or_len (has_name name) owners < length owners → o ≡ slice_index_or owners (position_or_len (has_name name) owners) o → slice_set owners (position_or_len (has_name name) owners) (change o) ≡ with_change change name owners
+pub change_at : (change : OwnerState → OwnerState) (name : StateOwner) (owners : List Owner) (o : Owner) → AreApart owners → position_or_len (has_name name) owners < length owners → o ≡ slice_index_or owners (position_or_len (has_name name) owners) o → slice_set owners (position_or_len (has_name name) owners) (record o { state = change o.state }) ≡ with_change change name owners
 change_at change name [] o apart below at = refl
 change_at change name (first ∷ owners) o apart below at = by (λ below at. change_at change name owners o apart.1 below at) (has_name name first) refl
   where
-    by : (position_or_len (has_name name) owners < length owners → o ≡ slice_index_or owners (position_or_len (has_name name) owners) o → slice_set owners (position_or_len (has_name name) owners) (change o) ≡ with_change change name owners) → (b : Bool) → has_name name first ≡ b → slice_set (first ∷ owners) (position_or_len (has_name name) (first ∷ owners)) (change o) ≡ with_change change name (first ∷ owners)
+    by : (position_or_len (has_name name) owners < length owners → o ≡ slice_index_or owners (position_or_len (has_name name) owners) o → slice_set owners (position_or_len (has_name name) owners) (record o { state = change o.state }) ≡ with_change change name owners) → (b : Bool) → has_name name first ≡ b → slice_set (first ∷ owners) (position_or_len (has_name name) (first ∷ owners)) (record o { state = change o.state }) ≡ with_change change name (first ∷ owners)
     by rest true same = grind (arith, same, at, unknown_change change name owners (known_other name first owners same ∙ apart.0))
     by rest false other = grind (arith, other, at, below, rest)
 
 -- the owner at the place that is found for a name is the one that a change of that name changes
-pub change_found : (change : Owner → Owner) (name : StateOwner) (owners : List Owner) (place : ℕ) (o : Owner) → AreApart owners → position (has_name name) owners ≡ Some place → o ≡ slice_index_or owners place o → slice_set owners place (change o) ≡ with_change change name owners
+pub change_found : (change : OwnerState → OwnerState) (name : StateOwner) (owners : List Owner) (place : ℕ) (o : Owner) → AreApart owners → position (has_name name) owners ≡ Some place → o ≡ slice_index_or owners place o → slice_set owners place (record o { state = change o.state }) ≡ with_change change name owners
 change_found change name owners place o apart found at = by (nat_lt (position_or_len (has_name name) owners) (length owners)) refl
   where
-    by : (b : Bool) → nat_lt (position_or_len (has_name name) owners) (length owners) ≡ b → slice_set owners place (change o) ≡ with_change change name owners
+    by : (b : Bool) → nat_lt (position_or_len (has_name name) owners) (length owners) ≡ b → slice_set owners place (record o { state = change o.state }) ≡ with_change change name owners
     by true below = grind (arith, found, at, below, change_at change name owners o apart)
     by false below = grind (arith, found, below)
 
-pub owners_change : (change : Owner → Owner) → ((o : Owner) → (change o).name ≡ o.name) → (name : StateOwner) (owners : List Owner) → AreOwners owners → AreOwners (with_change change name owners)
-owners_change change keeps name owners are = (omega (arith, length-map {B = Owner} owners (λ o. if has_name name o then change o else o), are.0), apart_change change keeps name owners are.1)
+pub owners_change : (change : OwnerState → OwnerState) (name : StateOwner) (owners : List Owner) → AreOwners owners → AreOwners (with_change change name owners)
+owners_change change name owners are = (omega (arith, length-map {B = Owner} owners (λ o. if has_name name o then record o { state = change o.state } else o), are.0), apart_change change name owners are.1)
 
 pub owners_push : (owners : List Owner) (o : Owner) → AreOwners owners → is_known o.name owners ≡ false → length owners < OWNER_LIMIT → AreOwners (owners ++ o ∷ [])
 owners_push owners o are new below = (omega (arith, length-append owners (o ∷ []), below), apart_push owners o are.1 new)
@@ -119,8 +120,8 @@ known_place name [] place found = cc
 known_place name (o ∷ owners) place found = grind (arith, found, known_place name owners (position_or_len (has_name name) owners))
 
 -- the owners after a request was kept
-pub kept_found : (name : StateOwner) (number : ℕ) (kept : Kept) (owners : List Owner) (place : ℕ) (o : Owner) → AreApart owners → position (has_name name) owners ≡ Some place → o ≡ slice_index_or owners place o → slice_set owners place (record o { number = number; kept = kept }) ≡ with_kept name number kept owners
-kept_found name number kept owners place o apart found at = rw (known_place name owners place found) (change_found (λ p. record p { number = number; kept = kept }) name owners place o apart found at)
+pub kept_found : (name : StateOwner) (number : ℕ) (kept : Kept) (owners : List Owner) (place : ℕ) (o : Owner) → AreApart owners → position (has_name name) owners ≡ Some place → o ≡ slice_index_or owners place o → slice_set owners place (record o { state = with_request number kept o.state }) ≡ with_kept name number kept owners
+kept_found name number kept owners place o apart found at = rw (known_place name owners place found) (change_found (with_request number kept) name owners place o apart found at)
 
 pub kept_new : (name : StateOwner) (number : ℕ) (kept : Kept) (owners : List Owner) → position (has_name name) owners ≡ None → owners ++ new_owner name number kept ∷ [] ≡ with_kept name number kept owners
 kept_new name number kept owners none = rw (no_place name owners none) refl
@@ -129,7 +130,7 @@ pub owners_kept : (name : StateOwner) (number : ℕ) (kept : Kept) (owners : Lis
 owners_kept name number kept owners are place = by (is_known name owners) refl
   where
     by : (b : Bool) → is_known name owners ≡ b → AreOwners (with_kept name number kept owners)
-    by true known = rw known (owners_change (λ p. record p { number = number; kept = kept }) (λ p. refl) name owners are)
+    by true known = rw known (owners_change (with_request number kept) name owners are)
     by false unknown = rw unknown (owners_push owners (new_owner name number kept) are unknown (grind (arith, place, unknown)))
 
 not_not : (b : Bool) → b ≡ not (not b)

@@ -3,11 +3,14 @@ use Rattle.std.specs.Prelude.{ℕ, Bool, false, List, find, Option, Some, None, 
 use Rattle.std.specs.List.{list_any}
 use Rattle.nfs_owners.specs.declared.kept.Kept.{Kept}
 use Rattle.nfs_owners.specs.declared.owner.Owner.{Owner}
+use Rattle.nfs_owners.specs.declared.owner.OwnerState.{OwnerState}
 use Rattle.nfs_owners.specs.declared.owner.OwnerStanding.{OwnerStanding}
 use Rattle.nfs_owners.specs.declared.owner.OwnerStanding.TheVariants.{Unknown, Unconfirmed, Confirmed}
 use Rattle.nfs_forms.specs.ClientId.{is_same_client}
 use Rattle.nfs_owners.specs.StateOwner.{is_same_state_owner}
 use Rattle.nfs_forms.specs.declared.client_id.ClientId.{ClientId}
+use Rattle.nfs_owners.specs.declared.state_owner.OwnerKind.{OwnerKind}
+use Rattle.nfs_owners.specs.declared.state_owner.OwnerKind.TheVariants as kinds
 use Rattle.nfs_owners.specs.declared.state_owner.StateOwner.{StateOwner}
 
 -- the owner is one of this client's
@@ -26,17 +29,21 @@ owner_of name owners = find (has_name name) owners
 abbrev pub is_known : StateOwner → List Owner → Bool
 is_known name owners = list_any (has_name name) owners
 
--- what is known of an owner, given the one with its name
-abbrev pub standing_of : Option Owner → OwnerStanding
-standing_of None = Unknown
-standing_of (Some o) = if o.confirmed then Confirmed else Unconfirmed
+-- What is known of an owner of this kind, given the one with its name. Only open owners need an OPEN_CONFIRM.
+abbrev pub standing_of : Option Owner → OwnerKind → OwnerStanding
+standing_of None kind = Unknown
+standing_of (Some o) kinds.Open = if o.state.confirmed then Confirmed else Unconfirmed
+standing_of (Some o) kinds.Lock = Confirmed
+
+-- the state of an owner that is recorded by its first request, in the journal's entry of this number
+abbrev pub new_state : ℕ → Kept → OwnerState
+new_state number kept =
+    record { confirmed = false; recorded = number; number = number; kept = kept }
+
+-- the same, with this as the kept request, in the journal's entry of this number
+abbrev pub with_request : ℕ → Kept → OwnerState → OwnerState
+with_request number kept s = record s { number = number; kept = kept }
 
 -- an owner that is recorded by its first request, in the journal's entry of this number
 abbrev pub new_owner : StateOwner → ℕ → Kept → Owner
-new_owner name number kept = record {
-  name = name;
-  confirmed = false;
-  recorded = number;
-  number = number;
-  kept = kept;
-}
+new_owner name number kept = record { name = name; state = new_state number kept }

@@ -4,9 +4,10 @@ use Rattle.nfs_owners.specs.declared.kept.Kept.{Kept}
 use Rattle.nfs_owners.specs.declared.kept.KeptRequest.{KeptRequest}
 use Rattle.nfs_owners.specs.declared.kept.Verdict.{Verdict}
 use Rattle.nfs_owners.specs.declared.owner.Owner.{Owner}
+use Rattle.nfs_owners.specs.declared.owner.OwnerState.{OwnerState}
 use Rattle.nfs_owners.specs.declared.owner.TheConstants.{OWNER_LIMIT}
 use Rattle.nfs_owners.specs.Kept.{IsVerdict}
-use Rattle.nfs_owners.specs.Owner.{has_client, has_name, is_known, new_owner}
+use Rattle.nfs_owners.specs.Owner.{has_client, has_name, is_known, with_request, new_owner}
 use Rattle.nfs_forms.specs.declared.client_id.ClientId.{ClientId}
 use Rattle.nfs_owners.specs.declared.state_owner.StateOwner.{StateOwner}
 
@@ -32,23 +33,24 @@ has_place name owners = is_known name owners || nat_lt (length owners) OWNER_LIM
 abbrev pub IsJudged : Option Owner → ℕ → KeptRequest → Option Verdict → Type 0
 IsJudged None seqid request verdict = verdict ≡ None
 IsJudged (Some o) seqid request None = ⊥
-IsJudged (Some o) seqid request (Some verdict) = IsVerdict o.kept seqid request verdict
+IsJudged (Some o) seqid request (Some verdict) = IsVerdict o.state.kept seqid request verdict
 
 -- the owner with this name is changed, and the others stay
-abbrev pub with_change : (Owner → Owner) → StateOwner → List Owner → List Owner
-with_change change name owners = map (λ o. if has_name name o then change o else o) owners
+abbrev pub with_change : (OwnerState → OwnerState) → StateOwner → List Owner → List Owner
+with_change change name owners =
+    map (λ o. if has_name name o then record o { state = change o.state } else o) owners
 
 -- The owner's kept request is now this one, in the journal's entry of this number. An owner that was unknown is
 -- recorded by it.
 abbrev pub with_kept : StateOwner → ℕ → Kept → List Owner → List Owner
 with_kept name number kept owners =
     if is_known name owners
-    then with_change (λ o. record o { number = number; kept = kept }) name owners
+    then with_change (with_request number kept) name owners
     else owners ++ new_owner name number kept ∷ []
 
 -- the owner is confirmed
 abbrev pub with_confirmed : StateOwner → List Owner → List Owner
-with_confirmed name owners = with_change (λ o. record o { confirmed = true }) name owners
+with_confirmed name owners = with_change (λ s. record s { confirmed = true }) name owners
 
 -- the owner is no longer known
 abbrev pub without_owner : StateOwner → List Owner → List Owner

@@ -1,5 +1,5 @@
 -- The clients' records (RFC 7530, section 16.33.5).
-use Rattle.std.specs.Prelude.{ℕ, nat_le, Bool, ◌&&◌, ◌==◌, not, List, [], filter, find, Option}
+use Rattle.std.specs.Prelude.{ℕ, ◌≤◌, nat_le, ⊤, Bool, ◌&&◌, ◌==◌, not, IsFalse, List, [], ◌∷◌, filter, find, Option, if◌then◌else◌}
 use Rattle.std.specs.List.{list_any}
 use Rattle.std.specs.Str.{bytes_eq}
 use Rattle.nfs_forms.specs.ClientId.{is_same_client}
@@ -68,3 +68,28 @@ unconfirmed_named_by args registry =
 -- the confirmed record that the arguments of SETCLIENTID_CONFIRM name, if there is one
 abbrev pub confirmed_named_by : SetclientidConfirm → Registry → Option ClientRecord
 confirmed_named_by args registry = find (λ r. r.confirmed && is_named_by args r) registry.records
+
+-- both records are confirmed, or neither is
+abbrev pub has_same_kind : ClientRecord → ClientRecord → Bool
+has_same_kind r s = if r.confirmed then s.confirmed else not s.confirmed
+
+-- The records can't both be kept: they have one id and are of one kind, or they have two ids and one client number.
+abbrev pub excludes : ClientRecord → ClientRecord → Bool
+excludes r s =
+    if is_of r.id s then has_same_kind r s else is_of_client r.client.number s
+
+-- The records that clients can have, where this client number was the last one that was given: each has a number that was
+-- given, and no two exclude each other. So an id, and a clientid too, has at most one confirmed and one unconfirmed record.
+abbrev pub AreRecords : ℕ → List ClientRecord → Type 0
+AreRecords last [] = ⊤
+AreRecords last (r ∷ records) =
+    (r.client.number ≤ last) × IsFalse (list_any (excludes r) records) × AreRecords last records
+
+-- the record has this client number and another id
+abbrev pub takes_number : List ℕ → ℕ → ClientRecord → Bool
+takes_number id number r = is_of_client number r && not (is_of id r)
+
+-- the client number was given, and no record with another id has it
+abbrev pub IsNumberOf : List ℕ → ℕ → Registry → Type 0
+IsNumberOf id number registry =
+    (number ≤ registry.last_number) × IsFalse (list_any (takes_number id number) registry.records)

@@ -13,8 +13,9 @@ use nfs_xdr::ClientId;
 use std::alloc::{AllocError, Global};
 use std::marker::Model;
 
-/// The clients' records in the order in which they were added, and the numbers that were given out last. SETCLIENTID
-/// and SETCLIENTID_CONFIRM are decided first (`set`, `confirm`); after `make_room` the change takes no memory.
+/// The clients' records in the order in which they were added, and the numbers that were given out last. An id has at
+/// most one confirmed and one unconfirmed record, and a client number is that of one id. SETCLIENTID and
+/// SETCLIENTID_CONFIRM are decided first (`set`, `confirm`); after `make_room` the change takes no memory.
 #[derive(Debug, Drop)]
 pub struct Clients {
     records: Vec<ClientRecord>,
@@ -28,6 +29,7 @@ impl Model for Clients {
     ghost use Rattle.std.specs.Prelude.{◌-◌};
     ghost use Rattle.std.specs.Vec.{vec_len, vec_capacity};
     ghost use Rattle.nfs_owners.specs.ClientRoom.{RoomyClients};
+    ghost use Rattle.nfs_owners.specs.Registry.{AreRecords};
 
     ghost Value = { RoomyClients };
 
@@ -39,13 +41,15 @@ impl Model for Clients {
       };
       room = vec_capacity c.records - vec_len c.records;
     } };
+
+    ghost invariant = { λ c. AreRecords c.last_number c.records.items };
 }
 
 impl Clients {
     ghost use Rattle.std.specs.Option.{option_copied};
     ghost use Rattle.nfs_owners.specs.ClientChange.{with_change};
-    ghost use Rattle.nfs_owners.specs.ClientRoom.{HasNumbersFor, HasRoomFor};
-    ghost use Rattle.nfs_owners.specs.Registry.{confirmed_named_by, confirmed_of, is_live, no_clients, record_of, unconfirmed_named_by, was_given, without_client};
+    ghost use Rattle.nfs_owners.specs.ClientRoom.{HasNumbersFor, HasRoomFor, IsOfItsKind};
+    ghost use Rattle.nfs_owners.specs.Registry.{AreRecords, confirmed_named_by, confirmed_of, is_live, no_clients, record_of, unconfirmed_named_by, was_given, without_client};
 
     /// A registry without clients, taking no memory.
     pub fn new(alloc: Global) -> Clients
@@ -56,6 +60,14 @@ impl Clients {
             last_number: 0,
             last_confirm: 0,
         }
+    }
+
+    /// The law that no two records exclude each other: an id has at most one confirmed and one unconfirmed record, and a
+    /// client number is that of one id.
+    pub fn records_are_apart(&self)
+        ensures { AreRecords self.now.registry.last_number self.now.registry.records }
+    {
+        let _ = &self.records;
     }
 
     /// The confirmed record with this id, if there is one.
@@ -135,6 +147,7 @@ impl Clients {
     pub fn commit(&mut self, change: ClientChange)
         requires room { HasRoomFor change self.old }
         requires numbers { HasNumbersFor change self.old.registry }
+        requires kind { IsOfItsKind change self.old.registry }
         ensures { self.new.registry ≡ with_change change self.old.registry }
     {
         match change {

@@ -21,7 +21,7 @@ pub use clients::{ClientChange, Clients};
 pub use kept::{Kept, KeptRequest, Verdict};
 pub use limits::limits_of_owners;
 pub use numbers::{Numbers, numbers_rise};
-pub use owner::{OWNER_LIMIT, Owner, OwnerStanding};
+pub use owner::{OWNER_LIMIT, Owner, OwnerStanding, OwnerState};
 pub use owner_laws::{client_takes_its_owners, kinds_are_apart, other_owners_stay};
 pub use owner_ref::OwnerRef;
 pub use owners::Owners;

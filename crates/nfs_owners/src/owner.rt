@@ -1,14 +1,20 @@
 ghost use Rattle.std.specs.Prelude.{◌≡◌};
-ghost use Rattle.nfs_owners.specs.Owner.{has_client, has_name, new_owner};
+ghost use Rattle.nfs_owners.specs.Owner.{has_client, has_name, with_request, new_owner, new_state};
 ghost use Rattle.nfs_owners.specs.StateOwner.{owner_seen};
 
 use crate::{Kept, OwnerRef, StateOwner};
 use nfs_xdr::ClientId;
 
-/// An owner that the server knows (RFC 7530, section 9.1.5), and its kept request, the last one that counted.
+/// An owner that the server knows (RFC 7530, section 9.1.5).
 #[derive(Debug, Drop)]
 pub struct Owner {
     pub name: StateOwner,
+    pub state: OwnerState,
+}
+
+/// What the server keeps for an owner: its kept request is the last one that counted.
+#[derive(Debug, Drop)]
+pub struct OwnerState {
     /// Whether an OPEN_CONFIRM has confirmed the owner, which is an open owner then.
     pub confirmed: bool,
     /// The number of the journal's entry that recorded the owner.
@@ -24,8 +30,9 @@ pub struct Owner {
 pub enum OwnerStanding {
     /// Nothing.
     Unknown,
-    /// It has opened a file, and no OPEN_CONFIRM has come.
+    /// It is an open owner that has opened a file, and no OPEN_CONFIRM has come.
     Unconfirmed,
+    /// It is an open owner for which an OPEN_CONFIRM has come, or a lock owner, which needs none.
     Confirmed,
 }
 
@@ -39,10 +46,7 @@ impl Owner {
     {
         Owner {
             name,
-            confirmed: false,
-            recorded: number,
-            number,
-            kept,
+            state: OwnerState::new(number, kept),
         }
     }
 
@@ -59,10 +63,24 @@ impl Owner {
     {
         self.name.client == client
     }
+}
+
+impl OwnerState {
+    /// That of an owner that is recorded by its first request, in the journal's entry of this number.
+    pub fn new(number: u32, kept: Kept) -> OwnerState
+        ensures { result ≡ new_state number kept }
+    {
+        OwnerState {
+            confirmed: false,
+            recorded: number,
+            number,
+            kept,
+        }
+    }
 
     /// Makes this the kept request, in the journal's entry of this number.
     pub fn keep(&mut self, number: u32, kept: Kept)
-        ensures { self.new ≡ record self.old { number = number; kept = kept } }
+        ensures { self.new ≡ with_request number kept self.old }
     {
         self.number = number;
         self.kept = kept;

@@ -1,4 +1,4 @@
-ghost use Rattle.std.specs.Prelude.{◌≡◌, ◌<◌, ◌≤◌, ◌+◌, ◌↔◌, false, [], find, IsErrOf, IsFalse, IsOk, IsTrue, OnOk, length};
+ghost use Rattle.std.specs.Prelude.{◌≡◌, ◌<◌, ◌≤◌, ◌+◌, ◌↔◌, false, [], find, IsErrOf, IsFalse, IsOk, IsTrue, OnOk, length, option_map};
 ghost use Rattle.std.specs.List.{position};
 ghost use Rattle.std.specs.Option.{option_copied};
 ghost use Rattle.nfs_owners.specs.Kept.{closes, request_of};
@@ -7,7 +7,10 @@ ghost use Rattle.nfs_owners.specs.declared.state_owner.StateOwner.{StateOwner};
 ghost use Rattle.nfs_owners.specs.Owner.{has_name, is_known, owner_of, standing_of};
 ghost use Rattle.nfs_owners.specs.Owners.{IsJudged, has_place, with_confirmed, with_kept, without_owner, without_owners_of};
 
-use crate::{Kept, OWNER_LIMIT, Owner, OwnerRef, OwnerStanding, OwnersError, StateOwner, Verdict};
+use crate::{
+    Kept, OWNER_LIMIT, Owner, OwnerKind, OwnerRef, OwnerStanding, OwnerState, OwnersError,
+    StateOwner, Verdict,
+};
 use nfs_xdr::{ClientId, Op};
 use std::alloc::Global;
 use std::marker::Model;
@@ -44,29 +47,45 @@ impl Owners {
         }
     }
 
-    /// The owner with this name, if it is known.
-    pub fn find(&self, name: OwnerRef<'_>) -> Option<&Owner>
-        ensures { option_copied result ≡ owner_of (owner_seen name.entry) self.now.owners }
+    /// What is kept for the owner with this name, if it is known.
+    pub fn find(&self, name: OwnerRef<'_>) -> Option<&OwnerState>
+        ensures { option_copied result
+            ≡ option_map (λ o. o.state) (owner_of (owner_seen name.entry) self.now.owners) }
     {
-        self.owners.iter().find(|o| o.has_name(name))
+        match self.owners.iter().find(|o| o.has_name(name)) {
+            Some(owner) => Some(&owner.state),
+            None => None,
+        }
     }
 
     /// What is known of the owner with this name.
     pub fn known(&self, name: OwnerRef<'_>) -> OwnerStanding
-        ensures { result ≡ standing_of (owner_of (owner_seen name.entry) self.now.owners) }
+        ensures { result ≡ standing_of
+            (owner_of (owner_seen name.entry) self.now.owners) (owner_seen name.entry).kind }
     {
-        match self.find(name) {
-            None => OwnerStanding::Unknown,
-            Some(owner) if owner.confirmed => OwnerStanding::Confirmed,
-            Some(_) => OwnerStanding::Unconfirmed,
+        let Some(state) = self.find(name) else {
+            return OwnerStanding::Unknown;
+        };
+        match name.kind {
+            OwnerKind::Open if state.confirmed => OwnerStanding::Confirmed,
+            OwnerKind::Open => OwnerStanding::Unconfirmed,
+            OwnerKind::Lock => OwnerStanding::Confirmed,
         }
     }
 
-    /// The owner whose kept request closed the client's state with this number, if there is one.
-    pub fn closer_of(&self, client: ClientId, number: u32) -> Option<&Owner>
-        ensures { option_copied result ≡ find (λ o. closes client number o.kept) self.now.owners }
+    /// The name of the owner whose kept request closed the client's state with this number, if there is one.
+    pub fn closer_of(&self, client: ClientId, number: u32) -> Option<&StateOwner>
+        ensures { option_copied result ≡ option_map (λ o. o.name)
+            (find (λ o. closes client number o.state.kept) self.now.owners) }
     {
-        self.owners.iter().find(|o| o.kept.closes(client, number))
+        match self
+            .owners
+            .iter()
+            .find(|o| o.state.kept.closes(client, number))
+        {
+            Some(owner) => Some(&owner.name),
+            None => None,
+        }
     }
 
     /// The verdict on a request of the owner with this name, or `None` if the owner is unknown.
@@ -134,7 +153,7 @@ impl Owners {
         ensures known { IsTrue (is_known name self.old.owners) → self.new.room ≡ self.old.room }
     {
         match self.place_of(name.as_ref()) {
-            Some(place) => self.owners[place].keep(number, kept),
+            Some(place) => self.owners[place].state.keep(number, kept),
             None => self.owners.push_reserved(Owner::new(name, number, kept)),
         }
     }
@@ -145,7 +164,7 @@ impl Owners {
         ensures room { self.new.room ≡ self.old.room }
     {
         if let Some(place) = self.place_of(name) {
-            self.owners[place].confirmed = true;
+            self.owners[place].state.confirmed = true;
         }
     }
 

@@ -25,6 +25,7 @@ use Rattle.nfs_owners.specs.declared.kept.KeptRequest.{KeptRequest}
 use Rattle.nfs_owners.specs.declared.kept.Verdict.{Verdict}
 use Rattle.nfs_owners.specs.declared.kept.Verdict.TheVariants as verdicts
 use Rattle.nfs_owners.specs.declared.owner.Owner.{Owner}
+use Rattle.nfs_owners.specs.declared.owner.OwnerState.{OwnerState}
 use Rattle.nfs_owners.specs.Kept.{IsAgain, closes, request_of}
 use Rattle.nfs_owners.specs.Owner as owners
 use Rattle.nfs_xdr.specs.declared.op.Op.{Op}
@@ -40,7 +41,7 @@ find_known : (p : KnownOwner → Bool) (q : Owner → Bool) (stored : List Owner
 find_known p q [] same = refl
 find_known p q (o ∷ stored) same = grind (arith, same.0, find_known p q stored same.1)
 
-stored_as_known : (seqid : ℕ) (found : Option Owner) → owner_or_bad seqid (option_map known_owner found) ≡ stored_or_bad seqid found
+stored_as_known : (seqid : ℕ) (found : Option Owner) → owner_or_bad seqid (option_map known_owner found) ≡ stored_or_bad seqid (option_map (λ o. o.name) found)
 stored_as_known seqid None = refl
 stored_as_known seqid (Some o) = refl
 
@@ -67,18 +68,18 @@ found_has P p (first ∷ stored) o all found = by (λ found. found_has P p store
     by rest false found = rest found
 
 -- what is kept for the known owner is what is stored of it
-pub kept_found : (journal : History) (name : StateOwner) (stored : List Owner) (o : Owner) → Agrees journal stored → owners.owner_of name stored ≡ Some o → IsKeptIn journal o
+kept_found : (journal : History) (name : StateOwner) (stored : List Owner) (o : Owner) → Agrees journal stored → owners.owner_of name stored ≡ Some o → IsKeptIn journal o
 kept_found journal name stored o agrees found = found_has (IsKeptIn journal) (owners.has_name name) stored o agrees found
 
 -- the owner whose kept entry closed the stateid's open is the one whose stored request did
-closed_same : (journal : History) (id : Stateid) (stored : List Owner) → Agrees journal stored → AllByRecursion (λ o. has_closed id (kept_for journal (known_owner o)) ≡ closes id.client id.number o.kept) stored
+closed_same : (journal : History) (id : Stateid) (stored : List Owner) → Agrees journal stored → AllByRecursion (λ o. has_closed id (kept_for journal (known_owner o)) ≡ closes id.client id.number o.state.kept) stored
 closed_same journal id [] agrees = tt
 closed_same journal id (o ∷ stored) agrees = (ap (has_closed id) (agrees.0.entry), closed_same journal id stored agrees.1)
 
-pub closer_known : (journal : History) (id : Stateid) (seqid : ℕ) (stored : List Owner) → Agrees journal stored → owner_or_bad seqid (find (λ o. has_closed id (kept_for journal o)) (map known_owner stored)) ≡ stored_or_bad seqid (find (λ o. closes id.client id.number o.kept) stored)
+pub closer_known : (journal : History) (id : Stateid) (seqid : ℕ) (stored : List Owner) → Agrees journal stored → owner_or_bad seqid (find (λ o. has_closed id (kept_for journal o)) (map known_owner stored)) ≡ stored_or_bad seqid (option_map (λ o. o.name) (find (λ o. closes id.client id.number o.state.kept) stored))
 closer_known journal id seqid stored agrees =
-    ap (owner_or_bad seqid) (find_known (λ o. has_closed id (kept_for journal o)) (λ o. closes id.client id.number o.kept) stored (closed_same journal id stored agrees))
-    ∙ stored_as_known seqid (find (λ o. closes id.client id.number o.kept) stored)
+    ap (owner_or_bad seqid) (find_known (λ o. has_closed id (kept_for journal o)) (λ o. closes id.client id.number o.state.kept) stored (closed_same journal id stored agrees))
+    ∙ stored_as_known seqid (find (λ o. closes id.client id.number o.state.kept) stored)
 
 -- The kept request again has the same operation, whose answer can be sent as before.
 pub replay_sendable : (kept : Kept) (seqid : ℕ) (op : Op) (filehandle : Option ℕ) (answer : OpResult) → IsSendable kept.request.op kept.answer → IsAgain kept seqid (request_of op filehandle) → answer ≡ kept.answer → IsSendable op answer
@@ -103,16 +104,16 @@ refusal_sendable op refusal answer other is = record {
 }
 
 -- A sequence that the stored owner gives is one that the known owner gives.
-pub known_sequence : (journal : History) (name : StateOwner) (stored : List Owner) (o : Owner) (seqid : ℕ) (request : Request) (s : SequenceStep) → Agrees journal stored → owners.owner_of name stored ≡ Some o → IsOfKnown (is_open request.op && not o.confirmed) o.kept name seqid request s → IsOfOwner journal (owner_of name (map known_owner stored)) name seqid request s
-known_sequence journal name stored o seqid request s agrees found is =
+owner_sequence : (journal : History) (name : StateOwner) (stored : List Owner) (o : Owner) (seqid : ℕ) (request : Request) (s : SequenceStep) → Agrees journal stored → owners.owner_of name stored ≡ Some o → IsOfKnown (is_open request.op && not o.state.confirmed) o.state.kept name seqid request s → IsOfOwner journal (owner_of name (map known_owner stored)) name seqid request s
+owner_sequence journal name stored o seqid request s agrees found is =
     let of_owner : Option KnownOwner → Type 0 = λ known. IsOfOwner journal known name seqid request s in
-    subst of_owner (sym (owner_known name stored ∙ ap (option_map known_owner) found)) (o.kept, (kept_found journal name stored o agrees found).entry, is)
+    subst of_owner (sym (owner_known name stored ∙ ap (option_map known_owner) found)) (o.state.kept, (kept_found journal name stored o agrees found).entry, is)
 
 -- The last request again by what is stored of the owner is the last one again by what is kept for the known owner.
-pub known_replay : (journal : History) (name : StateOwner) (stored : List Owner) (o : Owner) (seqid : ℕ) (request : Request) → Agrees journal stored → owners.owner_of name stored ≡ Some o → IsAgain o.kept seqid (request_of request.op request.filehandle) → IsReplayOf journal (owner_of name (map known_owner stored)) seqid request
-known_replay journal name stored o seqid request agrees found again =
+owner_replay : (journal : History) (name : StateOwner) (stored : List Owner) (o : Owner) (seqid : ℕ) (request : Request) → Agrees journal stored → owners.owner_of name stored ≡ Some o → IsAgain o.state.kept seqid (request_of request.op request.filehandle) → IsReplayOf journal (owner_of name (map known_owner stored)) seqid request
+owner_replay journal name stored o seqid request agrees found again =
     let of_owner : Option KnownOwner → Type 0 = λ known. IsReplayOf journal known seqid request in
-    subst of_owner (sym (owner_known name stored ∙ ap (option_map known_owner) found)) (o.kept, (kept_found journal name stored o agrees found).entry, again)
+    subst of_owner (sym (owner_known name stored ∙ ap (option_map known_owner) found)) (o.state.kept, (kept_found journal name stored o agrees found).entry, again)
 
 pub unknown_sequence : (journal : History) (name : StateOwner) (stored : List Owner) (seqid : ℕ) (request : Request) (s : SequenceStep) → owners.owner_of name stored ≡ None → IsOfUnknown name request s → IsOfOwner journal (owner_of name (map known_owner stored)) name seqid request s
 unknown_sequence journal name stored seqid request s none is =
@@ -133,9 +134,9 @@ known_passage : (b : Bool) (state : State) (kept : Kept) (name : StateOwner) (se
 known_passage true state kept name seqid request s known is = restart_passage state kept name seqid request s known is
 known_passage false state kept name seqid request s known is = subst (HasPassage state) (sym is.2) (verdict_passage state name request.op is.0 known)
 
-pub passage_known : (state : State) (name : StateOwner) (stored : List Owner) (o : Owner) (seqid : ℕ) (request : Request) (s : SequenceStep) → state.owners ≡ map known_owner stored → owners.owner_of name stored ≡ Some o → IsOfKnown (is_open request.op && not o.confirmed) o.kept name seqid request s → HasPassage state s
-passage_known state name stored o seqid request s are found is =
-    known_passage _ state o.kept name seqid request s
+owner_passage : (state : State) (name : StateOwner) (stored : List Owner) (o : Owner) (seqid : ℕ) (request : Request) (s : SequenceStep) → state.owners ≡ map known_owner stored → owners.owner_of name stored ≡ Some o → IsOfKnown (is_open request.op && not o.state.confirmed) o.state.kept name seqid request s → HasPassage state s
+owner_passage state name stored o seqid request s are found is =
+    known_passage _ state o.state.kept name seqid request s
     (ap is_some (ap (owner_of name) are ∙ owner_known name stored ∙ ap (option_map known_owner) found)) is
 
 begin_passage : (b : Bool) (state : State) (name : StateOwner) (op : Op) → is_known name state ≡ false → HasPassage state (if b then GoesOn passages.Begins name else refusal_to op refusals.BadStateId)
@@ -153,9 +154,60 @@ pub newcomer_none : (journal : History) (locker : NewLocker) (name : StateOwner)
 newcomer_none journal locker name stored none =
     ap (newcomer_if journal locker) (sym (owner_known name stored ∙ ap (option_map known_owner) none))
 
-pub newcomer_found : (journal : History) (locker : NewLocker) (name : StateOwner) (stored : List Owner) (o : Owner) (b : Bool) → Agrees journal stored → owners.owner_of name stored ≡ Some o
-    → b ≡ precedes o.kept locker.lock_seqid → (if b then Known locker.lock_owner else Nobody) ≡ newcomer_if journal locker (owner_of name (map known_owner stored))
-newcomer_found journal locker name stored o b agrees found is =
+owner_newcomer : (journal : History) (locker : NewLocker) (name : StateOwner) (stored : List Owner) (o : Owner) (b : Bool) → Agrees journal stored → owners.owner_of name stored ≡ Some o
+    → b ≡ precedes o.state.kept locker.lock_seqid → (if b then Known locker.lock_owner else Nobody) ≡ newcomer_if journal locker (owner_of name (map known_owner stored))
+owner_newcomer journal locker name stored o b agrees found is =
     ap (λ b. if b then Known locker.lock_owner else Nobody)
     (is ∙ sym (ap (is_next locker.lock_seqid) (kept_found journal name stored o agrees found).entry))
     ∙ ap (newcomer_if journal locker) (sym (owner_known name stored ∙ ap (option_map known_owner) found))
+
+-- The same where only the state of an owner is found.
+
+-- what is found of an owner's state
+abbrev pub found_state : StateOwner → List Owner → Option OwnerState
+found_state name stored = option_map (λ o. o.state) (owners.owner_of name stored)
+
+same_state : (s t : OwnerState) → Some s ≡ Some t → s ≡ t
+same_state s t same = cc
+
+-- what holds of the state of each owner that is found holds of the state that is found
+by_owner : (found : Option Owner) (s : OwnerState) (P : OwnerState → Type 0) → ((o : Owner) → found ≡ Some o → P o.state) → option_map (λ o. o.state) found ≡ Some s → P s
+by_owner None s P each is = absurd cc
+by_owner (Some o) s P each is = subst P (same_state o.state s is) (each o refl)
+
+no_owner : (found : Option Owner) → option_map (λ o. o.state) found ≡ None → found ≡ None
+no_owner None is = refl
+no_owner (Some o) is = absurd cc
+
+-- where no state is found, there is no owner
+pub none_found : (name : StateOwner) (stored : List Owner) → found_state name stored ≡ None → owners.owner_of name stored ≡ None
+none_found name stored is = no_owner (owners.owner_of name stored) is
+
+pub sendable_found : (journal : History) (name : StateOwner) (stored : List Owner) (s : OwnerState) → Agrees journal stored → found_state name stored ≡ Some s → IsSendable s.kept.request.op s.kept.answer
+sendable_found journal name stored s agrees found =
+    by_owner (owners.owner_of name stored) s (λ s. IsSendable s.kept.request.op s.kept.answer) (λ o is. (kept_found journal name stored o agrees is).sendable) found
+
+pub known_sequence : (journal : History) (name : StateOwner) (stored : List Owner) (s : OwnerState) (seqid : ℕ) (request : Request) (step : SequenceStep) → Agrees journal stored → found_state name stored ≡ Some s → IsOfKnown (is_open request.op && not s.confirmed) s.kept name seqid request step → IsOfOwner journal (owner_of name (map known_owner stored)) name seqid request step
+known_sequence journal name stored s seqid request step agrees found is =
+    by_owner (owners.owner_of name stored) s
+    (λ s. IsOfKnown (is_open request.op && not s.confirmed) s.kept name seqid request step → IsOfOwner journal (owner_of name (map known_owner stored)) name seqid request step)
+    (λ o one is. owner_sequence journal name stored o seqid request step agrees one is) found is
+
+pub known_replay : (journal : History) (name : StateOwner) (stored : List Owner) (s : OwnerState) (seqid : ℕ) (request : Request) → Agrees journal stored → found_state name stored ≡ Some s → IsAgain s.kept seqid (request_of request.op request.filehandle) → IsReplayOf journal (owner_of name (map known_owner stored)) seqid request
+known_replay journal name stored s seqid request agrees found again =
+    by_owner (owners.owner_of name stored) s
+    (λ s. IsAgain s.kept seqid (request_of request.op request.filehandle) → IsReplayOf journal (owner_of name (map known_owner stored)) seqid request)
+    (λ o one again. owner_replay journal name stored o seqid request agrees one again) found again
+
+pub passage_known : (state : State) (name : StateOwner) (stored : List Owner) (s : OwnerState) (seqid : ℕ) (request : Request) (step : SequenceStep) → state.owners ≡ map known_owner stored → found_state name stored ≡ Some s → IsOfKnown (is_open request.op && not s.confirmed) s.kept name seqid request step → HasPassage state step
+passage_known state name stored s seqid request step are found is =
+    by_owner (owners.owner_of name stored) s
+    (λ s. IsOfKnown (is_open request.op && not s.confirmed) s.kept name seqid request step → HasPassage state step)
+    (λ o one is. owner_passage state name stored o seqid request step are one is) found is
+
+pub newcomer_found : (journal : History) (locker : NewLocker) (name : StateOwner) (stored : List Owner) (s : OwnerState) (b : Bool) → Agrees journal stored → found_state name stored ≡ Some s
+    → b ≡ precedes s.kept locker.lock_seqid → (if b then Known locker.lock_owner else Nobody) ≡ newcomer_if journal locker (owner_of name (map known_owner stored))
+newcomer_found journal locker name stored s b agrees found is =
+    by_owner (owners.owner_of name stored) s
+    (λ s. b ≡ precedes s.kept locker.lock_seqid → (if b then Known locker.lock_owner else Nobody) ≡ newcomer_if journal locker (owner_of name (map known_owner stored)))
+    (λ o one is. owner_newcomer journal locker name stored o b agrees one is) found is

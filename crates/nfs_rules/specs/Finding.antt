@@ -25,7 +25,7 @@ use Rattle.nfs_share.specs.AllOpens.{OpenAt}
 use Rattle.nfs_forms.specs.declared.status.Refusal.{Refusal}
 use Rattle.nfs_forms.specs.declared.status.Refusal.TheVariants as refusals
 use Rattle.nfs_owners.specs.StateOwner.{owner_seen}
-use Rattle.nfs_owners.specs.declared.owner.Owner.{Owner}
+use Rattle.nfs_owners.specs.declared.state_owner.StateOwner.{StateOwner}
 
 abbrev pub target_seen : Target → stateids.Target
 target_seen (targets.Refused refusal) = stateids.Refused refusal
@@ -64,10 +64,10 @@ abbrev pub requester_seen : Requester → sequences.Requester
 requester_seen (requesters.Refused refusal) = sequences.Refused refusal
 requester_seen (requesters.Owner name seqid) = sequences.Owner (owner_seen name) seqid
 
--- the owner that was found among the stored ones, or NFS4ERR_BAD_STATEID
-abbrev pub stored_or_bad : ℕ → Option Owner → sequences.Requester
+-- the owner whose name was found among the stored ones, or NFS4ERR_BAD_STATEID
+abbrev pub stored_or_bad : ℕ → Option StateOwner → sequences.Requester
 stored_or_bad seqid None = sequences.Refused refusals.BadStateId
-stored_or_bad seqid (Some o) = sequences.Owner o.name seqid
+stored_or_bad seqid (Some name) = sequences.Owner name seqid
 
 abbrev pub sequence_seen : SequenceStep → sequences.SequenceStep
 sequence_seen (found_sequences.Answered answer) = sequences.Answered answer

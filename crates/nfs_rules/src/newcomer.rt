@@ -51,7 +51,7 @@ fn newcomer_by<'a>(tables: &Tables, locker: &'a NewLocker) -> Newcomer<'a>
     let newcomer = &locker.lock_owner;
     match tables.owners.find(OwnerRef::of_lock(newcomer)) {
         None => Newcomer::Unknown(newcomer),
-        Some(owner) if owner.kept.precedes(locker.lock_seqid) => Newcomer::Known(newcomer),
+        Some(known) if known.kept.precedes(locker.lock_seqid) => Newcomer::Known(newcomer),
         Some(_) => Newcomer::Nobody,
     }
 }

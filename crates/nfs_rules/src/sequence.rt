@@ -1,4 +1,4 @@
-ghost use Rattle.std.specs.Prelude.{◌≡◌, ◌≢◌, ◌&&◌, not, IfOk, OnErr, find};
+ghost use Rattle.std.specs.Prelude.{◌≡◌, ◌≢◌, ◌&&◌, not, IfOk, OnErr, find, option_map};
 ghost use Rattle.nfs_rules.specs.Finding.{requester_seen, sequence_seen, stored_or_bad};
 ghost use Rattle.nfs_rules.specs.Deciding.{HasOtherRefusal, HasPassage, IsReplay, IsSendableSequence};
 ghost use Rattle.nfs_state.specs.Entries.{IsSendable};
@@ -10,7 +10,7 @@ ghost use Rattle.nfs_owners.specs.StateOwner.{owner_seen};
 
 use crate::passage::Passage;
 use crate::stateids::{Target, target_of};
-use nfs_owners::{Kept, Owner, OwnerRef, Verdict};
+use nfs_owners::{Kept, OwnerRef, OwnerState, Verdict};
 use nfs_state::{Journal, Request, Tables};
 use nfs_xdr::{Op, OpResult, OpenOwner, Refusal, Stateid};
 use std::alloc::AllocError;
@@ -68,11 +68,12 @@ pub(crate) fn requester_of_stateid<'a>(
 // The owner whose kept request closed the stateid's open.
 fn closer_of(tables: &Tables, stateid: Stateid, seqid: u32) -> Requester<'_>
     ensures { requester_seen result
-        ≡ stored_or_bad seqid (find (λ o. closes stateid.client stateid.number o.kept)
-        tables.now.owners.owners) }
+        ≡ stored_or_bad seqid (option_map (λ o. o.name)
+        (find (λ o. closes stateid.client stateid.number o.state.kept)
+        tables.now.owners.owners)) }
 {
     match tables.owners.closer_of(stateid.client, stateid.number) {
-        Some(owner) => Requester::Owner(owner.name.as_ref(), seqid),
+        Some(name) => Requester::Owner(name.as_ref(), seqid),
         None => Requester::Refused(Refusal::BadStateId),
     }
 }
@@ -99,7 +100,7 @@ pub(crate) fn sequence_of<'a>(
     };
     match tables.owners.find(name) {
         None => Ok(begin(request, name)),
-        Some(owner) => resume(owner, request, name, seqid),
+        Some(known) => resume(known, request, name, seqid),
     }
 }
 
@@ -115,25 +116,25 @@ fn begin<'a>(request: &Request, name: OwnerRef<'a>) -> SequenceStep<'a>
     }
 }
 
-// A request of an owner that is known.
+// A request of an owner of which this is known.
 fn resume<'a>(
-    owner: &Owner,
+    known: &OwnerState,
     request: &Request,
     name: OwnerRef<'a>,
     seqid: u32,
 ) -> Result<SequenceStep<'a>, AllocError>
-    requires { IsSendable owner.now.kept.request.op owner.now.kept.answer }
+    requires { IsSendable known.now.kept.request.op known.now.kept.answer }
     ensures sequence { IfOk result (λ s. IsOfKnown
-        (is_open request.now.op && not owner.now.confirmed)
-        owner.now.kept (owner_seen name.entry) seqid request.now (sequence_seen s)) }
+        (is_open request.now.op && not known.now.confirmed)
+        known.now.kept (owner_seen name.entry) seqid request.now (sequence_seen s)) }
     ensures sendable { IfOk result (λ s. IsSendableSequence request.now.op (sequence_seen s)) }
-    ensures memory { OnErr result (IsAgain owner.now.kept seqid
+    ensures memory { OnErr result (IsAgain known.now.kept seqid
         (request_of request.now.op request.now.filehandle)) }
 {
-    if is_open(&request.op) && !owner.confirmed {
-        restart(&owner.kept, request, name, seqid)
+    if is_open(&request.op) && !known.confirmed {
+        restart(&known.kept, request, name, seqid)
     } else {
-        judge(&owner.kept, request, name, seqid)
+        judge(&known.kept, request, name, seqid)
     }
 }
 

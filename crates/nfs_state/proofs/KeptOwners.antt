@@ -17,7 +17,7 @@ use Rattle.nfs_owners.specs.declared.state_owner.OwnerKind.TheVariants as kinds
 use Rattle.nfs_owners.specs.declared.state_owner.StateOwner.{StateOwner}
 use Rattle.nfs_owners.specs.declared.kept.Kept.{Kept}
 use Rattle.nfs_owners.specs.declared.owner.Owner.{Owner}
-use Rattle.nfs_owners.specs.Owner.{has_name, is_known, new_owner}
+use Rattle.nfs_owners.specs.Owner.{has_name, is_known, new_owner, with_request}
 use Rattle.nfs_owners.specs.Owners.{with_kept, without_owner}
 
 -- what an entry has, a longer journal has
@@ -36,7 +36,7 @@ Agrees-longer : (journal : History) (entry : Entry) (owners : List Owner) → Ag
 Agrees-longer journal entry [] agrees = agrees
 Agrees-longer journal entry (o ∷ owners) agrees = (
   record {
-    entry = kept_longer (kept_of o.name.kind) journal.entries (entry ∷ []) o.number o.kept agrees.0.entry;
+    entry = kept_longer (kept_of o.name.kind) journal.entries (entry ∷ []) o.state.number o.state.kept agrees.0.entry;
     sendable = agrees.0.sendable;
   },
   Agrees-longer journal entry owners agrees.1,
@@ -72,16 +72,16 @@ kind_of_name name o has =
     let beside_name = and_parts (is_same_kind o.name.kind name.kind && is_same_client o.name.client name.client) (bytes_eq o.name.name name.name) has in
     same_kind o.name.kind name.kind (and_parts (is_same_kind o.name.kind name.kind) (is_same_client o.name.client name.client) beside_name.0).0
 
-kept_by : (journal : History) (name : StateOwner) (number : ℕ) (kept : OwnerKind → Kept) (o : Owner) → IsEntryOf journal number kept → o.name.kind ≡ name.kind → IsKeptIn journal (record o { number = number; kept = kept name.kind })
+kept_by : (journal : History) (name : StateOwner) (number : ℕ) (kept : OwnerKind → Kept) (o : Owner) → IsEntryOf journal number kept → o.name.kind ≡ name.kind → IsKeptIn journal (record o { state = with_request number (kept name.kind) o.state })
 kept_by journal name number kept o is kind = record {
   entry = is.entry o.name.kind ∙ ap (λ k. Some (kept k)) kind;
   sendable = is.sendable name.kind;
 }
 
-Agrees-change : (journal : History) (name : StateOwner) (number : ℕ) (kept : OwnerKind → Kept) (owners : List Owner) → IsEntryOf journal number kept → Agrees journal owners → Agrees journal (map (λ o. if has_name name o then record o { number = number; kept = kept name.kind } else o) owners)
+Agrees-change : (journal : History) (name : StateOwner) (number : ℕ) (kept : OwnerKind → Kept) (owners : List Owner) → IsEntryOf journal number kept → Agrees journal owners → Agrees journal (map (λ o. if has_name name o then record o { state = with_request number (kept name.kind) o.state } else o) owners)
 Agrees-change journal name number kept [] is agrees = agrees
 Agrees-change journal name number kept (o ∷ owners) is agrees = (
-  cond_both (has_name name o) (record o { number = number; kept = kept name.kind }) o (IsKeptIn journal)
+  cond_both (has_name name o) (record o { state = with_request number (kept name.kind) o.state }) o (IsKeptIn journal)
       (λ has. kept_by journal name number kept o is (kind_of_name name o has)) (λ _. agrees.0),
   Agrees-change journal name number kept owners is agrees.1,
 )
@@ -89,7 +89,7 @@ Agrees-change journal name number kept (o ∷ owners) is agrees = (
 Agrees-kept : (journal : History) (name : StateOwner) (number : ℕ) (kept : OwnerKind → Kept) (owners : List Owner) → IsEntryOf journal number kept → Agrees journal owners → Agrees journal (with_kept name number (kept name.kind) owners)
 Agrees-kept journal name number kept owners is agrees = by (is_known name owners)
   where
-    by : (b : Bool) → Agrees journal (if b then map (λ o. if has_name name o then record o { number = number; kept = kept name.kind } else o) owners else owners ++ new_owner name number (kept name.kind) ∷ [])
+    by : (b : Bool) → Agrees journal (if b then map (λ o. if has_name name o then record o { state = with_request number (kept name.kind) o.state } else o) owners else owners ++ new_owner name number (kept name.kind) ∷ [])
     by true = Agrees-change journal name number kept owners is agrees
     by false = Agrees-push journal owners (new_owner name number (kept name.kind)) agrees (record { entry = is.entry name.kind; sendable = is.sendable name.kind })
 

@@ -3,7 +3,6 @@ use Rattle.std.proofs.Common.{◌≡◌, ◌<◌, ℕ, suc, true, false, Option,
 use Rattle.std.specs.Prelude.{◌||◌, is_some, nat_lt, if◌then◌else◌}
 use Rattle.std.proofs.lemmas.Bool.{cond-true}
 use Rattle.std.proofs.lemmas.List.{length-map}
-use Rattle.nfs_owners.specs.StateOwner.{is_same_state_owner}
 use Rattle.nfs_owners.specs.declared.owner.TheConstants.{OWNER_LIMIT}
 use Rattle.nfs_state.specs.declared.change.Change.{Change}
 use Rattle.nfs_state.specs.declared.entry.Call.{Call}
@@ -23,10 +22,11 @@ use Rattle.nfs_state.specs.Stored.{known_owner}
 use Rattle.nfs_owners.specs.StateOwner.{open_owner}
 use Rattle.nfs_owners.specs.declared.state_owner.OwnerKind.{OwnerKind}
 use Rattle.nfs_owners.specs.declared.state_owner.StateOwner.{StateOwner}
-use Rattle.nfs_owners.specs.ClientRoom.{HasNumbersFor}
+use Rattle.nfs_owners.specs.ClientRoom.{HasNumbersFor, IsOfItsKind}
 use Rattle.nfs_owners.specs.declared.kept.Kept.{Kept}
 use Rattle.nfs_owners.specs.declared.owner.Owner.{Owner}
-use Rattle.nfs_owners.specs.Owner.{has_name, is_known}
+use Rattle.nfs_owners.specs.declared.owner.OwnerState.{OwnerState}
+use Rattle.nfs_owners.specs.Owner.{has_name, is_known, with_request}
 use Rattle.nfs_owners.specs.Owners.{RoomyOwners, has_place, with_change, with_kept}
 
 -- the state knows the owners that are stored
@@ -77,7 +77,8 @@ owners_changed update change (Some call) number old new is sendable kept same pl
 
 -- what an entry means for an owner passes no limit of the change after it
 limits_alike : (change : Change) (old new : State) → new.clients ≡ old.clients → new.last_state ≡ old.last_state → new.locks ≡ old.locks → IsWithinLimits change old → IsWithinLimits change new
-limits_alike (changes.Clients change) old new clients states locks has = subst (HasNumbersFor change) (sym clients) has
+limits_alike (changes.Clients change) old new clients states locks has =
+    subst (λ registry. HasNumbersFor change registry × IsOfItsKind change registry) (sym clients) has
 limits_alike (changes.Opens node owner share) old new clients states locks has = omega (arith, states, has)
 limits_alike changes.Nothing old new clients states locks has = tt
 limits_alike (changes.Confirms node number owner) old new clients states locks has = tt
@@ -105,20 +106,20 @@ limits_after change owner number old has =
     limits_alike change old (with_owner_change owner number old) (same_clients owner number old) (same_last_state owner number old) (same_locks owner number old) has
 
 -- an owner that keeps a request, which is known before it, leaves who is known and how many they are
-known_after_change : (change : Owner → Owner) → ((o : Owner) → (change o).name ≡ o.name) → (name other : StateOwner) (owners : List Owner) → is_known other (with_change change name owners) ≡ is_known other owners
-known_after_change change same name other [] = refl
-known_after_change change same name other (o ∷ owners) =
-    let rest = known_after_change change same name other owners in
-    elim (has_name name o) as (λ b. (has_name other (if b then change o else o) || is_known other (with_change change name owners)) ≡ (has_name other o || is_known other owners)) [
-      | true ↦ λ i. is_same_state_owner (same o i) other || rest i
+known_after_change : (change : OwnerState → OwnerState) (name other : StateOwner) (owners : List Owner) → is_known other (with_change change name owners) ≡ is_known other owners
+known_after_change change name other [] = refl
+known_after_change change name other (o ∷ owners) =
+    let rest = known_after_change change name other owners in
+    elim (has_name name o) as (λ b. (has_name other (if b then record o { state = change o.state } else o) || is_known other (with_change change name owners)) ≡ (has_name other o || is_known other owners)) [
+      | true ↦ λ i. has_name other o || rest i
       | false ↦ λ i. has_name other o || rest i
     ]
 
 pub can_keep_beside : (name other : StateOwner) (number : ℕ) (kept : Kept) (old new : RoomyOwners) → new.owners ≡ with_kept name number kept old.owners
     → (is_known name old.owners ≡ true → new.room ≡ old.room) → is_known name old.owners ≡ true → CanKeep other old → CanKeep other new
 can_keep_beside name other number kept old new is room known can =
-    let change : Owner → Owner = λ o. record o { number = number; kept = kept } in
+    let change = with_request number kept in
     let changed : new.owners ≡ with_change change name old.owners = is ∙ cond-true (is_known name old.owners) _ _ known in
-    let same : is_known other new.owners ≡ is_known other old.owners = ap (is_known other) changed ∙ known_after_change change (λ o. refl) name other old.owners in
-    let many : length new.owners ≡ length old.owners = ap length changed ∙ length-map old.owners (λ o. if has_name name o then change o else o) in
+    let same : is_known other new.owners ≡ is_known other old.owners = ap (is_known other) changed ∙ known_after_change change name other old.owners in
+    let many : length new.owners ≡ length old.owners = ap length changed ∙ length-map old.owners (λ o. if has_name name o then record o { state = change o.state } else o) in
     ((λ i. same i || nat_lt (many i) OWNER_LIMIT) ∙ can.0, λ unknown. omega (arith, room known, can.1 (sym same ∙ unknown)))

@@ -31,8 +31,9 @@ use Rattle.nfs_owners.specs.StateOwner.{lock_owner, open_owner}
 use Rattle.nfs_owners.specs.declared.state_owner.OwnerKind.{OwnerKind}
 use Rattle.nfs_owners.specs.declared.state_owner.StateOwner.{StateOwner}
 use Rattle.nfs_owners.specs.declared.owner.Owner.{Owner}
+use Rattle.nfs_owners.specs.declared.owner.OwnerState.{OwnerState}
 use Rattle.nfs_owners.specs.declared.owner.TheConstants.{OWNER_LIMIT}
-use Rattle.nfs_owners.specs.Owner.{has_name, is_known, new_owner}
+use Rattle.nfs_owners.specs.Owner.{has_name, is_known, new_owner, with_request}
 use Rattle.nfs_owners.specs.Owners.{has_place, with_change, with_confirmed, with_kept, without_owner, without_owners_of}
 use Rattle.nfs_share.specs.AllOpens.{with_opens}
 use Rattle.nfs_share.specs.Opens as opens
@@ -55,17 +56,17 @@ pub without_client_seen : (client : ClientId) (owners : List Owner) → map know
 without_client_seen client owners = filter_seen (λ o. not (is_same_client o.name.client client)) owners
 
 -- a change of the owners of one name, as the rules see it
-change_seen : (change : Owner → Owner) (seen : KnownOwner → KnownOwner) → ((o : Owner) → known_owner (change o) ≡ seen (known_owner o)) → (name : StateOwner) (owners : List Owner)
+change_seen : (change : OwnerState → OwnerState) (seen : KnownOwner → KnownOwner) → ((o : Owner) → known_owner (record o { state = change o.state }) ≡ seen (known_owner o)) → (name : StateOwner) (owners : List Owner)
     → map known_owner (with_change change name owners) ≡ map (λ o. if known.has_name name o then seen o else o) (map known_owner owners)
 change_seen change seen same name [] = refl
 change_seen change seen same name (o ∷ owners) =
-    elim (has_name name o) as (λ b. known_owner (if b then change o else o) ∷ map known_owner (with_change change name owners) ≡ (if b then seen (known_owner o) else known_owner o) ∷ map (λ o. if known.has_name name o then seen o else o) (map known_owner owners)) [
+    elim (has_name name o) as (λ b. known_owner (if b then record o { state = change o.state } else o) ∷ map known_owner (with_change change name owners) ≡ (if b then seen (known_owner o) else known_owner o) ∷ map (λ o. if known.has_name name o then seen o else o) (map known_owner owners)) [
       | true ↦ ap (λ first. first ∷ map known_owner (with_change change name owners)) (same o) ∙ ap (λ rest. seen (known_owner o) ∷ rest) (change_seen change seen same name owners)
       | false ↦ ap (λ rest. known_owner o ∷ rest) (change_seen change seen same name owners)
     ]
 
 pub confirmed_seen : (name : StateOwner) (owners : List Owner) → map known_owner (with_confirmed name owners) ≡ known.with_confirmation name (map known_owner owners)
-confirmed_seen name owners = change_seen (λ o. record o { confirmed = true }) (λ o. record o { confirmed = true }) (λ o. refl) name owners
+confirmed_seen name owners = change_seen (λ s. record s { confirmed = true }) (λ o. record o { confirmed = true }) (λ o. refl) name owners
 
 -- an owner is stored exactly if the rules know it
 pub known_seen : (name : StateOwner) (owners : List Owner) → is_some (known.owner_of name (map known_owner owners)) ≡ is_known name owners
@@ -75,7 +76,7 @@ known_seen name (o ∷ owners) = grind (arith, known_seen name owners)
 pub kept_seen : (name : StateOwner) (number : ℕ) (kept : Kept) (owners : List Owner) → is_known name owners ≡ true
     → map known_owner (with_kept name number kept owners) ≡ known.with_kept_entry number name (map known_owner owners)
 kept_seen name number kept owners is =
-    rw is (change_seen (λ o. record o { number = number; kept = kept }) (λ o. record o { kept_entry = number }) (λ o. refl) name owners)
+    rw is (change_seen (with_request number kept) (λ o. record o { kept_entry = number }) (λ o. refl) name owners)
 
 pub record_seen : (name : StateOwner) (number : ℕ) (kept : Kept) (owners : List Owner) → is_known name owners ≡ false
     → map known_owner (with_kept name number kept owners) ≡ known.with_record number name (map known_owner owners)
@@ -101,7 +102,7 @@ agrees_filter journal p (o ∷ owners) agrees =
     (λ passes. (agrees.0, agrees_filter journal p owners agrees.1))
     (λ fails. agrees_filter journal p owners agrees.1)
 
-confirmed_kept : (journal : History) (b : Bool) (o : Owner) → IsKeptIn journal o → IsKeptIn journal (if b then record o { confirmed = true } else o)
+confirmed_kept : (journal : History) (b : Bool) (o : Owner) → IsKeptIn journal o → IsKeptIn journal (if b then record o { state = record o.state { confirmed = true } } else o)
 confirmed_kept journal true o is = record { entry = is.entry; sendable = is.sendable }
 confirmed_kept journal false o is = is
 

@@ -55,8 +55,8 @@ kept_for journal o = option_map (kept_of o.name.kind) (call_at journal o.kept_en
 
 -- the owner keeps the request and the answer of its entry, which can be sent again
 pub record IsKeptIn (journal : History) (o : Owner) : Type 0 where
-  pub entry : option_map (kept_of o.name.kind) (call_at journal o.number) ≡ Some o.kept
-  pub sendable : IsSendable o.kept.request.op o.kept.answer
+  pub entry : option_map (kept_of o.name.kind) (call_at journal o.state.number) ≡ Some o.state.kept
+  pub sendable : IsSendable o.state.kept.request.op o.state.kept.answer
 
 abbrev pub Agrees : History → List Owner → Type 0
 Agrees journal owners = AllByRecursion (IsKeptIn journal) owners

@@ -27,9 +27,9 @@ pub record Stored : Type 0 where
 abbrev pub known_owner : Owner → KnownOwner
 known_owner o = record {
   name = o.name;
-  confirmed = o.confirmed;
-  recording_entry = o.recorded;
-  kept_entry = o.number;
+  confirmed = o.state.confirmed;
+  recording_entry = o.state.recorded;
+  kept_entry = o.state.number;
 }
 
 abbrev pub meaning : Stored → State

@@ -45,7 +45,7 @@ impl Tables {
     ghost use Rattle.nfs_share.specs.AllOpens.{HasRoomAt, opens_in};
     ghost use Rattle.nfs_share.specs.Opens.{is_of, without};
     ghost use Rattle.nfs_state.specs.declared.change.Change.TheVariants as changes;
-    ghost use Rattle.nfs_owners.specs.ClientRoom.{HasNumbersFor, HasRoomFor};
+    ghost use Rattle.nfs_owners.specs.ClientRoom.{HasNumbersFor, HasRoomFor, IsOfItsKind};
     ghost use Rattle.nfs_state.specs.Stored.{empty_store};
 
     /// The files of the tree, and no clients.
@@ -288,6 +288,7 @@ impl Tables {
     fn commit_clients(&mut self, change: ClientChange)
         requires room { HasRoomFor change self.old.clients }
         requires numbers { HasNumbersFor change self.old.clients.registry }
+        requires kind { IsOfItsKind change self.old.clients.registry }
         ensures state { state_of self.new
             ≡ with_state_change (changes.Clients change) (state_of self.old) }
         ensures kept { (journal : History)

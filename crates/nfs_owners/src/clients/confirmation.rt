@@ -1,6 +1,6 @@
-ghost use Rattle.std.specs.Prelude.{◌≡◌, IfOk};
+ghost use Rattle.std.specs.Prelude.{◌≡◌, IfOk, IsTrue, OnErr};
 ghost use Rattle.std.specs.Option.{option_copied};
-ghost use Rattle.nfs_owners.specs.ClientRoom.{HasNumbersFor};
+ghost use Rattle.nfs_owners.specs.ClientRoom.{HasNumbersFor, IsOfItsKind, adds_record};
 ghost use Rattle.nfs_owners.specs.Confirmation.{confirmation, confirmation_before, confirmation_beside, confirmation_by, confirmed_record, holder_of, updated_record};
 ghost use Rattle.nfs_owners.specs.Registry.{confirmed_named_by, confirmed_of, unconfirmed_named_by};
 ghost use Rattle.nfs_owners.specs.declared.client_record.PathMark.{PathMark};
@@ -14,7 +14,7 @@ use std::alloc::AllocError;
 impl Clients {
     /// The answer of SETCLIENTID_CONFIRM (RFC 7530, section 16.34.5), and its change of the clients' records.
     /// `has_state` is whether the client of the confirmed record with the same id has state, and `path` is the mark for
-    /// the path of a client that is confirmed by this call.
+    /// the path of a client that is confirmed by this call. Memory may be wanting only where a record is to be added.
     pub fn confirm(
         &self,
         principal: Principal,
@@ -25,7 +25,12 @@ impl Clients {
         ensures ok { IfOk result (λ r.
             r ≡ confirmation path has_state self.now.registry principal args.now) }
         ensures numbers { IfOk result (λ r. HasNumbersFor r.1 self.now.registry) }
+        ensures kind { IfOk result (λ r. IsOfItsKind r.1 self.now.registry) }
+        ensures memory { OnErr result (IsTrue (adds_record
+            (confirmation path has_state self.now.registry principal args.now).1)) }
     {
+        // A law, for the proof alone: the number of a record that is found is that of its id.
+        self.records_are_apart();
         match self.unconfirmed_named_by(args) {
             None => Ok((
                 self.answer_confirmed(principal, args),
@@ -48,6 +53,8 @@ impl Clients {
         ensures ok { IfOk result (λ r. r ≡ confirmation_by (confirmation_beside
             (confirmed_of self.now.registry candidate.now.id) candidate.now has_state) path) }
         ensures numbers { IfOk result (λ r. HasNumbersFor r.1 self.now.registry) }
+        ensures memory { OnErr result (IsTrue (adds_record (confirmation_by (confirmation_beside
+            (confirmed_of self.now.registry candidate.now.id) candidate.now has_state) path).1)) }
     {
         let change = match self.confirmed_of(candidate.id.as_slice()) {
             None => ClientChange::Confirms(confirmed_record(path, candidate)?),

@@ -1,7 +1,8 @@
 ghost use Rattle.std.specs.Prelude.{◌≡◌, ℕ, ◌-◌, ◌^◌, ◌<◌, ◌↔◌, false, true, None, Some, IfOk, IsErrOf};
 ghost use Rattle.nfs_forms.specs.declared.answer.Answer.TheVariants.{ClidInUse};
 ghost use Rattle.nfs_owners.specs.Registration.{Arrival, Update, registration, registration_by, unconfirmed_record};
-ghost use Rattle.nfs_owners.specs.ClientRoom.{HasNumbersFor};
+ghost use Rattle.nfs_owners.specs.ClientRoom.{HasNumbersFor, IsOfItsKind};
+ghost use Rattle.nfs_owners.specs.Registry.{IsNumberOf};
 ghost use Rattle.nfs_owners.specs.Addresses.{is_within_limit};
 ghost use Rattle.nfs_xdr.specs.Short.{IsShort};
 ghost use Rattle.nfs_xdr.specs.declared.op_result.OpResult.TheVariants as OpResult;
@@ -30,8 +31,11 @@ impl Clients {
         ensures full { IsErrOf result OwnersError.Full
             ↔ registration epoch has_state self.now.registry principal args.now ≡ None }
         ensures numbers { IfOk result (λ r. HasNumbersFor r.1 self.now.registry) }
+        ensures kind { IfOk result (λ r. IsOfItsKind r.1 self.now.registry) }
         ensures short { IfOk result (λ r. IsShort (OpResult.Setclientid r.0)) }
     {
+        // A law, for the proof alone: the number of a record that is found is that of its id.
+        self.records_are_apart();
         match self.confirmed_of(args.id.as_slice()) {
             Some(record) if record.principal.is(principal) => {
                 if record.verifier == args.verifier {
@@ -55,12 +59,14 @@ impl Clients {
         args: &Setclientid,
         client: ClientId,
     ) -> Result<(Outcome, ClientChange), OwnersError>
-        requires { self.now.registry.last_confirm < 2 ^ 64 - 1 }
+        requires confirm { self.now.registry.last_confirm < 2 ^ 64 - 1 }
+        requires number { IsNumberOf args.now.id client.number self.now.registry }
         ensures ok { IfOk result (λ r. registration_by (Update client)
             client.epoch self.now.registry principal args.now ≡ Some r) }
         ensures full { IsErrOf result OwnersError.Full ↔ registration_by (Update client)
             client.epoch self.now.registry principal args.now ≡ None }
         ensures numbers { IfOk result (λ r. HasNumbersFor r.1 self.now.registry) }
+        ensures kind { IfOk result (λ r. IsOfItsKind r.1 self.now.registry) }
         ensures short { IfOk result (λ r. IsShort (OpResult.Setclientid r.0)) }
     {
         let confirm = self.last_confirm + 1;
@@ -82,6 +88,7 @@ impl Clients {
         ensures full { IsErrOf result OwnersError.Full
             ↔ registration_by Arrival epoch self.now.registry principal args.now ≡ None }
         ensures numbers { IfOk result (λ r. HasNumbersFor r.1 self.now.registry) }
+        ensures kind { IfOk result (λ r. IsOfItsKind r.1 self.now.registry) }
         ensures short { IfOk result (λ r. IsShort (OpResult.Setclientid r.0)) }
     {
         if self.last_number >= CLIENT_LIMIT {

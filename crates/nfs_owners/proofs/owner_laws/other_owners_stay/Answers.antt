@@ -1,9 +1,10 @@
 use Rattle.std.proofs.Common.{◌≡◌, ℕ, Bool, true, false, List, [], ◌∷◌, ◌++◌, refl, ap, ◌∙◌, arith}
-use Rattle.nfs_owners.specs.Owner.{has_name, is_known, new_owner, owner_of}
+use Rattle.nfs_owners.specs.Owner.{has_name, is_known, with_request, new_owner, owner_of}
 use Rattle.nfs_owners.specs.Owners.{with_change, with_kept, without_owner}
 use Rattle.nfs_owners.specs.StateOwner.{is_same_state_owner}
 use Rattle.nfs_owners.specs.declared.kept.Kept.{Kept}
 use Rattle.nfs_owners.specs.declared.owner.Owner.{Owner}
+use Rattle.nfs_owners.specs.declared.owner.OwnerState.{OwnerState}
 use Rattle.nfs_owners.specs.declared.state_owner.StateOwner.{StateOwner}
 use Rattle.nfs_owners.proofs.OwnerLists.{name_exact}
 use Rattle.nfs_owners.proofs.owner_laws.other_owners_stay.Goals as goal
@@ -12,12 +13,12 @@ use Rattle.nfs_owners.proofs.owner_laws.other_owners_stay.Goals as goal
 not_other : (name other : StateOwner) (o : Owner) → is_same_state_owner name other ≡ false → has_name name o ≡ true → has_name other o ≡ false
 not_other name other o apart same = ap (λ n. is_same_state_owner n other) (name_exact name o same) ∙ apart
 
-changed : (change : Owner → Owner) → ((o : Owner) → (change o).name ≡ o.name) → (name other : StateOwner) (owners : List Owner) → is_same_state_owner name other ≡ false → owner_of other (with_change change name owners) ≡ owner_of other owners
-changed change keeps name other [] apart = refl
-changed change keeps name other (o ∷ owners) apart = by (has_name name o) refl (changed change keeps name other owners apart)
+changed : (change : OwnerState → OwnerState) (name other : StateOwner) (owners : List Owner) → is_same_state_owner name other ≡ false → owner_of other (with_change change name owners) ≡ owner_of other owners
+changed change name other [] apart = refl
+changed change name other (o ∷ owners) apart = by (has_name name o) refl (changed change name other owners apart)
   where
     by : (b : Bool) → has_name name o ≡ b → owner_of other (with_change change name owners) ≡ owner_of other owners → owner_of other (with_change change name (o ∷ owners)) ≡ owner_of other (o ∷ owners)
-    by true same rest = grind (arith, same, rest, not_other name other o apart same, ap (λ (n : StateOwner). is_same_state_owner n other) (keeps o))
+    by true same rest = grind (arith, same, rest, not_other name other o apart same)
     by false different rest = grind (arith, different, rest)
 
 added : (name other : StateOwner) (number : ℕ) (kept : Kept) (owners : List Owner) → is_same_state_owner name other ≡ false → owner_of other (owners ++ new_owner name number kept ∷ []) ≡ owner_of other owners
@@ -28,7 +29,7 @@ kept_for : (name other : StateOwner) (number : ℕ) (kept : Kept) (owners : List
 kept_for name other number kept owners apart = by (is_known name owners) refl
   where
     by : (b : Bool) → is_known name owners ≡ b → owner_of other (with_kept name number kept owners) ≡ owner_of other owners
-    by true known = rw known (changed (λ p. record p { number = number; kept = kept }) (λ p. refl) name other owners apart)
+    by true known = rw known (changed (with_request number kept) name other owners apart)
     by false unknown = rw unknown (added name other number kept owners apart)
 
 removed : (name other : StateOwner) (owners : List Owner) → is_same_state_owner name other ≡ false → owner_of other (without_owner name owners) ≡ owner_of other owners
@@ -40,4 +41,4 @@ removed name other (o ∷ owners) apart = by (has_name name o) refl (removed nam
     by false different rest = grind (arith, different, rest)
 
 pub returns : goal.returns
-returns c name other owners apart = ((λ number kept. kept_for name other number kept owners apart), changed (λ o. record o { confirmed = true }) (λ o. refl) name other owners apart, removed name other owners apart)
+returns c name other owners apart = ((λ number kept. kept_for name other number kept owners apart), changed (λ s. record s { confirmed = true }) name other owners apart, removed name other owners apart)

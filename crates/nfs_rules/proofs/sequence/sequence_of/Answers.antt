@@ -7,16 +7,16 @@ use Rattle.nfs_rules.specs.declared.sequence.SequenceStep.{SequenceStep}
 use Rattle.nfs_rules.specs.Finding.{requester_seen, sequence_seen}
 use Rattle.nfs_state.specs.Room.{state_of}
 use Rattle.nfs_rules.specs.Sequences.{IsSequence}
-use Rattle.nfs_rules.proofs.Sequencing.{kept_found, known_replay, known_sequence, passage_known, passage_unknown, unknown_sequence}
+use Rattle.nfs_rules.proofs.Sequencing.{known_replay, known_sequence, none_found, passage_known, passage_unknown, sendable_found, unknown_sequence}
 use Rattle.nfs_owners.specs.Owner.{owner_of}
 use Rattle.nfs_owners.specs.StateOwner.{owner_seen}
 use Rattle.nfs_rules.proofs.sequence.sequence_of.Goals as goal
 
 none : (c : goal.After-begin) → owner_of (owner_seen c.in-Owner.name) c.args.tables.now.owners.owners ≡ None
-none c = sym c.find.ensures ∙ ap option_copied c.in-None.is
+none c = none_found (owner_seen c.in-Owner.name) c.args.tables.now.owners.owners (sym c.find.ensures ∙ ap option_copied c.in-None.is)
 
 pub resume-requires : goal.resume-requires
-resume-requires c = (kept_found c.args.journal.now.history (owner_seen c.in-Owner.name) c.args.tables.now.owners.owners c.in-Some.owner.now c.requires.kept (sym c.find.ensures ∙ ap option_copied c.in-Some.is)).sendable
+resume-requires c = sendable_found c.args.journal.now.history (owner_seen c.in-Owner.name) c.args.tables.now.owners.owners c.in-Some.known.now c.requires.kept (sym c.find.ensures ∙ ap option_copied c.in-Some.is)
 
 pub returns-in-None-clause-sequence : goal.returns-in-None-clause-sequence
 returns-in-None-clause-sequence c =
@@ -32,18 +32,18 @@ pub returns-in-Some-clause-sequence : goal.returns-in-Some-clause-sequence
 returns-in-Some-clause-sequence c =
     let is_sequence : Requester → SequenceStep → Type 0 = λ r s. IsSequence c.args.journal.now.history (state_of c.args.tables.now) (requester_seen r) c.args.request.now (sequence_seen s) in
     IfOk-weaker c.resume.result _ _
-    (λ s is. subst (λ r. is_sequence r s) (sym c.in-Owner.is) (known_sequence c.args.journal.now.history (owner_seen c.in-Owner.name) c.args.tables.now.owners.owners c.in-Some.owner.now c.in-Owner.seqid c.args.request.now (sequence_seen s) c.requires.kept (sym c.find.ensures ∙ ap option_copied c.in-Some.is) is))
+    (λ s is. subst (λ r. is_sequence r s) (sym c.in-Owner.is) (known_sequence c.args.journal.now.history (owner_seen c.in-Owner.name) c.args.tables.now.owners.owners c.in-Some.known.now c.in-Owner.seqid c.args.request.now (sequence_seen s) c.requires.kept (sym c.find.ensures ∙ ap option_copied c.in-Some.is) is))
     c.resume.ensures.sequence
 
 pub returns-in-Some-clause-passage : goal.returns-in-Some-clause-passage
 returns-in-Some-clause-passage c =
     IfOk-weaker c.resume.result _ _
-    (λ s is. passage_known (state_of c.args.tables.now) (owner_seen c.in-Owner.name) c.args.tables.now.owners.owners c.in-Some.owner.now c.in-Owner.seqid c.args.request.now (sequence_seen s) refl (sym c.find.ensures ∙ ap option_copied c.in-Some.is) is)
+    (λ s is. passage_known (state_of c.args.tables.now) (owner_seen c.in-Owner.name) c.args.tables.now.owners.owners c.in-Some.known.now c.in-Owner.seqid c.args.request.now (sequence_seen s) refl (sym c.find.ensures ∙ ap option_copied c.in-Some.is) is)
     c.resume.ensures.sequence
 
 pub returns-in-Some-clause-memory : goal.returns-in-Some-clause-memory
 returns-in-Some-clause-memory c =
     let is_replay : Requester → Type 0 = λ r. IsReplay c.args.journal.now.history (state_of c.args.tables.now) (requester_seen r) c.args.request.now in
     on_err_weaker c.resume.result
-    (λ again. subst is_replay (sym c.in-Owner.is) (known_replay c.args.journal.now.history (owner_seen c.in-Owner.name) c.args.tables.now.owners.owners c.in-Some.owner.now c.in-Owner.seqid c.args.request.now c.requires.kept (sym c.find.ensures ∙ ap option_copied c.in-Some.is) again))
+    (λ again. subst is_replay (sym c.in-Owner.is) (known_replay c.args.journal.now.history (owner_seen c.in-Owner.name) c.args.tables.now.owners.owners c.in-Some.known.now c.in-Owner.seqid c.args.request.now c.requires.kept (sym c.find.ensures ∙ ap option_copied c.in-Some.is) again))
     c.resume.ensures.memory

@@ -6,8 +6,8 @@ use Rattle.nfs_owners.specs.Owners.{AreOwners, RoomyOwners, has_place, with_kept
 use Rattle.nfs_owners.proofs.OwnerLists.{kept_found, kept_new, no_place, owners_kept}
 use Rattle.nfs_owners.proofs.owners.Owners.keep.Goals as goal
 
-found : (c : goal.After-drop-name) → slice_set c.self.inside.owners.items c.in-Some.place c.keep.new.self ≡ with_kept c.args.name c.args.number c.args.kept c.self.inside.owners.items
-found c = ap (λ o. slice_set c.self.inside.owners.items c.in-Some.place o) c.keep.ensures
+found : (c : goal.After-drop-name) → slice_set c.self.inside.owners.items c.in-Some.place (record c.index_mut.result.now { state = c.keep.new.self }) ≡ with_kept c.args.name c.args.number c.args.kept c.self.inside.owners.items
+found c = ap (λ s. slice_set c.self.inside.owners.items c.in-Some.place (record c.index_mut.result.now { state = s })) c.keep.ensures
     ∙ kept_found c.args.name c.args.number c.args.kept c.self.inside.owners.items c.in-Some.place c.index_mut.result.now c.self.invariant.1
     (ap (λ (o : RoomyOwners). position (has_name c.args.name) o.owners) c.self.view_is ∙ ap (λ n. position (has_name n) c.args.self.now.owners) (sym c.as_ref.ensures) ∙ sym c.place_of.ensures ∙ c.in-Some.is) c.index_mut.ensures.value
 
