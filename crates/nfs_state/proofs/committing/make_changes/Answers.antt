@@ -1,6 +1,5 @@
 use Rattle.std.proofs.Common.{◌∙◌, ap, sym, subst}
-use Rattle.nfs_state.specs.Entries.{call_of}
-use Rattle.nfs_state.specs.Kept.{Agrees, owners_after, update_by}
+use Rattle.nfs_state.specs.Kept.{Agrees, kept_in, owners_after, update_by}
 use Rattle.nfs_state.specs.Room.{HasOwnerPlace, HasUpdateRoom}
 use Rattle.nfs_state.specs.Stored.{Stored, meaning}
 use Rattle.nfs_state.proofs.OwnerRoom.{update_room_by}
@@ -11,12 +10,12 @@ commit_owner-requires c =
     let roomy = c.make_room.new.self in
     let has_place : Stored → Type 0 = λ stored. HasOwnerPlace c.args.effect.owner (meaning stored) in
     let place = subst has_place (sym c.in_ok-make_room.ensures.same) c.requires.fits.place in
-    record { room = subst (λ u. HasUpdateRoom u roomy) (sym c.in_ok-update.ensures) (update_room_by c.args.effect.owner (call_of c.args.entry.now) roomy place c.in_ok-make_room.ensures.room.1) }
+    record { room = subst (λ u. HasUpdateRoom u roomy) (sym c.in_ok-update.ensures) (update_room_by c.args.effect.owner (kept_in c.args.entry.now) roomy place c.in_ok-make_room.ensures.room.1) }
 
 pub returns-clause-kept : goal.returns-clause-kept
 returns-clause-kept c = λ journal agrees.
     let roomy = c.make_room.new.self in
-    let update = update_by c.args.effect.owner (call_of c.args.entry.now) in
+    let update = update_by c.args.effect.owner (kept_in c.args.entry.now) in
     let are = c.commit_owner.ensures.owners
     ∙ ap (λ u. owners_after u c.args.number roomy.owners.owners) c.in_ok-update.ensures
     ∙ ap (λ (s : Stored). owners_after update c.args.number s.owners) c.in_ok-make_room.ensures.same in
