@@ -1,6 +1,7 @@
 -- Which entries may come next, and which may not, by what is decided.
-use Rattle.std.proofs.Common.{◌≡◌, ◌≢◌, ◌<◌, ◌≤◌, Option, Some, None, Result, Ok, Err, length, refl, ap, arith, subst, sym}
-use Rattle.std.specs.Prelude.{IfOk, IsErrOf, IsTrue}
+use Rattle.std.proofs.Common.{◌≡◌, ◌≢◌, ◌<◌, ◌≤◌, Option, Some, None, Result, Ok, Err, ℕ, length, refl, ap, ◌∙◌, arith, subst, sym}
+use Rattle.std.specs.Prelude.{IfOk, IsErrOf, IsTrue, is_some, not, option_map}
+use Rattle.std.proofs.lemmas.Bool.{cond_both}
 use Rattle.nfs_core.proofs.Journals.{decides_something}
 use Rattle.nfs_core.proofs.SoundSequences.{some_equal}
 use Rattle.nfs_core.specs.Following.{CanBeAsked, IsNext, IsWithinLimits, error_of}
@@ -8,7 +9,25 @@ use Rattle.nfs_core.specs.declared.following.FollowError.TheVariants as errors
 use Rattle.nfs_core.specs.Step.{Allows, HasNoAnswer, HasNoStep, Step}
 use Rattle.nfs_rules.specs.Deciding.{Decides}
 use Rattle.nfs_rules.specs.declared.decision.Decision.{Decision}
-use Rattle.nfs_rules.specs.operations.{AtMostOneDecision, IsRuled}
+use Rattle.nfs_rules.specs.operations.{AtMostOneDecision, IsPlain, IsRuled, IsRuledBy}
+use Rattle.nfs_rules.specs.operations.Lockt as lockt
+use Rattle.nfs_rules.specs.operations.ReleaseLockowner as release
+use Rattle.nfs_rules.specs.operations.Setclientid as setclientid
+use Rattle.nfs_forms.specs.declared.answer.Answer.{Answer}
+use Rattle.nfs_forms.specs.declared.answer.Answer.TheVariants.{Refused}
+use Rattle.nfs_forms.specs.declared.lock_denied.LockDenied.{LockDenied}
+use Rattle.nfs_forms.specs.declared.status.Refusal.{Refusal}
+use Rattle.nfs_forms.specs.declared.status.Refusal.TheVariants as refusals
+use Rattle.nfs_locks.specs.AllLocks.{holds}
+use Rattle.nfs_operations.specs.declared.lockt.Lockt.{Lockt}
+use Rattle.nfs_operations.specs.declared.release_lockowner.ReleaseLockowner.{ReleaseLockowner}
+use Rattle.nfs_owners.specs.Registration as registrations
+use Rattle.nfs_owners.specs.Registry.{record_of}
+use Rattle.nfs_owners.specs.declared.clients.client_change.ClientChange.{ClientChange}
+use Rattle.nfs_ranges.specs.declared.range.Range.{Range}
+use Rattle.nfs_state.specs.Kept.{CanBeKept, kept_with}
+use Rattle.nfs_state.specs.declared.owner_change.OwnerChange.TheVariants as owner_changes
+use Rattle.nfs_xdr.specs.Names.{Names, Nothing, Client, Opener, Owned, names_of, seqid_in}
 use Rattle.nfs_state.specs.Changes.{after}
 use Rattle.nfs_state.specs.Entries.{entry_of}
 use Rattle.nfs_state.specs.State.{State, History}
@@ -47,12 +66,57 @@ pub decided_within : AtMostOneDecision → (journal : History) (old : State) (re
 decided_within once journal old request decision next =
     (next.below, decides_something once journal old request decision next.allowed.rule)
 
+-- an operation that goes by no sequence id means nothing for the owners
+registers : (decision : Decision) (found : Option (registrations.Outcome × ClientChange)) → Some decision ≡ option_map setclientid.decision_of found → decision.effect.owner ≡ owner_changes.Nothing
+registers decision None is = absurd cc
+registers decision (Some x) is = ap (λ (d : Decision). d.effect.owner) (some_equal decision (setclientid.decision_of x) is)
+
+tests_range : (decision : Decision) (answer : Option (Answer (Unit {0}) LockDenied (Unit {0}))) → Some decision ≡ option_map lockt.only answer → decision.effect.owner ≡ owner_changes.Nothing
+tests_range decision None is = absurd cc
+tests_range decision (Some answer) is = ap (λ (d : Decision). d.effect.owner) (some_equal decision (lockt.only answer) is)
+
+tests_of_range : (old : State) (args : Lockt) (node : ℕ) (decision : Decision) (range : Option Range) → lockt.IsOfRange old args node range (Some decision) → decision.effect.owner ≡ owner_changes.Nothing
+tests_of_range old args node decision None is =
+    ap (λ (d : Decision). d.effect.owner) (some_equal decision (lockt.only (Refused refusals.Inval)) is)
+tests_of_range old args node decision (Some range) is = tests_range decision (lockt.answer_of is.0) is.2
+
+tests : (old : State) (args : Lockt) (decision : Decision) (place : Result ℕ Refusal) → lockt.IsTest old args place (Some decision) → decision.effect.owner ≡ owner_changes.Nothing
+tests old args decision (Err refusal) is =
+    ap (λ (d : Decision). d.effect.owner) (some_equal decision (lockt.only (Refused refusal)) is)
+tests old args decision (Ok node) is = tests_of_range old args node decision is.0 is.2
+
+releases : (old : State) (args : ReleaseLockowner) → (release.decision_of old args).effect.owner ≡ owner_changes.Nothing
+releases old args =
+    let P : Decision → Type 0 = λ d. d.effect.owner ≡ owner_changes.Nothing in
+    cond_both (not (is_some (record_of args.owner.client old.clients))) (release.refusal_of refusals.StaleClientId) _ P (λ _. refl)
+    (λ _. cond_both (holds args.owner old.locks) (release.refusal_of refusals.LocksHeld) _ P (λ _. refl) (λ _. refl))
+
+plain_owner : (op : Op) (journal : History) (old : State) (request : Request) (decision : Decision) → IsPlain op journal old request (Some decision) → decision.effect.owner ≡ owner_changes.Nothing
+plain_owner (ops.Getattr mask) journal old request decision is = ap (λ (d : Decision). d.effect.owner) (some_equal decision _ is)
+plain_owner (ops.Setclientid args) journal old request decision is = registers decision _ is
+plain_owner (ops.SetclientidConfirm args) journal old request decision is = ap (λ (d : Decision). d.effect.owner) (some_equal decision _ is)
+plain_owner (ops.Lockt args) journal old request decision is = tests old args decision (lockt.lockt_file journal old request.filehandle args) is
+plain_owner (ops.ReleaseLockowner args) journal old request decision is =
+    ap (λ (d : Decision). d.effect.owner) (some_equal decision (release.decision_of old args) is) ∙ releases old args
+plain_owner op journal old request decision is = absurd cc
+
+-- so owners may keep what is decided
+can_be_kept : (names : Names) (call : Call) (journal : History) (old : State) (decision : Decision) → IsRuledBy names call.request.op journal old call.request (Some decision) → IsSendable call.request.op call.answer → CanBeKept (option_map (kept_with call) (seqid_in names)) decision.effect.owner
+can_be_kept Nothing call journal old decision ruled sendable = plain_owner call.request.op journal old call.request decision ruled
+can_be_kept (Client client) call journal old decision ruled sendable = plain_owner call.request.op journal old call.request decision ruled
+can_be_kept (Opener owner seqid) call journal old decision ruled sendable = λ kind. sendable
+can_be_kept (Owned id seqid) call journal old decision ruled sendable = λ kind. sendable
+
 -- a request may be answered as its rule decides
 pub decided_next : (journal : History) (old : State) (request : Request) (result : Result Decision Shortage) → length journal.entries < JOURNAL_LIMIT → CanBeAsked journal request → Decides (IsRuled request.op journal old request) old request.op result → IfOk result (λ decision. IsNext journal old (entry_of request decision.answer) decision.effect)
 decided_next journal old request (Ok decision) below asked decides = record {
   below = below;
   allowed = record { rule = decides.0; other = decides.1.not_resource; node = asked.node };
-  fits = record { kept = decides.1; numbers = decides.2; place = decides.3 };
+  fits = record {
+    kept = can_be_kept (names_of request.op) (record { request = request; answer = decision.answer }) journal old decision decides.0 decides.1;
+    numbers = decides.2;
+    place = decides.3;
+  };
 }
 decided_next journal old request (Err shortage) below asked decides = tt
 
