@@ -29,7 +29,7 @@ use Rattle.nfs_state.specs.Kept.{CanBeKept, kept_with}
 use Rattle.nfs_state.specs.declared.owner_change.OwnerChange.TheVariants as owner_changes
 use Rattle.nfs_xdr.specs.Names.{Names, Nothing, Client, Opener, Owned, names_of, seqid_in}
 use Rattle.nfs_state.specs.Changes.{after}
-use Rattle.nfs_state.specs.Entries.{entry_of}
+use Rattle.nfs_state.specs.Entries.{IsSendable, entry_of}
 use Rattle.nfs_state.specs.State.{State, History}
 use Rattle.nfs_state.specs.declared.effect.Effect.{Effect}
 use Rattle.nfs_state.specs.declared.entry.Call.{Call}
@@ -119,6 +119,11 @@ decided_next journal old request (Ok decision) below asked decides = record {
   };
 }
 decided_next journal old request (Err shortage) below asked decides = tt
+
+-- and its answer can be sent
+pub decided_sendable : (journal : History) (old : State) (request : Request) (result : Result Decision Shortage) → Decides (IsRuled request.op journal old request) old request.op result → IfOk result (λ decision. IsSendable request.op decision.answer)
+decided_sendable journal old request (Ok decision) decides = decides.1
+decided_sendable journal old request (Err shortage) decides = tt
 
 -- so may it with an answer that is the same
 pub with_same_answer : (journal : History) (old : State) (request : Request) (answer other : OpResult) (effect : Effect) → IsNext journal old (entry_of request answer) effect → other ≡ answer → IsNext journal old (entry_of request other) effect

@@ -4,7 +4,7 @@ ghost use Rattle.std.specs.Prelude.{◌≡◌, IfOk, IsErrOf, MatchBool, OnErr};
 ghost use Rattle.nfs_core.specs.Following.{CanBeAsked, IsNext, IsStoredBy, IsWithinLimits};
 ghost use Rattle.nfs_core.specs.Server.{Enters};
 ghost use Rattle.nfs_core.specs.Step.{HasNoAnswer, HasNoStep};
-ghost use Rattle.nfs_state.specs.Entries.{entry_of};
+ghost use Rattle.nfs_state.specs.Entries.{IsSendable, entry_of};
 ghost use Rattle.nfs_state.specs.Kept.{Agrees};
 ghost use Rattle.nfs_state.specs.Room.{state_of, stored_of};
 ghost use Rattle.nfs_state.specs.declared.entry.Entry.TheVariants as entries;
@@ -133,6 +133,7 @@ pub(crate) fn decide_next(
     requires stored { IsStoredBy journal.now.history (stored_of tables.now) }
     ensures next { IfOk result (λ decision. IsNext journal.now.history (state_of tables.now)
         (entry_of request.now decision.answer) decision.effect) }
+    ensures sendable { IfOk result (λ decision. IsSendable request.now.op decision.answer) }
     ensures limit { IsErrOf result Shortage.Limit
         → HasNoAnswer journal.now.history (state_of tables.now) request.now }
     ensures memory { IsErrOf result Shortage.Memory
