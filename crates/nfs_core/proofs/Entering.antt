@@ -1,14 +1,37 @@
--- Which entries may not come next, and those that may with what is decided.
-use Rattle.std.proofs.Common.{◌≡◌, ◌≤◌, Option, Some, None, Result, Ok, Err, length, subst, arith}
-use Rattle.std.specs.Prelude.{IsErrOf}
+-- Which entries may come next, and which may not, by what is decided.
+use Rattle.std.proofs.Common.{◌≡◌, ◌≢◌, ◌<◌, ◌≤◌, Option, Some, None, Result, Ok, Err, ℕ, length, refl, ap, ◌∙◌, arith, subst, sym}
+use Rattle.std.specs.Prelude.{IfOk, IsErrOf, IsTrue, is_some, not, option_map}
+use Rattle.std.proofs.lemmas.Bool.{cond_both}
 use Rattle.nfs_core.proofs.Journals.{decides_something}
-use Rattle.nfs_core.specs.Step.{Allows, HasNoAnswer, HasNoStep}
+use Rattle.nfs_core.proofs.SoundSequences.{some_equal}
+use Rattle.nfs_core.specs.Following.{CanBeAsked, IsNext, IsWithinLimits, error_of}
+use Rattle.nfs_core.specs.declared.following.FollowError.TheVariants as errors
+use Rattle.nfs_core.specs.Step.{Allows, HasNoAnswer, HasNoStep, Step}
 use Rattle.nfs_rules.specs.Deciding.{Decides}
 use Rattle.nfs_rules.specs.declared.decision.Decision.{Decision}
-use Rattle.nfs_rules.specs.operations.{AtMostOneDecision, IsRuled}
-use Rattle.nfs_state.specs.Entries.{IsFilehandle, IsSendable}
-use Rattle.nfs_state.specs.Room.{Fits}
+use Rattle.nfs_rules.specs.operations.{AtMostOneDecision, IsPlain, IsRuled, IsRuledBy}
+use Rattle.nfs_rules.specs.operations.Lockt as lockt
+use Rattle.nfs_rules.specs.operations.ReleaseLockowner as release
+use Rattle.nfs_rules.specs.operations.Setclientid as setclientid
+use Rattle.nfs_forms.specs.declared.answer.Answer.{Answer}
+use Rattle.nfs_forms.specs.declared.answer.Answer.TheVariants.{Refused}
+use Rattle.nfs_forms.specs.declared.lock_denied.LockDenied.{LockDenied}
+use Rattle.nfs_forms.specs.declared.status.Refusal.{Refusal}
+use Rattle.nfs_forms.specs.declared.status.Refusal.TheVariants as refusals
+use Rattle.nfs_locks.specs.AllLocks.{holds}
+use Rattle.nfs_operations.specs.declared.lockt.Lockt.{Lockt}
+use Rattle.nfs_operations.specs.declared.release_lockowner.ReleaseLockowner.{ReleaseLockowner}
+use Rattle.nfs_owners.specs.Registration as registrations
+use Rattle.nfs_owners.specs.Registry.{record_of}
+use Rattle.nfs_owners.specs.declared.clients.client_change.ClientChange.{ClientChange}
+use Rattle.nfs_ranges.specs.declared.range.Range.{Range}
+use Rattle.nfs_state.specs.Kept.{CanBeKept, kept_with}
+use Rattle.nfs_state.specs.declared.owner_change.OwnerChange.TheVariants as owner_changes
+use Rattle.nfs_xdr.specs.Names.{Names, Nothing, Client, Opener, Owned, names_of, seqid_in}
+use Rattle.nfs_state.specs.Changes.{after}
+use Rattle.nfs_state.specs.Entries.{IsSendable, entry_of}
 use Rattle.nfs_state.specs.State.{State, History}
+use Rattle.nfs_state.specs.declared.effect.Effect.{Effect}
 use Rattle.nfs_state.specs.declared.entry.Call.{Call}
 use Rattle.nfs_state.specs.declared.entry.Entry.{Entry}
 use Rattle.nfs_state.specs.declared.entry.Entry.TheVariants as entries
@@ -16,12 +39,10 @@ use Rattle.nfs_state.specs.declared.entry.TheConstants.{JOURNAL_LIMIT}
 use Rattle.nfs_state.specs.declared.request.Request.{Request}
 use Rattle.nfs_state.specs.declared.shortage.Shortage.{Shortage}
 use Rattle.nfs_state.specs.declared.shortage.Shortage.TheVariants as shortages
+use Rattle.nfs_xdr.specs.Op.{has_entry}
+use Rattle.nfs_xdr.specs.declared.op.Op.{Op}
+use Rattle.nfs_xdr.specs.declared.op.Op.TheVariants as ops
 use Rattle.nfs_xdr.specs.declared.op_result.OpResult.{OpResult}
-
--- if the rule gives no decision, no call may come next
-none_follows : AtMostOneDecision → (journal : History) (old : State) (call : Call) → IsRuled call.request.op journal old call.request None → HasNoStep journal old (entries.Call call)
-none_follows once journal old call none new step =
-    decides_something once journal old call.request (record { answer = call.answer; effect = step.effect }) step.allowed.rule none
 
 -- if the journal is full, no entry may come next
 pub full_follows : (journal : History) (old : State) (entry : Entry) → JOURNAL_LIMIT ≤ length journal.entries → HasNoStep journal old entry
@@ -30,17 +51,113 @@ full_follows journal old entry full new step = omega (arith, full, step.below)
 -- where a decision fails for a limit, no answer may come next
 pub no_answer : AtMostOneDecision → (journal : History) (old : State) (request : Request) (result : Result Decision Shortage) → Decides (IsRuled request.op journal old request) old request.op result → IsErrOf result shortages.Limit → HasNoAnswer journal old request
 no_answer once journal old request (Ok decision) decides is_limit answer = absurd cc
-no_answer once journal old request (Err shortages.Limit) decides is_limit answer = none_follows once journal old (record { request = request; answer = answer }) decides
+no_answer once journal old request (Err shortages.Limit) decides is_limit answer new step =
+    decides_something once journal old request (record { answer = answer; effect = step.effect }) step.allowed.rule decides
 no_answer once journal old request (Err shortages.Memory) decides is_limit answer = absurd cc
 
--- a call may come next with what its rule decides
-pub decided_effect : (journal : History) (old : State) (call : Call) (decision : Decision) → IsFilehandle journal call.request.filehandle → Decides (IsRuled call.request.op journal old call.request) old call.request.op (Ok decision) → decision.answer ≡ call.answer → Allows journal old (entries.Call call) decision.effect × Fits (entries.Call call) decision.effect old
-decided_effect journal old call decision node decides same =
-    let sendable = subst (λ (a : OpResult). IsSendable call.request.op a) same decides.1 in (
-      record {
-        rule = subst (λ (a : OpResult). IsRuled call.request.op journal old call.request (Some (record { answer = a; effect = decision.effect }))) same decides.0;
-        other = sendable.not_resource;
-        node = node;
-      },
-      record { kept = sendable; numbers = decides.2; place = decides.3 },
-    )
+-- where memory runs out, no limit is passed
+pub within_limits : (journal : History) (old : State) (request : Request) (result : Result Decision Shortage) → length journal.entries < JOURNAL_LIMIT → Decides (IsRuled request.op journal old request) old request.op result → IsErrOf result shortages.Memory → IsWithinLimits journal old request
+within_limits journal old request (Ok decision) below decides is_memory = absurd cc
+within_limits journal old request (Err shortages.Limit) below decides is_memory = absurd cc
+within_limits journal old request (Err shortages.Memory) below decides is_memory = (below, decides)
+
+-- nor where it runs out after the decision
+pub decided_within : AtMostOneDecision → (journal : History) (old : State) (request : Request) (decision : Decision) → IsNext journal old (entry_of request decision.answer) decision.effect → IsWithinLimits journal old request
+decided_within once journal old request decision next =
+    (next.below, decides_something once journal old request decision next.allowed.rule)
+
+-- an operation that goes by no sequence id means nothing for the owners
+registers : (decision : Decision) (found : Option (registrations.Outcome × ClientChange)) → Some decision ≡ option_map setclientid.decision_of found → decision.effect.owner ≡ owner_changes.Nothing
+registers decision None is = absurd cc
+registers decision (Some x) is = ap (λ (d : Decision). d.effect.owner) (some_equal decision (setclientid.decision_of x) is)
+
+tests_range : (decision : Decision) (answer : Option (Answer (Unit {0}) LockDenied (Unit {0}))) → Some decision ≡ option_map lockt.only answer → decision.effect.owner ≡ owner_changes.Nothing
+tests_range decision None is = absurd cc
+tests_range decision (Some answer) is = ap (λ (d : Decision). d.effect.owner) (some_equal decision (lockt.only answer) is)
+
+tests_of_range : (old : State) (args : Lockt) (node : ℕ) (decision : Decision) (range : Option Range) → lockt.IsOfRange old args node range (Some decision) → decision.effect.owner ≡ owner_changes.Nothing
+tests_of_range old args node decision None is =
+    ap (λ (d : Decision). d.effect.owner) (some_equal decision (lockt.only (Refused refusals.Inval)) is)
+tests_of_range old args node decision (Some range) is = tests_range decision (lockt.answer_of is.0) is.2
+
+tests : (old : State) (args : Lockt) (decision : Decision) (place : Result ℕ Refusal) → lockt.IsTest old args place (Some decision) → decision.effect.owner ≡ owner_changes.Nothing
+tests old args decision (Err refusal) is =
+    ap (λ (d : Decision). d.effect.owner) (some_equal decision (lockt.only (Refused refusal)) is)
+tests old args decision (Ok node) is = tests_of_range old args node decision is.0 is.2
+
+releases : (old : State) (args : ReleaseLockowner) → (release.decision_of old args).effect.owner ≡ owner_changes.Nothing
+releases old args =
+    let P : Decision → Type 0 = λ d. d.effect.owner ≡ owner_changes.Nothing in
+    cond_both (not (is_some (record_of args.owner.client old.clients))) (release.refusal_of refusals.StaleClientId) _ P (λ _. refl)
+    (λ _. cond_both (holds args.owner old.locks) (release.refusal_of refusals.LocksHeld) _ P (λ _. refl) (λ _. refl))
+
+plain_owner : (op : Op) (journal : History) (old : State) (request : Request) (decision : Decision) → IsPlain op journal old request (Some decision) → decision.effect.owner ≡ owner_changes.Nothing
+plain_owner (ops.Getattr mask) journal old request decision is = ap (λ (d : Decision). d.effect.owner) (some_equal decision _ is)
+plain_owner (ops.Setclientid args) journal old request decision is = registers decision _ is
+plain_owner (ops.SetclientidConfirm args) journal old request decision is = ap (λ (d : Decision). d.effect.owner) (some_equal decision _ is)
+plain_owner (ops.Lockt args) journal old request decision is = tests old args decision (lockt.lockt_file journal old request.filehandle args) is
+plain_owner (ops.ReleaseLockowner args) journal old request decision is =
+    ap (λ (d : Decision). d.effect.owner) (some_equal decision (release.decision_of old args) is) ∙ releases old args
+plain_owner op journal old request decision is = absurd cc
+
+-- so owners may keep what is decided
+can_be_kept : (names : Names) (call : Call) (journal : History) (old : State) (decision : Decision) → IsRuledBy names call.request.op journal old call.request (Some decision) → IsSendable call.request.op call.answer → CanBeKept (option_map (kept_with call) (seqid_in names)) decision.effect.owner
+can_be_kept Nothing call journal old decision ruled sendable = plain_owner call.request.op journal old call.request decision ruled
+can_be_kept (Client client) call journal old decision ruled sendable = plain_owner call.request.op journal old call.request decision ruled
+can_be_kept (Opener owner seqid) call journal old decision ruled sendable = λ kind. sendable
+can_be_kept (Owned id seqid) call journal old decision ruled sendable = λ kind. sendable
+
+-- a request may be answered as its rule decides
+pub decided_next : (journal : History) (old : State) (request : Request) (result : Result Decision Shortage) → length journal.entries < JOURNAL_LIMIT → CanBeAsked journal request → Decides (IsRuled request.op journal old request) old request.op result → IfOk result (λ decision. IsNext journal old (entry_of request decision.answer) decision.effect)
+decided_next journal old request (Ok decision) below asked decides = record {
+  below = below;
+  allowed = record { rule = decides.0; other = decides.1.not_resource; node = asked.node };
+  fits = record {
+    kept = can_be_kept (names_of request.op) (record { request = request; answer = decision.answer }) journal old decision decides.0 decides.1;
+    numbers = decides.2;
+    place = decides.3;
+  };
+}
+decided_next journal old request (Err shortage) below asked decides = tt
+
+-- and its answer can be sent
+pub decided_sendable : (journal : History) (old : State) (request : Request) (result : Result Decision Shortage) → Decides (IsRuled request.op journal old request) old request.op result → IfOk result (λ decision. IsSendable request.op decision.answer)
+decided_sendable journal old request (Ok decision) decides = decides.1
+decided_sendable journal old request (Err shortage) decides = tt
+
+-- so may it with an answer that is the same
+pub with_same_answer : (journal : History) (old : State) (request : Request) (answer other : OpResult) (effect : Effect) → IsNext journal old (entry_of request answer) effect → other ≡ answer → IsNext journal old (entry_of request other) effect
+with_same_answer journal old request answer other effect next same =
+    subst (λ (a : OpResult). IsNext journal old (entry_of request a) effect) (sym same) next
+
+-- no other answer may come next
+pub other_answer : AtMostOneDecision → (journal : History) (old : State) (call : Call) (decision : Decision) → IsNext journal old (entry_of call.request decision.answer) decision.effect → decision.answer ≢ call.answer → HasNoStep journal old (entries.Call call)
+other_answer once journal old call decision next other new step =
+    let d : Decision = record { answer = call.answer; effect = step.effect } in
+    other (ap (λ (x : Decision). x.answer) (some_equal decision d (once journal old call.request (Some decision) (Some d) next.allowed.rule step.allowed.rule)))
+
+-- an operation with a rule has an entry in the journal
+ruled_entry : (op : Op) (journal : History) (old : State) (request : Request) (decision : Decision) → IsRuled op journal old request (Some decision) → IsTrue (has_entry op)
+ruled_entry (ops.Access args) journal old request decision ruled = absurd cc
+ruled_entry ops.Getfh journal old request decision ruled = absurd cc
+ruled_entry (ops.Lookup args) journal old request decision ruled = absurd cc
+ruled_entry (ops.Putfh args) journal old request decision ruled = absurd cc
+ruled_entry ops.Putrootfh journal old request decision ruled = absurd cc
+ruled_entry ops.Restorefh journal old request decision ruled = absurd cc
+ruled_entry ops.Savefh journal old request decision ruled = absurd cc
+ruled_entry op journal old request decision ruled = refl
+
+-- a request that can't be asked isn't answered
+pub not_asked : (journal : History) (old : State) (call : Call) → (CanBeAsked journal call.request → ⊥) → HasNoStep journal old (entries.Call call)
+not_asked journal old call not new step =
+    let decision : Decision = record { answer = call.answer; effect = step.effect } in
+    not (record { entry = ruled_entry call.request.op journal old call.request decision step.allowed.rule; node = step.allowed.node })
+
+-- where a decision fails because nothing may come next, a limit would be passed
+pub limit_not_next : (shortage : Shortage) → error_of shortage ≡ errors.NotNext → shortage ≡ shortages.Limit
+limit_not_next shortages.Limit is = refl
+limit_not_next shortages.Memory is = absurd cc
+
+-- an entry that may come next, and leads to the state that its effect gives
+pub Step-next : (journal : History) (old new : State) (entry : Entry) (effect : Effect) → IsNext journal old entry effect → new ≡ after (length journal.entries) effect old → Step journal old entry new
+Step-next journal old new entry effect next state = record { below = next.below; effect = effect; allowed = next.allowed; state = state }

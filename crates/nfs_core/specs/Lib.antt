@@ -3,3 +3,4 @@ pub mod Lawful
 pub mod Safe
 pub mod Server
 pub mod CoreError
+pub mod Following

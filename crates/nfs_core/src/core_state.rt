@@ -1,8 +1,8 @@
-ghost use Rattle.std.specs.Prelude.{◌≡◌, None, ◌≤◌, ◌<◌, [], IfOk, OnErr, IsErrOf, IsTrue, length};
+ghost use Rattle.std.specs.Prelude.{◌≡◌, ◌≤◌, [], IfOk, OnErr, IsErrOf, IsTrue, length};
+ghost use Rattle.nfs_core.specs.Following.{CanBeAsked, IsStoredBy, IsWithinLimits};
 ghost use Rattle.nfs_core.specs.Safe.{IsSafe};
 ghost use Rattle.nfs_core.specs.Server.{Applies, Enters, IsLawful};
 ghost use Rattle.nfs_core.specs.Step.{HasNoAnswer};
-ghost use Rattle.nfs_rules.specs.operations.{IsRuled};
 ghost use Rattle.nfs_state.specs.Entries.{IsFilehandle, IsSendable, entry_of, request_of};
 ghost use Rattle.nfs_state.specs.Kept.{Agrees};
 ghost use Rattle.nfs_state.specs.Room.{state_of, stored_of};
@@ -12,10 +12,11 @@ ghost use Rattle.nfs_xdr.specs.OpResult.{op_result};
 ghost use Rattle.nfs_xdr.specs.Opnum.{answer_limit};
 
 use crate::CoreError;
+use crate::following::decide_next;
 use crate::laws::lawful_is_safe;
-use nfs_rules::{at_most_one_decision, decide};
+use nfs_rules::at_most_one_decision;
 use nfs_state::{
-    Call, Entry, JOURNAL_LIMIT, Journal, LEASE_MAX, LEASE_MIN, Moment, Request, Shortage, Tables,
+    Call, Entry, Journal, LEASE_MAX, LEASE_MIN, Moment, Request, Shortage, Tables,
     commit_entry, copy_of_answer,
 };
 use nfs_tree::{Policy, Tree};
@@ -128,11 +129,8 @@ fn enter(
     journal: &mut Journal,
     request: Request,
 ) -> Result<(OpResult, u32), Shortage>
-    requires entry { IsTrue (has_entry request.op) }
-    requires node { IsFilehandle journal.old.history request.filehandle }
-    requires numbers { tables.old.clients.registry.last_confirm ≤ length journal.old.history.entries }
-    requires states { tables.old.numbers ≤ length journal.old.history.entries }
-    requires kept { Agrees journal.old.history tables.old.owners.owners }
+    requires asked { CanBeAsked journal.old.history request }
+    requires stored { IsStoredBy journal.old.history (stored_of tables.old) }
     ensures entered { IfOk result (λ r. Enters
         (record {
           journal = journal.old.history;
@@ -150,16 +148,12 @@ fn enter(
     ensures limit { IsErrOf result Shortage.Limit
         → HasNoAnswer journal.old.history (state_of tables.old) request }
     ensures memory { IsErrOf result Shortage.Memory
-        → (length journal.old.history.entries < JOURNAL_LIMIT)
-        × (IsRuled request.op journal.old.history (state_of tables.old) request None → ⊥) }
+        → IsWithinLimits journal.old.history (state_of tables.old) request }
     ensures same { OnErr result ((journal.new.history ≡ journal.old.history)
         × (stored_of tables.new ≡ stored_of tables.old)) }
 {
     at_most_one_decision();
-    if journal.is_full() {
-        return Err(Shortage::Limit);
-    }
-    let decision = decide(alloc, tables, journal, &request)?;
+    let decision = decide_next(alloc, tables, journal, &request)?;
     let answer = copy_of_answer(&decision.answer)?;
     let entry = Entry::Call(Call { request, answer });
     let number = commit_entry(alloc, tables, journal, entry, decision.effect)?;

@@ -3,6 +3,7 @@
 
 mod core_error;
 mod core_state;
+mod following;
 mod laws;
 
 pub use core_error::CoreError;

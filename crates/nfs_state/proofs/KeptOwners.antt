@@ -2,12 +2,11 @@
 use Rattle.std.proofs.Common.{◌≡◌, ℕ, zero, suc, Bool, true, false, Option, None, Some, List, [], ◌∷◌, ◌++◌, length, map, refl, ap, ◌∙◌, subst, sym}
 use Rattle.std.specs.Str.{bytes_eq}
 use Rattle.std.specs.Prelude.{◌&&◌, not, option_and_then, option_map, slice_get, if◌then◌else◌}
-use Rattle.nfs_state.specs.declared.entry.Call.{Call}
 use Rattle.nfs_state.specs.declared.entry.Entry.{Entry}
 use Rattle.nfs_state.specs.declared.owner_change.OwnerChange.{OwnerChange}
 use Rattle.nfs_state.specs.declared.owner_change.OwnerChange.TheVariants as owner_changes
-use Rattle.nfs_state.specs.Entries.{IsSendable, call_at, call_of, with_entry}
-use Rattle.nfs_state.specs.Kept.{Agrees, CanBeKept, IsKeptIn, owners_after, update_by, update_of, kept_of}
+use Rattle.nfs_state.specs.Entries.{IsSendable, with_entry}
+use Rattle.nfs_state.specs.Kept.{Agrees, CanBeKept, IsKeptIn, kept_at, kept_in, owners_after, update_by, update_of}
 use Rattle.nfs_state.specs.State.{History}
 use Rattle.std.proofs.lemmas.Bool.{and_parts, cond_both, false≢true}
 use Rattle.nfs_forms.specs.ClientId.{is_same_client}
@@ -20,23 +19,23 @@ use Rattle.nfs_owners.specs.declared.owner.Owner.{Owner}
 use Rattle.nfs_owners.specs.Owner.{has_name, is_known, new_owner, with_request}
 use Rattle.nfs_owners.specs.Owners.{with_kept, without_owner}
 
--- what an entry has, a longer journal has
-kept_longer : (keep : Call → Kept) (entries more : List Entry) (number : ℕ) (kept : Kept) → option_map keep (option_and_then call_of (slice_get entries number)) ≡ Some kept → option_map keep (option_and_then call_of (slice_get (entries ++ more) number)) ≡ Some kept
-kept_longer keep [] more number kept is = absurd cc
-kept_longer keep (first ∷ entries) more zero kept is = is
-kept_longer keep (first ∷ entries) more (suc number) kept is = kept_longer keep entries more number kept is
+-- what an owner keeps of an entry, it keeps of it in a longer journal
+kept_longer : (kind : OwnerKind) (entries more : List Entry) (number : ℕ) (kept : Kept) → option_map (λ (k : OwnerKind → Kept). k kind) (option_and_then kept_in (slice_get entries number)) ≡ Some kept → option_map (λ (k : OwnerKind → Kept). k kind) (option_and_then kept_in (slice_get (entries ++ more) number)) ≡ Some kept
+kept_longer kind [] more number kept is = absurd cc
+kept_longer kind (first ∷ entries) more zero kept is = is
+kept_longer kind (first ∷ entries) more (suc number) kept is = kept_longer kind entries more number kept is
 
--- what the last entry has
-kept_last : (keep : Call → Kept) (entries : List Entry) (entry : Entry) → option_map keep (option_and_then call_of (slice_get (entries ++ entry ∷ []) (length entries))) ≡ option_map keep (call_of entry)
-kept_last keep [] entry = refl
-kept_last keep (first ∷ entries) entry = kept_last keep entries entry
+-- what it keeps of the last entry
+kept_last : (kind : OwnerKind) (entries : List Entry) (entry : Entry) → option_map (λ (k : OwnerKind → Kept). k kind) (option_and_then kept_in (slice_get (entries ++ entry ∷ []) (length entries))) ≡ option_map (λ (k : OwnerKind → Kept). k kind) (kept_in entry)
+kept_last kind [] entry = refl
+kept_last kind (first ∷ entries) entry = kept_last kind entries entry
 
 -- the stored owners agree with a longer journal too
 Agrees-longer : (journal : History) (entry : Entry) (owners : List Owner) → Agrees journal owners → Agrees (with_entry entry journal) owners
 Agrees-longer journal entry [] agrees = agrees
 Agrees-longer journal entry (o ∷ owners) agrees = (
   record {
-    entry = kept_longer (kept_of o.name.kind) journal.entries (entry ∷ []) o.state.number o.state.kept agrees.0.entry;
+    entry = kept_longer o.name.kind journal.entries (entry ∷ []) o.state.number o.state.kept agrees.0.entry;
     sendable = agrees.0.sendable;
   },
   Agrees-longer journal entry owners agrees.1,
@@ -57,7 +56,7 @@ Agrees-without journal name (o ∷ owners) agrees =
 
 -- the entry with this number has this to keep for owners of each kind, which can be sent again
 record IsEntryOf (journal : History) (number : ℕ) (kept : OwnerKind → Kept) : Type 0 where
-  pub entry : (kind : OwnerKind) → option_map (kept_of kind) (call_at journal number) ≡ Some (kept kind)
+  pub entry : (kind : OwnerKind) → kept_at journal kind number ≡ Some (kept kind)
   pub sendable : (kind : OwnerKind) → IsSendable (kept kind).request.op (kept kind).answer
 
 -- an owner with the name is of its kind
@@ -106,15 +105,15 @@ after_update journal (owner_changes.Restarts name) number kept owners is agrees 
 after_update journal (owner_changes.Drops name) number kept owners is agrees = Agrees-without journal (open_owner name) owners agrees
 
 -- after an entry that may be kept, the stored owners agree with the journal that ends with it
-Agrees-after : (journal : History) (entry : Entry) (found : Option Call) (change : OwnerChange) (owners : List Owner) → call_of entry ≡ found → CanBeKept found change → Agrees journal owners → Agrees (with_entry entry journal) (owners_after (update_by change found) (length journal.entries) owners)
+Agrees-after : (journal : History) (entry : Entry) (found : Option (OwnerKind → Kept)) (change : OwnerChange) (owners : List Owner) → kept_in entry ≡ found → CanBeKept found change → Agrees journal owners → Agrees (with_entry entry journal) (owners_after (update_by change found) (length journal.entries) owners)
 Agrees-after journal entry None change owners is keeps agrees = Agrees-longer journal entry owners agrees
-Agrees-after journal entry (Some call) change owners is sendable agrees =
-    after_update (with_entry entry journal) change (length journal.entries) (λ kind. kept_of kind call) owners (record { entry = λ kind. kept_last (kept_of kind) journal.entries entry ∙ ap (option_map (kept_of kind)) is; sendable = λ kind. sendable }) (Agrees-longer journal entry owners agrees)
+Agrees-after journal entry (Some kept) change owners is sendable agrees =
+    after_update (with_entry entry journal) change (length journal.entries) kept owners (record { entry = λ kind. kept_last kind journal.entries entry ∙ ap (option_map (λ (k : OwnerKind → Kept). k kind)) is; sendable = sendable }) (Agrees-longer journal entry owners agrees)
 
 -- after an entry that may be kept, and its change, the stored owners agree with the journal; the journal, the number and
 -- the owners after the change have names of their own
-pub Agrees-changed : (old new : History) (entry : Entry) (change : OwnerChange) (number : ℕ) (owners after : List Owner) → ((journal : History) → Agrees journal (owners_after (update_by change (call_of entry)) number owners) → Agrees journal after) → new ≡ with_entry entry old → number ≡ length old.entries → CanBeKept (call_of entry) change → Agrees old owners → Agrees new after
+pub Agrees-changed : (old new : History) (entry : Entry) (change : OwnerChange) (number : ℕ) (owners after : List Owner) → ((journal : History) → Agrees journal (owners_after (update_by change (kept_in entry)) number owners) → Agrees journal after) → new ≡ with_entry entry old → number ≡ length old.entries → CanBeKept (kept_in entry) change → Agrees old owners → Agrees new after
 Agrees-changed old new entry change number owners after keeps is at kept agrees =
-    let with_number : ℕ → Type 0 = λ n. Agrees (with_entry entry old) (owners_after (update_by change (call_of entry)) n owners) in
+    let with_number : ℕ → Type 0 = λ n. Agrees (with_entry entry old) (owners_after (update_by change (kept_in entry)) n owners) in
     let with_journal : History → Type 0 = λ journal. Agrees journal after in
-    subst with_journal (sym is) (keeps (with_entry entry old) (subst with_number (sym at) (Agrees-after old entry (call_of entry) change owners refl kept agrees)))
+    subst with_journal (sym is) (keeps (with_entry entry old) (subst with_number (sym at) (Agrees-after old entry (kept_in entry) change owners refl kept agrees)))

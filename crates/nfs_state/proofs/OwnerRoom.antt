@@ -5,14 +5,13 @@ use Rattle.std.proofs.lemmas.Bool.{cond-true}
 use Rattle.std.proofs.lemmas.List.{length-map}
 use Rattle.nfs_owners.specs.declared.owner.TheConstants.{OWNER_LIMIT}
 use Rattle.nfs_state.specs.declared.change.Change.{Change}
-use Rattle.nfs_state.specs.declared.entry.Call.{Call}
 use Rattle.nfs_state.specs.declared.owner_update.OwnerUpdate.{OwnerUpdate}
 use Rattle.nfs_state.specs.declared.owner_update.OwnerUpdate.TheVariants as updates
 use Rattle.nfs_state.specs.declared.change.Change.TheVariants as changes
 use Rattle.nfs_state.specs.declared.owner_change.OwnerChange.{OwnerChange}
 use Rattle.nfs_state.specs.declared.owner_change.OwnerChange.TheVariants as owner_changes
 use Rattle.nfs_state.specs.declared.tables.Tables.{Tables}
-use Rattle.nfs_state.specs.Kept.{CanBeKept, kept_of, update_by, update_of}
+use Rattle.nfs_state.specs.Kept.{CanBeKept, update_by, update_of}
 use Rattle.nfs_state.specs.Owners as known
 use Rattle.nfs_locks.specs.AllLocks.{is_full_for, locks_of}
 use Rattle.nfs_state.specs.Room.{IsWithinLimits, HasOwnerPlace, HasOwnerRoom, CanKeep, HasUpdateRoom, IsNewcomer, is_known as is_known_in, state_of}
@@ -62,18 +61,18 @@ update_room (owner_changes.Records name) kept tables place room = new_can_keep (
 update_room (owner_changes.Restarts name) kept tables place room = (known_place (open_owner name) tables.owners.owners place, room)
 update_room (owner_changes.Drops name) kept tables place room = tt
 
-pub update_room_by : (change : OwnerChange) (found : Option Call) (tables : Tables) → HasOwnerPlace change (state_of tables) → HasOwnerRoom change tables → HasUpdateRoom (update_by change found) tables
+pub update_room_by : (change : OwnerChange) (found : Option (OwnerKind → Kept)) (tables : Tables) → HasOwnerPlace change (state_of tables) → HasOwnerRoom change tables → HasUpdateRoom (update_by change found) tables
 update_room_by change None tables place room = tt
-update_room_by change (Some call) tables place room = update_room change (λ kind. kept_of kind call) tables place room
+update_room_by change (Some kept) tables place room = update_room change kept tables place room
 
 -- an entry that may be kept changes the owners as its effect says
-pub owners_changed : (update : OwnerUpdate) (change : OwnerChange) (found : Option Call) (number : ℕ) (old new : State) → update ≡ update_by change found → CanBeKept found change
+pub owners_changed : (update : OwnerUpdate) (change : OwnerChange) (found : Option (OwnerKind → Kept)) (number : ℕ) (old new : State) → update ≡ update_by change found → CanBeKept found change
     → ((change : OwnerChange) (kept : OwnerKind → Kept) → update ≡ update_of change kept → HasOwnerPlace change old → new ≡ with_owner_change change number old)
     → (update ≡ updates.Nothing → new ≡ old) → HasOwnerPlace change old → new ≡ with_owner_change change number old
-owners_changed update change None number old new is nothing kept same place =
+owners_changed update change None number old new is nothing keeps same place =
     same is ∙ ap (λ c. with_owner_change c number old) (sym nothing)
-owners_changed update change (Some call) number old new is sendable kept same place =
-    kept change (λ kind. kept_of kind call) is place
+owners_changed update change (Some kept) number old new is sendable keeps same place =
+    keeps change kept is place
 
 -- what an entry means for an owner passes no limit of the change after it
 limits_alike : (change : Change) (old new : State) → new.clients ≡ old.clients → new.last_state ≡ old.last_state → new.locks ≡ old.locks → IsWithinLimits change old → IsWithinLimits change new

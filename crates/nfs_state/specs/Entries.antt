@@ -1,5 +1,5 @@
 -- Requests and answers as the journal records them.
-use Rattle.std.specs.Prelude.{◌≡◌, ◌≢◌, ℕ, ◌<◌, [], ◌∷◌, ◌++◌, Option, Some, IfSome, option_and_then, slice_get}
+use Rattle.std.specs.Prelude.{◌≡◌, ◌≢◌, ℕ, ◌<◌, [], ◌∷◌, ◌++◌, Option, Some, IfSome}
 use Rattle.nfs_forms.specs.declared.principal.Principal.{Principal}
 use Rattle.nfs_forms.specs.declared.status.Refusal.TheVariants.{Resource}
 use Rattle.nfs_state.specs.State.{History}
@@ -37,10 +37,6 @@ entry_of request answer =
 -- the call that an entry records, if it records one
 abbrev pub call_of : Entry → Option Call
 call_of (entries.Call call) = Some call
-
--- the call that the journal's entry with this number records
-abbrev pub call_at : History → ℕ → Option Call
-call_at journal number = option_and_then call_of (slice_get journal.entries number)
 
 -- the journal with one more entry at the end
 abbrev pub with_entry : Entry → History → History

@@ -1,7 +1,7 @@
 -- What is kept for an owner, and that what is stored of it is what the owner's entry in the journal has.
-use Rattle.std.specs.Prelude.{◌≡◌, ℕ, List, Option, None, Some, option_map}
+use Rattle.std.specs.Prelude.{◌≡◌, ℕ, List, Option, None, Some, option_and_then, option_map, slice_get}
 use Rattle.std.specs.List.{AllByRecursion}
-use Rattle.nfs_state.specs.Entries.{IsSendable, call_at}
+use Rattle.nfs_state.specs.Entries.{IsSendable, call_of}
 use Rattle.nfs_state.specs.State.{History}
 use Rattle.nfs_state.specs.declared.owner_change.OwnerChange.{OwnerChange}
 use Rattle.nfs_state.specs.declared.owner_change.OwnerChange.TheVariants as changes
@@ -20,6 +20,7 @@ use Rattle.nfs_owners.specs.Owners.{with_kept, without_owner}
 use Rattle.nfs_owners.specs.Kept.{request_of}
 use Rattle.nfs_state.specs.Owners.{KnownOwner}
 use Rattle.nfs_state.specs.declared.entry.Call.{Call}
+use Rattle.nfs_state.specs.declared.entry.Entry.{Entry}
 use Rattle.nfs_xdr.specs.Names.{seqid_of}
 use Rattle.nfs_xdr.specs.declared.op.Op.{Op}
 use Rattle.nfs_xdr.specs.declared.op.Op.TheVariants as ops
@@ -29,33 +30,40 @@ abbrev pub lock_owner_seqid : Locker → ℕ
 lock_owner_seqid (lockers.New locker) = locker.lock_seqid
 lock_owner_seqid (lockers.Known locker) = locker.lock_seqid
 
--- nobody keeps an operation that goes by no sequence id
-abbrev pub given_seqid : Option ℕ → ℕ
-given_seqid (Some seqid) = seqid
-given_seqid None = 0
+-- Of an operation that goes by this sequence id, the one that an owner of this kind keeps: a LOCK that introduces a lock
+-- owner has another one for that owner.
+abbrev pub seqid_for : OwnerKind → Op → ℕ → ℕ
+seqid_for kinds.Lock (ops.Lock args) seqid = lock_owner_seqid args.locker
+seqid_for kind op seqid = seqid
 
--- The sequence id that an owner of this kind keeps of the operation. A LOCK that introduces a lock owner has one for each
--- kind.
-abbrev pub seqid_for : OwnerKind → Op → ℕ
-seqid_for kinds.Open op = given_seqid (seqid_of op)
-seqid_for kinds.Lock (ops.Lock args) = lock_owner_seqid args.locker
-seqid_for kinds.Lock op = given_seqid (seqid_of op)
-
--- the request and the answer, as they are kept for an owner of this kind
-abbrev pub kept_of : OwnerKind → Call → Kept
-kept_of kind call = record {
-  seqid = seqid_for kind call.request.op;
+-- the request and the answer of a call that goes by this sequence id, as they are kept for an owner of this kind
+abbrev pub kept_with : Call → ℕ → OwnerKind → Kept
+kept_with call seqid kind = record {
+  seqid = seqid_for kind call.request.op seqid;
   request = request_of call.request.op call.request.filehandle;
   answer = call.answer;
 }
 
+-- The same of any call, if it goes by a sequence id: nobody keeps another one.
+abbrev pub kept_of : Call → Option (OwnerKind → Kept)
+kept_of call = option_map (kept_with call) (seqid_of call.request.op)
+
+-- what owners of each kind keep of an entry, if there is something to keep
+abbrev pub kept_in : Entry → Option (OwnerKind → Kept)
+kept_in entry = option_and_then kept_of (call_of entry)
+
+-- what an owner of this kind keeps of the journal's entry with this number
+abbrev pub kept_at : History → OwnerKind → ℕ → Option Kept
+kept_at journal kind number =
+    option_map (λ kept. kept kind) (option_and_then kept_in (slice_get journal.entries number))
+
 -- what is kept for the owner
 abbrev pub kept_for : History → KnownOwner → Option Kept
-kept_for journal o = option_map (kept_of o.name.kind) (call_at journal o.kept_entry)
+kept_for journal o = kept_at journal o.name.kind o.kept_entry
 
 -- the owner keeps the request and the answer of its entry, which can be sent again
 pub record IsKeptIn (journal : History) (o : Owner) : Type 0 where
-  pub entry : option_map (kept_of o.name.kind) (call_at journal o.state.number) ≡ Some o.state.kept
+  pub entry : kept_at journal o.name.kind o.state.number ≡ Some o.state.kept
   pub sendable : IsSendable o.state.kept.request.op o.state.kept.answer
 
 abbrev pub Agrees : History → List Owner → Type 0
@@ -77,16 +85,17 @@ update_of (changes.Records owner) kept = updates.Keeps (keeping (open_owner owne
 update_of (changes.Restarts owner) kept = updates.Restarts owner (kept kinds.Open)
 update_of (changes.Drops owner) kept = updates.Drops owner
 
--- the same by the call that the entry records; an entry that records none means nothing for the owners
-abbrev pub update_by : OwnerChange → Option Call → OwnerUpdate
+-- the same, if there is something to keep; an entry with nothing to keep means nothing for the owners
+abbrev pub update_by : OwnerChange → Option (OwnerKind → Kept) → OwnerUpdate
 update_by change None = updates.Nothing
-update_by change (Some call) = update_of change (λ kind. kept_of kind call)
+update_by change (Some kept) = update_of change kept
 
--- Owners may keep the entry as the change says: a call has an answer that can be sent again, and an entry that records
--- no call means nothing for them.
-abbrev pub CanBeKept : Option Call → OwnerChange → Type 0
+-- Owners may keep it as the change says: what is kept can be sent again, and an entry with nothing to keep means nothing
+-- for them.
+abbrev pub CanBeKept : Option (OwnerKind → Kept) → OwnerChange → Type 0
 CanBeKept None change = change ≡ changes.Nothing
-CanBeKept (Some call) change = IsSendable call.request.op call.answer
+CanBeKept (Some kept) change =
+    (kind : OwnerKind) → IsSendable (kept kind).request.op (kept kind).answer
 
 -- the owners after one keeps a request and an answer, in the entry with this number
 abbrev pub kept_by : Keeping → ℕ → List Owner → List Owner

@@ -9,8 +9,7 @@ use Rattle.nfs_state.specs.declared.owner_change.OwnerChange.TheVariants as owne
 use Rattle.nfs_state.specs.declared.tables.Tables.{Tables}
 use Rattle.nfs_state.specs.declared.owner_update.OwnerUpdate.{OwnerUpdate}
 use Rattle.nfs_state.specs.declared.owner_update.OwnerUpdate.TheVariants as updates
-use Rattle.nfs_state.specs.Entries.{call_of}
-use Rattle.nfs_state.specs.Kept.{CanBeKept}
+use Rattle.nfs_state.specs.Kept.{CanBeKept, kept_in}
 use Rattle.nfs_state.specs.Owners.{owner_of}
 use Rattle.nfs_owners.specs.Owner as owners
 use Rattle.nfs_locks.specs.AllLocks.{HasLockRoomAt, is_full_for, locks_of, stored_in}
@@ -112,6 +111,6 @@ IsWithinLimits change state = ⊤
 -- The entry with this effect can be committed in this state: owners may keep it, the numbers that its change uses are
 -- left, and there is a place for an owner that it records.
 pub record Fits (entry : Entry) (effect : Effect) (state : State) : Type 0 where
-  pub kept : CanBeKept (call_of entry) effect.owner
+  pub kept : CanBeKept (kept_in entry) effect.owner
   pub numbers : IsWithinLimits effect.change state
   pub place : HasOwnerPlace effect.owner state

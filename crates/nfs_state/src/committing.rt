@@ -1,7 +1,7 @@
 ghost use Rattle.std.specs.Prelude.{◌≡◌, ◌<◌, IfErr, IfOk, OnErr, OnOk, length};
 ghost use Rattle.nfs_state.specs.Changes.{after};
-ghost use Rattle.nfs_state.specs.Entries.{call_of, with_entry};
-ghost use Rattle.nfs_state.specs.Kept.{Agrees, owners_after, update_by};
+ghost use Rattle.nfs_state.specs.Entries.{with_entry};
+ghost use Rattle.nfs_state.specs.Kept.{Agrees, kept_in, owners_after, update_by};
 ghost use Rattle.nfs_state.specs.Room.{Fits, state_of, stored_of};
 ghost use Rattle.nfs_state.specs.State.{History};
 
@@ -52,7 +52,7 @@ fn make_changes(
     ensures state { OnOk result (state_of tables.new
         ≡ after number effect (state_of tables.old)) }
     ensures kept { OnOk result ((journal : History) → Agrees journal (owners_after
-        (update_by effect.owner (call_of entry.now)) number tables.old.owners.owners)
+        (update_by effect.owner (kept_in entry.now)) number tables.old.owners.owners)
         → Agrees journal tables.new.owners.owners) }
     ensures memory { IfErr result (λ e. e ≡ Shortage.Memory) }
     ensures same { OnErr result (stored_of tables.new ≡ stored_of tables.old) }

@@ -1,5 +1,5 @@
 ghost use Rattle.std.specs.Prelude.{◌≡◌, IfOk};
-ghost use Rattle.nfs_state.specs.Kept.{given_seqid, kept_of, lock_owner_seqid, seqid_for};
+ghost use Rattle.nfs_state.specs.Kept.{kept_with, lock_owner_seqid, seqid_for};
 ghost use Rattle.nfs_xdr.specs.Names.{seqid_of};
 
 use crate::Request;
@@ -26,12 +26,22 @@ pub struct Call {
 pub const JOURNAL_LIMIT: usize = 1_000_000;
 
 impl Call {
-    /// The request and the answer, as they are kept for an owner of this kind.
-    pub(crate) fn kept(&self, kind: OwnerKind) -> Result<Kept, AllocError>
-        ensures { IfOk result (λ k. k ≡ kept_of kind self.now) }
+    /// The sequence id by which the request goes, if it goes by one.
+    pub(crate) fn seqid(&self) -> Option<u32>
+        ensures { result ≡ seqid_of self.now.request.op }
+    {
+        match self.request.op.names() {
+            Names::Opener(_, seqid) | Names::Owned(_, seqid) => Some(seqid),
+            Names::Nothing | Names::Client(_) => None,
+        }
+    }
+
+    /// The request, which goes by this sequence id, and the answer, as they are kept for an owner of this kind.
+    pub(crate) fn kept(&self, seqid: u32, kind: OwnerKind) -> Result<Kept, AllocError>
+        ensures { IfOk result (λ k. k ≡ kept_with self.now seqid kind) }
     {
         Ok(Kept {
-            seqid: seqid_for(kind, &self.request.op),
+            seqid: seqid_for(kind, &self.request.op, seqid),
             request: KeptRequest {
                 op: copy_of_op(&self.request.op)?,
                 filehandle: self.request.filehandle,
@@ -55,23 +65,13 @@ pub fn copy_of_answer(answer: &OpResult) -> Result<OpResult, AllocError>
     answer.clone()
 }
 
-// The sequence id that an owner of this kind keeps of the operation.
-fn seqid_for(kind: OwnerKind, op: &Op) -> u32
-    ensures { result ≡ seqid_for kind op.now }
+// Of the operation, which goes by this sequence id, the one that an owner of this kind keeps.
+fn seqid_for(kind: OwnerKind, op: &Op, seqid: u32) -> u32
+    ensures { result ≡ seqid_for kind op.now seqid }
 {
     match (kind, op) {
         (OwnerKind::Lock, Op::Lock(args)) => lock_owner_seqid(&args.locker),
-        _ => given_seqid(op),
-    }
-}
-
-// The sequence id by which the operation goes.
-fn given_seqid(op: &Op) -> u32
-    ensures { result ≡ given_seqid (seqid_of op.now) }
-{
-    match op.names() {
-        Names::Opener(_, seqid) | Names::Owned(_, seqid) => seqid,
-        Names::Nothing | Names::Client(_) => 0,
+        _ => seqid,
     }
 }
 

@@ -1,6 +1,5 @@
 ghost use Rattle.std.specs.Prelude.{◌≡◌, IfOk};
-ghost use Rattle.nfs_state.specs.Entries.{call_of};
-ghost use Rattle.nfs_state.specs.Kept.{kept_of, update_by, update_of};
+ghost use Rattle.nfs_state.specs.Kept.{kept_in, kept_with, update_by, update_of};
 
 use crate::owner_change::OwnerChange;
 use crate::{Call, Entry};
@@ -32,30 +31,33 @@ pub(crate) struct Keeping {
 impl OwnerUpdate {
     /// What the entry means for the owners, where it may be kept so.
     pub(crate) fn of(change: OwnerChange, entry: &Entry) -> Result<OwnerUpdate, AllocError>
-        ensures { IfOk result (λ u. u ≡ update_by change (call_of entry.now)) }
+        ensures { IfOk result (λ u. u ≡ update_by change (kept_in entry.now)) }
     {
         match entry {
-            Entry::Call(call) => OwnerUpdate::of_call(change, call),
+            Entry::Call(call) => match call.seqid() {
+                Some(seqid) => OwnerUpdate::of_call(change, call, seqid),
+                None => Ok(OwnerUpdate::Nothing),
+            },
         }
     }
 
-    // What the call means for the owners.
-    fn of_call(change: OwnerChange, call: &Call) -> Result<OwnerUpdate, AllocError>
-        ensures { IfOk result (λ u. u ≡ update_of change (λ kind. kept_of kind call.now)) }
+    // What the call, which goes by this sequence id, means for the owners.
+    fn of_call(change: OwnerChange, call: &Call, seqid: u32) -> Result<OwnerUpdate, AllocError>
+        ensures { IfOk result (λ u. u ≡ update_of change (kept_with call.now seqid)) }
     {
         Ok(match change {
             OwnerChange::Nothing => OwnerUpdate::Nothing,
-            OwnerChange::Keeps(owner) => OwnerUpdate::Keeps(Keeping::of(owner, call)?),
+            OwnerChange::Keeps(owner) => OwnerUpdate::Keeps(Keeping::of(owner, call, seqid)?),
             OwnerChange::KeepsBoth(owner, newcomer) | OwnerChange::Introduces(owner, newcomer) => {
-                OwnerUpdate::KeepsBoth(Keeping::of(owner, call)?, Keeping::of(newcomer, call)?)
+                let keeping = Keeping::of(owner, call, seqid)?;
+                OwnerUpdate::KeepsBoth(keeping, Keeping::of(newcomer, call, seqid)?)
             }
             OwnerChange::Records(owner) => {
-                OwnerUpdate::Keeps(Keeping::of(StateOwner::of_open(owner), call)?)
+                OwnerUpdate::Keeps(Keeping::of(StateOwner::of_open(owner), call, seqid)?)
             }
-            OwnerChange::Restarts(owner) => OwnerUpdate::Restarts(
-                owner,
-                call.kept(OwnerKind::Open)?,
-            ),
+            OwnerChange::Restarts(owner) => {
+                OwnerUpdate::Restarts(owner, call.kept(seqid, OwnerKind::Open)?)
+            }
             OwnerChange::Drops(owner) => OwnerUpdate::Drops(owner),
         })
     }
@@ -64,11 +66,11 @@ impl OwnerUpdate {
 impl Keeping {
     ghost use Rattle.nfs_state.specs.Kept.{keeping};
 
-    // The owner with what it keeps of the call.
-    fn of(owner: StateOwner, call: &Call) -> Result<Keeping, AllocError>
-        ensures { IfOk result (λ k. k ≡ keeping owner (λ kind. kept_of kind call.now)) }
+    // The owner with what it keeps of the call, which goes by this sequence id.
+    fn of(owner: StateOwner, call: &Call, seqid: u32) -> Result<Keeping, AllocError>
+        ensures { IfOk result (λ k. k ≡ keeping owner (kept_with call.now seqid)) }
     {
-        let kept = call.kept(owner.kind)?;
+        let kept = call.kept(seqid, owner.kind)?;
         Ok(Keeping { owner, kept })
     }
 }

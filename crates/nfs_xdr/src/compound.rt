@@ -67,7 +67,12 @@ fn read_head(bytes: &[u8]) -> Result<((&[u8], (u32, u32)), &[u8]), WireError>
     Ok(((tag, (minor, count)), rest))
 }
 
-fn read_request(alloc: Global, minor: u32, count: u32, bytes: &[u8]) -> Result<CompoundRequest, AllocError>
+fn read_request(
+    alloc: Global,
+    minor: u32,
+    count: u32,
+    bytes: &[u8],
+) -> Result<CompoundRequest, AllocError>
     ensures { IfOk result (λ request. request ≡ request_at minor count bytes.now) }
 {
     if minor != 0 {

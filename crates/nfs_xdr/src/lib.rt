@@ -9,10 +9,12 @@ mod names;
 mod op;
 mod op_result;
 mod opnum;
+mod same;
 
 pub use arg_op::{ArgOp, read_op};
 pub use compound::{
-    Compound, OPERATION_LIMIT, CompoundRequest, one_request_is_encoded, read_compound, write_results,
+    Compound, CompoundRequest, OPERATION_LIMIT, one_request_is_encoded, read_compound,
+    write_results,
 };
 pub use limits::limit_of_compounds;
 pub use names::Names;

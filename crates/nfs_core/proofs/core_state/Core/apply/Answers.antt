@@ -1,13 +1,21 @@
+use Rattle.std.proofs.Common.{rules}
 use Rattle.nfs_state.specs.Room.{state_of, stored_of}
 use Rattle.nfs_core.proofs.Journals.{Lawful-confirm, Lawful-entered, Lawful-same, Lawful-state}
 use Rattle.nfs_core.proofs.core_state.Core.apply.Goals as goal
 use Rattle.nfs_core.proofs.core_state.Core.apply.Goals.{in-Ok-enter, in-Err}
 
-pub enter-requires-clause-numbers : goal.enter-requires-clause-numbers
-enter-requires-clause-numbers c = Lawful-confirm c.self.inside.journal.history (state_of c.self.inside.tables) c.self.invariant.0
+pub enter-requires-clause-asked : goal.enter-requires-clause-asked
+enter-requires-clause-asked c = record { entry = search rules; node = search rules }
 
-pub enter-requires-clause-states : goal.enter-requires-clause-states
-enter-requires-clause-states c = Lawful-state c.self.inside.journal.history (state_of c.self.inside.tables) c.self.invariant.0
+pub enter-requires-clause-stored : goal.enter-requires-clause-stored
+enter-requires-clause-stored c =
+    let journal = c.self.inside.journal.history in
+    let state = state_of c.self.inside.tables in
+    record {
+      confirms = Lawful-confirm journal state c.self.invariant.0;
+      states = Lawful-state journal state c.self.invariant.0;
+      owners = c.self.invariant.1;
+    }
 
 pub invariant_of-self-2 : goal.invariant_of-self-2
 invariant_of-self-2 c =

@@ -1,0 +1,19 @@
+use Rattle.std.proofs.Common.{rules}
+use Rattle.nfs_core.proofs.Entering.{decided_next, decided_sendable, full_follows, no_answer, within_limits}
+use Rattle.nfs_core.proofs.following.decide_next.Goals as goal
+use Rattle.nfs_state.specs.Entries.{entry_of}
+use Rattle.nfs_state.specs.Room.{state_of}
+
+pub returns-clause-next : goal.returns-clause-next
+returns-clause-next c = decided_next c.args.journal.now.history (state_of c.args.tables.now) c.args.request.now c.decide.result (search rules) c.requires.asked c.decide.ensures
+
+pub returns-clause-sendable : goal.returns-clause-sendable
+returns-clause-sendable c = decided_sendable c.args.journal.now.history (state_of c.args.tables.now) c.args.request.now c.decide.result c.decide.ensures
+
+pub returns-clause-limit : goal.returns-clause-limit
+returns-clause-limit c is_limit =
+    no_answer c.at_most_one_decision.ensures c.args.journal.now.history (state_of c.args.tables.now) c.args.request.now c.decide.result c.decide.ensures is_limit
+
+pub returns-clause-memory : goal.returns-clause-memory
+returns-clause-memory c is_memory =
+    within_limits c.args.journal.now.history (state_of c.args.tables.now) c.args.request.now c.decide.result (search rules) c.decide.ensures is_memory

@@ -1,0 +1,11 @@
+use Rattle.nfs_core.proofs.Entering.{Step-next}
+use Rattle.nfs_core.proofs.following.follow.Goals as goal
+use Rattle.nfs_state.specs.Room.{state_of}
+
+pub returns-clause-entered : goal.returns-clause-entered
+returns-clause-entered c =
+    let entered = c.in_ok-commit_entry.ensures in (
+      entered.number,
+      entered.entry,
+      Step-next c.args.journal.now.history (state_of c.args.tables.now) _ c.args.entry c.in_ok-effect.effect c.in_ok-effect.ensures.next entered.state,
+    )

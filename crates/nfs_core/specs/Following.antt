@@ -1,0 +1,48 @@
+-- What may come next in a journal, as it is judged before it is entered.
+use Rattle.std.specs.Prelude.{ℕ, ◌<◌, ◌≤◌, IsTrue, None, length}
+use Rattle.nfs_core.specs.Step.{Allows}
+use Rattle.nfs_core.specs.declared.following.FollowError.{FollowError}
+use Rattle.nfs_core.specs.declared.following.FollowError.TheVariants as errors
+use Rattle.nfs_rules.specs.operations.{IsRuled}
+use Rattle.nfs_state.specs.declared.effect.Effect.{Effect}
+use Rattle.nfs_state.specs.declared.entry.Entry.{Entry}
+use Rattle.nfs_state.specs.declared.entry.TheConstants.{JOURNAL_LIMIT}
+use Rattle.nfs_state.specs.declared.request.Request.{Request}
+use Rattle.nfs_state.specs.declared.shortage.Shortage.{Shortage}
+use Rattle.nfs_state.specs.declared.shortage.Shortage.TheVariants as shortages
+use Rattle.nfs_state.specs.Entries.{IsFilehandle}
+use Rattle.nfs_state.specs.Kept.{Agrees}
+use Rattle.nfs_state.specs.Room.{Fits}
+use Rattle.nfs_state.specs.State.{State, History}
+use Rattle.nfs_state.specs.Stored.{Stored}
+use Rattle.nfs_xdr.specs.Op.{has_entry}
+
+-- What is stored agrees with this journal as far as a decision needs it: no more confirm values and no more numbers of
+-- states were given out than the journal has entries, and what is stored for each owner is what its entry has.
+pub record IsStoredBy (journal : History) (stored : Stored) : Type 0 where
+  pub confirms : stored.clients.last_confirm ≤ length journal.entries
+  pub states : stored.last_state ≤ length journal.entries
+  pub owners : Agrees journal stored.owners
+
+-- The request can be asked: its operation has an entry in the journal, and its filehandle, if there is one, is that of
+-- a node.
+pub record CanBeAsked (journal : History) (request : Request) : Type 0 where
+  pub entry : IsTrue (has_entry request.op)
+  pub node : IsFilehandle journal request.filehandle
+
+-- In the state old, after this journal, the entry may come next with this effect, and can be committed.
+pub record IsNext (journal : History) (old : State) (entry : Entry) (effect : Effect) : Type 0 where
+  pub below : length journal.entries < JOURNAL_LIMIT
+  pub allowed : Allows journal old entry effect
+  pub fits : Fits entry effect old
+
+-- The journal isn't full, and the rule of the request's operation passes no limit.
+abbrev pub IsWithinLimits : History → State → Request → Type 0
+IsWithinLimits journal old request =
+    (length journal.entries < JOURNAL_LIMIT)
+    × (IsRuled request.op journal old request None → ⊥)
+
+-- Where a limit would be passed, no entry may come next.
+abbrev pub error_of : Shortage → FollowError
+error_of shortages.Limit = errors.NotNext
+error_of shortages.Memory = errors.Memory

@@ -1,0 +1,147 @@
+//! What may come next in a journal, and entering an entry that is handed in.
+
+ghost use Rattle.std.specs.Prelude.{◌≡◌, IfOk, IsErrOf, MatchBool, OnErr};
+ghost use Rattle.nfs_core.specs.Following.{CanBeAsked, IsNext, IsStoredBy, IsWithinLimits};
+ghost use Rattle.nfs_core.specs.Server.{Enters};
+ghost use Rattle.nfs_core.specs.Step.{HasNoAnswer, HasNoStep};
+ghost use Rattle.nfs_state.specs.Entries.{IsSendable, entry_of};
+ghost use Rattle.nfs_state.specs.Kept.{Agrees};
+ghost use Rattle.nfs_state.specs.Room.{state_of, stored_of};
+ghost use Rattle.nfs_state.specs.declared.entry.Entry.TheVariants as entries;
+
+use nfs_rules::{Decision, at_most_one_decision, decide};
+use nfs_state::{Call, Effect, Entry, Journal, Request, Shortage, Tables, commit_entry};
+use std::alloc::Global;
+
+/// Why an entry that is handed in wasn't entered.
+#[derive(Clone, Copy, Debug, PartialEq, Eq)]
+pub(crate) enum FollowError {
+    /// The entry may not come next.
+    NotNext,
+    /// Memory ran out.
+    Memory,
+}
+
+impl From<Shortage> for FollowError {
+    ghost use Rattle.std.specs.Prelude.{◌≡◌};
+    ghost use Rattle.nfs_core.specs.Following.{error_of};
+
+    ghost from_gives = { λ shortage error. error ≡ error_of shortage };
+
+    fn from(shortage: Shortage) -> FollowError {
+        match shortage {
+            Shortage::Limit => FollowError::NotNext,
+            Shortage::Memory => FollowError::Memory,
+        }
+    }
+}
+
+/// Enters an entry that is handed in, if it may come next, and returns its number. Fails with NotNext only if it may
+/// not. What fails changes nothing.
+pub(crate) fn follow(
+    alloc: Global,
+    tables: &mut Tables,
+    journal: &mut Journal,
+    entry: Entry,
+) -> Result<u32, FollowError>
+    requires { IsStoredBy journal.old.history (stored_of tables.old) }
+    ensures entered { IfOk result (λ number. Enters
+        (record {
+          journal = journal.old.history;
+          stored = stored_of tables.old;
+          room = journal.old.room;
+        })
+        (record {
+          journal = journal.new.history;
+          stored = stored_of tables.new;
+          room = journal.new.room;
+        })
+        entry number) }
+    ensures kept { Agrees journal.new.history tables.new.owners.owners }
+    ensures not_next { IsErrOf result FollowError.NotNext
+        → HasNoStep journal.old.history (state_of tables.old) entry }
+    ensures same { OnErr result ((journal.new.history ≡ journal.old.history)
+        × (stored_of tables.new ≡ stored_of tables.old)) }
+{
+    let effect = effect_of(alloc, tables, journal, &entry)?;
+    Ok(commit_entry(alloc, tables, journal, entry, effect)?)
+}
+
+// The effect of the entry, if it may come next.
+fn effect_of(
+    alloc: Global,
+    tables: &Tables,
+    journal: &Journal,
+    entry: &Entry,
+) -> Result<Effect, FollowError>
+    requires { IsStoredBy journal.now.history (stored_of tables.now) }
+    ensures next { IfOk result
+        (λ effect. IsNext journal.now.history (state_of tables.now) entry.now effect) }
+    ensures not_next { IsErrOf result FollowError.NotNext
+        → HasNoStep journal.now.history (state_of tables.now) entry.now }
+{
+    match entry {
+        Entry::Call(call) => effect_of_call(alloc, tables, journal, call),
+    }
+}
+
+// The effect of the call, if its request can be asked and its answer is the one that is decided.
+fn effect_of_call(
+    alloc: Global,
+    tables: &Tables,
+    journal: &Journal,
+    call: &Call,
+) -> Result<Effect, FollowError>
+    requires { IsStoredBy journal.now.history (stored_of tables.now) }
+    ensures next { IfOk result (λ effect.
+        IsNext journal.now.history (state_of tables.now) (entries.Call call.now) effect) }
+    ensures not_next { IsErrOf result FollowError.NotNext
+        → HasNoStep journal.now.history (state_of tables.now) (entries.Call call.now) }
+{
+    at_most_one_decision();
+    if !can_be_asked(journal, &call.request) {
+        return Err(FollowError::NotNext);
+    }
+    let decision = decide_next(alloc, tables, journal, &call.request)?;
+    if !decision.answer.is_same(&call.answer) {
+        return Err(FollowError::NotNext);
+    }
+    Ok(decision.effect)
+}
+
+// Whether the request's operation has an entry in the journal, and its filehandle, if there is one, is that of a node.
+fn can_be_asked(journal: &Journal, request: &Request) -> bool
+    ensures { MatchBool result (CanBeAsked journal.now.history request.now)
+        (CanBeAsked journal.now.history request.now → ⊥) }
+{
+    let is_node = match request.filehandle {
+        Some(node) => node < journal.tree().len(),
+        None => true,
+    };
+    is_node && request.op.has_entry()
+}
+
+/// Decides which answer to the request may come next, and its effect. Fails with Limit only if no answer may come next,
+/// and with Memory only if no limit would be exceeded.
+pub(crate) fn decide_next(
+    alloc: Global,
+    tables: &Tables,
+    journal: &Journal,
+    request: &Request,
+) -> Result<Decision, Shortage>
+    requires asked { CanBeAsked journal.now.history request.now }
+    requires stored { IsStoredBy journal.now.history (stored_of tables.now) }
+    ensures next { IfOk result (λ decision. IsNext journal.now.history (state_of tables.now)
+        (entry_of request.now decision.answer) decision.effect) }
+    ensures sendable { IfOk result (λ decision. IsSendable request.now.op decision.answer) }
+    ensures limit { IsErrOf result Shortage.Limit
+        → HasNoAnswer journal.now.history (state_of tables.now) request.now }
+    ensures memory { IsErrOf result Shortage.Memory
+        → IsWithinLimits journal.now.history (state_of tables.now) request.now }
+{
+    at_most_one_decision();
+    if journal.is_full() {
+        return Err(Shortage::Limit);
+    }
+    decide(alloc, tables, journal, request)
+}
