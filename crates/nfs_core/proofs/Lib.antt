@@ -2,10 +2,12 @@ pub mod Entering
 pub mod Journals
 pub mod SafeFiles
 pub mod SafeLists
+pub mod SafeSums
 pub mod Safety
 pub mod Sound
 pub mod SoundLocking
 pub mod SoundLocks
+pub mod SoundNumbers
 pub mod SoundRules
 pub mod SoundSequences
 pub mod SoundSteps

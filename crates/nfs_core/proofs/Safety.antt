@@ -7,6 +7,7 @@ use Rattle.nfs_state.specs.declared.entry.Entry.{Entry}
 use Rattle.nfs_state.specs.declared.entry.Entry.TheVariants as entries
 use Rattle.nfs_core.specs.Lawful.{Leads, Lawful}
 use Rattle.nfs_core.specs.Safe.{HasKnownLocker, HasKnownOwner, HasLiveClient, HasLiveLocker, IsSafe, StandsUnderOpen, bears}
+use Rattle.nfs_state.specs.Changes.{after}
 use Rattle.nfs_state.specs.State.{State, History, empty_server}
 use Rattle.nfs_core.specs.Step.{Allows, Step}
 use Rattle.nfs_state.specs.Entries.{with_entry}
@@ -14,6 +15,7 @@ use Rattle.nfs_core.proofs.SafeFiles.{locks_at}
 use Rattle.nfs_core.proofs.SafeLists.{all_replicate, all_weaken, any_found}
 use Rattle.nfs_core.proofs.Sound.{AreNumbered, HasSoundLocks, IsKnownIn, IsLockerKnownIn, IsSound, StandsUnder, OpensStay}
 use Rattle.nfs_core.proofs.SoundLocks.{LocksStay}
+use Rattle.nfs_core.proofs.SoundNumbers.{HasNumbers, numbered_after, numbered_empty, numbers_differ, numbers_given}
 use Rattle.nfs_core.proofs.SoundRules.{ruled_ready}
 use Rattle.nfs_core.proofs.SoundSequences.{live_owner}
 use Rattle.nfs_core.proofs.SoundSteps.{IsEffectReady, sound_after}
@@ -53,19 +55,34 @@ allowed_ready : (journal : History) (old : State) (entry : Entry) (effect : Effe
 allowed_ready journal old (entries.Call call) effect sound allowed =
     ruled_ready (length journal.entries) journal old call.request.op call.request (record { answer = call.answer; effect = effect }) refl sound allowed.rule
 
-sound_step : OpensStay → LocksStay → (journal : History) (old : State) (entry : Entry) (new : State) → Step journal old entry new → IsSound old → IsSound new
-sound_step law lock_law journal old entry new step sound =
-    subst IsSound (sym step.state) (sound_after law lock_law (length journal.entries) step.effect old (allowed_ready journal old entry step.effect sound step.allowed) sound)
+-- What holds of the state after each entry.
+record Holds (state : State) : Type 0 where
+  sound : IsSound state
+  numbered : HasNumbers state
 
-sound_leads : OpensStay → LocksStay → (journal : History) (old new : State) (entries : List Entry) → Leads journal old entries new → IsSound old → IsSound new
-sound_leads law lock_law journal old new [] leads sound = subst IsSound (sym leads) sound
-sound_leads law lock_law journal old new (entry ∷ entries) leads sound =
-    sound_leads law lock_law (with_entry entry journal) leads.0 new entries leads.2 (sound_step law lock_law journal old entry leads.0 leads.1 sound)
+holds_empty : (journal : History) → Holds (empty_server journal.nodes)
+holds_empty journal = record { sound = sound_empty journal; numbered = numbered_empty journal.nodes }
 
--- What is sound is safe.
+holds_after : OpensStay → LocksStay → (number : ℕ) (effect : Effect) (old : State) → IsEffectReady number old effect → Holds old → Holds (after number effect old)
+holds_after law lock_law number effect old ready holds = record {
+  sound = sound_after law lock_law number effect old ready holds.sound;
+  numbered = numbered_after number effect old holds.numbered;
+}
 
-safe : (state : State) → IsSound state → IsSafe state
-safe state sound = record {
+holds_step : OpensStay → LocksStay → (journal : History) (old : State) (entry : Entry) (new : State) → Step journal old entry new → Holds old → Holds new
+holds_step law lock_law journal old entry new step holds =
+    subst Holds (sym step.state)
+    (holds_after law lock_law (length journal.entries) step.effect old (allowed_ready journal old entry step.effect holds.sound step.allowed) holds)
+
+holds_leads : OpensStay → LocksStay → (journal : History) (old new : State) (entries : List Entry) → Leads journal old entries new → Holds old → Holds new
+holds_leads law lock_law journal old new [] leads holds = subst Holds (sym leads) holds
+holds_leads law lock_law journal old new (entry ∷ entries) leads holds =
+    holds_leads law lock_law (with_entry entry journal) leads.0 new entries leads.2 (holds_step law lock_law journal old entry leads.0 leads.1 holds)
+
+-- So it is safe.
+
+safe : (state : State) → IsSound state → HasNumbers state → IsSafe state
+safe state sound numbered = record {
   compatible = sound.compatible;
   known = sound.known;
   live = all_weaken (AllByRecursion (HasKnownOwner state)) (AllByRecursion (HasLiveClient state))
@@ -76,8 +93,11 @@ safe state sound = record {
       (λ locks known. all_weaken (HasKnownLocker state) (HasLiveLocker state) (λ l h. live_owner state sound (lock_owner l.owner) h) locks known) state.locks sound.locks.known;
   locks_under_opens = λ node. all_weaken (StandsUnder state.owners (opens_of node state.opens)) (StandsUnderOpen state node)
       (λ l h. any_found (bears state.owners l) (opens_of node state.opens) h) (locks_of node state.locks) (sound.locks.under node);
+  numbers_differ = numbers_differ state numbered;
+  numbers_given = numbers_given state numbered;
 }
 
 pub Lawful-safe : OpensStay → LocksStay → (journal : History) (state : State) → Lawful journal state → IsSafe state
 Lawful-safe law lock_law journal state lawful =
-    safe state (sound_leads law lock_law (record journal { entries = [] }) (empty_server journal.nodes) state journal.entries lawful (sound_empty journal))
+    let holds = holds_leads law lock_law (record journal { entries = [] }) (empty_server journal.nodes) state journal.entries lawful (holds_empty journal) in
+    safe state holds.sound holds.numbered

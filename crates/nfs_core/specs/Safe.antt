@@ -1,6 +1,6 @@
 -- What holds of the state at all times (RFC 7530, sections 9.1, 9.9 and 16.10).
-use Rattle.std.specs.Prelude.{ℕ, ◌&&◌, Bool, IsTrue, List, is_some}
-use Rattle.std.specs.List.{AllByRecursion, list_any}
+use Rattle.std.specs.Prelude.{ℕ, ◌&&◌, ◌++◌, ◌==◌, ◌≤◌, Bool, IsTrue, List, flat_map, is_some, map}
+use Rattle.std.specs.List.{AllByRecursion, IsDistinct, list_any}
 use Rattle.nfs_locks.specs.AllLocks.{locks_of}
 use Rattle.nfs_locks.specs.Laws.{AllLocksAreCompatible}
 use Rattle.nfs_locks.specs.Locks.{ByteLocks}
@@ -53,6 +53,16 @@ StandsUnderOpen state node l = IsTrue (list_any (bears state.owners l) (opens_of
 abbrev pub EachLockAt : (ℕ → ByteLocks → Type 0) → State → Type 0
 EachLockAt P state = (node : ℕ) → AllByRecursion (P node) (locks_of node state.locks)
 
+-- the numbers in the stateids of all opens and all lock states (section 9.1.4)
+abbrev pub numbers_of : State → List ℕ
+numbers_of state =
+    flat_map (map (λ (o : OpenState). o.number)) state.opens
+    ++ flat_map (map (λ (l : ByteLocks). l.number)) state.locks
+
+-- the number was given to a state: they go up from 1
+abbrev pub WasGiven : State → ℕ → Type 0
+WasGiven state number = (1 ≤ number) × (number ≤ state.last_state)
+
 pub record IsSafe (state : State) : Type 0 where
   -- of each two opens of a node by different owners, neither may do what the other denies
   pub compatible : AllByRecursion AllAreCompatible state.opens
@@ -63,3 +73,6 @@ pub record IsSafe (state : State) : Type 0 where
   pub lockers_known : EachLock (HasKnownLocker state) state
   pub lockers_live : EachLock (HasLiveLocker state) state
   pub locks_under_opens : EachLockAt (StandsUnderOpen state) state
+  -- no two states have one number, be they opens or lock states, of one file or of two
+  pub numbers_differ : IsDistinct (λ a b. a == b) (numbers_of state)
+  pub numbers_given : AllByRecursion (WasGiven state) (numbers_of state)

@@ -112,6 +112,7 @@ impl Core {
     /// The journal of the changes that led to the state.
     pub fn journal(&self) -> &Journal
         ensures journal { result.now.history ≡ self.now.journal }
+        ensures kept { Agrees self.now.journal self.now.stored.owners }
         ensures lawful { IsLawful self.now }
         ensures safe { IsSafe (meaning self.now.stored) }
     {
