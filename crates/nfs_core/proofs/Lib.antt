@@ -1,5 +1,6 @@
 pub mod Entering
 pub mod Journals
+pub mod SafeDistinct
 pub mod SafeFiles
 pub mod SafeLists
 pub mod SafeSums
@@ -8,6 +9,7 @@ pub mod Sound
 pub mod SoundLocking
 pub mod SoundLocks
 pub mod SoundNumbers
+pub mod SoundOwners
 pub mod SoundRules
 pub mod SoundSequences
 pub mod SoundSteps

@@ -7,7 +7,7 @@ use Rattle.nfs_state.specs.declared.entry.Entry.{Entry}
 use Rattle.nfs_state.specs.declared.entry.Entry.TheVariants as entries
 use Rattle.nfs_core.specs.Lawful.{Leads, Lawful}
 use Rattle.nfs_core.specs.Safe.{HasKnownLocker, HasKnownOwner, HasLiveClient, HasLiveLocker, IsSafe, StandsUnderOpen, bears}
-use Rattle.nfs_state.specs.Changes.{after}
+use Rattle.nfs_state.specs.Changes.{after, with_owner_change}
 use Rattle.nfs_state.specs.State.{State, History, empty_server}
 use Rattle.nfs_core.specs.Step.{Allows, Step}
 use Rattle.nfs_state.specs.Entries.{with_entry}
@@ -16,6 +16,7 @@ use Rattle.nfs_core.proofs.SafeLists.{all_replicate, all_weaken, any_found}
 use Rattle.nfs_core.proofs.Sound.{AreNumbered, HasSoundLocks, IsKnownIn, IsLockerKnownIn, IsSound, StandsUnder, OpensStay}
 use Rattle.nfs_core.proofs.SoundLocks.{LocksStay}
 use Rattle.nfs_core.proofs.SoundNumbers.{HasNumbers, numbered_after, numbered_empty, numbers_differ, numbers_given}
+use Rattle.nfs_core.proofs.SoundOwners.{HasOnes, ones_changed, ones_empty, ones_owned}
 use Rattle.nfs_core.proofs.SoundRules.{ruled_ready}
 use Rattle.nfs_core.proofs.SoundSequences.{live_owner}
 use Rattle.nfs_core.proofs.SoundSteps.{IsEffectReady, sound_after}
@@ -59,14 +60,16 @@ allowed_ready journal old (entries.Call call) effect sound allowed =
 record Holds (state : State) : Type 0 where
   sound : IsSound state
   numbered : HasNumbers state
+  ones : HasOnes state
 
 holds_empty : (journal : History) → Holds (empty_server journal.nodes)
-holds_empty journal = record { sound = sound_empty journal; numbered = numbered_empty journal.nodes }
+holds_empty journal = record { sound = sound_empty journal; numbered = numbered_empty journal.nodes; ones = ones_empty journal.nodes }
 
 holds_after : OpensStay → LocksStay → (number : ℕ) (effect : Effect) (old : State) → IsEffectReady number old effect → Holds old → Holds (after number effect old)
 holds_after law lock_law number effect old ready holds = record {
   sound = sound_after law lock_law number effect old ready holds.sound;
   numbered = numbered_after number effect old holds.numbered;
+  ones = ones_changed effect.change (with_owner_change effect.owner number old) ready.1 (ones_owned effect.owner number old holds.ones);
 }
 
 holds_step : OpensStay → LocksStay → (journal : History) (old : State) (entry : Entry) (new : State) → Step journal old entry new → Holds old → Holds new
@@ -81,8 +84,8 @@ holds_leads law lock_law journal old new (entry ∷ entries) leads holds =
 
 -- So it is safe.
 
-safe : (state : State) → IsSound state → HasNumbers state → IsSafe state
-safe state sound numbered = record {
+safe : (state : State) → IsSound state → HasNumbers state → HasOnes state → IsSafe state
+safe state sound numbered ones = record {
   compatible = sound.compatible;
   known = sound.known;
   live = all_weaken (AllByRecursion (HasKnownOwner state)) (AllByRecursion (HasLiveClient state))
@@ -95,9 +98,11 @@ safe state sound numbered = record {
       (λ l h. any_found (bears state.owners l) (opens_of node state.opens) h) (locks_of node state.locks) (sound.locks.under node);
   numbers_differ = numbers_differ state numbered;
   numbers_given = numbers_given state numbered;
+  one_open = ones.opens;
+  one_lock = ones.locks;
 }
 
 pub Lawful-safe : OpensStay → LocksStay → (journal : History) (state : State) → Lawful journal state → IsSafe state
 Lawful-safe law lock_law journal state lawful =
     let holds = holds_leads law lock_law (record journal { entries = [] }) (empty_server journal.nodes) state journal.entries lawful (holds_empty journal) in
-    safe state holds.sound holds.numbered
+    safe state holds.sound holds.numbered holds.ones

@@ -62,9 +62,9 @@ use Rattle.nfs_xdr.specs.declared.op_result.OpResult.TheVariants as results
 
 first_ready : (old : State) (owners : List KnownOwner) (node : ℕ) (first : FirstLock) → KeepsOwners old.owners owners → is_known_in owners (lock_owner first.owner) ≡ true
     → StandsUnder old.owners (opens_of node old.opens) (first_state first (old.last_state + 1)) → IsFreeFor first.owner first.change (locks_of node old.locks)
-    → IsChangeReady (changes.Begins node first) (record old { owners = owners })
-first_ready old owners node first keeps known under free =
-    (known, under_kept old.owners owners keeps (first_state first (old.last_state + 1)) (opens_of node old.opens) under, free)
+    → is_some (lock_of first.owner (locks_of node old.locks)) ≡ false → IsChangeReady (changes.Begins node first) (record old { owners = owners })
+first_ready old owners node first keeps known under free none =
+    (known, under_kept old.owners owners keeps (first_state first (old.last_state + 1)) (opens_of node old.opens) under, free, none)
 
 -- the owner of a lock state that begins is known before, or the request introduces it
 abbrev IsIntroduced : State → Newcomer → LockOwner → Type 0
@@ -73,8 +73,9 @@ IsIntroduced state newcomer owner = (newcomer ≡ Unknown owner) ⊎ (is_known_i
 begins_ready : (number : ℕ) (old : State) (name : StateOwner) (newcomer : Newcomer) (status : Status) (node : ℕ) (first : FirstLock) → is_ok_status status ≡ true → counts status ≡ true
     → IsIntroduced old newcomer first.owner
     → StandsUnder old.owners (opens_of node old.opens) (first_state first (old.last_state + 1)) → IsFreeFor first.owner first.change (locks_of node old.locks)
+    → is_some (lock_of first.owner (locks_of node old.locks)) ≡ false
     → IsChangeReady (changes.Begins node first) (with_owner_change (owner_change_of passages.Continues name newcomer status) number old)
-begins_ready number old name newcomer status node first ok counted (inl unknown) under free =
+begins_ready number old name newcomer status node first ok counted (inl unknown) under free none =
     let owners = with_kept_entry number name old.owners in
     let recorded = with_record number (lock_owner first.owner) owners in
     let new : KnownOwner = record { name = lock_owner first.owner; confirmed = false; recording_entry = number; kept_entry = number } in
@@ -82,15 +83,15 @@ begins_ready number old name newcomer status node first ok counted (inl unknown)
     let ready : IsChangeReady (changes.Begins node first) (record old { owners = recorded }) =
     first_ready old recorded node first
     (keeps_both old.owners owners recorded (keeps_entry number name old.owners) (keeps_record number (lock_owner first.owner) owners))
-    (found_last (has_name (lock_owner first.owner)) owners new (same_name_self (lock_owner first.owner))) under free in
+    (found_last (has_name (lock_owner first.owner)) owners new (same_name_self (lock_owner first.owner))) under free none in
     subst (λ n. IsChangeReady (changes.Begins node first) (with_owner_change (owner_change_of passages.Continues name n status) number old)) (sym unknown)
     (subst (λ c. IsChangeReady (changes.Begins node first) (with_owner_change c number old))
     (sym (cond-true (counts status) (kept_with name (Unknown first.owner) status) owner_changes.Nothing counted
     ∙ cond-true (is_ok_status status) introduces (owner_changes.Keeps name) ok)) ready)
-begins_ready number old name newcomer status node first ok counted (inr known) under free =
+begins_ready number old name newcomer status node first ok counted (inr known) under free none =
     let goes = continuing number old name newcomer status in
     subst (IsChangeReady (changes.Begins node first)) (sym goes.state)
-    (first_ready old goes.owners node first goes.keeps (goes.keeps.known (lock_owner first.owner) known) under free)
+    (first_ready old goes.owners node first goes.keeps (goes.keeps.known (lock_owner first.owner) known) under free none)
 
 -- a change of the lock state of an owner with a number
 changes_ready : (number : ℕ) (old : State) (name : StateOwner) (newcomer : Newcomer) (status : Status) (node id : ℕ) (change : Piece) (owner : LockOwner)
@@ -124,12 +125,13 @@ unless full given r is = elim (cases_Bool full) [
 
 -- What the stateid of a LOCK makes sure of.
 
--- A first lock's owner is known or introduced, and an open of the file is there for it; a lock state that is there has the
+-- A first lock's owner is known or introduced, an open of the file is there for it, and it has no lock state of the file; a lock state that is there has the
 -- owner.
 abbrev IsFounded : State → Newcomer → Locking → Option ByteLocks → Type 0
 IsFounded state newcomer l None =
     IsIntroduced state newcomer l.owner
     × ((number : ℕ) (change : Piece) → StandsUnder state.owners (opens_of l.node state.opens) (first_state (record { owner = l.owner; open_number = l.open_number; change = change }) number))
+    × (is_some (lock_of l.owner (locks_of l.node state.locks)) ≡ false)
 IsFounded state newcomer l (Some there) =
     is_some (find (λ x. is_numbered there.number x && is_lock_of l.owner x) (locks_of l.node state.locks)) ≡ true
 
@@ -209,6 +211,7 @@ locking_founded journal state node args (lockers.New locker) l seqid name is of 
       introduced_in journal state name.client locker (subst (λ (n : StateOwner). is_same_client locker.lock_owner.client n.client ≡ true) (sym owner) same),
       λ number change. under_open journal state node locker.open_stateid at found locker.lock_owner.client same
           (first_state (record { owner = locker.lock_owner; open_number = at.state.number; change = change }) number) refl refl,
+      first.0,
     ) in
     subst (λ (x : Locking). IsFounded state newcomer x x.state) (ok_equal new l turn.1) founded) is
 locking_founded journal state node args (lockers.Known locker) l seqid name is of =
@@ -240,7 +243,7 @@ granted_ready number state name newcomer l range None ruling founded free is =
     let given : Ruling = record { answer = results.Lock (Done (lock.first_stateid state l.owner)); change = changes.Begins l.node first } in
     subst (λ (r : Ruling). IsChangeReady r.change (seen number state name newcomer r))
     (sym (placed (has_owner_place (lock_owner l.owner) state && has_state_place state) given ruling is))
-    (begins_ready number state name newcomer (status_of given.answer) l.node first refl refl founded.0 (founded.1 (state.last_state + 1) first.change) free)
+    (begins_ready number state name newcomer (status_of given.answer) l.node first refl refl founded.0 (founded.1 (state.last_state + 1) first.change) free founded.2)
 granted_ready number state name newcomer l range (Some x) ruling founded free is =
     let change = lock_of_bytes l.mode range in
     let given : Ruling = record { answer = results.Lock (Done (next_stateid_of x)); change = changes.Locks l.node x.number change } in

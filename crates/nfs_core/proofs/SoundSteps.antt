@@ -22,7 +22,7 @@ use Rattle.nfs_forms.specs.declared.lock_owner.LockOwner.{LockOwner}
 use Rattle.nfs_forms.specs.declared.open_owner.OpenOwner.{OpenOwner}
 use Rattle.nfs_locks.specs.AllLocks.{locks_of}
 use Rattle.nfs_locks.specs.Laws.{IsFreeFor}
-use Rattle.nfs_locks.specs.Locks.{first_state, is_lock_of}
+use Rattle.nfs_locks.specs.Locks.{first_state, is_lock_of, lock_of}
 use Rattle.nfs_locks.specs.Locks as locks
 use Rattle.nfs_owners.specs.Registry.{Registry}
 use Rattle.nfs_owners.specs.StateOwner.{is_same_state_owner, lock_owner, open_owner}
@@ -53,7 +53,7 @@ IsClientReady (client_changes.Replaces r client) registry =
     AllByRecursion (IsOnlyOf client r.id) registry.records
 
 -- The owner of an open is known, and its OPEN isn't refused. The owner of a lock state that begins is known, an open of
--- the node is there for it, and the bytes are free for it; those of another change are free for the owner of a lock state
+-- the node is there for it, the bytes are free for it, and it has no lock state of the file; those of another change are free for the owner of a lock state
 -- with the number.
 abbrev pub IsChangeReady : Change → State → Type 0
 IsChangeReady (changes.Clients change) state = IsClientReady change state.clients
@@ -63,6 +63,7 @@ IsChangeReady (changes.Begins node first) state =
     (is_known_in state.owners (lock_owner first.owner) ≡ true)
     × StandsUnder state.owners (opens_of node state.opens) (first_state first (state.last_state + 1))
     × IsFreeFor first.owner first.change (locks_of node state.locks)
+    × (is_some (lock_of first.owner (locks_of node state.locks)) ≡ false)
 IsChangeReady (changes.Locks node number change) state =
     (owner : LockOwner)
     × (is_some (find (λ l. locks.is_numbered number l && is_lock_of owner l) (locks_of node state.locks)) ≡ true)

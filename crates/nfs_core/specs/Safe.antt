@@ -1,6 +1,8 @@
 -- What holds of the state at all times (RFC 7530, sections 9.1, 9.9 and 16.10).
 use Rattle.std.specs.Prelude.{ℕ, ◌&&◌, ◌++◌, ◌==◌, ◌≤◌, Bool, IsTrue, List, flat_map, is_some, map}
 use Rattle.std.specs.List.{AllByRecursion, IsDistinct, list_any}
+use Rattle.nfs_forms.specs.LockOwner.{is_same_lock_owner}
+use Rattle.nfs_forms.specs.OpenOwner.{is_same_owner}
 use Rattle.nfs_locks.specs.AllLocks.{locks_of}
 use Rattle.nfs_locks.specs.Laws.{AllLocksAreCompatible}
 use Rattle.nfs_locks.specs.Locks.{ByteLocks}
@@ -59,6 +61,14 @@ numbers_of state =
     flat_map (map (λ (o : OpenState). o.number)) state.opens
     ++ flat_map (map (λ (l : ByteLocks). l.number)) state.locks
 
+-- two opens are of one owner
+abbrev pub have_same_owner : OpenState → OpenState → Bool
+have_same_owner a b = is_same_owner a.owner b.owner
+
+-- two lock states are of one owner
+abbrev pub have_same_lock_owner : ByteLocks → ByteLocks → Bool
+have_same_lock_owner a b = is_same_lock_owner a.owner b.owner
+
 -- the number was given to a state: they go up from 1
 abbrev pub WasGiven : State → ℕ → Type 0
 WasGiven state number = (1 ≤ number) × (number ≤ state.last_state)
@@ -76,3 +86,6 @@ pub record IsSafe (state : State) : Type 0 where
   -- no two states have one number, be they opens or lock states, of one file or of two
   pub numbers_differ : IsDistinct (λ a b. a == b) (numbers_of state)
   pub numbers_given : AllByRecursion (WasGiven state) (numbers_of state)
+  -- an owner has at most one open of a file (section 9.11), and at most one lock state (section 9.1.4)
+  pub one_open : AllByRecursion (IsDistinct have_same_owner) state.opens
+  pub one_lock : AllByRecursion (IsDistinct have_same_lock_owner) state.locks
