@@ -6,6 +6,7 @@ pub mod SafeLists
 pub mod SafeSums
 pub mod Safety
 pub mod Sound
+pub mod SoundClients
 pub mod SoundLocking
 pub mod SoundLocks
 pub mod SoundNumbers

@@ -14,6 +14,7 @@ use Rattle.nfs_state.specs.Entries.{with_entry}
 use Rattle.nfs_core.proofs.SafeFiles.{locks_at}
 use Rattle.nfs_core.proofs.SafeLists.{all_replicate, all_weaken, any_found}
 use Rattle.nfs_core.proofs.Sound.{AreNumbered, HasSoundLocks, IsKnownIn, IsLockerKnownIn, IsSound, StandsUnder, OpensStay}
+use Rattle.nfs_core.proofs.SoundClients.{HasSingles, one_of_client, singles_after, singles_empty, singles_owned}
 use Rattle.nfs_core.proofs.SoundLocks.{LocksStay}
 use Rattle.nfs_core.proofs.SoundNumbers.{HasNumbers, numbered_after, numbered_empty, numbers_differ, numbers_given}
 use Rattle.nfs_core.proofs.SoundOwners.{HasOnes, ones_changed, ones_empty, ones_owned}
@@ -61,15 +62,17 @@ record Holds (state : State) : Type 0 where
   sound : IsSound state
   numbered : HasNumbers state
   ones : HasOnes state
+  singles : HasSingles state.clients
 
 holds_empty : (journal : History) → Holds (empty_server journal.nodes)
-holds_empty journal = record { sound = sound_empty journal; numbered = numbered_empty journal.nodes; ones = ones_empty journal.nodes }
+holds_empty journal = record { sound = sound_empty journal; numbered = numbered_empty journal.nodes; ones = ones_empty journal.nodes; singles = singles_empty }
 
 holds_after : OpensStay → LocksStay → (number : ℕ) (effect : Effect) (old : State) → IsEffectReady number old effect → Holds old → Holds (after number effect old)
 holds_after law lock_law number effect old ready holds = record {
   sound = sound_after law lock_law number effect old ready holds.sound;
   numbered = numbered_after number effect old holds.numbered;
   ones = ones_changed effect.change (with_owner_change effect.owner number old) ready.1 (ones_owned effect.owner number old holds.ones);
+  singles = singles_after effect.change (with_owner_change effect.owner number old) ready.1 (singles_owned effect.owner number old holds.singles);
 }
 
 holds_step : OpensStay → LocksStay → (journal : History) (old : State) (entry : Entry) (new : State) → Step journal old entry new → Holds old → Holds new
@@ -84,25 +87,29 @@ holds_leads law lock_law journal old new (entry ∷ entries) leads holds =
 
 -- So it is safe.
 
-safe : (state : State) → IsSound state → HasNumbers state → HasOnes state → IsSafe state
-safe state sound numbered ones = record {
-  compatible = sound.compatible;
-  known = sound.known;
-  live = all_weaken (AllByRecursion (HasKnownOwner state)) (AllByRecursion (HasLiveClient state))
-      (λ opens known. all_weaken (HasKnownOwner state) (HasLiveClient state) (λ o h. live_owner state sound (open_owner o.owner) h) opens known) state.opens sound.known;
-  locks_compatible = sound.locks.compatible;
-  lockers_known = sound.locks.known;
-  lockers_live = all_weaken (AllByRecursion (HasKnownLocker state)) (AllByRecursion (HasLiveLocker state))
-      (λ locks known. all_weaken (HasKnownLocker state) (HasLiveLocker state) (λ l h. live_owner state sound (lock_owner l.owner) h) locks known) state.locks sound.locks.known;
-  locks_under_opens = λ node. all_weaken (StandsUnder state.owners (opens_of node state.opens)) (StandsUnderOpen state node)
-      (λ l h. any_found (bears state.owners l) (opens_of node state.opens) h) (locks_of node state.locks) (sound.locks.under node);
-  numbers_differ = numbers_differ state numbered;
-  numbers_given = numbers_given state numbered;
-  one_open = ones.opens;
-  one_lock = ones.locks;
-}
+safe : (state : State) → Holds state → IsSafe state
+safe state holds =
+    let sound = holds.sound in
+    record {
+      compatible = sound.compatible;
+      known = sound.known;
+      live = all_weaken (AllByRecursion (HasKnownOwner state)) (AllByRecursion (HasLiveClient state))
+          (λ opens known. all_weaken (HasKnownOwner state) (HasLiveClient state) (λ o h. live_owner state sound (open_owner o.owner) h) opens known) state.opens sound.known;
+      locks_compatible = sound.locks.compatible;
+      lockers_known = sound.locks.known;
+      lockers_live = all_weaken (AllByRecursion (HasKnownLocker state)) (AllByRecursion (HasLiveLocker state))
+          (λ locks known. all_weaken (HasKnownLocker state) (HasLiveLocker state) (λ l h. live_owner state sound (lock_owner l.owner) h) locks known) state.locks sound.locks.known;
+      locks_under_opens = λ node. all_weaken (StandsUnder state.owners (opens_of node state.opens)) (StandsUnderOpen state node)
+          (λ l h. any_found (bears state.owners l) (opens_of node state.opens) h) (locks_of node state.locks) (sound.locks.under node);
+      numbers_differ = numbers_differ state holds.numbered;
+      numbers_given = numbers_given state holds.numbered;
+      one_open = holds.ones.opens;
+      one_lock = holds.ones.locks;
+      one_of_id = holds.singles.ids;
+      one_of_client = one_of_client state.clients.records holds.singles.ids holds.singles.same;
+      clients_given = holds.singles.given;
+    }
 
 pub Lawful-safe : OpensStay → LocksStay → (journal : History) (state : State) → Lawful journal state → IsSafe state
 Lawful-safe law lock_law journal state lawful =
-    let holds = holds_leads law lock_law (record journal { entries = [] }) (empty_server journal.nodes) state journal.entries lawful (holds_empty journal) in
-    safe state holds.sound holds.numbered holds.ones
+    safe state (holds_leads law lock_law (record journal { entries = [] }) (empty_server journal.nodes) state journal.entries lawful (holds_empty journal))

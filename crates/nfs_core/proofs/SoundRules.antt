@@ -1,6 +1,6 @@
 -- What the rules of the operations decide is ready to keep the state sound.
 use Rattle.std.proofs.Common.{◌≡◌, inl, inr, ℕ, Bool, true, false, Option, Some, None, Result, Ok, Err, refl, sym, ap, ◌∙◌, subst}
-use Rattle.std.specs.Prelude.{⊤, ◌&&◌, not, is_some, IfSome, option_map, if◌then◌else◌}
+use Rattle.std.specs.Prelude.{⊤, ◌&&◌, find, not, is_some, IfSome, option_map, if◌then◌else◌}
 use Rattle.std.specs.List.{AllByRecursion}
 use Rattle.std.specs.Str.{bytes_eq}
 use Rattle.std.proofs.lemmas.Bool.{and_from, cases_Bool, cond-false, cond-true, cond_both, and_parts}
@@ -30,8 +30,8 @@ use Rattle.nfs_rules.specs.Sequences.{Owner, Refused, before_own, decision_of, i
 use Rattle.nfs_state.specs.Changes.{change_alone, with_owner_change}
 use Rattle.nfs_rules.specs.Stateids.{verdict}
 use Rattle.nfs_state.specs.State.{State, History, record_has_state}
-use Rattle.nfs_core.proofs.SafeLists.{all_find, all_none, all_weaken, found_last}
-use Rattle.nfs_core.proofs.Sound.{AreSingle, HasSameClient, IsOnlyOf, IsSound, is_live_in, same_name_self}
+use Rattle.nfs_core.proofs.SafeLists.{all_always, all_find, all_none, all_weaken, found_last, found_some}
+use Rattle.nfs_core.proofs.Sound.{AreSingle, HasSameClient, IsOfRecord, IsOnlyOf, IsSound, is_live_in, same_client_self, same_name_self}
 use Rattle.nfs_core.proofs.SoundLocking.{lock_ready, lock_sequenced, locku_ready, stateid_of}
 use Rattle.nfs_core.proofs.SoundSequences.{IsFit, IsOf, IsOwnReady, as_decided, continues_ready, continuing, never, quiet_ready, sequenced_ready, some_equal}
 use Rattle.nfs_core.proofs.SoundSteps.{IsChangeReady, IsClientReady, IsOwnerReady, IsReady}
@@ -54,7 +54,7 @@ use Rattle.nfs_owners.specs.Confirmation as confirmations
 use Rattle.nfs_owners.specs.Confirmation.{Confirmation, Stale, InUse, Retransmission, First, Update, InPlaceOf, confirmation_before, confirmation_beside, confirmation_by, confirmed_record, updated_record}
 use Rattle.nfs_owners.specs.Registration as registrations
 use Rattle.nfs_owners.specs.Registration.{has_number_left, registration_by}
-use Rattle.nfs_owners.specs.Registry.{Registry, confirmed_named_by, confirmed_of, is_confirmed_of, is_of, record_of, unconfirmed_named_by}
+use Rattle.nfs_owners.specs.Registry.{Registry, confirmed_named_by, confirmed_of, is_confirmed_of, is_named_by, is_of, record_of, unconfirmed_named_by}
 use Rattle.nfs_owners.specs.StateOwner.{as_open_owner, open_owner}
 use Rattle.nfs_owners.specs.declared.client_record.ClientRecord.{ClientRecord}
 use Rattle.nfs_owners.specs.declared.client_record.PathMark.{PathMark}
@@ -77,12 +77,33 @@ use Rattle.nfs_xdr.specs.declared.op.Op.TheVariants as ops
 
 -- SETCLIENTID
 
-registered : (found : registrations.Finding) (epoch : ℕ) (registry : Registry) (principal : Principal) (args : Setclientid) → IfSome (registration_by found epoch registry principal args) (λ x. IsClientReady x.1 registry)
-registered (registrations.InUse address) epoch registry principal args = tt
-registered (registrations.Update client) epoch registry principal args =
-    cond_both (is_within_limit args.callback.address) _ None (λ o. IfSome o (λ x. IsClientReady x.1 registry)) (λ _. refl) (λ _. tt)
-registered registrations.Arrival epoch registry principal args =
-    cond_both (is_within_limit args.callback.address && has_number_left registry) _ None (λ o. IfSome o (λ x. IsClientReady x.1 registry)) (λ _. refl) (λ _. tt)
+-- a record that is there has the id and the clientid that is updated
+abbrev IsFound : Registry → Setclientid → registrations.Finding → Type 0
+IsFound registry args (registrations.Update client) =
+    is_some (find (λ s. is_same_client s.client client && bytes_eq s.id args.id) registry.records) ≡ true
+IsFound registry args found = ⊤
+
+finding_found : (registry : Registry) (args : Setclientid) (found : Option ClientRecord) (has_state : Bool) (principal : Principal) → confirmed_of registry args.id ≡ found → IsFound registry args (registrations.finding found has_state principal args)
+finding_found registry args None has_state principal is = tt
+finding_found registry args (Some r) has_state principal is =
+    let P : registrations.Finding → Type 0 = IsFound registry args in
+    let passes = (all_find (λ s. ⊤) (is_confirmed_of args.id) registry.records r is (all_always registry.records)).1 in
+    let of = (and_parts r.confirmed (is_of args.id r) passes).1 in
+    let there : P (registrations.Update r.client) =
+    found_some (is_confirmed_of args.id) (λ s. is_same_client s.client r.client && bytes_eq s.id args.id) registry.records r is
+    (and_from (is_same_client r.client r.client) (bytes_eq r.id args.id) (same_client_self r.client) of) in
+    cond_both (is_same_principal r.principal principal) (if bytes_eq r.verifier.0 args.verifier.0 then registrations.Update r.client else registrations.Arrival)
+    (if has_state then registrations.InUse r.callback.address else registrations.Arrival) P
+    (λ _. cond_both (bytes_eq r.verifier.0 args.verifier.0) (registrations.Update r.client) registrations.Arrival P (λ _. there) (λ _. tt))
+    (λ _. cond_both has_state (registrations.InUse r.callback.address) registrations.Arrival P (λ _. tt) (λ _. tt))
+
+registered : (found : registrations.Finding) (epoch : ℕ) (registry : Registry) (principal : Principal) (args : Setclientid) → IsFound registry args found
+    → IfSome (registration_by found epoch registry principal args) (λ x. IsClientReady x.1 registry)
+registered (registrations.InUse address) epoch registry principal args found = tt
+registered (registrations.Update client) epoch registry principal args found =
+    cond_both (is_within_limit args.callback.address) _ None (λ o. IfSome o (λ x. IsClientReady x.1 registry)) (λ _. (refl, found)) (λ _. tt)
+registered registrations.Arrival epoch registry principal args found =
+    cond_both (is_within_limit args.callback.address && has_number_left registry) _ None (λ o. IfSome o (λ x. IsClientReady x.1 registry)) (λ _. (refl, refl)) (λ _. tt)
 
 registers : (number : ℕ) (old : State) (d : Decision) (o : Option (registrations.Outcome × ClientChange)) → IfSome o (λ x. IsClientReady x.1 old.clients) → Some d ≡ option_map setclientid.decision_of o → IsReady number old d
 registers number old d None ready is = absurd cc
@@ -90,20 +111,26 @@ registers number old d (Some x) ready is = as_decided number old d (setclientid.
 
 -- SETCLIENTID_CONFIRM
 
--- the confirmed record with the id is the one that the case speaks of
+-- The confirmed record with the id is the one that the case speaks of, and the one that is confirmed is there.
 abbrev IsFitting : Registry → Confirmation → Type 0
-IsFitting registry (First r) = confirmed_of registry r.id ≡ None
+IsFitting registry (First r) = (confirmed_of registry r.id ≡ None) × IsOfRecord r registry.records
 IsFitting registry (Update old r) = confirmed_of registry r.id ≡ Some old
-IsFitting registry (InPlaceOf old r) = confirmed_of registry r.id ≡ Some old
+IsFitting registry (InPlaceOf old r) = (confirmed_of registry r.id ≡ Some old) × IsOfRecord r registry.records
 IsFitting registry confirmation = ⊤
 
-beside_fits : (registry : Registry) (found : Option ClientRecord) (r : ClientRecord) (has_state : Bool) → confirmed_of registry r.id ≡ found → IsFitting registry (confirmation_beside found r has_state)
-beside_fits registry None r has_state is = is
-beside_fits registry (Some old) r has_state is =
+-- a record that is found is there
+is_of_record : (test : ClientRecord → Bool) (records : List ClientRecord) (r : ClientRecord) → find test records ≡ Some r → IsOfRecord r records
+is_of_record test records r is =
+    found_some test (λ s. is_same_client s.client r.client && bytes_eq s.id r.id) records r is
+    (and_from (is_same_client r.client r.client) (bytes_eq r.id r.id) (same_client_self r.client) ((bytes_eq-Decides r.id r.id).1 refl))
+
+beside_fits : (registry : Registry) (found : Option ClientRecord) (r : ClientRecord) (has_state : Bool) → IsOfRecord r registry.records → confirmed_of registry r.id ≡ found → IsFitting registry (confirmation_beside found r has_state)
+beside_fits registry None r has_state of is = (is, of)
+beside_fits registry (Some old) r has_state of is =
     let P : Confirmation → Type 0 = IsFitting registry in
     cond_both (is_same_client old.client r.client) (Update old r)
     (if not (is_same_principal old.principal r.principal) && has_state then InUse else InPlaceOf old r) P (λ _. is)
-    (λ _. cond_both (not (is_same_principal old.principal r.principal) && has_state) InUse (InPlaceOf old r) P (λ _. tt) (λ _. is))
+    (λ _. cond_both (not (is_same_principal old.principal r.principal) && has_state) InUse (InPlaceOf old r) P (λ _. tt) (λ _. (is, of)))
 
 before_fits : (registry : Registry) (found : Option ClientRecord) (principal : Principal) → IsFitting registry (confirmation_before found principal)
 before_fits registry None principal = tt
@@ -111,12 +138,13 @@ before_fits registry (Some r) principal =
     let P : Confirmation → Type 0 = IsFitting registry in
     cond_both (is_same_principal r.principal principal) Retransmission InUse P (λ _. tt) (λ _. tt)
 
-finding_fits : (registry : Registry) (named : Option ClientRecord) (has_state : Bool) (principal : Principal) (args : SetclientidConfirm) → IsFitting registry (confirmations.finding named registry has_state principal args)
-finding_fits registry (Some r) has_state principal args =
+finding_fits : (registry : Registry) (named : Option ClientRecord) (has_state : Bool) (principal : Principal) (args : SetclientidConfirm) → unconfirmed_named_by args registry ≡ named
+    → IsFitting registry (confirmations.finding named registry has_state principal args)
+finding_fits registry (Some r) has_state principal args is =
     let P : Confirmation → Type 0 = IsFitting registry in
     cond_both (is_same_principal r.principal principal) (confirmation_beside (confirmed_of registry r.id) r has_state) InUse P
-    (λ _. beside_fits registry (confirmed_of registry r.id) r has_state refl) (λ _. tt)
-finding_fits registry None has_state principal args = before_fits registry (confirmed_named_by args registry) principal
+    (λ _. beside_fits registry (confirmed_of registry r.id) r has_state (is_of_record (λ s. not s.confirmed && is_named_by args s) registry.records r is) refl) (λ _. tt)
+finding_fits registry None has_state principal args is = before_fits registry (confirmed_named_by args registry) principal
 
 pub confirms : (registry : Registry) (case : Confirmation) (path : PathMark) → AreSingle registry.records → IsFitting registry case → IsClientReady (confirmation_by case path).1 registry
 confirms registry Stale path single fits = tt
@@ -126,18 +154,22 @@ confirms registry (First r) path single fits = (
   refl,
   all_weaken (λ s. is_confirmed_of r.id s ≡ false) (IsOnlyOf r.client r.id)
       (λ s none is_set same. absurd (never (is_confirmed_of r.id s) none (and_from s.confirmed (is_of r.id s) is_set same))) registry.records
-      (all_none (is_confirmed_of r.id) registry.records fits),
+      (all_none (is_confirmed_of r.id) registry.records fits.0),
+  fits.1,
 )
 confirms registry (Update old r) path single fits =
     let found = all_find (λ r. AllByRecursion (HasSameClient r) registry.records) (is_confirmed_of r.id) registry.records old fits single in
     let both = and_parts old.confirmed (is_of r.id old) found.1 in
-    (both.0, all_weaken (HasSameClient old) (IsOnlyOf old.client old.id) (λ s same. same both.0) registry.records found.0)
+    (both.0, all_weaken (HasSameClient old) (IsOnlyOf old.client old.id) (λ s same. same both.0) registry.records found.0, is_of_record (is_confirmed_of r.id) registry.records old fits)
 confirms registry (InPlaceOf old r) path single fits =
-    let found = all_find (λ r. AllByRecursion (HasSameClient r) registry.records) (is_confirmed_of r.id) registry.records old fits single in
+    let found = all_find (λ r. AllByRecursion (HasSameClient r) registry.records) (is_confirmed_of r.id) registry.records old fits.0 single in
     let both = and_parts old.confirmed (is_of r.id old) found.1 in
     let ids : old.id ≡ r.id = (bytes_eq-Decides old.id r.id).0 both.1 in
-    all_weaken (HasSameClient old) (IsOnlyOf old.client r.id)
-    (λ s same is_set of. same both.0 is_set (subst (λ id. bytes_eq s.id id ≡ true) (sym ids) of)) registry.records found.0
+    (
+      all_weaken (HasSameClient old) (IsOnlyOf old.client r.id)
+          (λ s same is_set of. same both.0 is_set (subst (λ id. bytes_eq s.id id ≡ true) (sym ids) of)) registry.records found.0,
+      fits.1,
+    )
 
 -- OPEN_CONFIRM, OPEN_DOWNGRADE and CLOSE: what they change is always ready.
 
@@ -290,7 +322,8 @@ ruled_ready number journal state (ops.Getattr mask) request d same sound is =
 ruled_ready number journal state (ops.Setclientid args) request d same sound is =
     let has_state = record_has_state state (confirmed_of state.clients args.id) in
     registers number state d (registrations.registration journal.epoch has_state state.clients request.principal args)
-    (registered (registrations.finding (confirmed_of state.clients args.id) has_state request.principal args) journal.epoch state.clients request.principal args) is
+    (registered (registrations.finding (confirmed_of state.clients args.id) has_state request.principal args) journal.epoch state.clients request.principal args
+    (finding_found state.clients args (confirmed_of state.clients args.id) has_state request.principal refl)) is
 ruled_ready number journal state (ops.SetclientidConfirm args) request d same sound is =
     let path = confirm.path_of journal.policy.callbacks in
     let named = unconfirmed_named_by args state.clients in
@@ -298,7 +331,7 @@ ruled_ready number journal state (ops.SetclientidConfirm args) request d same so
     as_decided number state d _ is (
       tt,
       confirms state.clients (confirmations.finding named state.clients has_state request.principal args) path sound.single
-          (finding_fits state.clients named has_state request.principal args),
+          (finding_fits state.clients named has_state request.principal args refl),
     )
 ruled_ready number journal state (ops.Open args) request d same sound is =
     sequenced_ready number journal state (requester_of_open state args.owner args.seqid) request (opening.own journal state args)

@@ -14,7 +14,7 @@ use Rattle.nfs_state.specs.Changes as state_changes
 use Rattle.nfs_state.specs.State.{State}
 use Rattle.nfs_core.proofs.SafeFiles.{opens_at, set_opens}
 use Rattle.nfs_core.proofs.SafeLists.{all_filter, all_push, all_set}
-use Rattle.nfs_core.proofs.Sound.{AreLive, IsKnownIn, IsOnlyOf, IsSound, StandsUnder, KeepsOwner, KeepsOwners, OpensStay, dropped_compatible, dropped_known, dropped_live, each_known, is_known_in, is_live_in, keeps_mapped, keeps_recorded, keeps_tested, live_confirmed, live_replaced, live_unconfirmed, mapped_live, name_left, opening_known, renamed_known, single_confirmed, single_unconfirmed}
+use Rattle.nfs_core.proofs.Sound.{AreLive, IsKnownIn, IsOfRecord, IsOnlyOf, IsSound, StandsUnder, KeepsOwner, KeepsOwners, OpensStay, dropped_compatible, dropped_known, dropped_live, each_known, is_known_in, is_live_in, keeps_mapped, keeps_recorded, keeps_tested, live_confirmed, live_replaced, live_unconfirmed, mapped_live, name_left, opening_known, renamed_known, single_confirmed, single_unconfirmed}
 use Rattle.nfs_core.proofs.SoundLocks.{LocksStay, locks_begun, locks_changed, locks_closed, locks_numbered, locks_owned, locks_released, locks_reopened, locks_without, locks_without_client, under_each, under_opening}
 use Rattle.nfs_forms.specs.ClientId.{is_same_client}
 use Rattle.nfs_forms.specs.OpenOwner.{is_same_owner}
@@ -42,15 +42,16 @@ IsOwnerReady (owner_changes.Restarts name) state =
 IsOwnerReady (owner_changes.Drops name) state = is_confirmed (open_owner name) state.owners ≡ false
 IsOwnerReady change state = ⊤
 
--- A record is confirmed in place of those of its own client, or of those of the client that it replaces.
+-- A new record has the next number, and any other the clientid and the id of one that is there. One is confirmed in place
+-- of those of its own client, or of those of the client that it replaces.
 abbrev pub IsClientReady : ClientChange → Registry → Type 0
 IsClientReady client_changes.Nothing registry = ⊤
-IsClientReady (client_changes.Arrives r) registry = r.confirmed ≡ false
-IsClientReady (client_changes.Updates r) registry = r.confirmed ≡ false
+IsClientReady (client_changes.Arrives r) registry = (r.confirmed ≡ false) × (r.client.number ≡ registry.last_number + 1)
+IsClientReady (client_changes.Updates r) registry = (r.confirmed ≡ false) × IsOfRecord r registry.records
 IsClientReady (client_changes.Confirms r) registry =
-    (r.confirmed ≡ true) × AllByRecursion (IsOnlyOf r.client r.id) registry.records
+    (r.confirmed ≡ true) × AllByRecursion (IsOnlyOf r.client r.id) registry.records × IsOfRecord r registry.records
 IsClientReady (client_changes.Replaces r client) registry =
-    AllByRecursion (IsOnlyOf client r.id) registry.records
+    AllByRecursion (IsOnlyOf client r.id) registry.records × IsOfRecord r registry.records
 
 -- The owner of an open is known, and its OPEN isn't refused. The owner of a lock state that begins is known, an open of
 -- the node is there for it, the bytes are free for it, and it has no lock state of the file; those of another change are free for the owner of a lock state
@@ -151,14 +152,14 @@ sound_clients law lock_law (client_changes.Arrives r) old ready sound = record {
   live = live_unconfirmed r old.clients.records old.owners sound.live;
   known = sound.known;
   compatible = sound.compatible;
-  single = single_unconfirmed r ready old.clients.records sound.single;
+  single = single_unconfirmed r ready.0 old.clients.records sound.single;
   locks = sound.locks;
 }
 sound_clients law lock_law (client_changes.Updates r) old ready sound = record {
   live = live_unconfirmed r old.clients.records old.owners sound.live;
   known = sound.known;
   compatible = sound.compatible;
-  single = single_unconfirmed r ready old.clients.records sound.single;
+  single = single_unconfirmed r ready.0 old.clients.records sound.single;
   locks = sound.locks;
 }
 sound_clients law lock_law (client_changes.Confirms r) old ready sound = record {
@@ -169,7 +170,7 @@ sound_clients law lock_law (client_changes.Confirms r) old ready sound = record 
   locks = sound.locks;
 }
 sound_clients law lock_law (client_changes.Replaces r client) old ready sound = record {
-  live = live_replaced r client old.clients.records old.owners ready sound.live;
+  live = live_replaced r client old.clients.records old.owners ready.0 sound.live;
   known = dropped_known (λ n. is_same_client n.client client) old.owners old.opens sound.known;
   compatible = dropped_compatible law (λ o. is_same_client o.owner.client client) old.opens sound.compatible;
   single = single_confirmed r old.clients.records sound.single;

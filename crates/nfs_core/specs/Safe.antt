@@ -1,6 +1,8 @@
 -- What holds of the state at all times (RFC 7530, sections 9.1, 9.9 and 16.10).
 use Rattle.std.specs.Prelude.{ℕ, ◌&&◌, ◌++◌, ◌==◌, ◌≤◌, Bool, IsTrue, List, flat_map, is_some, map}
 use Rattle.std.specs.List.{AllByRecursion, IsDistinct, list_any}
+use Rattle.std.specs.Str.{bytes_eq}
+use Rattle.nfs_forms.specs.ClientId.{is_same_client}
 use Rattle.nfs_forms.specs.LockOwner.{is_same_lock_owner}
 use Rattle.nfs_forms.specs.OpenOwner.{is_same_owner}
 use Rattle.nfs_locks.specs.AllLocks.{locks_of}
@@ -10,6 +12,7 @@ use Rattle.nfs_state.specs.Owners.{KnownOwner, is_confirmed, owner_of}
 use Rattle.nfs_state.specs.State.{State}
 use Rattle.nfs_owners.specs.Registry.{record_of}
 use Rattle.nfs_owners.specs.StateOwner.{lock_owner, open_owner}
+use Rattle.nfs_owners.specs.declared.client_record.ClientRecord.{ClientRecord}
 use Rattle.nfs_share.specs.AllOpens.{opens_of}
 use Rattle.nfs_share.specs.Laws.{AllAreCompatible}
 use Rattle.nfs_share.specs.Opens.{is_numbered, is_of_client}
@@ -69,6 +72,18 @@ have_same_owner a b = is_same_owner a.owner b.owner
 abbrev pub have_same_lock_owner : ByteLocks → ByteLocks → Bool
 have_same_lock_owner a b = is_same_lock_owner a.owner b.owner
 
+-- both records are confirmed and have one id
+abbrev pub have_same_id : ClientRecord → ClientRecord → Bool
+have_same_id r s = r.confirmed && s.confirmed && bytes_eq r.id s.id
+
+-- both records are confirmed and have one clientid
+abbrev pub have_same_client : ClientRecord → ClientRecord → Bool
+have_same_client r s = r.confirmed && s.confirmed && is_same_client r.client s.client
+
+-- the record's client number was given, where this one was given last: they go up from 1
+abbrev pub HasGivenNumber : ℕ → ClientRecord → Type 0
+HasGivenNumber last r = (1 ≤ r.client.number) × (r.client.number ≤ last)
+
 -- the number was given to a state: they go up from 1
 abbrev pub WasGiven : State → ℕ → Type 0
 WasGiven state number = (1 ≤ number) × (number ≤ state.last_state)
@@ -89,3 +104,8 @@ pub record IsSafe (state : State) : Type 0 where
   -- an owner has at most one open of a file (section 9.11), and at most one lock state (section 9.1.4)
   pub one_open : AllByRecursion (IsDistinct have_same_owner) state.opens
   pub one_lock : AllByRecursion (IsDistinct have_same_lock_owner) state.locks
+  -- an id has at most one confirmed record (section 16.33.5), and so has a clientid
+  pub one_of_id : IsDistinct have_same_id state.clients.records
+  pub one_of_client : IsDistinct have_same_client state.clients.records
+  pub clients_given :
+      AllByRecursion (HasGivenNumber state.clients.last_number) state.clients.records
