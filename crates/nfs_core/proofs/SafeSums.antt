@@ -55,6 +55,29 @@ pub sum_ones : {X : Type 0} (xs : List X) → sum_of (λ x. 1) xs ≡ length xs
 sum_ones [] = refl
 sum_ones (x ∷ xs) = omega (arith, sum_ones xs)
 
+-- How many there are.
+
+pub as_many : {X : Type 0} (f : X → X) (xs : List X) → length (map f xs) ≡ length xs
+as_many f [] = refl
+as_many f (x ∷ xs) = omega (arith, as_many f xs)
+
+pub fewer : {X : Type 0} (p : X → Bool) (xs : List X) → length (filter p xs) ≤ length xs
+fewer p [] = omega arith
+fewer p (x ∷ xs) =
+    let rest : length (filter p xs) ≤ length xs = fewer p xs in
+    cond_both (p x) (x ∷ filter p xs) (filter p xs) (λ ys. length ys ≤ length (x ∷ xs)) (λ _. omega arith) (λ _. omega arith)
+
+pub one_more : {X : Type 0} (xs : List X) (x : X) → length (xs ++ x ∷ []) ≡ length xs + 1
+one_more [] x = omega arith
+one_more (y ∷ xs) x = omega (arith, one_more xs x)
+
+-- where there is a place for one that may come
+pub still_within : (comes : Bool) (before later limit : ℕ) → later ≤ before + cond comes 1 0 → (comes ≡ true → before < limit) → before ≤ limit → later ≤ limit
+still_within true before later limit grows place below =
+    let free : before < limit = place refl in
+    omega arith
+still_within false before later limit grows place below = omega arith
+
 -- How often a number is there.
 
 -- 1 for this number, and 0 for any other

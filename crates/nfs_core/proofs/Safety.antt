@@ -6,7 +6,7 @@ use Rattle.nfs_state.specs.declared.effect.Effect.{Effect}
 use Rattle.nfs_state.specs.declared.entry.Entry.{Entry}
 use Rattle.nfs_state.specs.declared.entry.Entry.TheVariants as entries
 use Rattle.nfs_core.specs.Lawful.{Leads, Lawful}
-use Rattle.nfs_core.specs.Safe.{HasKnownLocker, HasKnownOwner, HasLiveClient, HasLiveLocker, IsSafe, StandsUnderOpen, bears}
+use Rattle.nfs_core.specs.Safe.{HasKnownLocker, HasKnownOwner, HasLiveClient, HasLiveLocker, IsSafe, KeepsLimits, StandsUnderOpen, bears}
 use Rattle.nfs_state.specs.Changes.{after, with_owner_change}
 use Rattle.nfs_state.specs.State.{State, History, empty_server}
 use Rattle.nfs_core.specs.Step.{Allows, Step}
@@ -15,6 +15,7 @@ use Rattle.nfs_core.proofs.SafeFiles.{locks_at}
 use Rattle.nfs_core.proofs.SafeLists.{all_replicate, all_weaken, any_found}
 use Rattle.nfs_core.proofs.Sound.{AreNumbered, HasSoundLocks, IsKnownIn, IsLockerKnownIn, IsSound, StandsUnder, OpensStay}
 use Rattle.nfs_core.proofs.SoundClients.{HasSingles, one_of_client, singles_after, singles_empty, singles_owned}
+use Rattle.nfs_core.proofs.SoundLimits.{FirstRuns, limits_changed, limits_empty, limits_owned}
 use Rattle.nfs_core.proofs.SoundLocks.{LocksStay}
 use Rattle.nfs_core.proofs.SoundNumbers.{HasNumbers, numbered_after, numbered_empty, numbers_differ, numbers_given}
 use Rattle.nfs_core.proofs.SoundOwners.{HasOnes, ones_changed, ones_empty, ones_owned}
@@ -63,27 +64,41 @@ record Holds (state : State) : Type 0 where
   numbered : HasNumbers state
   ones : HasOnes state
   singles : HasSingles state.clients
+  within : KeepsLimits state
 
 holds_empty : (journal : History) → Holds (empty_server journal.nodes)
-holds_empty journal = record { sound = sound_empty journal; numbered = numbered_empty journal.nodes; ones = ones_empty journal.nodes; singles = singles_empty }
+holds_empty journal = record {
+  sound = sound_empty journal;
+  numbered = numbered_empty journal.nodes;
+  ones = ones_empty journal.nodes;
+  singles = singles_empty;
+  within = limits_empty journal.nodes;
+}
 
-holds_after : OpensStay → LocksStay → (number : ℕ) (effect : Effect) (old : State) → IsEffectReady number old effect → Holds old → Holds (after number effect old)
-holds_after law lock_law number effect old ready holds = record {
-  sound = sound_after law lock_law number effect old ready holds.sound;
+-- The laws of the crates below: of opens and of lock states that stay compatible, and of the runs of a first lock.
+pub record Laws : Type 0 where
+  pub opens : OpensStay
+  pub locks : LocksStay
+  pub runs : FirstRuns
+
+holds_after : Laws → (number : ℕ) (effect : Effect) (old : State) → IsEffectReady number old effect → Holds old → Holds (after number effect old)
+holds_after laws number effect old ready holds = record {
+  sound = sound_after laws.opens laws.locks number effect old ready holds.sound;
   numbered = numbered_after number effect old holds.numbered;
   ones = ones_changed effect.change (with_owner_change effect.owner number old) ready.1 (ones_owned effect.owner number old holds.ones);
   singles = singles_after effect.change (with_owner_change effect.owner number old) ready.1 (singles_owned effect.owner number old holds.singles);
+  within = limits_changed laws.runs effect.change (with_owner_change effect.owner number old) ready.1 (limits_owned effect.owner number old ready.0 holds.within);
 }
 
-holds_step : OpensStay → LocksStay → (journal : History) (old : State) (entry : Entry) (new : State) → Step journal old entry new → Holds old → Holds new
-holds_step law lock_law journal old entry new step holds =
+holds_step : Laws → (journal : History) (old : State) (entry : Entry) (new : State) → Step journal old entry new → Holds old → Holds new
+holds_step laws journal old entry new step holds =
     subst Holds (sym step.state)
-    (holds_after law lock_law (length journal.entries) step.effect old (allowed_ready journal old entry step.effect holds.sound step.allowed) holds)
+    (holds_after laws (length journal.entries) step.effect old (allowed_ready journal old entry step.effect holds.sound step.allowed) holds)
 
-holds_leads : OpensStay → LocksStay → (journal : History) (old new : State) (entries : List Entry) → Leads journal old entries new → Holds old → Holds new
-holds_leads law lock_law journal old new [] leads holds = subst Holds (sym leads) holds
-holds_leads law lock_law journal old new (entry ∷ entries) leads holds =
-    holds_leads law lock_law (with_entry entry journal) leads.0 new entries leads.2 (holds_step law lock_law journal old entry leads.0 leads.1 holds)
+holds_leads : Laws → (journal : History) (old new : State) (entries : List Entry) → Leads journal old entries new → Holds old → Holds new
+holds_leads laws journal old new [] leads holds = subst Holds (sym leads) holds
+holds_leads laws journal old new (entry ∷ entries) leads holds =
+    holds_leads laws (with_entry entry journal) leads.0 new entries leads.2 (holds_step laws journal old entry leads.0 leads.1 holds)
 
 -- So it is safe.
 
@@ -108,8 +123,9 @@ safe state holds =
       one_of_id = holds.singles.ids;
       one_of_client = one_of_client state.clients.records holds.singles.ids holds.singles.same;
       clients_given = holds.singles.given;
+      within = holds.within;
     }
 
-pub Lawful-safe : OpensStay → LocksStay → (journal : History) (state : State) → Lawful journal state → IsSafe state
-Lawful-safe law lock_law journal state lawful =
-    safe state (holds_leads law lock_law (record journal { entries = [] }) (empty_server journal.nodes) state journal.entries lawful (holds_empty journal))
+pub Lawful-safe : Laws → (journal : History) (state : State) → Lawful journal state → IsSafe state
+Lawful-safe laws journal state lawful =
+    safe state (holds_leads laws (record journal { entries = [] }) (empty_server journal.nodes) state journal.entries lawful (holds_empty journal))

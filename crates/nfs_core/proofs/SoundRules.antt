@@ -14,7 +14,7 @@ use Rattle.nfs_rules.specs.declared.passage.Passage.TheVariants as passages
 use Rattle.nfs_state.specs.declared.request.Request.{Request}
 use Rattle.nfs_rules.specs.declared.ruling.Ruling.{Ruling}
 use Rattle.nfs_rules.specs.operations.{IsRuled}
-use Rattle.nfs_rules.specs.Newcomers.{Newcomer, newcomer_of}
+use Rattle.nfs_rules.specs.Newcomers.{Newcomer, Nobody, newcomer_of}
 use Rattle.nfs_rules.specs.operations.Close as close
 use Rattle.nfs_rules.specs.operations.Lock as lock
 use Rattle.nfs_rules.specs.operations.Lockt as lockt
@@ -33,11 +33,12 @@ use Rattle.nfs_state.specs.State.{State, History, record_has_state}
 use Rattle.nfs_core.proofs.SafeLists.{all_always, all_find, all_none, all_weaken, found_last, found_some}
 use Rattle.nfs_core.proofs.Sound.{AreSingle, HasSameClient, IsOfRecord, IsOnlyOf, IsSound, is_live_in, same_client_self, same_name_self}
 use Rattle.nfs_core.proofs.SoundLocking.{lock_ready, lock_sequenced, locku_ready, stateid_of}
-use Rattle.nfs_core.proofs.SoundSequences.{IsFit, IsOf, IsOwnReady, as_decided, continues_ready, continuing, never, quiet_ready, sequenced_ready, some_equal}
+use Rattle.nfs_core.proofs.SoundSequences.{IsFit, IsOf, IsOwnReady, as_decided, continues_ready, continuing, never, place_for_nobody, quiet_ready, sequenced_ready, some_equal}
 use Rattle.nfs_core.proofs.SoundSteps.{IsChangeReady, IsClientReady, IsOwnerReady, IsReady}
 use Rattle.nfs_core.proofs.SoundTargets.{bound, ok_equal, unrefused}
 use Rattle.nfs_forms.specs.ClientId.{is_same_client}
 use Rattle.nfs_forms.specs.declared.answer.Answer.{Answer}
+use Rattle.nfs_forms.specs.declared.answer.Answer.TheVariants as answers
 use Rattle.nfs_forms.specs.declared.answer.Answer.TheVariants.{Done}
 use Rattle.nfs_forms.specs.declared.lock_denied.LockDenied.{LockDenied}
 use Rattle.nfs_xdr.specs.declared.op_result.OpResult.TheVariants as results
@@ -103,7 +104,8 @@ registered (registrations.InUse address) epoch registry principal args found = t
 registered (registrations.Update client) epoch registry principal args found =
     cond_both (is_within_limit args.callback.address) _ None (λ o. IfSome o (λ x. IsClientReady x.1 registry)) (λ _. (refl, found)) (λ _. tt)
 registered registrations.Arrival epoch registry principal args found =
-    cond_both (is_within_limit args.callback.address && has_number_left registry) _ None (λ o. IfSome o (λ x. IsClientReady x.1 registry)) (λ _. (refl, refl)) (λ _. tt)
+    cond_both (is_within_limit args.callback.address && has_number_left registry) _ None (λ o. IfSome o (λ x. IsClientReady x.1 registry))
+    (λ both. (refl, refl, (and_parts (is_within_limit args.callback.address) (has_number_left registry) both).1)) (λ _. tt)
 
 registers : (number : ℕ) (old : State) (d : Decision) (o : Option (registrations.Outcome × ClientChange)) → IfSome o (λ x. IsClientReady x.1 old.clients) → Some d ≡ option_map setclientid.decision_of o → IsReady number old d
 registers number old d None ready is = absurd cc
@@ -215,58 +217,67 @@ opening_allowed journal state node args o is =
     bound P (opening.file_at journal args.how found) _ o (λ file _.
     bound P (opening.unless_delegated journal state args.claim file) _ o (λ at _. allowed state args.owner share at o))))) is
 
--- The owner whose client is live may become known, and one that isn't confirmed may be dropped.
+-- The owner whose client is live may become known where there is a place, and one that isn't confirmed may be dropped.
 owner_ready : (journal : History) (state : State) (op : Op) (owner : OpenOwner) (passage : Passage) (status : Status) → IsSound state → is_live_in state.clients.records owner.client ≡ true
-    → IsFit state op (open_owner owner) passage → IsOwnerReady (owner_change_of passage (open_owner owner) (newcomer_of journal state owner.client op) status) state
-owner_ready journal state op owner passages.Continues status sound live fit = continues_ready journal state op (open_owner owner) status sound fit
-owner_ready journal state op owner passages.Begins status sound live fit =
-    cond_both (is_ok_status status) (owner_changes.Records (as_open_owner (open_owner owner))) owner_changes.Nothing (λ c. IsOwnerReady c state) (λ _. live) (λ _. tt)
-owner_ready journal state op owner passages.Restarts status sound live fit =
+    → IsFit state op (open_owner owner) passage → newcomer_of journal state owner.client op ≡ Nobody
+    → (is_ok_status status ≡ true → opening.has_owner_place passage (before_own passage owner state) ≡ true)
+    → IsOwnerReady (owner_change_of passage (open_owner owner) (newcomer_of journal state owner.client op) status) state
+owner_ready journal state op owner passages.Continues status sound live fit nobody place =
+    continues_ready journal state op (open_owner owner) status sound fit (place_for_nobody state (newcomer_of journal state owner.client op) status nobody)
+owner_ready journal state op owner passages.Begins status sound live fit nobody place =
+    cond_both (is_ok_status status) (owner_changes.Records (as_open_owner (open_owner owner))) owner_changes.Nothing (λ c. IsOwnerReady c state) (λ ok. (live, place ok)) (λ _. tt)
+owner_ready journal state op owner passages.Restarts status sound live fit nobody place =
     cond_both (is_ok_status status) (owner_changes.Restarts (as_open_owner (open_owner owner))) (owner_changes.Drops (as_open_owner (open_owner owner))) (λ c. IsOwnerReady c state)
-    (λ _. (live, fit.1)) (λ _. fit.1)
+    (λ ok. (live, fit.1, place ok)) (λ _. fit.1)
 
 -- After what its entry means for the owner, the owner of an OPEN is known, and the opens are those that the OPEN saw.
 opens_ready : (number : ℕ) (state : State) (op : Op) (owner : OpenOwner) (passage : Passage) (newcomer : Newcomer) (status : Status) (node : ℕ) (share : Share) → is_ok_status status ≡ true → IsFit state op (open_owner owner) passage
     → is_refused owner share (opens_of node (before_own passage owner state).opens) ≡ false
+    → opening.has_open_place (before_own passage owner state) owner node ≡ true
     → IsChangeReady (changes.Opens node owner share) (with_owner_change (owner_change_of passage (open_owner owner) newcomer status) number state)
-opens_ready number state op owner passages.Continues newcomer status node share ok fit free =
+opens_ready number state op owner passages.Continues newcomer status node share ok fit free place =
     let goes = continuing number state (open_owner owner) newcomer status in
-    subst (IsChangeReady (changes.Opens node owner share)) (sym goes.state) (goes.keeps.known (open_owner owner) fit, free)
-opens_ready number state op owner passages.Begins newcomer status node share ok fit free =
+    subst (IsChangeReady (changes.Opens node owner share)) (sym goes.state) (goes.keeps.known (open_owner owner) fit, free, place)
+opens_ready number state op owner passages.Begins newcomer status node share ok fit free place =
     let name = open_owner owner in
     let new : KnownOwner = record { name = name; confirmed = false; recording_entry = number; kept_entry = number } in
     subst (λ c. IsChangeReady (changes.Opens node owner share) (with_owner_change c number state))
     (sym (cond-true (is_ok_status status) (owner_changes.Records (as_open_owner name)) owner_changes.Nothing ok))
-    (found_last (has_name name) state.owners new (same_name_self name), free)
-opens_ready number state op owner passages.Restarts newcomer status node share ok fit free =
+    (found_last (has_name name) state.owners new (same_name_self name), free, place)
+opens_ready number state op owner passages.Restarts newcomer status node share ok fit free place =
     let name = open_owner owner in
     let new : KnownOwner = record { name = name; confirmed = false; recording_entry = number; kept_entry = number } in
     subst (λ c. IsChangeReady (changes.Opens node owner share) (with_owner_change c number state))
     (sym (cond-true (is_ok_status status) (owner_changes.Restarts (as_open_owner name)) (owner_changes.Drops (as_open_owner name)) ok))
-    (found_last (has_name name) (without_owner name state.owners) new (same_name_self name), free)
+    (found_last (has_name name) (without_owner name state.owners) new (same_name_self name), free, place)
 
 -- the rule of OPEN, by what it opens or why it opens nothing
 ruling_ready : (number : ℕ) (journal : History) (state : State) (op : Op) (args : Open) (passage : Passage) (directory : ℕ) (ruling : Ruling) (result : Result Opening Refusal)
     → IsSound state → is_live_in state.clients.records args.owner.client ≡ true → IsFit state op (open_owner args.owner) passage
+    → newcomer_of journal state args.owner.client op ≡ Nobody
     → opening.opening journal (before_own passage args.owner state) directory args ≡ result
     → Some ruling ≡ opening.ruling_of (before_own passage args.owner state) passage args.owner result
     → IsReady number state (decision_of passage (open_owner args.owner) (newcomer_of journal state args.owner.client op) ruling)
-ruling_ready number journal state op args passage directory ruling (Err refusal) sound live fit is rules =
+ruling_ready number journal state op args passage directory ruling (Err refusal) sound live fit nobody is rules =
     subst (λ r. IsReady number state (decision_of passage (open_owner args.owner) (newcomer_of journal state args.owner.client op) r)) (sym (some_equal ruling _ rules))
-    (owner_ready journal state op args.owner passage _ sound live fit, tt)
-ruling_ready number journal state op args passage directory ruling (Ok o) sound live fit is rules =
+    (owner_ready journal state op args.owner passage (status_of (results.Open (answers.Refused refusal))) sound live fit nobody (λ ok. absurd cc), tt)
+ruling_ready number journal state op args passage directory ruling (Ok o) sound live fit nobody is rules =
     let seen = before_own passage args.owner state in
     let newcomer = newcomer_of journal state args.owner.client op in
-    let places = opening.has_owner_place passage seen && opening.has_open_place seen args.owner o.node in
+    let owner_place = opening.has_owner_place passage seen in
+    let open_place = opening.has_open_place seen args.owner o.node in
+    let places = owner_place && open_place in
     let given : Ruling = record {
       answer = results.Open (Done (opening.answer_of seen passage args.owner o.node));
       change = changes.Opens o.node args.owner o.share;
     } in
     elim (cases_Bool places) [
-      | inl has ↦ subst (λ r. IsReady number state (decision_of passage (open_owner args.owner) newcomer r))
+      | inl has ↦
+          let both = and_parts owner_place open_place has in
+          subst (λ r. IsReady number state (decision_of passage (open_owner args.owner) newcomer r))
           (sym (some_equal ruling given (rules ∙ cond-true places (Some given) None has))) (
-            owner_ready journal state op args.owner passage (status_of given.answer) sound live fit,
-            opens_ready number state op args.owner passage newcomer (status_of given.answer) o.node o.share refl fit (opening_allowed journal seen directory args o is),
+            owner_ready journal state op args.owner passage (status_of given.answer) sound live fit nobody (λ _. both.0),
+            opens_ready number state op args.owner passage newcomer (status_of given.answer) o.node o.share refl fit (opening_allowed journal seen directory args o is) both.1,
           )
       | inr full ↦
           let none : Some ruling ≡ None = rules ∙ cond-false places (Some given) None full in
@@ -287,12 +298,13 @@ requests_open state owner seqid name is =
           absurd cc
     ]
 
-open_ready : (number : ℕ) (journal : History) (state : State) (op : Op) (args : Open) → IsSound state → IsOwnReady number journal state (requester_of_open state args.owner args.seqid) op (opening.own journal state args)
-open_ready number journal state op args sound node passage name ruling of fit h =
+open_ready : (number : ℕ) (journal : History) (state : State) (op : Op) (args : Open) → IsSound state → op ≡ ops.Open args → IsOwnReady number journal state (requester_of_open state args.owner args.seqid) op (opening.own journal state args)
+open_ready number journal state op args sound is node passage name ruling of fit h =
     let asked = requests_open state args.owner args.seqid name of in
     let fits : IsFit state op (open_owner args.owner) passage = subst (λ n. IsFit state op n passage) asked.0 fit in
+    let nobody : newcomer_of journal state args.owner.client op ≡ Nobody = ap (newcomer_of journal state args.owner.client) is in
     subst (λ (n : StateOwner). IsReady number state (decision_of passage n (newcomer_of journal state n.client op) ruling)) (sym asked.0)
-    (ruling_ready number journal state op args passage node ruling (opening.opening journal (before_own passage args.owner state) node args) sound asked.1 fits refl h)
+    (ruling_ready number journal state op args passage node ruling (opening.opening journal (before_own passage args.owner state) node args) sound asked.1 fits nobody refl h)
 
 -- LOCKT and RELEASE_LOCKOWNER
 
@@ -335,18 +347,18 @@ ruled_ready number journal state (ops.SetclientidConfirm args) request d same so
     )
 ruled_ready number journal state (ops.Open args) request d same sound is =
     sequenced_ready number journal state (requester_of_open state args.owner args.seqid) request (opening.own journal state args)
-    (open_ready number journal state request.op args sound) d is
+    (open_ready number journal state request.op args sound same) d is
 ruled_ready number journal state (ops.OpenConfirm args) request d same sound is =
     sequenced_ready number journal state (requester_of_stateid journal state args.stateid args.seqid) request (open_confirm.own journal state args)
-    (quiet_ready number journal state (requester_of_stateid journal state args.stateid args.seqid) request.op (open_confirm.own journal state args) sound (ap is_open same)
+    (quiet_ready number journal state (requester_of_stateid journal state args.stateid args.seqid) request.op (open_confirm.own journal state args) sound (ap is_open same) (λ client. ap (newcomer_of journal state client) same)
     (λ node passage ruling h. as_ruled ruling _ h (confirmation_quiet state (verdict (record { node = node; also_unconfirmed = true }) journal.epoch state args.stateid)))) d is
 ruled_ready number journal state (ops.OpenDowngrade args) request d same sound is =
     sequenced_ready number journal state (requester_of_stateid journal state args.stateid args.seqid) request (open_downgrade.own journal state args)
-    (quiet_ready number journal state (requester_of_stateid journal state args.stateid args.seqid) request.op (open_downgrade.own journal state args) sound (ap is_open same)
+    (quiet_ready number journal state (requester_of_stateid journal state args.stateid args.seqid) request.op (open_downgrade.own journal state args) sound (ap is_open same) (λ client. ap (newcomer_of journal state client) same)
     (λ node passage ruling h. found_quiet (verdict (record { node = node; also_unconfirmed = false }) journal.epoch state args.stateid) args ruling h)) d is
 ruled_ready number journal state (ops.Close args) request d same sound is =
     sequenced_ready number journal state (requester_of_stateid journal state args.stateid args.seqid) request (close.own journal state args)
-    (quiet_ready number journal state (requester_of_stateid journal state args.stateid args.seqid) request.op (close.own journal state args) sound (ap is_open same)
+    (quiet_ready number journal state (requester_of_stateid journal state args.stateid args.seqid) request.op (close.own journal state args) sound (ap is_open same) (λ client. ap (newcomer_of journal state client) same)
     (λ node passage ruling h. as_ruled ruling _ h (closing_quiet (verdict (record { node = node; also_unconfirmed = false }) journal.epoch state args.stateid)))) d is
 ruled_ready number journal state (ops.Lock args) request d same sound is =
     let sequenced = lock_sequenced args args.locker journal state request (Some d) is in

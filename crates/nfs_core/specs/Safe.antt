@@ -1,5 +1,5 @@
 -- What holds of the state at all times (RFC 7530, sections 9.1, 9.9 and 16.10).
-use Rattle.std.specs.Prelude.{ℕ, ◌&&◌, ◌++◌, ◌==◌, ◌≤◌, Bool, IsTrue, List, flat_map, is_some, map}
+use Rattle.std.specs.Prelude.{ℕ, ◌&&◌, ◌++◌, ◌==◌, ◌≤◌, Bool, IsTrue, List, flat_map, is_some, length, map}
 use Rattle.std.specs.List.{AllByRecursion, IsDistinct, list_any}
 use Rattle.std.specs.Str.{bytes_eq}
 use Rattle.nfs_forms.specs.ClientId.{is_same_client}
@@ -13,6 +13,12 @@ use Rattle.nfs_state.specs.State.{State}
 use Rattle.nfs_owners.specs.Registry.{record_of}
 use Rattle.nfs_owners.specs.StateOwner.{lock_owner, open_owner}
 use Rattle.nfs_owners.specs.declared.client_record.ClientRecord.{ClientRecord}
+use Rattle.nfs_owners.specs.declared.client_record.TheConstants.{CLIENT_LIMIT}
+use Rattle.nfs_owners.specs.declared.owner.TheConstants.{OWNER_LIMIT}
+use Rattle.nfs_ranges.specs.Runs.{runs}
+use Rattle.nfs_ranges.specs.declared.limits.TheConstants.{RUN_LIMIT}
+use Rattle.nfs_state.specs.Places.{state_count}
+use Rattle.nfs_state.specs.declared.limits.TheConstants.{STATE_LIMIT}
 use Rattle.nfs_share.specs.AllOpens.{opens_of}
 use Rattle.nfs_share.specs.Laws.{AllAreCompatible}
 use Rattle.nfs_share.specs.Opens.{is_numbered, is_of_client}
@@ -88,6 +94,19 @@ HasGivenNumber last r = (1 ≤ r.client.number) × (r.client.number ≤ last)
 abbrev pub WasGiven : State → ℕ → Type 0
 WasGiven state number = (1 ≤ number) × (number ≤ state.last_state)
 
+-- the bytes that the owner holds are in no more runs than an owner may have of a file
+abbrev pub HasFewRuns : ByteLocks → Type 0
+HasFewRuns l = runs l.modes ≤ RUN_LIMIT
+
+-- no limit is exceeded
+pub record KeepsLimits (state : State) : Type 0 where
+  -- opens and lock states together
+  pub states : state_count state ≤ STATE_LIMIT
+  pub owners : length state.owners ≤ OWNER_LIMIT
+  -- the numbers that clients were given
+  pub clients : state.clients.last_number ≤ CLIENT_LIMIT
+  pub runs : EachLock HasFewRuns state
+
 pub record IsSafe (state : State) : Type 0 where
   -- of each two opens of a node by different owners, neither may do what the other denies
   pub compatible : AllByRecursion AllAreCompatible state.opens
@@ -109,3 +128,4 @@ pub record IsSafe (state : State) : Type 0 where
   pub one_of_client : IsDistinct have_same_client state.clients.records
   pub clients_given :
       AllByRecursion (HasGivenNumber state.clients.last_number) state.clients.records
+  pub within : KeepsLimits state

@@ -4,6 +4,7 @@ ghost use Rattle.nfs_core.specs.Step.{AtMostOneStep};
 ghost use Rattle.nfs_state.specs.State.{State, History};
 
 use nfs_locks::locks_stay_compatible;
+use nfs_ranges::first_change_has_place;
 use nfs_rules::at_most_one_decision;
 use nfs_share::opens_stay_compatible;
 
@@ -27,4 +28,5 @@ pub fn lawful_is_safe()
 {
     opens_stay_compatible();
     locks_stay_compatible();
+    first_change_has_place();
 }
