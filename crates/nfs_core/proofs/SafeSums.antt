@@ -1,9 +1,8 @@
 -- Sums over lists, and how often a number is in a list.
-use Rattle.std.proofs.Common.{◌≡◌, inl, inr, ℕ, zero, suc, Bool, true, false, cond, List, [], ◌∷◌, ◌++◌, map, filter, length, slice_set, refl, sym, ap, arith}
+use Rattle.std.proofs.Common.{◌≡◌, inl, inr, ℕ, zero, suc, Bool, true, false, cond, List, [], ◌∷◌, ◌++◌, map, filter, length, refl, sym, ap, arith}
 use Rattle.std.specs.Prelude.{◌+◌, ◌≤◌, ◌<◌, ◌==◌, flat_map, replicate}
 use Rattle.std.specs.List.{AllByRecursion, IsDistinct}
 use Rattle.std.proofs.lemmas.Bool.{cases_Bool, cond_both, eqb-true, eq-eqb}
-use Rattle.std.proofs.lemmas.Map.Keys.{IsDistinct-cons}
 
 abbrev pub sum_of : {X : Type 0} → (X → ℕ) → List X → ℕ
 sum_of w [] = 0

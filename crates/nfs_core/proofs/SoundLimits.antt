@@ -1,6 +1,6 @@
 -- No limit is exceeded.
-use Rattle.std.proofs.Common.{◌≡◌, ℕ, Bool, true, false, cond, List, [], ◌∷◌, ◌++◌, filter, length, map, refl, sym, ap, ◌∙◌, arith}
-use Rattle.std.specs.Prelude.{⊤, ◌+◌, ◌≤◌, ◌<◌, ◌&&◌, ◌||◌, is_some, nat_lt, not, if◌then◌else◌}
+use Rattle.std.proofs.Common.{◌≡◌, ℕ, Bool, true, false, cond, List, [], ◌∷◌, length, map, refl, arith}
+use Rattle.std.specs.Prelude.{◌+◌, ◌≤◌, ◌&&◌, ◌||◌, is_some, nat_lt, not, if◌then◌else◌}
 use Rattle.std.specs.List.{AllByRecursion, list_any}
 use Rattle.std.proofs.lemmas.Bool.{ltb-false, ltb-true}
 use Rattle.nfs_core.specs.Safe.{HasFewRuns, KeepsLimits}
@@ -10,13 +10,12 @@ use Rattle.nfs_core.proofs.SafeSums.{as_many, fewer, one_more, still_within, sum
 use Rattle.nfs_core.proofs.SoundNumbers.{gives, of_lock, of_open, weight, weight_changed, weight_owned}
 use Rattle.nfs_core.proofs.SoundSteps.{IsChangeReady, IsClientReady, IsOwnerReady}
 use Rattle.nfs_forms.specs.ClientId.{is_same_client}
-use Rattle.nfs_locks.specs.AllLocks.{is_full_for, lock_count, locks_of, with_locks}
+use Rattle.nfs_locks.specs.AllLocks.{is_full_for, lock_count, locks_of}
 use Rattle.nfs_locks.specs.Locks.{ByteLocks, after_change, first_state, is_lock_of, is_lock_of_client, is_numbered, is_under, with_first_lock, with_lock_change, would_be_full}
 use Rattle.nfs_locks.specs.Locks as locks
 use Rattle.nfs_owners.specs.ClientChange.{with_change}
-use Rattle.nfs_owners.specs.Registration.{has_number_left}
 use Rattle.nfs_owners.specs.Registry.{Registry}
-use Rattle.nfs_owners.specs.StateOwner.{is_same_state_owner, lock_owner, open_owner}
+use Rattle.nfs_owners.specs.StateOwner.{lock_owner, open_owner}
 use Rattle.nfs_owners.specs.declared.client_record.TheConstants.{CLIENT_LIMIT}
 use Rattle.nfs_owners.specs.declared.clients.client_change.ClientChange.{ClientChange}
 use Rattle.nfs_owners.specs.declared.clients.client_change.ClientChange.TheVariants as client_changes
@@ -30,12 +29,11 @@ use Rattle.nfs_share.specs.AllOpens.{open_count, opens_of}
 use Rattle.nfs_share.specs.Opens.{open_of}
 use Rattle.nfs_share.specs.declared.open_state.OpenState.{OpenState}
 use Rattle.nfs_state.specs.Changes.{with_owner_change, with_state_change}
-use Rattle.nfs_state.specs.Owners.{KnownOwner, has_name, with_confirmation, with_kept_entry, with_record, without_owner}
+use Rattle.nfs_state.specs.Owners.{KnownOwner, has_name, with_kept_entry, with_record, without_owner}
 use Rattle.nfs_state.specs.Places.{has_state_place, state_count}
 use Rattle.nfs_state.specs.State.{State, empty_server}
 use Rattle.nfs_state.specs.declared.change.Change.{Change}
 use Rattle.nfs_state.specs.declared.change.Change.TheVariants as changes
-use Rattle.nfs_state.specs.declared.effect.Effect.{Effect}
 use Rattle.nfs_state.specs.declared.limits.TheConstants.{STATE_LIMIT}
 use Rattle.nfs_state.specs.declared.owner_change.OwnerChange.{OwnerChange}
 use Rattle.nfs_state.specs.declared.owner_change.OwnerChange.TheVariants as owner_changes

@@ -1,16 +1,14 @@
 -- The numbers of opens and lock states: how many an entry adds, and that each was given once.
-use Rattle.std.proofs.Common.{◌≡◌, inl, inr, ℕ, zero, suc, Bool, true, false, cond, List, [], ◌∷◌, ◌++◌, map, slice_set, refl, sym, ap, subst, arith}
+use Rattle.std.proofs.Common.{◌≡◌, ℕ, zero, suc, Bool, true, false, cond, List, [], ◌∷◌, ◌++◌, map, slice_set, refl, sym, ap, subst, arith}
 use Rattle.std.specs.Prelude.{◌+◌, ◌≤◌, ◌<◌, ◌==◌, flat_map, is_some, not}
 use Rattle.std.specs.List.{AllByRecursion, IsDistinct}
 use Rattle.nfs_core.specs.Safe.{WasGiven, numbers_of}
 use Rattle.nfs_core.proofs.SafeSums.{IsOnce, all_from_count, distinct_from_once, is_one, once_given, once_less, once_never, sum_all_map, sum_all_none, sum_append, sum_filter, sum_flat, sum_map, sum_of, sum_of_all, sum_push}
-use Rattle.nfs_forms.specs.ClientId.{is_same_client}
 use Rattle.nfs_forms.specs.OpenOwner.{is_same_owner}
 use Rattle.nfs_forms.specs.declared.open_owner.OpenOwner.{OpenOwner}
 use Rattle.nfs_locks.specs.AllLocks.{locks_of}
 use Rattle.nfs_locks.specs.Locks.{ByteLocks, after_change, first_state, is_lock_of, is_lock_of_client, is_numbered as is_lock_numbered, is_under}
 use Rattle.nfs_locks.specs.Locks as locks
-use Rattle.nfs_owners.specs.declared.clients.client_change.ClientChange.{ClientChange}
 use Rattle.nfs_owners.specs.declared.clients.client_change.ClientChange.TheVariants as client_changes
 use Rattle.nfs_share.specs.AllOpens.{opens_of}
 use Rattle.nfs_share.specs.Opens.{after_downgrade, after_open, first_open, is_numbered, is_of, is_of_client, open_of, with_each, with_next_seqid, with_opening}
@@ -18,7 +16,6 @@ use Rattle.nfs_share.specs.Opens as opens
 use Rattle.nfs_share.specs.declared.open_state.OpenState.{OpenState}
 use Rattle.nfs_share.specs.declared.share.Share.{Share}
 use Rattle.nfs_state.specs.Changes.{after, last_state_after, with_owner_change, with_state_change}
-use Rattle.nfs_state.specs.Changes as state_changes
 use Rattle.nfs_state.specs.State.{State, empty_server}
 use Rattle.nfs_state.specs.declared.change.Change.{Change}
 use Rattle.nfs_state.specs.declared.change.Change.TheVariants as changes

@@ -1,6 +1,6 @@
 -- An owner has at most one open, and at most one lock state, of a file.
-use Rattle.std.proofs.Common.{◌≡◌, ℕ, Bool, true, false, cond, Option, Some, None, List, [], ◌∷◌, ◌++◌, map, refl, sym, ap, ◌∙◌}
-use Rattle.std.specs.Prelude.{◌+◌, find, is_some, not, replicate}
+use Rattle.std.proofs.Common.{◌≡◌, ℕ, Bool, true, false, cond, Option, Some, None, List, [], ◌∷◌, ◌++◌, map, refl, ap, ◌∙◌}
+use Rattle.std.specs.Prelude.{◌+◌, is_some, not}
 use Rattle.std.specs.List.{AllByRecursion, IsDistinct}
 use Rattle.std.proofs.lemmas.Bool.{cond_both}
 use Rattle.nfs_core.specs.Safe.{have_same_lock_owner, have_same_owner}
@@ -10,7 +10,6 @@ use Rattle.nfs_core.proofs.SafeLists.{all_map, all_none, all_replicate, all_set}
 use Rattle.nfs_core.proofs.SoundSteps.{IsChangeReady}
 use Rattle.nfs_forms.specs.LockOwner.{is_same_lock_owner}
 use Rattle.nfs_forms.specs.OpenOwner.{is_same_owner}
-use Rattle.nfs_forms.specs.declared.lock_owner.LockOwner.{LockOwner}
 use Rattle.nfs_forms.specs.declared.open_owner.OpenOwner.{OpenOwner}
 use Rattle.nfs_locks.specs.AllLocks.{locks_of}
 use Rattle.nfs_locks.specs.Locks.{ByteLocks, after_change, first_state, is_lock_of, is_lock_of_client, is_numbered as is_lock_numbered, is_under, lock_of, with_first_lock, with_lock_change}
