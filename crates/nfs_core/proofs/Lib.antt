@@ -7,6 +7,7 @@ pub mod SafeSums
 pub mod Safety
 pub mod Sound
 pub mod SoundClients
+pub mod SoundKept
 pub mod SoundLimits
 pub mod SoundLocking
 pub mod SoundLocks

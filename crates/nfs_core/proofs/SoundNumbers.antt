@@ -202,10 +202,10 @@ pub numbers_differ : (state : State) → HasNumbers state → IsDistinct (λ a b
 unfolding HasNumbers
 numbers_differ state h = distinct_from_once (numbers_of state) (λ n. omega (arith, weight_of_numbers (is_one n) state, (h n).once))
 
-pub numbers_given : (state : State) → HasNumbers state → AllByRecursion (WasGiven state) (numbers_of state)
+pub numbers_given : (state : State) → HasNumbers state → AllByRecursion (WasGiven state.last_state) (numbers_of state)
 unfolding HasNumbers
 numbers_given state h =
-    all_from_count (WasGiven state) (numbers_of state)
+    all_from_count (WasGiven state.last_state) (numbers_of state)
     (λ n some.
     let there : 0 < weight (is_one n) state = omega (arith, some, weight_of_numbers (is_one n) state) in
     ((h n).least there, (h n).most there))

@@ -1,5 +1,5 @@
 ghost use Rattle.std.specs.Prelude.{◌≡◌, None, ◌≤◌, ◌<◌, [], IfOk, OnErr, IsErrOf, IsTrue, length};
-ghost use Rattle.nfs_core.specs.Safe.{IsSafe};
+ghost use Rattle.nfs_core.specs.Safe.{IsSafe, KeepRequests};
 ghost use Rattle.nfs_core.specs.Server.{Applies, Enters, IsLawful};
 ghost use Rattle.nfs_core.specs.Step.{HasNoAnswer};
 ghost use Rattle.nfs_rules.specs.operations.{IsRuled};
@@ -115,6 +115,7 @@ impl Core {
         ensures kept { Agrees self.now.journal self.now.stored.owners }
         ensures lawful { IsLawful self.now }
         ensures safe { IsSafe (meaning self.now.stored) }
+        ensures counted { KeepRequests self.now.journal (meaning self.now.stored) }
     {
         lawful_is_safe();
         &self.journal

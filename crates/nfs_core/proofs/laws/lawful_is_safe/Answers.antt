@@ -1,5 +1,6 @@
 use Rattle.nfs_core.proofs.laws.lawful_is_safe.Goals as goal
 use Rattle.nfs_core.proofs.Safety.{Lawful-safe}
+use Rattle.nfs_core.proofs.SoundKept.{Lawful-kept}
 
 pub returns : goal.returns
 returns c =
@@ -16,4 +17,5 @@ returns c =
         locks = record { begin = locks.begin; change = locks.change; removal = locks.removal };
         runs = c.first_change_has_place.ensures;
       });
+      kept = Lawful-kept;
     }
