@@ -6,14 +6,19 @@ use Rattle.nfs_state.specs.declared.effect.Effect.{Effect}
 use Rattle.nfs_state.specs.declared.entry.Entry.{Entry}
 use Rattle.nfs_state.specs.declared.entry.Entry.TheVariants as entries
 use Rattle.nfs_core.specs.Lawful.{Leads, Lawful}
-use Rattle.nfs_core.specs.Safe.{HasKnownLocker, HasKnownOwner, HasLiveClient, HasLiveLocker, IsSafe, StandsUnderOpen, bears}
+use Rattle.nfs_core.specs.Safe.{HasKnownLocker, HasKnownOwner, HasLiveClient, HasLiveLocker, IsSafe, KeepsLimits, StandsUnderOpen, bears}
+use Rattle.nfs_state.specs.Changes.{after, with_owner_change}
 use Rattle.nfs_state.specs.State.{State, History, empty_server}
 use Rattle.nfs_core.specs.Step.{Allows, Step}
 use Rattle.nfs_state.specs.Entries.{with_entry}
 use Rattle.nfs_core.proofs.SafeFiles.{locks_at}
 use Rattle.nfs_core.proofs.SafeLists.{all_replicate, all_weaken, any_found}
 use Rattle.nfs_core.proofs.Sound.{AreNumbered, HasSoundLocks, IsKnownIn, IsLockerKnownIn, IsSound, StandsUnder, OpensStay}
+use Rattle.nfs_core.proofs.SoundClients.{HasSingles, one_of_client, singles_after, singles_empty, singles_owned}
+use Rattle.nfs_core.proofs.SoundLimits.{FirstRuns, limits_changed, limits_empty, limits_owned}
 use Rattle.nfs_core.proofs.SoundLocks.{LocksStay}
+use Rattle.nfs_core.proofs.SoundNumbers.{HasNumbers, numbered_after, numbered_empty, numbers_differ, numbers_given}
+use Rattle.nfs_core.proofs.SoundOwners.{HasOnes, ones_changed, ones_empty, ones_owned}
 use Rattle.nfs_core.proofs.SoundRules.{ruled_ready}
 use Rattle.nfs_core.proofs.SoundSequences.{live_owner}
 use Rattle.nfs_core.proofs.SoundSteps.{IsEffectReady, sound_after}
@@ -53,31 +58,74 @@ allowed_ready : (journal : History) (old : State) (entry : Entry) (effect : Effe
 allowed_ready journal old (entries.Call call) effect sound allowed =
     ruled_ready (length journal.entries) journal old call.request.op call.request (record { answer = call.answer; effect = effect }) refl sound allowed.rule
 
-sound_step : OpensStay → LocksStay → (journal : History) (old : State) (entry : Entry) (new : State) → Step journal old entry new → IsSound old → IsSound new
-sound_step law lock_law journal old entry new step sound =
-    subst IsSound (sym step.state) (sound_after law lock_law (length journal.entries) step.effect old (allowed_ready journal old entry step.effect sound step.allowed) sound)
+-- What holds of the state after each entry.
+record Holds (state : State) : Type 0 where
+  sound : IsSound state
+  numbered : HasNumbers state
+  ones : HasOnes state
+  singles : HasSingles state.clients
+  within : KeepsLimits state
 
-sound_leads : OpensStay → LocksStay → (journal : History) (old new : State) (entries : List Entry) → Leads journal old entries new → IsSound old → IsSound new
-sound_leads law lock_law journal old new [] leads sound = subst IsSound (sym leads) sound
-sound_leads law lock_law journal old new (entry ∷ entries) leads sound =
-    sound_leads law lock_law (with_entry entry journal) leads.0 new entries leads.2 (sound_step law lock_law journal old entry leads.0 leads.1 sound)
-
--- What is sound is safe.
-
-safe : (state : State) → IsSound state → IsSafe state
-safe state sound = record {
-  compatible = sound.compatible;
-  known = sound.known;
-  live = all_weaken (AllByRecursion (HasKnownOwner state)) (AllByRecursion (HasLiveClient state))
-      (λ opens known. all_weaken (HasKnownOwner state) (HasLiveClient state) (λ o h. live_owner state sound (open_owner o.owner) h) opens known) state.opens sound.known;
-  locks_compatible = sound.locks.compatible;
-  lockers_known = sound.locks.known;
-  lockers_live = all_weaken (AllByRecursion (HasKnownLocker state)) (AllByRecursion (HasLiveLocker state))
-      (λ locks known. all_weaken (HasKnownLocker state) (HasLiveLocker state) (λ l h. live_owner state sound (lock_owner l.owner) h) locks known) state.locks sound.locks.known;
-  locks_under_opens = λ node. all_weaken (StandsUnder state.owners (opens_of node state.opens)) (StandsUnderOpen state node)
-      (λ l h. any_found (bears state.owners l) (opens_of node state.opens) h) (locks_of node state.locks) (sound.locks.under node);
+holds_empty : (journal : History) → Holds (empty_server journal.nodes)
+holds_empty journal = record {
+  sound = sound_empty journal;
+  numbered = numbered_empty journal.nodes;
+  ones = ones_empty journal.nodes;
+  singles = singles_empty;
+  within = limits_empty journal.nodes;
 }
 
-pub Lawful-safe : OpensStay → LocksStay → (journal : History) (state : State) → Lawful journal state → IsSafe state
-Lawful-safe law lock_law journal state lawful =
-    safe state (sound_leads law lock_law (record journal { entries = [] }) (empty_server journal.nodes) state journal.entries lawful (sound_empty journal))
+-- The laws of the crates below: of opens and of lock states that stay compatible, and of the runs of a first lock.
+pub record Laws : Type 0 where
+  pub opens : OpensStay
+  pub locks : LocksStay
+  pub runs : FirstRuns
+
+holds_after : Laws → (number : ℕ) (effect : Effect) (old : State) → IsEffectReady number old effect → Holds old → Holds (after number effect old)
+holds_after laws number effect old ready holds = record {
+  sound = sound_after laws.opens laws.locks number effect old ready holds.sound;
+  numbered = numbered_after number effect old holds.numbered;
+  ones = ones_changed effect.change (with_owner_change effect.owner number old) ready.1 (ones_owned effect.owner number old holds.ones);
+  singles = singles_after effect.change (with_owner_change effect.owner number old) ready.1 (singles_owned effect.owner number old holds.singles);
+  within = limits_changed laws.runs effect.change (with_owner_change effect.owner number old) ready.1 (limits_owned effect.owner number old ready.0 holds.within);
+}
+
+holds_step : Laws → (journal : History) (old : State) (entry : Entry) (new : State) → Step journal old entry new → Holds old → Holds new
+holds_step laws journal old entry new step holds =
+    subst Holds (sym step.state)
+    (holds_after laws (length journal.entries) step.effect old (allowed_ready journal old entry step.effect holds.sound step.allowed) holds)
+
+holds_leads : Laws → (journal : History) (old new : State) (entries : List Entry) → Leads journal old entries new → Holds old → Holds new
+holds_leads laws journal old new [] leads holds = subst Holds (sym leads) holds
+holds_leads laws journal old new (entry ∷ entries) leads holds =
+    holds_leads laws (with_entry entry journal) leads.0 new entries leads.2 (holds_step laws journal old entry leads.0 leads.1 holds)
+
+-- So it is safe.
+
+safe : (state : State) → Holds state → IsSafe state
+safe state holds =
+    let sound = holds.sound in
+    record {
+      compatible = sound.compatible;
+      known = sound.known;
+      live = all_weaken (AllByRecursion (HasKnownOwner state)) (AllByRecursion (HasLiveClient state))
+          (λ opens known. all_weaken (HasKnownOwner state) (HasLiveClient state) (λ o h. live_owner state sound (open_owner o.owner) h) opens known) state.opens sound.known;
+      locks_compatible = sound.locks.compatible;
+      lockers_known = sound.locks.known;
+      lockers_live = all_weaken (AllByRecursion (HasKnownLocker state)) (AllByRecursion (HasLiveLocker state))
+          (λ locks known. all_weaken (HasKnownLocker state) (HasLiveLocker state) (λ l h. live_owner state sound (lock_owner l.owner) h) locks known) state.locks sound.locks.known;
+      locks_under_opens = λ node. all_weaken (StandsUnder state.owners (opens_of node state.opens)) (StandsUnderOpen state node)
+          (λ l h. any_found (bears state.owners l) (opens_of node state.opens) h) (locks_of node state.locks) (sound.locks.under node);
+      numbers_differ = numbers_differ state holds.numbered;
+      numbers_given = numbers_given state holds.numbered;
+      one_open = holds.ones.opens;
+      one_lock = holds.ones.locks;
+      one_of_id = holds.singles.ids;
+      one_of_client = one_of_client state.clients.records holds.singles.ids holds.singles.same;
+      clients_given = holds.singles.given;
+      within = holds.within;
+    }
+
+pub Lawful-safe : Laws → (journal : History) (state : State) → Lawful journal state → IsSafe state
+Lawful-safe laws journal state lawful =
+    safe state (holds_leads laws (record journal { entries = [] }) (empty_server journal.nodes) state journal.entries lawful (holds_empty journal))

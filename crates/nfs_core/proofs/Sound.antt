@@ -127,6 +127,10 @@ HasSameClient r s = r.confirmed ≡ true → s.confirmed ≡ true → is_of r.id
 abbrev pub AreSingle : List ClientRecord → Type 0
 AreSingle records = AllByRecursion (λ r. AllByRecursion (HasSameClient r) records) records
 
+-- a record that is there has the clientid and the id of this one
+abbrev pub IsOfRecord : ClientRecord → List ClientRecord → Type 0
+IsOfRecord r records = is_some (find (λ s. is_same_client s.client r.client && bytes_eq s.id r.id) records) ≡ true
+
 abbrev pub IsLockerKnownIn : List KnownOwner → ByteLocks → Type 0
 IsLockerKnownIn owners l = is_known_in owners (lock_owner l.owner) ≡ true
 

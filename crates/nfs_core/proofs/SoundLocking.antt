@@ -1,16 +1,16 @@
 -- What LOCK and LOCKU decide is ready to keep the state sound.
 use Rattle.std.proofs.Common.{◌≡◌, ◌⊎◌, inl, inr, ℕ, Bool, true, false, Option, Some, None, List, Result, Ok, Err, refl, sym, ap, ◌∙◌, subst}
-use Rattle.std.specs.Prelude.{◌+◌, ◌&&◌, find, not, is_some, if◌then◌else◌}
-use Rattle.std.proofs.lemmas.Bool.{and_from, cases_Bool, cond-false, cond-true, eq-eqb, not-false}
+use Rattle.std.specs.Prelude.{⊤, ◌+◌, ◌&&◌, ◌||◌, find, length, nat_lt, not, is_some, if◌then◌else◌}
+use Rattle.std.proofs.lemmas.Bool.{and_from, and_parts, cases_Bool, cond-false, cond-true, cond_both, eq-eqb, not-false}
 use Rattle.nfs_core.specs.Safe.{bears}
 use Rattle.nfs_core.proofs.SafeLists.{found_last, found_some}
 use Rattle.nfs_core.proofs.Sound.{IsSound, KeepsOwners, StandsUnder, equal_clients, is_known_in, keeps_both, same_client_self, same_lock_owner_self, same_name_self}
 use Rattle.nfs_core.proofs.SoundLocks.{bears_from, under_kept}
-use Rattle.nfs_core.proofs.SoundSequences.{IsOf, IsOwnReady, continuing, keeps_entry, keeps_record, others_ready, some_equal}
+use Rattle.nfs_core.proofs.SoundSequences.{HasPlaceFor, IsContinuing, IsOf, IsOwnReady, continuing, keeps_entry, keeps_record, never, others_ready, place_for_nobody, some_equal}
 use Rattle.nfs_core.proofs.SoundSteps.{IsChangeReady}
 use Rattle.nfs_core.proofs.SoundTargets.{bound, lock_found, named_lock, named_open, ok_equal, open_found, unrefused, unrefused_then}
 use Rattle.nfs_forms.specs.ClientId.{is_same_client}
-use Rattle.nfs_forms.specs.declared.answer.Answer.TheVariants.{Denied, Done}
+use Rattle.nfs_forms.specs.declared.answer.Answer.TheVariants.{Denied, Done, Refused}
 use Rattle.nfs_forms.specs.declared.client_id.ClientId.{ClientId}
 use Rattle.nfs_forms.specs.declared.lock_owner.LockOwner.{LockOwner}
 use Rattle.nfs_forms.specs.declared.locker.Locker.{Locker}
@@ -28,11 +28,12 @@ use Rattle.nfs_locks.specs.declared.first_lock.FirstLock.{FirstLock}
 use Rattle.nfs_operations.specs.declared.lock.Lock.{Lock}
 use Rattle.nfs_operations.specs.declared.locku.Locku.{Locku}
 use Rattle.nfs_owners.specs.StateOwner.{lock_owner, open_owner}
+use Rattle.nfs_owners.specs.declared.owner.TheConstants.{OWNER_LIMIT}
 use Rattle.nfs_owners.specs.declared.state_owner.StateOwner.{StateOwner}
 use Rattle.nfs_ranges.specs.declared.piece.Piece.{Piece}
 use Rattle.nfs_ranges.specs.declared.range.Range.{Range}
 use Rattle.nfs_rules.specs.Locking.{can_be_written, denied_by, lock_of_bytes, mode_of, unlock_of_bytes}
-use Rattle.nfs_rules.specs.Newcomers.{Newcomer, Nobody, Unknown, has_turn, newcomer_by, newcomer_if, newcomer_in, newcomer_of}
+use Rattle.nfs_rules.specs.Newcomers.{Newcomer, Nobody, Known, Unknown, has_turn, is_next, newcomer_by, newcomer_if, newcomer_in}
 use Rattle.nfs_rules.specs.Sequences.{IsSequenced, Owner, counts, is_ok_status, kept_with, owner_change_of, requester_of_stateid, requester_of_target}
 use Rattle.nfs_rules.specs.Stateids.{lock_verdict, target_of, verdict}
 use Rattle.nfs_rules.specs.declared.decision.Decision.{Decision}
@@ -45,6 +46,7 @@ use Rattle.nfs_rules.specs.operations.Locku as locku
 use Rattle.nfs_share.specs.AllOpens.{OpenAt, opens_of}
 use Rattle.nfs_share.specs.Opens.{is_stateid_of as is_stateid_of_open, open_with_number}
 use Rattle.nfs_state.specs.Changes.{with_owner_change}
+use Rattle.nfs_state.specs.Kept.{kept_for}
 use Rattle.nfs_state.specs.Owners.{KnownOwner, has_name, owner_of, with_kept_entry, with_record}
 use Rattle.nfs_state.specs.Places.{has_owner_place, has_state_place}
 use Rattle.nfs_state.specs.State.{State, History}
@@ -55,6 +57,7 @@ use Rattle.nfs_xdr.specs.Names.{locker_names}
 use Rattle.nfs_xdr.specs.OpResult.{status_of}
 use Rattle.nfs_xdr.specs.declared.op.Op.{Op}
 use Rattle.nfs_xdr.specs.declared.op.Op.TheVariants as ops
+use Rattle.nfs_xdr.specs.declared.op_result.OpResult.{OpResult}
 use Rattle.nfs_xdr.specs.declared.op_result.OpResult.TheVariants as results
 
 -- What a request that continues makes ready: its change sees the same opens and lock states, and the owners that were
@@ -62,9 +65,9 @@ use Rattle.nfs_xdr.specs.declared.op_result.OpResult.TheVariants as results
 
 first_ready : (old : State) (owners : List KnownOwner) (node : ℕ) (first : FirstLock) → KeepsOwners old.owners owners → is_known_in owners (lock_owner first.owner) ≡ true
     → StandsUnder old.owners (opens_of node old.opens) (first_state first (old.last_state + 1)) → IsFreeFor first.owner first.change (locks_of node old.locks)
-    → IsChangeReady (changes.Begins node first) (record old { owners = owners })
-first_ready old owners node first keeps known under free =
-    (known, under_kept old.owners owners keeps (first_state first (old.last_state + 1)) (opens_of node old.opens) under, free)
+    → is_some (lock_of first.owner (locks_of node old.locks)) ≡ false → has_state_place old ≡ true → IsChangeReady (changes.Begins node first) (record old { owners = owners })
+first_ready old owners node first keeps known under free none place =
+    (known, under_kept old.owners owners keeps (first_state first (old.last_state + 1)) (opens_of node old.opens) under, free, none, place)
 
 -- the owner of a lock state that begins is known before, or the request introduces it
 abbrev IsIntroduced : State → Newcomer → LockOwner → Type 0
@@ -73,8 +76,9 @@ IsIntroduced state newcomer owner = (newcomer ≡ Unknown owner) ⊎ (is_known_i
 begins_ready : (number : ℕ) (old : State) (name : StateOwner) (newcomer : Newcomer) (status : Status) (node : ℕ) (first : FirstLock) → is_ok_status status ≡ true → counts status ≡ true
     → IsIntroduced old newcomer first.owner
     → StandsUnder old.owners (opens_of node old.opens) (first_state first (old.last_state + 1)) → IsFreeFor first.owner first.change (locks_of node old.locks)
+    → is_some (lock_of first.owner (locks_of node old.locks)) ≡ false → has_state_place old ≡ true
     → IsChangeReady (changes.Begins node first) (with_owner_change (owner_change_of passages.Continues name newcomer status) number old)
-begins_ready number old name newcomer status node first ok counted (inl unknown) under free =
+begins_ready number old name newcomer status node first ok counted (inl unknown) under free none place =
     let owners = with_kept_entry number name old.owners in
     let recorded = with_record number (lock_owner first.owner) owners in
     let new : KnownOwner = record { name = lock_owner first.owner; confirmed = false; recording_entry = number; kept_entry = number } in
@@ -82,56 +86,84 @@ begins_ready number old name newcomer status node first ok counted (inl unknown)
     let ready : IsChangeReady (changes.Begins node first) (record old { owners = recorded }) =
     first_ready old recorded node first
     (keeps_both old.owners owners recorded (keeps_entry number name old.owners) (keeps_record number (lock_owner first.owner) owners))
-    (found_last (has_name (lock_owner first.owner)) owners new (same_name_self (lock_owner first.owner))) under free in
+    (found_last (has_name (lock_owner first.owner)) owners new (same_name_self (lock_owner first.owner))) under free none place in
     subst (λ n. IsChangeReady (changes.Begins node first) (with_owner_change (owner_change_of passages.Continues name n status) number old)) (sym unknown)
     (subst (λ c. IsChangeReady (changes.Begins node first) (with_owner_change c number old))
     (sym (cond-true (counts status) (kept_with name (Unknown first.owner) status) owner_changes.Nothing counted
     ∙ cond-true (is_ok_status status) introduces (owner_changes.Keeps name) ok)) ready)
-begins_ready number old name newcomer status node first ok counted (inr known) under free =
+begins_ready number old name newcomer status node first ok counted (inr known) under free none place =
     let goes = continuing number old name newcomer status in
     subst (IsChangeReady (changes.Begins node first)) (sym goes.state)
-    (first_ready old goes.owners node first goes.keeps (goes.keeps.known (lock_owner first.owner) known) under free)
+    (first_ready old goes.owners node first goes.keeps (goes.keeps.known (lock_owner first.owner) known) under free none place)
 
 -- a change of the lock state of an owner with a number
 changes_ready : (number : ℕ) (old : State) (name : StateOwner) (newcomer : Newcomer) (status : Status) (node id : ℕ) (change : Piece) (owner : LockOwner)
     → is_some (find (λ l. is_numbered id l && is_lock_of owner l) (locks_of node old.locks)) ≡ true → IsFreeFor owner change (locks_of node old.locks)
+    → is_full_for id change (locks_of node old.locks) ≡ false
     → IsChangeReady (changes.Locks node id change) (with_owner_change (owner_change_of passages.Continues name newcomer status) number old)
-changes_ready number old name newcomer status node id change owner has free =
+changes_ready number old name newcomer status node id change owner has free place =
     let goes = continuing number old name newcomer status in
-    subst (IsChangeReady (changes.Locks node id change)) (sym goes.state) (owner, has, free)
-
--- nothing changes
-nothing_ready : (r : Ruling) (u : Ruling) (s : State) → Some r ≡ Some u → u.change ≡ changes.Nothing → IsChangeReady r.change s
-nothing_ready r u s same nothing =
-    subst (λ c. IsChangeReady c s) (sym (ap (λ (x : Ruling). x.change) (some_equal r u same) ∙ nothing)) tt
+    subst (IsChangeReady (changes.Locks node id change)) (sym goes.state) (owner, has, free, place)
 
 -- what is given if there is a place
-placed : (has : Bool) (given : Ruling) (r : Ruling) → Some r ≡ (if has then Some given else None) → r ≡ given
+placed : (has : Bool) (given : Ruling) (r : Ruling) → Some r ≡ (if has then Some given else None) → (has ≡ true) × (r ≡ given)
 placed has given r is = elim (cases_Bool has) [
-  | inl place ↦ some_equal r given (is ∙ cond-true has (Some given) None place)
+  | inl place ↦ (place, some_equal r given (is ∙ cond-true has (Some given) None place))
   | inr full ↦
       let none : Some r ≡ None = is ∙ cond-false has (Some given) None full in
       absurd cc
 ]
 
-unless : (full : Bool) (given : Ruling) (r : Ruling) → Some r ≡ (if full then None else Some given) → r ≡ given
+unless : (full : Bool) (given : Ruling) (r : Ruling) → Some r ≡ (if full then None else Some given) → (full ≡ false) × (r ≡ given)
 unless full given r is = elim (cases_Bool full) [
   | inl none ↦
       let nothing : Some r ≡ None = is ∙ cond-true full None (Some given) none in
       absurd cc
-  | inr place ↦ some_equal r given (is ∙ cond-false full None (Some given) place)
+  | inr place ↦ (place, some_equal r given (is ∙ cond-false full None (Some given) place))
 ]
+
+-- a lock owner that the request introduces isn't known
+abbrev IsNew : State → LockOwner → Newcomer → Type 0
+IsNew state owner (Unknown newcomer) = is_known_in state.owners (lock_owner owner) ≡ false
+IsNew state owner newcomer = ⊤
+
+second : (a b : Bool) → a ≡ false → (a || b) ≡ true → b ≡ true
+second false b unset either = either
+second true b unset either = absurd cc
+
+-- there is a place for it where the owner has one
+place_for : (state : State) (owner : LockOwner) (newcomer : Newcomer) (status : Status) → IsNew state owner newcomer → has_owner_place (lock_owner owner) state ≡ true → HasPlaceFor state newcomer status
+place_for state owner Nobody status new has = tt
+place_for state owner (Known newcomer) status new has = tt
+place_for state owner (Unknown newcomer) status new has =
+    λ ok. second (is_known_in state.owners (lock_owner owner)) (nat_lt (length state.owners) OWNER_LIMIT) new has
+
+-- none is needed where the answer isn't OK
+no_place : (state : State) (newcomer : Newcomer) (status : Status) → is_ok_status status ≡ false → HasPlaceFor state newcomer status
+no_place state Nobody status refused = tt
+no_place state (Known newcomer) status refused = tt
+no_place state (Unknown newcomer) status refused = λ ok. absurd (never (is_ok_status status) refused ok)
+
+-- an answer that isn't OK, and changes nothing
+refuses_ready : (number : ℕ) (state : State) (name : StateOwner) (newcomer : Newcomer) (answer : OpResult) (r : Ruling) → is_ok_status (status_of answer) ≡ false
+    → Some r ≡ Some (record { answer = answer; change = changes.Nothing }) → IsContinuing number state name newcomer r
+refuses_ready number state name newcomer answer r refused is =
+    let u : Ruling = record { answer = answer; change = changes.Nothing } in
+    subst (IsContinuing number state name newcomer) (sym (some_equal r u is)) (no_place state newcomer (status_of answer) refused, tt)
 
 -- What the stateid of a LOCK makes sure of.
 
--- A first lock's owner is known or introduced, and an open of the file is there for it; a lock state that is there has the
+-- A first lock's owner is known or introduced, an open of the file is there for it, and it has no lock state of the file; a lock state that is there has the
 -- owner.
 abbrev IsFounded : State → Newcomer → Locking → Option ByteLocks → Type 0
 IsFounded state newcomer l None =
     IsIntroduced state newcomer l.owner
     × ((number : ℕ) (change : Piece) → StandsUnder state.owners (opens_of l.node state.opens) (first_state (record { owner = l.owner; open_number = l.open_number; change = change }) number))
+    × (is_some (lock_of l.owner (locks_of l.node state.locks)) ≡ false)
+    × IsNew state l.owner newcomer
 IsFounded state newcomer l (Some there) =
-    is_some (find (λ x. is_numbered there.number x && is_lock_of l.owner x) (locks_of l.node state.locks)) ≡ true
+    (newcomer ≡ Nobody)
+    × (is_some (find (λ x. is_numbered there.number x && is_lock_of l.owner x) (locks_of l.node state.locks)) ≡ true)
 
 -- a lock state that the stateid names
 found_lock : (epoch : ℕ) (state : State) (node : ℕ) (id : Stateid) (at : LockAt) → lock_verdict node epoch state id ≡ Ok at
@@ -153,6 +185,17 @@ introduced_in journal state client locker same =
     subst (λ n. IsIntroduced state n locker.lock_owner)
     (sym (cond-true (is_same_client locker.lock_owner.client client) (newcomer_by journal state locker) Nobody same))
     (introduced_by journal state locker (owner_of (lock_owner locker.lock_owner) state.owners) refl)
+
+new_by : (journal : History) (state : State) (locker : NewLocker) (found : Option KnownOwner) → owner_of (lock_owner locker.lock_owner) state.owners ≡ found
+    → IsNew state locker.lock_owner (newcomer_if journal locker found)
+new_by journal state locker None is = ap is_some is
+new_by journal state locker (Some o) is =
+    cond_both (is_next locker.lock_seqid (kept_for journal o)) (Known locker.lock_owner) Nobody (IsNew state locker.lock_owner) (λ _. tt) (λ _. tt)
+
+new_in : (journal : History) (state : State) (client : ClientId) (locker : NewLocker) → IsNew state locker.lock_owner (newcomer_in journal state client (lockers.New locker))
+new_in journal state client locker =
+    cond_both (is_same_client locker.lock_owner.client client) (newcomer_by journal state locker) Nobody (IsNew state locker.lock_owner)
+    (λ _. new_by journal state locker (owner_of (lock_owner locker.lock_owner) state.owners) refl) (λ _. tt)
 
 -- the open that the stateid names, whose owner the request comes from
 under_open : (journal : History) (state : State) (node : ℕ) (id : Stateid) (at : OpenAt) → verdict (record { node = node; also_unconfirmed = false }) journal.epoch state id ≡ Ok at
@@ -209,6 +252,8 @@ locking_founded journal state node args (lockers.New locker) l seqid name is of 
       introduced_in journal state name.client locker (subst (λ (n : StateOwner). is_same_client locker.lock_owner.client n.client ≡ true) (sym owner) same),
       λ number change. under_open journal state node locker.open_stateid at found locker.lock_owner.client same
           (first_state (record { owner = locker.lock_owner; open_number = at.state.number; change = change }) number) refl refl,
+      first.0,
+      new_in journal state name.client locker,
     ) in
     subst (λ (x : Locking). IsFounded state newcomer x x.state) (ok_equal new l turn.1) founded) is
 locking_founded journal state node args (lockers.Known locker) l seqid name is of =
@@ -224,59 +269,61 @@ locking_founded journal state node args (lockers.Known locker) l seqid name is o
       state = Some at.state;
     } in
     let reclaims = unrefused args.reclaim refusals.NoGrace (Ok there) l rest in
-    subst (λ (x : Locking). IsFounded state newcomer x x.state) (ok_equal there l reclaims.1) (found_lock journal.epoch state node locker.lock_stateid at found)) is
+    subst (λ (x : Locking). IsFounded state newcomer x x.state) (ok_equal there l reclaims.1) (refl, found_lock journal.epoch state node locker.lock_stateid at found)) is
 
 -- LOCK
 
--- what the change of a LOCK of this owner is made in
-abbrev seen : ℕ → State → StateOwner → Newcomer → Ruling → State
-seen number state name newcomer ruling = with_owner_change (owner_change_of passages.Continues name newcomer (status_of ruling.answer)) number state
-
 granted_ready : (number : ℕ) (state : State) (name : StateOwner) (newcomer : Newcomer) (l : Locking) (range : Range) (there : Option ByteLocks) (ruling : Ruling)
     → IsFounded state newcomer l there → IsReport (locks_of l.node state.locks) l.owner range l.mode None → Some ruling ≡ lock.grant state l range there
-    → IsChangeReady ruling.change (seen number state name newcomer ruling)
+    → IsContinuing number state name newcomer ruling
 granted_ready number state name newcomer l range None ruling founded free is =
     let first : FirstLock = record { owner = l.owner; open_number = l.open_number; change = lock_of_bytes l.mode range } in
     let given : Ruling = record { answer = results.Lock (Done (lock.first_stateid state l.owner)); change = changes.Begins l.node first } in
-    subst (λ (r : Ruling). IsChangeReady r.change (seen number state name newcomer r))
-    (sym (placed (has_owner_place (lock_owner l.owner) state && has_state_place state) given ruling is))
-    (begins_ready number state name newcomer (status_of given.answer) l.node first refl refl founded.0 (founded.1 (state.last_state + 1) first.change) free)
+    let owner_place = has_owner_place (lock_owner l.owner) state in
+    let gets = placed (owner_place && has_state_place state) given ruling is in
+    let places = and_parts owner_place (has_state_place state) gets.0 in
+    subst (IsContinuing number state name newcomer) (sym gets.1) (
+      place_for state l.owner newcomer (status_of given.answer) founded.3 places.0,
+      begins_ready number state name newcomer (status_of given.answer) l.node first refl refl founded.0 (founded.1 (state.last_state + 1) first.change) free founded.2 places.1,
+    )
 granted_ready number state name newcomer l range (Some x) ruling founded free is =
     let change = lock_of_bytes l.mode range in
     let given : Ruling = record { answer = results.Lock (Done (next_stateid_of x)); change = changes.Locks l.node x.number change } in
-    subst (λ (r : Ruling). IsChangeReady r.change (seen number state name newcomer r))
-    (sym (unless (is_full_for x.number change (locks_of l.node state.locks)) given ruling is))
-    (changes_ready number state name newcomer (status_of given.answer) l.node x.number change l.owner founded free)
+    let gets = unless (is_full_for x.number change (locks_of l.node state.locks)) given ruling is in
+    subst (IsContinuing number state name newcomer) (sym gets.1) (
+      place_for_nobody state newcomer (status_of given.answer) founded.0,
+      changes_ready number state name newcomer (status_of given.answer) l.node x.number change l.owner founded.1 free gets.0,
+    )
 
 denied_ready : (number : ℕ) (state : State) (name : StateOwner) (newcomer : Newcomer) (l : Locking) (range : Range) (report : Option Report) (ruling : Ruling)
     → IsFounded state newcomer l l.state → IsReport (locks_of l.node state.locks) l.owner range l.mode report → Some ruling ≡ lock.unless_denied state l range report
-    → IsChangeReady ruling.change (seen number state name newcomer ruling)
+    → IsContinuing number state name newcomer ruling
 denied_ready number state name newcomer l range None ruling founded free is =
     granted_ready number state name newcomer l range l.state ruling founded free is
 denied_ready number state name newcomer l range (Some report) ruling founded met is = by (can_be_written report) is
   where
-    by : (b : Bool) → Some ruling ≡ (if b then Some (record { answer = results.Lock (Denied (denied_by report)); change = changes.Nothing }) else None) → IsChangeReady ruling.change (seen number state name newcomer ruling)
-    by true same = nothing_ready ruling _ (seen number state name newcomer ruling) same refl
+    by : (b : Bool) → Some ruling ≡ (if b then Some (record { answer = results.Lock (Denied (denied_by report)); change = changes.Nothing }) else None) → IsContinuing number state name newcomer ruling
+    by true same = refuses_ready number state name newcomer (results.Lock (Denied (denied_by report))) ruling refl same
     by false same = absurd cc
 
 allowed_ready : (number : ℕ) (state : State) (name : StateOwner) (newcomer : Newcomer) (l : Locking) (range : Range) (may : Bool) (ruling : Ruling)
-    → IsFounded state newcomer l l.state → lock.IsAllowed may state l range (Some ruling) → IsChangeReady ruling.change (seen number state name newcomer ruling)
+    → IsFounded state newcomer l l.state → lock.IsAllowed may state l range (Some ruling) → IsContinuing number state name newcomer ruling
 allowed_ready number state name newcomer l range false ruling founded is =
-    nothing_ready ruling _ (seen number state name newcomer ruling) is refl
+    refuses_ready number state name newcomer (results.Lock (Refused refusals.OpenMode)) ruling refl is
 allowed_ready number state name newcomer l range true ruling founded is =
     denied_ready number state name newcomer l range is.0 ruling founded is.1 is.2
 
 ranged_ready : (number : ℕ) (state : State) (name : StateOwner) (newcomer : Newcomer) (l : Locking) (range : Option Range) (ruling : Ruling)
-    → IsFounded state newcomer l l.state → lock.IsOfRange state l range (Some ruling) → IsChangeReady ruling.change (seen number state name newcomer ruling)
+    → IsFounded state newcomer l l.state → lock.IsOfRange state l range (Some ruling) → IsContinuing number state name newcomer ruling
 ranged_ready number state name newcomer l None ruling founded is =
-    nothing_ready ruling _ (seen number state name newcomer ruling) is refl
+    refuses_ready number state name newcomer (results.Lock (Refused refusals.Inval)) ruling refl is
 ranged_ready number state name newcomer l (Some range) ruling founded is =
     allowed_ready number state name newcomer l range (lock.allows l.mode (open_with_number l.open_number (opens_of l.node state.opens))) ruling founded is
 
 locks_ready : (number : ℕ) (state : State) (name : StateOwner) (newcomer : Newcomer) (args : Lock) (result : Result Locking Refusal) (ruling : Ruling)
-    → ((l : Locking) → result ≡ Ok l → IsFounded state newcomer l l.state) → lock.IsLock state args result (Some ruling) → IsChangeReady ruling.change (seen number state name newcomer ruling)
+    → ((l : Locking) → result ≡ Ok l → IsFounded state newcomer l l.state) → lock.IsLock state args result (Some ruling) → IsContinuing number state name newcomer ruling
 locks_ready number state name newcomer args (Err refusal) ruling founded is =
-    nothing_ready ruling _ (seen number state name newcomer ruling) is refl
+    refuses_ready number state name newcomer (results.Lock (Refused refusal)) ruling refl is
 locks_ready number state name newcomer args (Ok l) ruling founded is =
     ranged_ready number state name newcomer l is.0 ruling (founded l refl) is.2
 
@@ -292,25 +339,25 @@ lock_ready number journal state op args seqid sound is =
 
 -- LOCKU
 
-unlocking_ready : (number : ℕ) (state : State) (name : StateOwner) (newcomer : Newcomer) (at : LockAt) (range : Option Range) (ruling : Ruling)
+unlocking_ready : (number : ℕ) (state : State) (name : StateOwner) (at : LockAt) (range : Option Range) (ruling : Ruling)
     → is_some (find (λ x. is_numbered at.state.number x && is_lock_of at.state.owner x) (locks_of at.node state.locks)) ≡ true → Some ruling ≡ locku.unlocking state at range
-    → IsChangeReady ruling.change (seen number state name newcomer ruling)
-unlocking_ready number state name newcomer at None ruling found is =
-    nothing_ready ruling _ (seen number state name newcomer ruling) is refl
-unlocking_ready number state name newcomer at (Some range) ruling found is =
+    → IsContinuing number state name Nobody ruling
+unlocking_ready number state name at None ruling found is =
+    refuses_ready number state name Nobody (results.Locku (Refused refusals.Inval)) ruling refl is
+unlocking_ready number state name at (Some range) ruling found is =
     let change = unlock_of_bytes range in
     let given : Ruling = record { answer = results.Locku (Done (next_stateid_of at.state)); change = changes.Locks at.node at.state.number change } in
-    subst (λ (r : Ruling). IsChangeReady r.change (seen number state name newcomer r))
-    (sym (unless (is_full_for at.state.number change (locks_of at.node state.locks)) given ruling is))
-    (changes_ready number state name newcomer (status_of given.answer) at.node at.state.number change at.state.owner found tt)
+    let gets = unless (is_full_for at.state.number change (locks_of at.node state.locks)) given ruling is in
+    subst (IsContinuing number state name Nobody) (sym gets.1)
+    (tt, changes_ready number state name Nobody (status_of given.answer) at.node at.state.number change at.state.owner found tt gets.0)
 
-unlocks_ready : (number : ℕ) (state : State) (name : StateOwner) (newcomer : Newcomer) (args : Locku) (result : Result LockAt Refusal) (ruling : Ruling)
+unlocks_ready : (number : ℕ) (state : State) (name : StateOwner) (args : Locku) (result : Result LockAt Refusal) (ruling : Ruling)
     → ((at : LockAt) → result ≡ Ok at → is_some (find (λ x. is_numbered at.state.number x && is_lock_of at.state.owner x) (locks_of at.node state.locks)) ≡ true)
-    → locku.IsUnlock state args result (Some ruling) → IsChangeReady ruling.change (seen number state name newcomer ruling)
-unlocks_ready number state name newcomer args (Err refusal) ruling found is =
-    nothing_ready ruling _ (seen number state name newcomer ruling) is refl
-unlocks_ready number state name newcomer args (Ok at) ruling found is =
-    unlocking_ready number state name newcomer at is.0 ruling (found at refl) is.2
+    → locku.IsUnlock state args result (Some ruling) → IsContinuing number state name Nobody ruling
+unlocks_ready number state name args (Err refusal) ruling found is =
+    refuses_ready number state name Nobody (results.Locku (Refused refusal)) ruling refl is
+unlocks_ready number state name args (Ok at) ruling found is =
+    unlocking_ready number state name at is.0 ruling (found at refl) is.2
 
 pub locku_ready : (number : ℕ) (journal : History) (state : State) (op : Op) (args : Locku) → IsSound state → op ≡ ops.Locku args
     → IsOwnReady number journal state (requester_of_stateid journal state args.stateid args.seqid) op (locku.own journal state args)
@@ -319,5 +366,5 @@ locku_ready number journal state op args sound is =
     subst (λ o. IsOwnReady number journal state requester o (locku.own journal state args)) (sym is)
     (others_ready number journal state requester (ops.Locku args) (locku.own journal state args) sound refl
     (λ node name ruling of known h.
-    unlocks_ready number state name (newcomer_of journal state name.client (ops.Locku args)) args (lock_verdict node journal.epoch state args.stateid) ruling
+    unlocks_ready number state name args (lock_verdict node journal.epoch state args.stateid) ruling
     (λ at found. found_lock journal.epoch state node args.stateid at found) h))

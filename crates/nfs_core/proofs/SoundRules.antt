@@ -1,6 +1,6 @@
 -- What the rules of the operations decide is ready to keep the state sound.
-use Rattle.std.proofs.Common.{◌≡◌, inl, inr, ℕ, Bool, true, false, Option, Some, None, Result, Ok, Err, refl, sym, ap, ◌∙◌, subst}
-use Rattle.std.specs.Prelude.{⊤, ◌&&◌, not, is_some, IfSome, option_map, if◌then◌else◌}
+use Rattle.std.proofs.Common.{◌≡◌, inl, inr, ℕ, Bool, true, false, Option, Some, None, List, Result, Ok, Err, refl, sym, ap, ◌∙◌, subst}
+use Rattle.std.specs.Prelude.{⊤, ◌&&◌, find, not, is_some, IfSome, option_map, if◌then◌else◌}
 use Rattle.std.specs.List.{AllByRecursion}
 use Rattle.std.specs.Str.{bytes_eq}
 use Rattle.std.proofs.lemmas.Bool.{and_from, cases_Bool, cond-false, cond-true, cond_both, and_parts}
@@ -14,7 +14,7 @@ use Rattle.nfs_rules.specs.declared.passage.Passage.TheVariants as passages
 use Rattle.nfs_state.specs.declared.request.Request.{Request}
 use Rattle.nfs_rules.specs.declared.ruling.Ruling.{Ruling}
 use Rattle.nfs_rules.specs.operations.{IsRuled}
-use Rattle.nfs_rules.specs.Newcomers.{Newcomer, newcomer_of}
+use Rattle.nfs_rules.specs.Newcomers.{Newcomer, Nobody, newcomer_of}
 use Rattle.nfs_rules.specs.operations.Close as close
 use Rattle.nfs_rules.specs.operations.Lock as lock
 use Rattle.nfs_rules.specs.operations.Lockt as lockt
@@ -30,14 +30,15 @@ use Rattle.nfs_rules.specs.Sequences.{Owner, Refused, before_own, decision_of, i
 use Rattle.nfs_state.specs.Changes.{change_alone, with_owner_change}
 use Rattle.nfs_rules.specs.Stateids.{verdict}
 use Rattle.nfs_state.specs.State.{State, History, record_has_state}
-use Rattle.nfs_core.proofs.SafeLists.{all_find, all_none, all_weaken, found_last}
-use Rattle.nfs_core.proofs.Sound.{AreSingle, HasSameClient, IsOnlyOf, IsSound, is_live_in, same_name_self}
+use Rattle.nfs_core.proofs.SafeLists.{all_always, all_find, all_none, all_weaken, found_last, found_some}
+use Rattle.nfs_core.proofs.Sound.{AreSingle, HasSameClient, IsOfRecord, IsOnlyOf, IsSound, is_live_in, same_client_self, same_name_self}
 use Rattle.nfs_core.proofs.SoundLocking.{lock_ready, lock_sequenced, locku_ready, stateid_of}
-use Rattle.nfs_core.proofs.SoundSequences.{IsFit, IsOf, IsOwnReady, as_decided, continues_ready, continuing, never, quiet_ready, sequenced_ready, some_equal}
+use Rattle.nfs_core.proofs.SoundSequences.{IsFit, IsOf, IsOwnReady, as_decided, continues_ready, continuing, never, place_for_nobody, quiet_ready, sequenced_ready, some_equal}
 use Rattle.nfs_core.proofs.SoundSteps.{IsChangeReady, IsClientReady, IsOwnerReady, IsReady}
 use Rattle.nfs_core.proofs.SoundTargets.{bound, ok_equal, unrefused}
 use Rattle.nfs_forms.specs.ClientId.{is_same_client}
 use Rattle.nfs_forms.specs.declared.answer.Answer.{Answer}
+use Rattle.nfs_forms.specs.declared.answer.Answer.TheVariants as answers
 use Rattle.nfs_forms.specs.declared.answer.Answer.TheVariants.{Done}
 use Rattle.nfs_forms.specs.declared.lock_denied.LockDenied.{LockDenied}
 use Rattle.nfs_xdr.specs.declared.op_result.OpResult.TheVariants as results
@@ -54,7 +55,7 @@ use Rattle.nfs_owners.specs.Confirmation as confirmations
 use Rattle.nfs_owners.specs.Confirmation.{Confirmation, Stale, InUse, Retransmission, First, Update, InPlaceOf, confirmation_before, confirmation_beside, confirmation_by, confirmed_record, updated_record}
 use Rattle.nfs_owners.specs.Registration as registrations
 use Rattle.nfs_owners.specs.Registration.{has_number_left, registration_by}
-use Rattle.nfs_owners.specs.Registry.{Registry, confirmed_named_by, confirmed_of, is_confirmed_of, is_of, record_of, unconfirmed_named_by}
+use Rattle.nfs_owners.specs.Registry.{Registry, confirmed_named_by, confirmed_of, is_confirmed_of, is_named_by, is_of, record_of, unconfirmed_named_by}
 use Rattle.nfs_owners.specs.StateOwner.{as_open_owner, open_owner}
 use Rattle.nfs_owners.specs.declared.client_record.ClientRecord.{ClientRecord}
 use Rattle.nfs_owners.specs.declared.client_record.PathMark.{PathMark}
@@ -77,12 +78,34 @@ use Rattle.nfs_xdr.specs.declared.op.Op.TheVariants as ops
 
 -- SETCLIENTID
 
-registered : (found : registrations.Finding) (epoch : ℕ) (registry : Registry) (principal : Principal) (args : Setclientid) → IfSome (registration_by found epoch registry principal args) (λ x. IsClientReady x.1 registry)
-registered (registrations.InUse address) epoch registry principal args = tt
-registered (registrations.Update client) epoch registry principal args =
-    cond_both (is_within_limit args.callback.address) _ None (λ o. IfSome o (λ x. IsClientReady x.1 registry)) (λ _. refl) (λ _. tt)
-registered registrations.Arrival epoch registry principal args =
-    cond_both (is_within_limit args.callback.address && has_number_left registry) _ None (λ o. IfSome o (λ x. IsClientReady x.1 registry)) (λ _. refl) (λ _. tt)
+-- a record that is there has the id and the clientid that is updated
+abbrev IsFound : Registry → Setclientid → registrations.Finding → Type 0
+IsFound registry args (registrations.Update client) =
+    is_some (find (λ s. is_same_client s.client client && bytes_eq s.id args.id) registry.records) ≡ true
+IsFound registry args found = ⊤
+
+finding_found : (registry : Registry) (args : Setclientid) (found : Option ClientRecord) (has_state : Bool) (principal : Principal) → confirmed_of registry args.id ≡ found → IsFound registry args (registrations.finding found has_state principal args)
+finding_found registry args None has_state principal is = tt
+finding_found registry args (Some r) has_state principal is =
+    let P : registrations.Finding → Type 0 = IsFound registry args in
+    let passes = (all_find (λ s. ⊤) (is_confirmed_of args.id) registry.records r is (all_always registry.records)).1 in
+    let of = (and_parts r.confirmed (is_of args.id r) passes).1 in
+    let there : P (registrations.Update r.client) =
+    found_some (is_confirmed_of args.id) (λ s. is_same_client s.client r.client && bytes_eq s.id args.id) registry.records r is
+    (and_from (is_same_client r.client r.client) (bytes_eq r.id args.id) (same_client_self r.client) of) in
+    cond_both (is_same_principal r.principal principal) (if bytes_eq r.verifier.0 args.verifier.0 then registrations.Update r.client else registrations.Arrival)
+    (if has_state then registrations.InUse r.callback.address else registrations.Arrival) P
+    (λ _. cond_both (bytes_eq r.verifier.0 args.verifier.0) (registrations.Update r.client) registrations.Arrival P (λ _. there) (λ _. tt))
+    (λ _. cond_both has_state (registrations.InUse r.callback.address) registrations.Arrival P (λ _. tt) (λ _. tt))
+
+registered : (found : registrations.Finding) (epoch : ℕ) (registry : Registry) (principal : Principal) (args : Setclientid) → IsFound registry args found
+    → IfSome (registration_by found epoch registry principal args) (λ x. IsClientReady x.1 registry)
+registered (registrations.InUse address) epoch registry principal args found = tt
+registered (registrations.Update client) epoch registry principal args found =
+    cond_both (is_within_limit args.callback.address) _ None (λ o. IfSome o (λ x. IsClientReady x.1 registry)) (λ _. (refl, found)) (λ _. tt)
+registered registrations.Arrival epoch registry principal args found =
+    cond_both (is_within_limit args.callback.address && has_number_left registry) _ None (λ o. IfSome o (λ x. IsClientReady x.1 registry))
+    (λ both. (refl, refl, (and_parts (is_within_limit args.callback.address) (has_number_left registry) both).1)) (λ _. tt)
 
 registers : (number : ℕ) (old : State) (d : Decision) (o : Option (registrations.Outcome × ClientChange)) → IfSome o (λ x. IsClientReady x.1 old.clients) → Some d ≡ option_map setclientid.decision_of o → IsReady number old d
 registers number old d None ready is = absurd cc
@@ -90,20 +113,26 @@ registers number old d (Some x) ready is = as_decided number old d (setclientid.
 
 -- SETCLIENTID_CONFIRM
 
--- the confirmed record with the id is the one that the case speaks of
+-- The confirmed record with the id is the one that the case speaks of, and the one that is confirmed is there.
 abbrev IsFitting : Registry → Confirmation → Type 0
-IsFitting registry (First r) = confirmed_of registry r.id ≡ None
+IsFitting registry (First r) = (confirmed_of registry r.id ≡ None) × IsOfRecord r registry.records
 IsFitting registry (Update old r) = confirmed_of registry r.id ≡ Some old
-IsFitting registry (InPlaceOf old r) = confirmed_of registry r.id ≡ Some old
+IsFitting registry (InPlaceOf old r) = (confirmed_of registry r.id ≡ Some old) × IsOfRecord r registry.records
 IsFitting registry confirmation = ⊤
 
-beside_fits : (registry : Registry) (found : Option ClientRecord) (r : ClientRecord) (has_state : Bool) → confirmed_of registry r.id ≡ found → IsFitting registry (confirmation_beside found r has_state)
-beside_fits registry None r has_state is = is
-beside_fits registry (Some old) r has_state is =
+-- a record that is found is there
+is_of_record : (test : ClientRecord → Bool) (records : List ClientRecord) (r : ClientRecord) → find test records ≡ Some r → IsOfRecord r records
+is_of_record test records r is =
+    found_some test (λ s. is_same_client s.client r.client && bytes_eq s.id r.id) records r is
+    (and_from (is_same_client r.client r.client) (bytes_eq r.id r.id) (same_client_self r.client) ((bytes_eq-Decides r.id r.id).1 refl))
+
+beside_fits : (registry : Registry) (found : Option ClientRecord) (r : ClientRecord) (has_state : Bool) → IsOfRecord r registry.records → confirmed_of registry r.id ≡ found → IsFitting registry (confirmation_beside found r has_state)
+beside_fits registry None r has_state of is = (is, of)
+beside_fits registry (Some old) r has_state of is =
     let P : Confirmation → Type 0 = IsFitting registry in
     cond_both (is_same_client old.client r.client) (Update old r)
     (if not (is_same_principal old.principal r.principal) && has_state then InUse else InPlaceOf old r) P (λ _. is)
-    (λ _. cond_both (not (is_same_principal old.principal r.principal) && has_state) InUse (InPlaceOf old r) P (λ _. tt) (λ _. is))
+    (λ _. cond_both (not (is_same_principal old.principal r.principal) && has_state) InUse (InPlaceOf old r) P (λ _. tt) (λ _. (is, of)))
 
 before_fits : (registry : Registry) (found : Option ClientRecord) (principal : Principal) → IsFitting registry (confirmation_before found principal)
 before_fits registry None principal = tt
@@ -111,12 +140,13 @@ before_fits registry (Some r) principal =
     let P : Confirmation → Type 0 = IsFitting registry in
     cond_both (is_same_principal r.principal principal) Retransmission InUse P (λ _. tt) (λ _. tt)
 
-finding_fits : (registry : Registry) (named : Option ClientRecord) (has_state : Bool) (principal : Principal) (args : SetclientidConfirm) → IsFitting registry (confirmations.finding named registry has_state principal args)
-finding_fits registry (Some r) has_state principal args =
+finding_fits : (registry : Registry) (named : Option ClientRecord) (has_state : Bool) (principal : Principal) (args : SetclientidConfirm) → unconfirmed_named_by args registry ≡ named
+    → IsFitting registry (confirmations.finding named registry has_state principal args)
+finding_fits registry (Some r) has_state principal args is =
     let P : Confirmation → Type 0 = IsFitting registry in
     cond_both (is_same_principal r.principal principal) (confirmation_beside (confirmed_of registry r.id) r has_state) InUse P
-    (λ _. beside_fits registry (confirmed_of registry r.id) r has_state refl) (λ _. tt)
-finding_fits registry None has_state principal args = before_fits registry (confirmed_named_by args registry) principal
+    (λ _. beside_fits registry (confirmed_of registry r.id) r has_state (is_of_record (λ s. not s.confirmed && is_named_by args s) registry.records r is) refl) (λ _. tt)
+finding_fits registry None has_state principal args is = before_fits registry (confirmed_named_by args registry) principal
 
 pub confirms : (registry : Registry) (case : Confirmation) (path : PathMark) → AreSingle registry.records → IsFitting registry case → IsClientReady (confirmation_by case path).1 registry
 confirms registry Stale path single fits = tt
@@ -126,18 +156,22 @@ confirms registry (First r) path single fits = (
   refl,
   all_weaken (λ s. is_confirmed_of r.id s ≡ false) (IsOnlyOf r.client r.id)
       (λ s none is_set same. absurd (never (is_confirmed_of r.id s) none (and_from s.confirmed (is_of r.id s) is_set same))) registry.records
-      (all_none (is_confirmed_of r.id) registry.records fits),
+      (all_none (is_confirmed_of r.id) registry.records fits.0),
+  fits.1,
 )
 confirms registry (Update old r) path single fits =
     let found = all_find (λ r. AllByRecursion (HasSameClient r) registry.records) (is_confirmed_of r.id) registry.records old fits single in
     let both = and_parts old.confirmed (is_of r.id old) found.1 in
-    (both.0, all_weaken (HasSameClient old) (IsOnlyOf old.client old.id) (λ s same. same both.0) registry.records found.0)
+    (both.0, all_weaken (HasSameClient old) (IsOnlyOf old.client old.id) (λ s same. same both.0) registry.records found.0, is_of_record (is_confirmed_of r.id) registry.records old fits)
 confirms registry (InPlaceOf old r) path single fits =
-    let found = all_find (λ r. AllByRecursion (HasSameClient r) registry.records) (is_confirmed_of r.id) registry.records old fits single in
+    let found = all_find (λ r. AllByRecursion (HasSameClient r) registry.records) (is_confirmed_of r.id) registry.records old fits.0 single in
     let both = and_parts old.confirmed (is_of r.id old) found.1 in
     let ids : old.id ≡ r.id = (bytes_eq-Decides old.id r.id).0 both.1 in
-    all_weaken (HasSameClient old) (IsOnlyOf old.client r.id)
-    (λ s same is_set of. same both.0 is_set (subst (λ id. bytes_eq s.id id ≡ true) (sym ids) of)) registry.records found.0
+    (
+      all_weaken (HasSameClient old) (IsOnlyOf old.client r.id)
+          (λ s same is_set of. same both.0 is_set (subst (λ id. bytes_eq s.id id ≡ true) (sym ids) of)) registry.records found.0,
+      fits.1,
+    )
 
 -- OPEN_CONFIRM, OPEN_DOWNGRADE and CLOSE: what they change is always ready.
 
@@ -183,58 +217,67 @@ opening_allowed journal state node args o is =
     bound P (opening.file_at journal args.how found) _ o (λ file _.
     bound P (opening.unless_delegated journal state args.claim file) _ o (λ at _. allowed state args.owner share at o))))) is
 
--- The owner whose client is live may become known, and one that isn't confirmed may be dropped.
+-- The owner whose client is live may become known where there is a place, and one that isn't confirmed may be dropped.
 owner_ready : (journal : History) (state : State) (op : Op) (owner : OpenOwner) (passage : Passage) (status : Status) → IsSound state → is_live_in state.clients.records owner.client ≡ true
-    → IsFit state op (open_owner owner) passage → IsOwnerReady (owner_change_of passage (open_owner owner) (newcomer_of journal state owner.client op) status) state
-owner_ready journal state op owner passages.Continues status sound live fit = continues_ready journal state op (open_owner owner) status sound fit
-owner_ready journal state op owner passages.Begins status sound live fit =
-    cond_both (is_ok_status status) (owner_changes.Records (as_open_owner (open_owner owner))) owner_changes.Nothing (λ c. IsOwnerReady c state) (λ _. live) (λ _. tt)
-owner_ready journal state op owner passages.Restarts status sound live fit =
+    → IsFit state op (open_owner owner) passage → newcomer_of journal state owner.client op ≡ Nobody
+    → (is_ok_status status ≡ true → opening.has_owner_place passage (before_own passage owner state) ≡ true)
+    → IsOwnerReady (owner_change_of passage (open_owner owner) (newcomer_of journal state owner.client op) status) state
+owner_ready journal state op owner passages.Continues status sound live fit nobody place =
+    continues_ready journal state op (open_owner owner) status sound fit (place_for_nobody state (newcomer_of journal state owner.client op) status nobody)
+owner_ready journal state op owner passages.Begins status sound live fit nobody place =
+    cond_both (is_ok_status status) (owner_changes.Records (as_open_owner (open_owner owner))) owner_changes.Nothing (λ c. IsOwnerReady c state) (λ ok. (live, place ok)) (λ _. tt)
+owner_ready journal state op owner passages.Restarts status sound live fit nobody place =
     cond_both (is_ok_status status) (owner_changes.Restarts (as_open_owner (open_owner owner))) (owner_changes.Drops (as_open_owner (open_owner owner))) (λ c. IsOwnerReady c state)
-    (λ _. (live, fit.1)) (λ _. fit.1)
+    (λ ok. (live, fit.1, place ok)) (λ _. fit.1)
 
 -- After what its entry means for the owner, the owner of an OPEN is known, and the opens are those that the OPEN saw.
 opens_ready : (number : ℕ) (state : State) (op : Op) (owner : OpenOwner) (passage : Passage) (newcomer : Newcomer) (status : Status) (node : ℕ) (share : Share) → is_ok_status status ≡ true → IsFit state op (open_owner owner) passage
     → is_refused owner share (opens_of node (before_own passage owner state).opens) ≡ false
+    → opening.has_open_place (before_own passage owner state) owner node ≡ true
     → IsChangeReady (changes.Opens node owner share) (with_owner_change (owner_change_of passage (open_owner owner) newcomer status) number state)
-opens_ready number state op owner passages.Continues newcomer status node share ok fit free =
+opens_ready number state op owner passages.Continues newcomer status node share ok fit free place =
     let goes = continuing number state (open_owner owner) newcomer status in
-    subst (IsChangeReady (changes.Opens node owner share)) (sym goes.state) (goes.keeps.known (open_owner owner) fit, free)
-opens_ready number state op owner passages.Begins newcomer status node share ok fit free =
+    subst (IsChangeReady (changes.Opens node owner share)) (sym goes.state) (goes.keeps.known (open_owner owner) fit, free, place)
+opens_ready number state op owner passages.Begins newcomer status node share ok fit free place =
     let name = open_owner owner in
     let new : KnownOwner = record { name = name; confirmed = false; recording_entry = number; kept_entry = number } in
     subst (λ c. IsChangeReady (changes.Opens node owner share) (with_owner_change c number state))
     (sym (cond-true (is_ok_status status) (owner_changes.Records (as_open_owner name)) owner_changes.Nothing ok))
-    (found_last (has_name name) state.owners new (same_name_self name), free)
-opens_ready number state op owner passages.Restarts newcomer status node share ok fit free =
+    (found_last (has_name name) state.owners new (same_name_self name), free, place)
+opens_ready number state op owner passages.Restarts newcomer status node share ok fit free place =
     let name = open_owner owner in
     let new : KnownOwner = record { name = name; confirmed = false; recording_entry = number; kept_entry = number } in
     subst (λ c. IsChangeReady (changes.Opens node owner share) (with_owner_change c number state))
     (sym (cond-true (is_ok_status status) (owner_changes.Restarts (as_open_owner name)) (owner_changes.Drops (as_open_owner name)) ok))
-    (found_last (has_name name) (without_owner name state.owners) new (same_name_self name), free)
+    (found_last (has_name name) (without_owner name state.owners) new (same_name_self name), free, place)
 
 -- the rule of OPEN, by what it opens or why it opens nothing
 ruling_ready : (number : ℕ) (journal : History) (state : State) (op : Op) (args : Open) (passage : Passage) (directory : ℕ) (ruling : Ruling) (result : Result Opening Refusal)
     → IsSound state → is_live_in state.clients.records args.owner.client ≡ true → IsFit state op (open_owner args.owner) passage
+    → newcomer_of journal state args.owner.client op ≡ Nobody
     → opening.opening journal (before_own passage args.owner state) directory args ≡ result
     → Some ruling ≡ opening.ruling_of (before_own passage args.owner state) passage args.owner result
     → IsReady number state (decision_of passage (open_owner args.owner) (newcomer_of journal state args.owner.client op) ruling)
-ruling_ready number journal state op args passage directory ruling (Err refusal) sound live fit is rules =
+ruling_ready number journal state op args passage directory ruling (Err refusal) sound live fit nobody is rules =
     subst (λ r. IsReady number state (decision_of passage (open_owner args.owner) (newcomer_of journal state args.owner.client op) r)) (sym (some_equal ruling _ rules))
-    (owner_ready journal state op args.owner passage _ sound live fit, tt)
-ruling_ready number journal state op args passage directory ruling (Ok o) sound live fit is rules =
+    (owner_ready journal state op args.owner passage (status_of (results.Open (answers.Refused refusal))) sound live fit nobody (λ ok. absurd cc), tt)
+ruling_ready number journal state op args passage directory ruling (Ok o) sound live fit nobody is rules =
     let seen = before_own passage args.owner state in
     let newcomer = newcomer_of journal state args.owner.client op in
-    let places = opening.has_owner_place passage seen && opening.has_open_place seen args.owner o.node in
+    let owner_place = opening.has_owner_place passage seen in
+    let open_place = opening.has_open_place seen args.owner o.node in
+    let places = owner_place && open_place in
     let given : Ruling = record {
       answer = results.Open (Done (opening.answer_of seen passage args.owner o.node));
       change = changes.Opens o.node args.owner o.share;
     } in
     elim (cases_Bool places) [
-      | inl has ↦ subst (λ r. IsReady number state (decision_of passage (open_owner args.owner) newcomer r))
+      | inl has ↦
+          let both = and_parts owner_place open_place has in
+          subst (λ r. IsReady number state (decision_of passage (open_owner args.owner) newcomer r))
           (sym (some_equal ruling given (rules ∙ cond-true places (Some given) None has))) (
-            owner_ready journal state op args.owner passage (status_of given.answer) sound live fit,
-            opens_ready number state op args.owner passage newcomer (status_of given.answer) o.node o.share refl fit (opening_allowed journal seen directory args o is),
+            owner_ready journal state op args.owner passage (status_of given.answer) sound live fit nobody (λ _. both.0),
+            opens_ready number state op args.owner passage newcomer (status_of given.answer) o.node o.share refl fit (opening_allowed journal seen directory args o is) both.1,
           )
       | inr full ↦
           let none : Some ruling ≡ None = rules ∙ cond-false places (Some given) None full in
@@ -255,12 +298,13 @@ requests_open state owner seqid name is =
           absurd cc
     ]
 
-open_ready : (number : ℕ) (journal : History) (state : State) (op : Op) (args : Open) → IsSound state → IsOwnReady number journal state (requester_of_open state args.owner args.seqid) op (opening.own journal state args)
-open_ready number journal state op args sound node passage name ruling of fit h =
+open_ready : (number : ℕ) (journal : History) (state : State) (op : Op) (args : Open) → IsSound state → op ≡ ops.Open args → IsOwnReady number journal state (requester_of_open state args.owner args.seqid) op (opening.own journal state args)
+open_ready number journal state op args sound is node passage name ruling of fit h =
     let asked = requests_open state args.owner args.seqid name of in
     let fits : IsFit state op (open_owner args.owner) passage = subst (λ n. IsFit state op n passage) asked.0 fit in
+    let nobody : newcomer_of journal state args.owner.client op ≡ Nobody = ap (newcomer_of journal state args.owner.client) is in
     subst (λ (n : StateOwner). IsReady number state (decision_of passage n (newcomer_of journal state n.client op) ruling)) (sym asked.0)
-    (ruling_ready number journal state op args passage node ruling (opening.opening journal (before_own passage args.owner state) node args) sound asked.1 fits refl h)
+    (ruling_ready number journal state op args passage node ruling (opening.opening journal (before_own passage args.owner state) node args) sound asked.1 fits nobody refl h)
 
 -- LOCKT and RELEASE_LOCKOWNER
 
@@ -290,7 +334,8 @@ ruled_ready number journal state (ops.Getattr mask) request d same sound is =
 ruled_ready number journal state (ops.Setclientid args) request d same sound is =
     let has_state = record_has_state state (confirmed_of state.clients args.id) in
     registers number state d (registrations.registration journal.epoch has_state state.clients request.principal args)
-    (registered (registrations.finding (confirmed_of state.clients args.id) has_state request.principal args) journal.epoch state.clients request.principal args) is
+    (registered (registrations.finding (confirmed_of state.clients args.id) has_state request.principal args) journal.epoch state.clients request.principal args
+    (finding_found state.clients args (confirmed_of state.clients args.id) has_state request.principal refl)) is
 ruled_ready number journal state (ops.SetclientidConfirm args) request d same sound is =
     let path = confirm.path_of journal.policy.callbacks in
     let named = unconfirmed_named_by args state.clients in
@@ -298,22 +343,22 @@ ruled_ready number journal state (ops.SetclientidConfirm args) request d same so
     as_decided number state d _ is (
       tt,
       confirms state.clients (confirmations.finding named state.clients has_state request.principal args) path sound.single
-          (finding_fits state.clients named has_state request.principal args),
+          (finding_fits state.clients named has_state request.principal args refl),
     )
 ruled_ready number journal state (ops.Open args) request d same sound is =
     sequenced_ready number journal state (requester_of_open state args.owner args.seqid) request (opening.own journal state args)
-    (open_ready number journal state request.op args sound) d is
+    (open_ready number journal state request.op args sound same) d is
 ruled_ready number journal state (ops.OpenConfirm args) request d same sound is =
     sequenced_ready number journal state (requester_of_stateid journal state args.stateid args.seqid) request (open_confirm.own journal state args)
-    (quiet_ready number journal state (requester_of_stateid journal state args.stateid args.seqid) request.op (open_confirm.own journal state args) sound (ap is_open same)
+    (quiet_ready number journal state (requester_of_stateid journal state args.stateid args.seqid) request.op (open_confirm.own journal state args) sound (ap is_open same) (λ client. ap (newcomer_of journal state client) same)
     (λ node passage ruling h. as_ruled ruling _ h (confirmation_quiet state (verdict (record { node = node; also_unconfirmed = true }) journal.epoch state args.stateid)))) d is
 ruled_ready number journal state (ops.OpenDowngrade args) request d same sound is =
     sequenced_ready number journal state (requester_of_stateid journal state args.stateid args.seqid) request (open_downgrade.own journal state args)
-    (quiet_ready number journal state (requester_of_stateid journal state args.stateid args.seqid) request.op (open_downgrade.own journal state args) sound (ap is_open same)
+    (quiet_ready number journal state (requester_of_stateid journal state args.stateid args.seqid) request.op (open_downgrade.own journal state args) sound (ap is_open same) (λ client. ap (newcomer_of journal state client) same)
     (λ node passage ruling h. found_quiet (verdict (record { node = node; also_unconfirmed = false }) journal.epoch state args.stateid) args ruling h)) d is
 ruled_ready number journal state (ops.Close args) request d same sound is =
     sequenced_ready number journal state (requester_of_stateid journal state args.stateid args.seqid) request (close.own journal state args)
-    (quiet_ready number journal state (requester_of_stateid journal state args.stateid args.seqid) request.op (close.own journal state args) sound (ap is_open same)
+    (quiet_ready number journal state (requester_of_stateid journal state args.stateid args.seqid) request.op (close.own journal state args) sound (ap is_open same) (λ client. ap (newcomer_of journal state client) same)
     (λ node passage ruling h. as_ruled ruling _ h (closing_quiet (verdict (record { node = node; also_unconfirmed = false }) journal.epoch state args.stateid)))) d is
 ruled_ready number journal state (ops.Lock args) request d same sound is =
     let sequenced = lock_sequenced args args.locker journal state request (Some d) is in

@@ -1,6 +1,6 @@
 -- What a sequenced operation decides is ready to keep the state sound, if what its own rule gives is.
 use Rattle.std.proofs.Common.{◌≡◌, inl, inr, ℕ, Bool, true, false, Option, Some, None, List, refl, sym, ap, ◌∙◌, subst}
-use Rattle.std.specs.Prelude.{⊤, ◌&&◌, not, is_some, option_map, if◌then◌else◌}
+use Rattle.std.specs.Prelude.{⊤, ◌&&◌, length, nat_lt, not, is_some, option_map, if◌then◌else◌}
 use Rattle.std.proofs.lemmas.Bool.{and_parts, cases_Bool, cond-false, cond-true, cond_both, not-true}
 use Rattle.nfs_core.proofs.SafeLists.{found_holds}
 use Rattle.nfs_core.proofs.Sound.{IsSound, KeepsOwners, equal_clients, equal_names, is_known_in, is_live_in, keeps_both, keeps_mapped, keeps_recorded}
@@ -16,6 +16,7 @@ use Rattle.nfs_owners.specs.StateOwner.{lock_owner}
 use Rattle.nfs_owners.specs.declared.kept.Kept.{Kept}
 use Rattle.nfs_owners.specs.declared.kept.Verdict.{Verdict}
 use Rattle.nfs_owners.specs.declared.kept.Verdict.TheVariants as verdicts
+use Rattle.nfs_owners.specs.declared.owner.TheConstants.{OWNER_LIMIT}
 use Rattle.nfs_owners.specs.declared.state_owner.StateOwner.{StateOwner}
 use Rattle.nfs_rules.specs.Newcomers.{Newcomer, Nobody, Known, Unknown, is_next, newcomer_by, newcomer_if, newcomer_in, newcomer_of}
 use Rattle.nfs_rules.specs.Sequences.{Answered, GoesOn, IsDecided, IsOfKnown, IsOfOwner, IsSequence, IsSequenced, IsUnder, Own, Owner, Refused, Requester, SequenceStep, by_verdict, counts, decision_of, is_ok_status, is_open, kept_with, only, owner_change_of, refusal_to}
@@ -27,7 +28,6 @@ use Rattle.nfs_state.specs.Changes.{with_owner_change}
 use Rattle.nfs_state.specs.Kept.{kept_for}
 use Rattle.nfs_state.specs.Owners.{KnownOwner, confirmed_if_known, has_name, is_confirmed, owner_of, with_kept_entry, with_record}
 use Rattle.nfs_state.specs.State.{State, History}
-use Rattle.nfs_state.specs.declared.change.Change.TheVariants as changes
 use Rattle.nfs_state.specs.declared.owner_change.OwnerChange.{OwnerChange}
 use Rattle.nfs_state.specs.declared.owner_change.OwnerChange.TheVariants as owner_changes
 use Rattle.nfs_state.specs.declared.request.Request.{Request}
@@ -163,19 +163,30 @@ live_owner state sound name known =
     let held = found_holds (λ (k : KnownOwner). is_live_in state.clients.records k.name.client ≡ true) (has_name name) state.owners known sound.live in
     ap (λ n. is_live_in state.clients.records n.client) (sym (equal_names held.0.name name held.2)) ∙ held.1
 
-kept_ready : (state : State) (name : StateOwner) (newcomer : Newcomer) (status : Status) → is_live_in state.clients.records name.client ≡ true → IsOfClient name.client newcomer → IsOwnerReady (kept_with name newcomer status) state
-kept_ready state name Nobody status live of = tt
-kept_ready state name (Known newcomer) status live of = tt
-kept_ready state name (Unknown newcomer) status live of =
+-- Where the answer is OK, there is a place for a lock owner that isn't known.
+abbrev pub HasPlaceFor : State → Newcomer → Status → Type 0
+HasPlaceFor state (Unknown newcomer) status = is_ok_status status ≡ true → nat_lt (length state.owners) OWNER_LIMIT ≡ true
+HasPlaceFor state newcomer status = ⊤
+
+-- no place is needed where there is nobody
+pub place_for_nobody : (state : State) (newcomer : Newcomer) (status : Status) → newcomer ≡ Nobody → HasPlaceFor state newcomer status
+place_for_nobody state newcomer status nobody = subst (λ n. HasPlaceFor state n status) (sym nobody) tt
+
+kept_ready : (state : State) (name : StateOwner) (newcomer : Newcomer) (status : Status) → is_live_in state.clients.records name.client ≡ true → IsOfClient name.client newcomer
+    → HasPlaceFor state newcomer status → IsOwnerReady (kept_with name newcomer status) state
+kept_ready state name Nobody status live of place = tt
+kept_ready state name (Known newcomer) status live of place = tt
+kept_ready state name (Unknown newcomer) status live of place =
     cond_both (is_ok_status status) (owner_changes.Introduces name (lock_owner newcomer)) (owner_changes.Keeps name) (λ c. IsOwnerReady c state)
-    (λ _. subst (λ c. is_live_in state.clients.records c ≡ true) (sym (equal_clients newcomer.client name.client of)) live) (λ _. tt)
+    (λ ok. (subst (λ c. is_live_in state.clients.records c ≡ true) (sym (equal_clients newcomer.client name.client of)) live, place ok)) (λ _. tt)
 
 pub continues_ready : (journal : History) (state : State) (op : Op) (name : StateOwner) (status : Status) → IsSound state → is_known_in state.owners name ≡ true
+    → HasPlaceFor state (newcomer_of journal state name.client op) status
     → IsOwnerReady (owner_change_of passages.Continues name (newcomer_of journal state name.client op) status) state
-continues_ready journal state op name status sound known =
+continues_ready journal state op name status sound known place =
     let newcomer = newcomer_of journal state name.client op in
     cond_both (counts status) (kept_with name newcomer status) owner_changes.Nothing (λ c. IsOwnerReady c state)
-    (λ _. kept_ready state name newcomer status (live_owner state sound name known) (newcomer_of_client journal state name.client op)) (λ _. tt)
+    (λ _. kept_ready state name newcomer status (live_owner state sound name known) (newcomer_of_client journal state name.client op) place) (λ _. tt)
 
 -- After such a request the owners that were known or confirmed are so still, and nothing else has changed.
 pub record Continues (number : ℕ) (old : State) (change : OwnerChange) : Type 0 where
@@ -218,21 +229,32 @@ continuing number old name newcomer status =
     (λ _. kept_continues number old name newcomer status)
     (λ _. record { owners = old.owners; state = refl; keeps = record { known = λ n h. h; confirmed = λ n h. h } })
 
+-- what such a request decides is ready, but for its owner
+abbrev pub IsContinuing : ℕ → State → StateOwner → Newcomer → Ruling → Type 0
+IsContinuing number state name newcomer ruling =
+    HasPlaceFor state newcomer (status_of ruling.answer)
+    × IsChangeReady ruling.change (with_owner_change (owner_change_of passages.Continues name newcomer (status_of ruling.answer)) number state)
+
 -- Operations other than OPEN: their requests continue.
 pub others_ready : (number : ℕ) (journal : History) (state : State) (requester : Requester) (op : Op) (own : Own) → IsSound state → is_open op ≡ false
     → ((node : ℕ) (name : StateOwner) (ruling : Ruling) → IsOf name requester → is_known_in state.owners name ≡ true → own node passages.Continues (Some ruling)
-    → IsChangeReady ruling.change (with_owner_change (owner_change_of passages.Continues name (newcomer_of journal state name.client op) (status_of ruling.answer)) number state))
+    → IsContinuing number state name (newcomer_of journal state name.client op) ruling)
     → IsOwnReady number journal state requester op own
 others_ready number journal state requester op own sound other ready node passages.Continues owner ruling of fit h =
-    (continues_ready journal state op owner (status_of ruling.answer) sound fit, ready node owner ruling of fit h)
+    let here = ready node owner ruling of fit h in
+    (continues_ready journal state op owner (status_of ruling.answer) sound fit here.0, here.1)
 others_ready number journal state requester op own sound other ready node passages.Begins owner ruling of fit h = absurd (never (is_open op) other fit)
 others_ready number journal state requester op own sound other ready node passages.Restarts owner ruling of fit h = absurd (never (is_open op) other fit.0)
 
--- operations whose changes are ready in each state
+-- operations that introduce nobody, and whose changes are ready in each state
 pub quiet_ready : (number : ℕ) (journal : History) (state : State) (requester : Requester) (op : Op) (own : Own) → IsSound state → is_open op ≡ false
+    → ((client : ClientId) → newcomer_of journal state client op ≡ Nobody)
     → ((node : ℕ) (passage : Passage) (ruling : Ruling) → own node passage (Some ruling) → (s : State) → IsChangeReady ruling.change s)
     → IsOwnReady number journal state requester op own
-quiet_ready number journal state requester op own sound other quiet =
+quiet_ready number journal state requester op own sound other nobody quiet =
     others_ready number journal state requester op own sound other
-    (λ node name ruling of known h. quiet node passages.Continues ruling h
-    (with_owner_change (owner_change_of passages.Continues name (newcomer_of journal state name.client op) (status_of ruling.answer)) number state))
+    (λ node name ruling of known h. (
+      place_for_nobody state (newcomer_of journal state name.client op) (status_of ruling.answer) (nobody name.client),
+      quiet node passages.Continues ruling h
+          (with_owner_change (owner_change_of passages.Continues name (newcomer_of journal state name.client op) (status_of ruling.answer)) number state),
+    ))

@@ -1,6 +1,6 @@
 -- An entry's changes keep the state sound, given what its rule makes sure of.
 use Rattle.std.proofs.Common.{◌≡◌, ℕ, Bool, true, false, List, refl, arith}
-use Rattle.std.specs.Prelude.{⊤, ◌+◌, ◌≤◌, ◌&&◌, find, is_some, map, not, if◌then◌else◌}
+use Rattle.std.specs.Prelude.{⊤, ◌+◌, ◌≤◌, ◌&&◌, find, is_some, length, map, nat_lt, not, if◌then◌else◌}
 use Rattle.std.specs.List.{AllByRecursion}
 use Rattle.nfs_state.specs.declared.change.Change.{Change}
 use Rattle.nfs_state.specs.declared.change.Change.TheVariants as changes
@@ -11,62 +11,77 @@ use Rattle.nfs_state.specs.declared.owner_change.OwnerChange.TheVariants as owne
 use Rattle.nfs_state.specs.Owners.{KnownOwner, has_name, is_confirmed, with_confirmation, with_kept_entry, with_record, without_owner}
 use Rattle.nfs_state.specs.Changes.{after, last_state_after, with_owner_change, with_state_change}
 use Rattle.nfs_state.specs.Changes as state_changes
+use Rattle.nfs_state.specs.Places.{has_state_place}
 use Rattle.nfs_state.specs.State.{State}
 use Rattle.nfs_core.proofs.SafeFiles.{opens_at, set_opens}
 use Rattle.nfs_core.proofs.SafeLists.{all_filter, all_push, all_set}
-use Rattle.nfs_core.proofs.Sound.{AreLive, IsKnownIn, IsOnlyOf, IsSound, StandsUnder, KeepsOwner, KeepsOwners, OpensStay, dropped_compatible, dropped_known, dropped_live, each_known, is_known_in, is_live_in, keeps_mapped, keeps_recorded, keeps_tested, live_confirmed, live_replaced, live_unconfirmed, mapped_live, name_left, opening_known, renamed_known, single_confirmed, single_unconfirmed}
+use Rattle.nfs_core.proofs.Sound.{AreLive, IsKnownIn, IsOfRecord, IsOnlyOf, IsSound, StandsUnder, KeepsOwner, KeepsOwners, OpensStay, dropped_compatible, dropped_known, dropped_live, each_known, is_known_in, is_live_in, keeps_mapped, keeps_recorded, keeps_tested, live_confirmed, live_replaced, live_unconfirmed, mapped_live, name_left, opening_known, renamed_known, single_confirmed, single_unconfirmed}
 use Rattle.nfs_core.proofs.SoundLocks.{LocksStay, locks_begun, locks_changed, locks_closed, locks_numbered, locks_owned, locks_released, locks_reopened, locks_without, locks_without_client, under_each, under_opening}
 use Rattle.nfs_forms.specs.ClientId.{is_same_client}
 use Rattle.nfs_forms.specs.OpenOwner.{is_same_owner}
 use Rattle.nfs_forms.specs.declared.lock_owner.LockOwner.{LockOwner}
 use Rattle.nfs_forms.specs.declared.open_owner.OpenOwner.{OpenOwner}
-use Rattle.nfs_locks.specs.AllLocks.{locks_of}
+use Rattle.nfs_locks.specs.AllLocks.{is_full_for, locks_of}
 use Rattle.nfs_locks.specs.Laws.{IsFreeFor}
-use Rattle.nfs_locks.specs.Locks.{first_state, is_lock_of}
+use Rattle.nfs_locks.specs.Locks.{first_state, is_lock_of, lock_of}
 use Rattle.nfs_locks.specs.Locks as locks
+use Rattle.nfs_owners.specs.Registration.{has_number_left}
 use Rattle.nfs_owners.specs.Registry.{Registry}
 use Rattle.nfs_owners.specs.StateOwner.{is_same_state_owner, lock_owner, open_owner}
 use Rattle.nfs_owners.specs.declared.clients.client_change.ClientChange.{ClientChange}
 use Rattle.nfs_owners.specs.declared.clients.client_change.ClientChange.TheVariants as client_changes
+use Rattle.nfs_owners.specs.declared.owner.TheConstants.{OWNER_LIMIT}
 use Rattle.nfs_owners.specs.declared.state_owner.StateOwner.{StateOwner}
+use Rattle.nfs_rules.specs.operations.Open.{has_open_place}
 use Rattle.nfs_share.specs.AllOpens.{opens_of}
 use Rattle.nfs_share.specs.Laws.{AllAreCompatible}
 use Rattle.nfs_share.specs.Opens.{after_downgrade, is_numbered, is_refused, open_of, with_each, with_next_seqid, with_opening, without}
 
--- The client of an owner that becomes known is live, and an owner that is dropped isn't confirmed.
+-- The client of an owner that becomes known is live, and there is a place for the owner. An owner that is dropped isn't
+-- confirmed.
 abbrev pub IsOwnerReady : OwnerChange → State → Type 0
-IsOwnerReady (owner_changes.Introduces name newcomer) state = is_live_in state.clients.records newcomer.client ≡ true
-IsOwnerReady (owner_changes.Records name) state = is_live_in state.clients.records name.client ≡ true
+IsOwnerReady (owner_changes.Introduces name newcomer) state =
+    (is_live_in state.clients.records newcomer.client ≡ true) × (nat_lt (length state.owners) OWNER_LIMIT ≡ true)
+IsOwnerReady (owner_changes.Records name) state =
+    (is_live_in state.clients.records name.client ≡ true) × (nat_lt (length state.owners) OWNER_LIMIT ≡ true)
 IsOwnerReady (owner_changes.Restarts name) state =
     (is_live_in state.clients.records name.client ≡ true) × (is_confirmed (open_owner name) state.owners ≡ false)
+    × (nat_lt (length (without_owner (open_owner name) state.owners)) OWNER_LIMIT ≡ true)
 IsOwnerReady (owner_changes.Drops name) state = is_confirmed (open_owner name) state.owners ≡ false
 IsOwnerReady change state = ⊤
 
--- A record is confirmed in place of those of its own client, or of those of the client that it replaces.
+-- A new record has the next number, which is left, and any other the clientid and the id of one that is there. One is
+-- confirmed in place of those of its own client, or of those of the client that it replaces.
 abbrev pub IsClientReady : ClientChange → Registry → Type 0
 IsClientReady client_changes.Nothing registry = ⊤
-IsClientReady (client_changes.Arrives r) registry = r.confirmed ≡ false
-IsClientReady (client_changes.Updates r) registry = r.confirmed ≡ false
+IsClientReady (client_changes.Arrives r) registry =
+    (r.confirmed ≡ false) × (r.client.number ≡ registry.last_number + 1) × (has_number_left registry ≡ true)
+IsClientReady (client_changes.Updates r) registry = (r.confirmed ≡ false) × IsOfRecord r registry.records
 IsClientReady (client_changes.Confirms r) registry =
-    (r.confirmed ≡ true) × AllByRecursion (IsOnlyOf r.client r.id) registry.records
+    (r.confirmed ≡ true) × AllByRecursion (IsOnlyOf r.client r.id) registry.records × IsOfRecord r registry.records
 IsClientReady (client_changes.Replaces r client) registry =
-    AllByRecursion (IsOnlyOf client r.id) registry.records
+    AllByRecursion (IsOnlyOf client r.id) registry.records × IsOfRecord r registry.records
 
--- The owner of an open is known, and its OPEN isn't refused. The owner of a lock state that begins is known, an open of
--- the node is there for it, and the bytes are free for it; those of another change are free for the owner of a lock state
--- with the number.
+-- The owner of an open is known, its OPEN isn't refused, and there is a place for an open that it makes. The owner of a lock
+-- state that begins is known, an open of the node is there for it, the bytes are free for it, it has no lock state of the
+-- file, and there is a place for one; those of another change are free for the owner of a lock state with the number, and
+-- leave its runs within the limit.
 abbrev pub IsChangeReady : Change → State → Type 0
 IsChangeReady (changes.Clients change) state = IsClientReady change state.clients
 IsChangeReady (changes.Opens node owner share) state =
     (is_known_in state.owners (open_owner owner) ≡ true) × (is_refused owner share (opens_of node state.opens) ≡ false)
+    × (has_open_place state owner node ≡ true)
 IsChangeReady (changes.Begins node first) state =
     (is_known_in state.owners (lock_owner first.owner) ≡ true)
     × StandsUnder state.owners (opens_of node state.opens) (first_state first (state.last_state + 1))
     × IsFreeFor first.owner first.change (locks_of node state.locks)
+    × (is_some (lock_of first.owner (locks_of node state.locks)) ≡ false)
+    × (has_state_place state ≡ true)
 IsChangeReady (changes.Locks node number change) state =
     (owner : LockOwner)
     × (is_some (find (λ l. locks.is_numbered number l && is_lock_of owner l) (locks_of node state.locks)) ≡ true)
     × IsFreeFor owner change (locks_of node state.locks)
+    × (is_full_for number change (locks_of node state.locks) ≡ false)
 IsChangeReady change state = ⊤
 
 abbrev pub IsEffectReady : ℕ → State → Effect → Type 0
@@ -130,8 +145,8 @@ sound_owner law (owner_changes.Keeps name) number old ready sound = sound_kept n
 sound_owner law (owner_changes.KeepsBoth name newcomer) number old ready sound =
     sound_kept number newcomer (record old { owners = with_kept_entry number name old.owners }) (sound_kept number name old sound)
 sound_owner law (owner_changes.Introduces name newcomer) number old ready sound =
-    sound_recorded number newcomer (record old { owners = with_kept_entry number name old.owners }) ready (sound_kept number name old sound)
-sound_owner law (owner_changes.Records name) number old ready sound = sound_recorded number (open_owner name) old ready sound
+    sound_recorded number newcomer (record old { owners = with_kept_entry number name old.owners }) ready.0 (sound_kept number name old sound)
+sound_owner law (owner_changes.Records name) number old ready sound = sound_recorded number (open_owner name) old ready.0 sound
 sound_owner law (owner_changes.Restarts name) number old ready sound =
     sound_recorded number (open_owner name) (state_changes.without name old) ready.0 (sound_dropped law name old ready.1 sound)
 sound_owner law (owner_changes.Drops name) number old ready sound = sound_dropped law name old ready sound
@@ -150,14 +165,14 @@ sound_clients law lock_law (client_changes.Arrives r) old ready sound = record {
   live = live_unconfirmed r old.clients.records old.owners sound.live;
   known = sound.known;
   compatible = sound.compatible;
-  single = single_unconfirmed r ready old.clients.records sound.single;
+  single = single_unconfirmed r ready.0 old.clients.records sound.single;
   locks = sound.locks;
 }
 sound_clients law lock_law (client_changes.Updates r) old ready sound = record {
   live = live_unconfirmed r old.clients.records old.owners sound.live;
   known = sound.known;
   compatible = sound.compatible;
-  single = single_unconfirmed r ready old.clients.records sound.single;
+  single = single_unconfirmed r ready.0 old.clients.records sound.single;
   locks = sound.locks;
 }
 sound_clients law lock_law (client_changes.Confirms r) old ready sound = record {
@@ -168,7 +183,7 @@ sound_clients law lock_law (client_changes.Confirms r) old ready sound = record 
   locks = sound.locks;
 }
 sound_clients law lock_law (client_changes.Replaces r client) old ready sound = record {
-  live = live_replaced r client old.clients.records old.owners ready sound.live;
+  live = live_replaced r client old.clients.records old.owners ready.0 sound.live;
   known = dropped_known (λ n. is_same_client n.client client) old.owners old.opens sound.known;
   compatible = dropped_compatible law (λ o. is_same_client o.owner.client client) old.opens sound.compatible;
   single = single_confirmed r old.clients.records sound.single;

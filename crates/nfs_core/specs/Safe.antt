@@ -1,13 +1,29 @@
--- What holds of the state at all times (RFC 7530, sections 9.1, 9.9 and 16.10).
-use Rattle.std.specs.Prelude.{ℕ, ◌&&◌, Bool, IsTrue, List, is_some}
-use Rattle.std.specs.List.{AllByRecursion, list_any}
+-- What holds of the state at all times (RFC 7530, sections 9.1, 9.9, 9.11, 16.10 and 16.33).
+use Rattle.std.specs.Prelude.{ℕ, ◌&&◌, ◌++◌, ◌==◌, ◌≤◌, Bool, IsSomeAnd, IsTrue, List, flat_map, is_some, length, map}
+use Rattle.std.specs.List.{AllByRecursion, IsDistinct, list_any}
+use Rattle.std.specs.Str.{bytes_eq}
+use Rattle.nfs_forms.specs.ClientId.{is_same_client}
+use Rattle.nfs_forms.specs.LockOwner.{is_same_lock_owner}
+use Rattle.nfs_forms.specs.OpenOwner.{is_same_owner}
 use Rattle.nfs_locks.specs.AllLocks.{locks_of}
 use Rattle.nfs_locks.specs.Laws.{AllLocksAreCompatible}
 use Rattle.nfs_locks.specs.Locks.{ByteLocks}
+use Rattle.nfs_rules.specs.Sequences.{counts}
+use Rattle.nfs_state.specs.Entries.{call_at}
 use Rattle.nfs_state.specs.Owners.{KnownOwner, is_confirmed, owner_of}
-use Rattle.nfs_state.specs.State.{State}
+use Rattle.nfs_state.specs.State.{State, History}
 use Rattle.nfs_owners.specs.Registry.{record_of}
 use Rattle.nfs_owners.specs.StateOwner.{lock_owner, open_owner}
+use Rattle.nfs_owners.specs.declared.client_record.ClientRecord.{ClientRecord}
+use Rattle.nfs_owners.specs.declared.client_record.TheConstants.{CLIENT_LIMIT}
+use Rattle.nfs_owners.specs.declared.owner.TheConstants.{OWNER_LIMIT}
+use Rattle.nfs_ranges.specs.Runs.{runs}
+use Rattle.nfs_ranges.specs.declared.limits.TheConstants.{RUN_LIMIT}
+use Rattle.nfs_state.specs.Places.{state_count}
+use Rattle.nfs_state.specs.declared.entry.Call.{Call}
+use Rattle.nfs_state.specs.declared.limits.TheConstants.{STATE_LIMIT}
+use Rattle.nfs_xdr.specs.Names.{is_sequenced}
+use Rattle.nfs_xdr.specs.OpResult.{status_of}
 use Rattle.nfs_share.specs.AllOpens.{opens_of}
 use Rattle.nfs_share.specs.Laws.{AllAreCompatible}
 use Rattle.nfs_share.specs.Opens.{is_numbered, is_of_client}
@@ -53,6 +69,49 @@ StandsUnderOpen state node l = IsTrue (list_any (bears state.owners l) (opens_of
 abbrev pub EachLockAt : (ℕ → ByteLocks → Type 0) → State → Type 0
 EachLockAt P state = (node : ℕ) → AllByRecursion (P node) (locks_of node state.locks)
 
+-- the numbers in the stateids of all opens and all lock states (section 9.1.4)
+abbrev pub numbers_of : State → List ℕ
+numbers_of state =
+    flat_map (map (λ (o : OpenState). o.number)) state.opens
+    ++ flat_map (map (λ (l : ByteLocks). l.number)) state.locks
+
+-- two opens are of one owner
+abbrev pub have_same_owner : OpenState → OpenState → Bool
+have_same_owner a b = is_same_owner a.owner b.owner
+
+-- two lock states are of one owner
+abbrev pub have_same_lock_owner : ByteLocks → ByteLocks → Bool
+have_same_lock_owner a b = is_same_lock_owner a.owner b.owner
+
+-- both records are confirmed and have one id
+abbrev pub have_same_id : ClientRecord → ClientRecord → Bool
+have_same_id r s = r.confirmed && s.confirmed && bytes_eq r.id s.id
+
+-- both records are confirmed and have one clientid
+abbrev pub have_same_client : ClientRecord → ClientRecord → Bool
+have_same_client r s = r.confirmed && s.confirmed && is_same_client r.client s.client
+
+-- the number was given, where `last` is the one that was given last: they go up from 1
+abbrev pub WasGiven : ℕ → ℕ → Type 0
+WasGiven last number = (1 ≤ number) × (number ≤ last)
+
+-- the record's client number was given
+abbrev pub HasGivenNumber : ℕ → ClientRecord → Type 0
+HasGivenNumber last r = WasGiven last r.client.number
+
+-- the bytes that the owner holds are in no more runs than an owner may have of a file
+abbrev pub HasFewRuns : ByteLocks → Type 0
+HasFewRuns l = runs l.modes ≤ RUN_LIMIT
+
+-- no limit is exceeded
+pub record KeepsLimits (state : State) : Type 0 where
+  -- opens and lock states together
+  pub states : state_count state ≤ STATE_LIMIT
+  pub owners : length state.owners ≤ OWNER_LIMIT
+  -- the numbers that clients were given
+  pub clients : state.clients.last_number ≤ CLIENT_LIMIT
+  pub runs : EachLock HasFewRuns state
+
 pub record IsSafe (state : State) : Type 0 where
   -- of each two opens of a node by different owners, neither may do what the other denies
   pub compatible : AllByRecursion AllAreCompatible state.opens
@@ -63,3 +122,30 @@ pub record IsSafe (state : State) : Type 0 where
   pub lockers_known : EachLock (HasKnownLocker state) state
   pub lockers_live : EachLock (HasLiveLocker state) state
   pub locks_under_opens : EachLockAt (StandsUnderOpen state) state
+  -- no two states have one number, be they opens or lock states, of one file or of two
+  pub numbers_differ : IsDistinct (λ a b. a == b) (numbers_of state)
+  pub numbers_given : AllByRecursion (WasGiven state.last_state) (numbers_of state)
+  -- an owner has at most one open of a file (section 9.11), and at most one lock state (section 9.1.4)
+  pub one_open : AllByRecursion (IsDistinct have_same_owner) state.opens
+  pub one_lock : AllByRecursion (IsDistinct have_same_lock_owner) state.locks
+  -- an id has at most one confirmed record (section 16.33.5), and so has a clientid
+  pub one_of_id : IsDistinct have_same_id state.clients.records
+  pub one_of_client : IsDistinct have_same_client state.clients.records
+  pub clients_given :
+      AllByRecursion (HasGivenNumber state.clients.last_number) state.clients.records
+  pub within : KeepsLimits state
+
+-- What is kept for the owners.
+
+-- The call goes by a sequence id, and its answer counts (section 9.1.7).
+abbrev pub HasCounted : Call → Type 0
+HasCounted call =
+    IsTrue (is_sequenced call.request.op) × IsTrue (counts (status_of call.answer))
+
+-- the entry that is kept for the owner is such a call in the journal
+abbrev pub KeepsRequest : History → KnownOwner → Type 0
+KeepsRequest journal o = IsSomeAnd (call_at journal o.kept_entry) HasCounted
+
+-- the same of each owner
+abbrev pub KeepRequests : History → State → Type 0
+KeepRequests journal state = AllByRecursion (KeepsRequest journal) state.owners

@@ -1,6 +1,6 @@
-ghost use Rattle.std.specs.Prelude.{◌≡◌, ◌≤◌, [], IfOk, OnErr, IsErrOf, IsTrue, length};
+ghost use Rattle.std.specs.Prelude.{◌≡◌, ◌≤◌, ◌<◌, [], IfOk, OnErr, IsErrOf, IsTrue, length};
 ghost use Rattle.nfs_core.specs.Following.{CanBeAsked, IsStoredBy, IsWithinLimits};
-ghost use Rattle.nfs_core.specs.Safe.{IsSafe};
+ghost use Rattle.nfs_core.specs.Safe.{IsSafe, KeepRequests};
 ghost use Rattle.nfs_core.specs.Server.{Applies, Enters, IsLawful};
 ghost use Rattle.nfs_core.specs.Step.{HasNoAnswer};
 ghost use Rattle.nfs_state.specs.Entries.{IsFilehandle, IsSendable, entry_of, request_of};
@@ -113,8 +113,10 @@ impl Core {
     /// The journal of the changes that led to the state.
     pub fn journal(&self) -> &Journal
         ensures journal { result.now.history ≡ self.now.journal }
+        ensures kept { Agrees self.now.journal self.now.stored.owners }
         ensures lawful { IsLawful self.now }
         ensures safe { IsSafe (meaning self.now.stored) }
+        ensures counted { KeepRequests self.now.journal (meaning self.now.stored) }
     {
         lawful_is_safe();
         &self.journal

@@ -1,9 +1,10 @@
 ghost use Rattle.nfs_core.specs.Lawful.{AtMostOneState, Lawful};
-ghost use Rattle.nfs_core.specs.Safe.{IsSafe};
+ghost use Rattle.nfs_core.specs.Safe.{IsSafe, KeepRequests};
 ghost use Rattle.nfs_core.specs.Step.{AtMostOneStep};
 ghost use Rattle.nfs_state.specs.State.{State, History};
 
 use nfs_locks::locks_stay_compatible;
+use nfs_ranges::first_change_has_place;
 use nfs_rules::at_most_one_decision;
 use nfs_share::opens_stay_compatible;
 
@@ -21,10 +22,14 @@ pub fn at_most_one_state()
     at_most_one_decision();
 }
 
-/// The law that each state which a lawful journal leads to is safe.
+/// The law that each state which a lawful journal leads to is safe, and that what is kept for each owner is a request in
+/// the journal that counted.
 pub fn lawful_is_safe()
     ensures safe { (journal : History) (state : State) → Lawful journal state → IsSafe state }
+    ensures kept { (journal : History) (state : State) → Lawful journal state →
+        KeepRequests journal state }
 {
     opens_stay_compatible();
     locks_stay_compatible();
+    first_change_has_place();
 }
