@@ -1,10 +1,11 @@
 """An independent server of the rules: records in, replies out. It was written from the rules, not from the program.
 
 `Server.converse` takes the bytes of a connection. `Server.reply` takes one record, and can be told at which operations
-memory was refused: these are answered RESOURCE and change nothing. `Server.follows` judges a reply of a server that may
-have been refused memory. Sections are those of RFC 7530.
+memory was refused: these are answered RESOURCE and change nothing but a lease. `Server.follows` judges a reply of a
+server that may have been refused memory. Sections are those of RFC 7530.
 
-There are no leases and delegations yet, and no READ and WRITE.
+Each operation renews the lease that it has to. That RENEW is answered, and that leases end, is for a server with
+`has_leases`: the program has neither yet. There are no delegations yet, and no READ and WRITE.
 """
 import copy
 from dataclasses import dataclass, field
@@ -37,6 +38,11 @@ NOT_COUNTED = {Status.STALE_CLIENTID, Status.STALE_STATEID, Status.BAD_STATEID, 
 # The operations that ask the state, and so make an entry of the journal.
 STATEFUL = {Opnum.GETATTR, Opnum.SETCLIENTID, Opnum.SETCLIENTID_CONFIRM, Opnum.OPEN, Opnum.OPEN_CONFIRM,
             Opnum.OPEN_DOWNGRADE, Opnum.CLOSE, Opnum.LOCK, Opnum.LOCKT, Opnum.LOCKU, Opnum.RELEASE_LOCKOWNER}
+# The operations that renew the lease of the client which a clientid among their arguments names (section 9.5).
+# SETCLIENTID and its confirmation never do.
+RENEWING_BY_CLIENTID = {Opnum.OPEN, Opnum.LOCKT, Opnum.RELEASE_LOCKOWNER, Opnum.RENEW}
+# Those that renew the lease of the client which their stateid names.
+RENEWING_BY_STATEID = {Opnum.OPEN_CONFIRM, Opnum.OPEN_DOWNGRADE, Opnum.CLOSE, Opnum.LOCK, Opnum.LOCKU}
 SEQUENCED = {Opnum.OPEN, Opnum.OPEN_CONFIRM, Opnum.OPEN_DOWNGRADE, Opnum.CLOSE, Opnum.LOCK, Opnum.LOCKU}
 
 # Operations of NFSv4.0 that get a rule later: rows that use them are not for this model yet.
@@ -158,6 +164,15 @@ def is_special(stateid):
     return stateid in (Stateid(0, 0, 0, 0), Stateid(LAST, LAST, LAST, LAST))
 
 
+@dataclass(frozen=True)
+class Swept:
+    """Of a sweep: how many clients it removed, how many have a lease that isn't over, and for how many others the
+    journal had no entry left."""
+    expired: int = 0
+    kept: int = 0
+    refused: int = 0
+
+
 @dataclass
 class Filehandles:
     """Of a COMPOUND: nodes of the tree, or None."""
@@ -172,6 +187,9 @@ class Server:
     lease: int = 90
     epoch: int = 1
     journal_limit: int = JOURNAL_LIMIT
+    has_leases: bool = False
+    # The time of the calls that come, in seconds.
+    moment: int = 0
     records: list = field(default_factory=list)
     open_owners: dict = field(default_factory=dict)
     lock_owners: dict = field(default_factory=dict)
@@ -181,7 +199,9 @@ class Server:
     last_client: int = 0
     last_state: int = 0
     last_confirm: int = 0
-    # The operations to come that were met.
+    # When each live client's lease was opened or renewed last, by the client's number.
+    renewals: dict = field(default_factory=dict)
+    # What was met that is to come.
     unknown: set = field(default_factory=set)
 
     # Connections and COMPOUND (section 15.2).
@@ -236,7 +256,7 @@ class Server:
             number = call.operations.u32()
         except wire.Unreadable:
             return Opnum.ILLEGAL, Result(Status.BADXDR)
-        if number not in wire.ARGUMENTS:
+        if number not in wire.ARGUMENTS or number == Opnum.RENEW and not self.has_leases:
             return self.without_rule(number)
         opnum = Opnum(number)
         try:
@@ -245,6 +265,9 @@ class Server:
             return opnum, Result(Status.BADXDR)
         if is_full:
             return opnum, Result(Status.RESOURCE)
+        self.renew_by(opnum, arguments)
+        if opnum == Opnum.RENEW:
+            return opnum, answer(lambda: self.renew(arguments))
         if opnum not in STATEFUL:
             return opnum, answer(lambda: self.on_tree(opnum, arguments, handles))
         result = self.apply(opnum, arguments, handles.current, call.principal, is_refused)
@@ -416,9 +439,12 @@ class Server:
             self.remove_client(old.number)
         self.records = [it for it in self.records if it is not old]
         record.is_confirmed = True
+        # The lease of a client that was live before stays as it is.
+        self.renewals.setdefault(record.number, self.moment)
 
     def remove_client(self, number):
-        """The client's records, owners, opens and lock states are gone (section 9.1.2)."""
+        """The client's records, owners, opens, lock states and lease are gone (section 9.1.2)."""
+        self.renewals.pop(number, None)
         self.records = [it for it in self.records if it.number != number]
         self.open_owners = {name: owner for name, owner in self.open_owners.items() if name.client != number}
         self.lock_owners = {name: owner for name, owner in self.lock_owners.items() if name.client != number}
@@ -428,6 +454,43 @@ class Server:
     def expect_client(self, epoch, number):
         if epoch != self.epoch or not self.is_live(number):
             raise Refusal(Status.STALE_CLIENTID)
+
+    # Leases (section 9.5).
+
+    def renewed_by(self, opnum, arguments):
+        """The number of the client whose lease the operation renews, if that is open; or None."""
+        if opnum in RENEWING_BY_STATEID:
+            stateid = stateid_of(opnum, arguments)
+            return None if is_special(stateid) or stateid.epoch != self.epoch else stateid.client
+        if opnum in RENEWING_BY_CLIENTID:
+            named = arguments if opnum == Opnum.RENEW else arguments.owner
+            return named.client if named.epoch == self.epoch else None
+        return None
+
+    def renew_by(self, opnum, arguments):
+        """Renews before the operation is judged, so whatever is answered; an earlier moment doesn't lower the last."""
+        number = self.renewed_by(opnum, arguments)
+        if number in self.renewals:
+            self.renewals[number] = max(self.renewals[number], self.moment)
+
+    def renew(self, arguments):
+        """Section 16.28. It makes no entry of the journal."""
+        self.expect_client(arguments.epoch, arguments.client)
+        return b""
+
+    def sweep(self, now):
+        """Removes the clients whose leases are over, in the order of their numbers: more seconds than the lease have
+        passed since the last renewal. Each is an entry of the journal."""
+        if not self.has_leases:
+            self.unknown.add("sweep")
+            return Swept()
+        due = sorted(number for number, moment in self.renewals.items() if moment + self.lease < now)
+        kept = len(self.renewals) - len(due)
+        expired = due[:max(0, self.journal_limit - self.entries)]
+        for number in expired:
+            self.remove_client(number)
+        self.entries += len(expired)
+        return Swept(len(expired), kept, len(due) - len(expired))
 
     # Stateids (section 9.1.4).
 
@@ -527,7 +590,7 @@ class Server:
             name = request.arguments.owner
             self.expect_client(name.epoch, name.client)
             return self.open_owners.get(name)
-        stateid = stateid_of(request)
+        stateid = stateid_of(request.opnum, request.arguments)
         found = self.looked_up(stateid)
         if isinstance(found, OpenState):
             return self.open_owners[found.owner]
@@ -720,12 +783,12 @@ def is_first_lock(request):
     return request.opnum == Opnum.LOCK and isinstance(request.arguments.locker, NewLocker)
 
 
-def stateid_of(request):
+def stateid_of(opnum, arguments):
     """The stateid that names the owner of a sequenced operation other than OPEN."""
-    if request.opnum != Opnum.LOCK:
-        return request.arguments.stateid
-    locker = request.arguments.locker
-    return locker.open_stateid if is_first_lock(request) else locker.lock_stateid
+    if opnum != Opnum.LOCK:
+        return arguments.stateid
+    locker = arguments.locker
+    return locker.open_stateid if isinstance(locker, NewLocker) else locker.lock_stateid
 
 
 def sequence_id_of(request):

@@ -1,4 +1,5 @@
-"""Row files: crates/rows/README.md has the format. They are read here without the program of rows."""
+"""Row files: crates/rows/README.md has the format, and README.md beside this file two words that the program of rows
+doesn't know yet. They are read here without that program."""
 import os
 import re
 from dataclasses import dataclass, field
@@ -7,6 +8,15 @@ from wire import opaque, record, u32, u64
 
 NAMES_FILE = os.path.join(os.path.dirname(os.path.abspath(__file__)), "../../crates/nfs_rows/src/names.rt")
 NULL, COMPOUND = 0, 1
+MOMENT_LIMIT = 2**40
+
+
+@dataclass(frozen=True)
+class Sweep:
+    """A look through the leases, and how many clients are to be removed by it, and how many kept."""
+    moment: int
+    expired: int
+    kept: int
 
 
 @dataclass
@@ -15,6 +25,8 @@ class Connection:
     sent: bytes = b""
     wanted: bytes = b""
     fault: str = None
+    # What happens after so many of the bytes are sent: a moment that the clock is set to, or a sweep.
+    stops: list = field(default_factory=list)
 
 
 @dataclass
@@ -66,6 +78,21 @@ def number(word):
         return int(word, 16 if word.startswith("0x") else 10)
     except ValueError:
         raise Bad(f"no number: {word}") from None
+
+
+def moment_of(word):
+    moment = int(word)
+    if not 0 <= moment < MOMENT_LIMIT:
+        raise Bad(f"no moment: {word}")
+    return moment
+
+
+def sweep_of(text):
+    """The sweep that is written as MOMENT expired COUNT kept COUNT."""
+    words = words_of(text)
+    if len(words) != 5 or (words[1], words[3]) != ("expired", "kept"):
+        raise Bad(f"no sweep: {text}")
+    return Sweep(moment_of(words[0]), int(words[2]), int(words[4]))
 
 
 def bytes_of(word):
@@ -143,7 +170,7 @@ class File:
             self.end_message()
             if (keyword, rest) != ("want", "nothing"):
                 self.message = begin_message(keyword, rest)
-        elif keyword in ("tree", "lease", "epoch", "moment", "fault"):
+        elif keyword in ("tree", "lease", "epoch", "moment", "at", "sweep", "fault"):
             self.end_message()
             self.set(keyword, rest)
         else:
@@ -168,7 +195,11 @@ class File:
         elif keyword == "moment":
             if row.connections[-1].sent:
                 row.connections.append(Connection())
-            row.connections[-1].moment = int(rest)
+            row.connections[-1].moment = moment_of(rest)
+        elif keyword in ("at", "sweep"):
+            connection = row.connections[-1]
+            stop = moment_of(rest) if keyword == "at" else sweep_of(rest)
+            connection.stops.append((len(connection.sent), stop))
         elif keyword == "fault":
             row.connections[-1].fault = rest
         else:

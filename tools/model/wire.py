@@ -58,6 +58,7 @@ class Opnum(IntEnum):
     OPEN_DOWNGRADE = 21
     PUTFH = 22
     PUTROOTFH = 24
+    RENEW = 30
     RESTOREFH = 31
     SAVEFH = 32
     SETATTR = 34
@@ -208,6 +209,7 @@ OpenDowngrade = namedtuple("OpenDowngrade", "stateid seqid access deny")
 Putfh = namedtuple("Putfh", "filehandle")
 Putrootfh = namedtuple("Putrootfh", "")
 ReleaseLockowner = namedtuple("ReleaseLockowner", "owner")
+Renew = namedtuple("Renew", "epoch client")
 Restorefh = namedtuple("Restorefh", "")
 Savefh = namedtuple("Savefh", "")
 Setclientid = namedtuple("Setclientid", "verifier id callback")
@@ -238,6 +240,7 @@ ARGUMENTS = {
     Opnum.OPEN_DOWNGRADE: lambda r: OpenDowngrade(read_stateid(r), r.u32(), r.u32(), r.u32()),
     Opnum.PUTFH: lambda r: Putfh(r.opaque(FILEHANDLE_LIMIT)),
     Opnum.PUTROOTFH: lambda r: Putrootfh(),
+    Opnum.RENEW: lambda r: Renew(r.u32(), r.u32()),
     Opnum.RESTOREFH: lambda r: Restorefh(),
     Opnum.SAVEFH: lambda r: Savefh(),
     Opnum.SETCLIENTID: read_setclientid,

@@ -1,0 +1,4 @@
+pub mod BookEvent
+pub mod PlainBook
+pub mod PlainLaws
+pub mod laws
