@@ -12,6 +12,7 @@ import sys
 sys.dont_write_bytecode = True
 
 import rows
+from check_rows import converse
 from entries import ARGUMENT_BYTES, Call, Expire, NotJournal, RESTS, answer_bytes, entry_bytes
 from journal import Recorder, audit, head_bytes, journal_bytes, read_journal, verdict
 from journal_cases import (NOT_JOURNAL, broken_answers, broken_entries, broken_heads, broken_lengths, broken_nodes,
@@ -31,12 +32,12 @@ SHORT, DRAWN = 30, 2
 def journal_of(row):
     """The journal of the row's calls, or None where the row's tree is refused."""
     try:
-        server = Recorder(Tree(DEFAULT if row.document is None else row.document), row.lease, row.epoch)
+        tree = Tree(DEFAULT if row.document is None else row.document)
     except Refused:
         return None
+    server = Recorder(tree, row.lease, row.epoch, has_leases=True)
     for connection in row.connections:
-        server.moment = connection.moment
-        server.converse(connection.sent)
+        converse(server, connection)
     return server.journal()
 
 

@@ -33,7 +33,6 @@ class NoRule(Exception):
 @dataclass
 class Recorder(Server):
     """A server that keeps its journal."""
-    moment: int = 0
     recorded: list = field(default_factory=list)
 
     def apply(self, opnum, arguments, filehandle, principal, is_refused=False):
@@ -42,6 +41,13 @@ class Recorder(Server):
             answer = Answer(opnum, result.status, result.rest)
             self.recorded.append(Call(self.moment, principal, filehandle, opnum, arguments, answer))
         return result
+
+    def sweep(self, now):
+        seen = dict(self.renewals)
+        swept = super().sweep(now)
+        gone = [number for number in sorted(seen) if number not in self.renewals]
+        self.recorded += [Expire(number, seen[number], now) for number in gone]
+        return swept
 
     def journal(self):
         return Journal(self.epoch, self.lease, self.tree, self.recorded)
