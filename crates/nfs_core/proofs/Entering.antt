@@ -51,8 +51,8 @@ full_follows journal old entry full new step = omega (arith, full, step.below)
 -- where a decision fails for a limit, no answer may come next
 pub no_answer : AtMostOneDecision → (journal : History) (old : State) (request : Request) (result : Result Decision Shortage) → Decides (IsRuled request.op journal old request) old request.op result → IsErrOf result shortages.Limit → HasNoAnswer journal old request
 no_answer once journal old request (Ok decision) decides is_limit answer = absurd cc
-no_answer once journal old request (Err shortages.Limit) decides is_limit answer new step =
-    decides_something once journal old request (record { answer = answer; effect = step.effect }) step.allowed.rule decides
+no_answer once journal old request (Err shortages.Limit) decides is_limit answer =
+    λ new step. decides_something once journal old request (record { answer = answer; effect = step.effect }) step.allowed.rule decides
 no_answer once journal old request (Err shortages.Memory) decides is_limit answer = absurd cc
 
 -- where memory runs out, no limit is passed

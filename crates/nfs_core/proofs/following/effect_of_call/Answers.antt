@@ -1,5 +1,9 @@
-use Rattle.std.proofs.Common.{rules, sym}
-use Rattle.nfs_core.proofs.Entering.{limit_not_next, not_asked, other_answer, with_same_answer}
+use Rattle.std.proofs.Common.{◌≡◌, Err, ap, rules}
+use Rattle.std.proofs.lemmas.Result.{err_from_is_err_and}
+use Rattle.nfs_core.proofs.Entering.{limit_not_next, with_same_answer}
+use Rattle.nfs_core.specs.Following.{error_of}
+use Rattle.nfs_core.specs.declared.following.FollowError.TheVariants as errors
+use Rattle.nfs_state.specs.declared.shortage.Shortage.{Shortage}
 use Rattle.nfs_core.proofs.following.effect_of_call.Goals as goal
 use Rattle.nfs_state.specs.Room.{state_of}
 
@@ -8,3 +12,11 @@ returns-clause-next c =
     let call = c.args.call.now in
     let decision = c.in_ok-decision.decision in
     with_same_answer c.args.journal.now.history (state_of c.args.tables.now) call.request decision.answer call.answer decision.effect c.in_ok-decision.ensures.next (search rules)
+
+pub returns-in_err-decision-clause-not_next : goal.returns-in_err-decision-clause-not_next
+returns-in_err-decision-clause-not_next c not_next =
+    let shortage = c.in_err-decision.field-0.0 in
+    let failed = err_from_is_err_and c.from_residual.result c.from_residual.ensures.1 in
+    let is : failed.0 ≡ error_of shortage = failed.2 in
+    let limit : error_of shortage ≡ errors.NotNext = cc (failed.1, is, not_next) in
+    c.in_err-decision.ensures.limit (ap (λ (s : Shortage). Err s) (limit_not_next shortage limit)) c.args.call.now.answer

@@ -1,3 +1,4 @@
+use Rattle.std.proofs.Common.{rules}
 use Rattle.nfs_core.proofs.Entering.{Step-next}
 use Rattle.nfs_core.proofs.following.follow.Goals as goal
 use Rattle.nfs_state.specs.Room.{state_of}
@@ -9,3 +10,6 @@ returns-clause-entered c =
       entered.entry,
       Step-next c.args.journal.now.history (state_of c.args.tables.now) _ c.args.entry c.in_ok-effect.effect c.in_ok-effect.ensures.next entered.state,
     )
+
+pub returns-in_err-effect-clause-not_next : goal.returns-in_err-effect-clause-not_next
+returns-in_err-effect-clause-not_next c not_next = c.effect_of.ensures.not_next (search (rules, not_next))
