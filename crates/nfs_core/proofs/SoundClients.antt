@@ -47,7 +47,7 @@ record Joins (last : ℕ) (records : List ClientRecord) (r : ClientRecord) : Typ
 joins_of_record : (last : ℕ) (records : List ClientRecord) (r : ClientRecord) → IsOfRecord r records → HaveSameIds records → AllByRecursion (HasGivenNumber last) records → Joins last records r
 joins_of_record last records r of same given =
     let held = found_holds (λ s. AllByRecursion (HasSameId s) records × HasGivenNumber last s) (λ s. is_same_client s.client r.client && bytes_eq s.id r.id) records of
-        (all_both (λ s. AllByRecursion (HasSameId s) records) (HasGivenNumber last) records same given) in
+    (all_both (λ s. AllByRecursion (HasSameId s) records) (HasGivenNumber last) records same given) in
     let s = held.0 in
     let both = and_parts (is_same_client s.client r.client) (bytes_eq s.id r.id) held.2 in
     let client : s.client ≡ r.client = equal_clients s.client r.client both.0 in

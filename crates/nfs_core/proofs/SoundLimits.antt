@@ -154,6 +154,7 @@ none_passes p (x ∷ xs) none = (or_first (p x) (list_any p xs) none, none_passe
     or_first : (a b : Bool) → (a || b) ≡ false → a ≡ false
     or_first true b none = none
     or_first false b none = refl
+
     or_second : (a b : Bool) → (a || b) ≡ false → b ≡ false
     or_second true b none = absurd cc
     or_second false b none = none

@@ -106,8 +106,11 @@ lock_number_kept w change keeps false l = refl
 pub weight_changed : (w : ℕ → ℕ) (change : Change) (old : State) → weight w (with_state_change change old) ≤ weight w old + cond (gives change old) (w (old.last_state + 1)) 0
 weight_changed w changes.Nothing old = omega arith
 weight_changed w (changes.Clients (client_changes.Replaces r client)) old =
-    omega (arith, sum_all_map (of_open w) (opens.without (is_of_client client)) (opens_without w (is_of_client client)) old.opens,
-    sum_all_map (of_lock w) (locks.without (is_lock_of_client client)) (locks_without w (is_lock_of_client client)) old.locks)
+    omega (
+      arith,
+      sum_all_map (of_open w) (opens.without (is_of_client client)) (opens_without w (is_of_client client)) old.opens,
+      sum_all_map (of_lock w) (locks.without (is_lock_of_client client)) (locks_without w (is_lock_of_client client)) old.locks,
+    )
 weight_changed w (changes.Clients change) old = omega arith
 weight_changed w (changes.Opens node owner share) old =
     let here = opens_of node old.opens in
@@ -122,8 +125,11 @@ weight_changed w (changes.Closes node number) old =
     let locks_here = locks_of node old.locks in
     let fewer_opens = opens_without w (is_numbered number) open_here in
     let fewer_locks = locks_without w (is_under number) locks_here in
-    omega (arith, sum_opens_set (of_open w) 0 (opens.without (is_numbered number) open_here) node old.opens (omega (arith, fewer_opens)),
-    sum_locks_set (of_lock w) 0 (locks.without (is_under number) locks_here) node old.locks (omega (arith, fewer_locks)))
+    omega (
+      arith,
+      sum_opens_set (of_open w) 0 (opens.without (is_numbered number) open_here) node old.opens (omega (arith, fewer_opens)),
+      sum_locks_set (of_lock w) 0 (locks.without (is_under number) locks_here) node old.locks (omega (arith, fewer_locks)),
+    )
 weight_changed w (changes.Begins node first) old =
     let here = locks_of node old.locks in
     let number = old.last_state + 1 in

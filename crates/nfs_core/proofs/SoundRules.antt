@@ -166,8 +166,7 @@ confirms registry (Update old r) path single fits =
 confirms registry (InPlaceOf old r) path single fits =
     let found = all_find (λ r. AllByRecursion (HasSameClient r) registry.records) (is_confirmed_of r.id) registry.records old fits.0 single in
     let both = and_parts old.confirmed (is_of r.id old) found.1 in
-    let ids : old.id ≡ r.id = (bytes_eq-Decides old.id r.id).0 both.1 in
-    (
+    let ids : old.id ≡ r.id = (bytes_eq-Decides old.id r.id).0 both.1 in (
       all_weaken (HasSameClient old) (IsOnlyOf old.client r.id)
           (λ s same is_set of. same both.0 is_set (subst (λ id. bytes_eq s.id id ≡ true) (sym ids) of)) registry.records found.0,
       fits.1,

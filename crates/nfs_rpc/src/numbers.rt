@@ -1,13 +1,15 @@
 ghost use Rattle.std.specs.Prelude.{◌≡◌, ◌^◌};
 
 use crate::auth_sys::{GID_LIMIT, MACHINE_NAME_LIMIT};
-use crate::rpc_call::{MESSAGE_CALL, NFS_PROGRAM, NFS_VERSION, PROC_COMPOUND, PROC_NULL, RPC_VERSION};
 use crate::credential::{AUTH_NONE, AUTH_SYS, BODY_LIMIT};
 use crate::records::{HEADER_LEN, LAST_FRAGMENT, RECORD_LIMIT};
 use crate::reply::{
     ACCEPTED_GARBAGE_ARGS, ACCEPTED_LEN, ACCEPTED_PROC_UNAVAIL, ACCEPTED_PROG_MISMATCH,
     ACCEPTED_PROG_UNAVAIL, ACCEPTED_SUCCESS, ACCEPTED_SYSTEM_ERR, AUTH_BADCRED, DENIED_AUTH_ERROR,
     DENIED_RPC_MISMATCH, MESSAGE_REPLY, REPLY_ACCEPTED, REPLY_DENIED, SHORT_REPLY_LEN,
+};
+use crate::rpc_call::{
+    MESSAGE_CALL, NFS_PROGRAM, NFS_VERSION, PROC_COMPOUND, PROC_NULL, RPC_VERSION,
 };
 
 /// The numbers in the layouts and checks: those of calls, credentials and replies (RFC 5531, sections 8, 9 and appendix

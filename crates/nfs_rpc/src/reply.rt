@@ -4,8 +4,8 @@ ghost use Rattle.nfs_xdr.specs.Compound.{compound_result};
 ghost use Rattle.xdr.specs.Form.{◌and◌};
 ghost use Rattle.xdr.specs.Writing.{Writes};
 
-use crate::rpc_call::{NFS_VERSION, RPC_VERSION};
 use crate::credential::AUTH_NONE;
+use crate::rpc_call::{NFS_VERSION, RPC_VERSION};
 use nfs_xdr::{OpResult, Status, write_results};
 use xdr::{Bytes, Sequence, Wire, WireError, write_five, write_four, write_two};
 

@@ -14,7 +14,7 @@ use nfs_core::Moment;
 use nfs_rpc::{ACCEPTED_LEN, CompoundReply, RECORD_LIMIT};
 use nfs_tree::{Filehandles, Tree};
 use nfs_xdr::{
-    ArgOp, Compound, OPERATION_LIMIT, OpResult, Opnum, Principal, Refusal, CompoundRequest, Status,
+    ArgOp, Compound, CompoundRequest, OPERATION_LIMIT, OpResult, Opnum, Principal, Refusal, Status,
 };
 use std::alloc::AllocError;
 use xdr::{Bytes, Measure, Sequence, padding_of};

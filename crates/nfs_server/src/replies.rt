@@ -6,7 +6,7 @@ use crate::compound::{make_result_room, operation_count};
 use crate::{Clock, Service, run_compound};
 use byteorder::{BigEndian, ByteOrder};
 use nfs_rpc::{
-    RpcCall, CompoundReply, HEADER_LEN, LAST_FRAGMENT, RECORD_LIMIT, Reply, read_call, write_reply,
+    CompoundReply, HEADER_LEN, LAST_FRAGMENT, RECORD_LIMIT, Reply, RpcCall, read_call, write_reply,
 };
 use nfs_tree::Tree;
 use nfs_xdr::OpResult;

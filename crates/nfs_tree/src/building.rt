@@ -7,7 +7,7 @@ ghost use Rattle.nfs_tree.specs.Tree.{directories, files};
 use crate::document::read_document;
 use crate::path::names_of;
 use crate::{
-    DIRECTORY_LIMIT, TreeEntry, FILE_LIMIT, Node, NodeKind, PATH_LIMIT, TEXT_LIMIT, Tree, TreeError,
+    DIRECTORY_LIMIT, FILE_LIMIT, Node, NodeKind, PATH_LIMIT, TEXT_LIMIT, Tree, TreeEntry, TreeError,
 };
 use std::alloc::{AllocError, Global};
 use xdr::Bytes;

@@ -19,7 +19,7 @@ pub use building::{DEFAULT_TREE, trees_are_their_entries};
 pub use document::{Document, Listing};
 pub use filehandles::Filehandles;
 pub use limits::limits_of_trees;
-pub use node::{TreeEntry, Node, NodeKind};
+pub use node::{Node, NodeKind, TreeEntry};
 pub use operations::{
     ACCESS_DELETE, ACCESS_EXECUTE, ACCESS_EXTEND, ACCESS_LOOKUP, ACCESS_MODIFY, ACCESS_READ,
 };
