@@ -21,7 +21,7 @@ use Rattle.nfs_rules.specs.Locking.{can_be_written, denied_by}
 use Rattle.nfs_xdr.specs.declared.op_result.OpResult.TheVariants as results
 use Rattle.nfs_rules.specs.Newcomers.{Newcomer, Nobody, Known, Unknown, has_turn, is_next, newcomer_by, newcomer_if, newcomer_in, newcomer_of}
 use Rattle.nfs_rules.specs.Refusing.{◌>>=◌, refused_if}
-use Rattle.nfs_rules.specs.Stateids.{verdict}
+use Rattle.nfs_rules.specs.Stateids.{as_open, confirmed_open, verdict}
 use Rattle.nfs_rules.specs.operations.Lock as lock
 use Rattle.nfs_rules.specs.operations.Lock.{IsAllowed, IsLock, Locking, allows, grant, introduction, locking_of, unless_denied}
 use Rattle.nfs_share.specs.AllOpens.{OpenAt, opens_of}
@@ -65,12 +65,6 @@ use Rattle.nfs_xdr.specs.declared.op_result.OpResult.{OpResult}
 use Rattle.nfs_xdr.specs.Op.{opnum_of}
 use Rattle.nfs_xdr.specs.OpResult.{refusal_of, status_of}
 use Rattle.nfs_rules.proofs.Sequencing.{refusal_sendable}
-
--- the own rule of an operation that is known to be this one
-pub rules_as : (op op' : Op) (journal : History) (state : State) (node : ℕ) (passage : Passage) (ruling : Ruling) → op ≡ op' → ByOwnRule (own_of op' journal state node passage) state op' (Ok ruling) → ByOwnRule (own_of op journal state node passage) state op (Ok ruling)
-rules_as op op' journal state node passage ruling same rules =
-    let P : Op → Type 0 = λ o. ByOwnRule (own_of o journal state node passage) state o (Ok ruling) in
-    subst P (sym same) rules
 
 -- without a current filehandle the operation is refused
 pub without_filehandle : (own : Own) (journal : History) (state : State) (requester : Requester) (request : Request) (filehandle : Option ℕ) (answer : OpResult) (decision : Decision) → ((node : ℕ) → filehandle ≡ Some node → ⊥) → answer ≡ refusal_of (opnum_of request.op) refusals.NoFileHandle → decision ≡ only answer → Decides (IsSequencedUnder journal state requester own filehandle request) state request.op (Ok decision)
@@ -214,7 +208,7 @@ verdict_then journal state args locker (Ok at) locking is = introduced_is journa
 new_locking : (journal : History) (state : State) (node : ℕ) (args : Lock) (locker : NewLocker) (locking : Locking) → args.locker ≡ lockers.New locker
     → locking_of journal state node args args.locker ≡ Ok locking → (locking.owner ≡ locker.lock_owner) × (locking.state ≡ None)
 new_locking journal state node args locker locking new is =
-    verdict_then journal state args locker (verdict (record { node = node; also_unconfirmed = false }) journal.epoch state locker.open_stateid) locking
+    verdict_then journal state args locker (verdict (confirmed_open node) journal.epoch state locker.open_stateid >>= as_open) locking
     (sym (ap (locking_of journal state node args) new) ∙ is)
 
 begins_place : (place more : Bool) (r : Option Ruling) (ruling : Ruling) → Some ruling ≡ (if place && more then r else None) → place ≡ true
