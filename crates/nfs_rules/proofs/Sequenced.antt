@@ -29,7 +29,7 @@ use Rattle.nfs_share.specs.Opens.{open_with_number}
 use Rattle.nfs_state.specs.Places.{has_owner_place, has_state_place}
 use Rattle.nfs_state.specs.declared.owner_change.OwnerChange.{OwnerChange}
 use Rattle.nfs_owners.specs.Kept.{IsAgain, request_of}
-use Rattle.nfs_rules.proofs.Uniqueness.{IsSequencedUnder, LockLaws, Once, downgrades_once, locks_once, next_differs, some_once, sequenced_once, unlocks_once}
+use Rattle.nfs_rules.proofs.Uniqueness.{IsSequencedUnder, LockLaws, Once, downgrades_once, locks_once, next_differs, sequence_once, some_once, sequenced_once, unlocks_once}
 use Rattle.nfs_state.specs.declared.change.Change.TheVariants as changes
 use Rattle.nfs_rules.specs.declared.decision.Decision.{Decision}
 use Rattle.nfs_rules.specs.declared.opening.Opening.{Opening}
@@ -388,6 +388,13 @@ ruled_has_room laws journal state requester request filehandle node sequence pas
     let same = sequenced_once journal state requester own (own_once laws request.op journal state) filehandle request None (Some decision) none decided in
     cc
 
+-- what is decided where a call fails for this
+pub fails_as : (ruled : Option Decision → Type 0) (state : State) (op : Op) (shortage : Shortage) (result : Result Decision Shortage) → IsErr result → IsErrAnd result (λ e. e ≡ shortage) → Decides ruled state op (Err shortage) → Decides ruled state op result
+fails_as ruled state op shortage (Ok decision) err same decides = absurd cc
+fails_as ruled state op shortage (Err e) err same decides =
+    let P : Shortage → Type 0 = λ s. Decides ruled state op (Err s) in
+    subst P (sym same) decides
+
 -- want of memory, where the limits leave room
 pub memory_decides : (ruled : Option Decision → Type 0) (state : State) (op : Op) (result : Result Decision Shortage) → IsErr result → IsErrAnd result (λ e. e ≡ Memory) → (ruled None → ⊥) → Decides ruled state op result
 memory_decides ruled state op (Ok decision) err memory room = absurd cc
@@ -425,6 +432,25 @@ answered_has_room own journal state requester request None node has replay none 
 answered_has_room own journal state requester request (Some at) node has replay none =
     let Q : SequenceStep → Type 0 = λ s. IsSequence journal state requester request s in
     no_decision none.0 at (λ client. newcomer_of journal state client request.op) own (λ passage name is. replay_stays journal state requester request replay passage name (subst Q is none.1)) none.2
+
+no_ruling : (passage : Passage) (name : StateOwner) (newcomer : ClientId → Newcomer) (own : Own) (node : ℕ) → IsDecided (GoesOn passage name) newcomer (own node) None → (own node passage None → ⊥) → ⊥
+no_ruling passage name newcomer own node (None, is, same) room = room is
+no_ruling passage name newcomer own node (Some ruling, is, same) room = absurd cc
+
+-- what is decided where the own rule fails
+pub fails_on : (journal : History) (state : State) (requester : Requester) (own : Own) (request : Request) (filehandle : Option ℕ) (node : ℕ) (sequence : SequenceStep) (passage : Passage) (name : StateOwner) (shortage : Shortage) → filehandle ≡ Some node → sequence ≡ GoesOn passage name → IsSequence journal state requester request sequence → ByOwnRule (own node passage) state request.op (Err shortage) → Decides (IsSequencedUnder journal state requester own filehandle request) state request.op (Err shortage)
+fails_on journal state requester own request filehandle node sequence passage name Limit has is sequenced none =
+    let Q : SequenceStep → Type 0 = λ s. IsSequence journal state requester request s in
+    let F : Option ℕ → Type 0 = λ f. IsSequencedUnder journal state requester own f request None in
+    subst F (sym has) (GoesOn passage name, subst Q is sequenced, (None, none, refl))
+fails_on journal state requester own request filehandle node sequence passage name Memory has is sequenced room = λ none.
+    let newcomer : ClientId → Newcomer = λ client. newcomer_of journal state client request.op in
+    let Q : SequenceStep → Type 0 = λ s. IsSequence journal state requester request s in
+    let F : Option ℕ → Type 0 = λ f. IsSequencedUnder journal state requester own f request None in
+    let under = subst F has none in
+    let same = sequence_once journal state requester request under.0 (GoesOn passage name) under.1 (subst Q is sequenced) in
+    let decided : SequenceStep → Type 0 = λ s. IsDecided s newcomer (own node) None in
+    no_ruling passage name newcomer own node (subst decided same under.2) room
 
 -- what one relation of an own rule says, another one says too
 pub rules_onto : (P Q : Option Ruling → Type 0) (state : State) (op : Op) (result : Result Ruling Shortage) → ((r : Option Ruling) → P r → Q r) → (Q None → P None) → ByOwnRule P state op result → ByOwnRule Q state op result

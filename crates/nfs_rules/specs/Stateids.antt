@@ -86,9 +86,14 @@ abbrev pub judged : Demand → State → Stateid → Option Found → Result Fou
 judged demand state id None = Err refusals.BadStateId
 judged demand state id (Some found) = first_refusal (of_state demand state id found) found
 
+-- the verdict on a stateid that names this
+abbrev pub verdict_on : Demand → State → Stateid → Result (Option Found) Refusal
+    → Result Found Refusal
+verdict_on demand state id target = target >>= judged demand state id
+
 -- the verdict on a stateid: the state that it names, or the first reason why the operation can't work on it
 abbrev pub verdict : Demand → ℕ → State → Stateid → Result Found Refusal
-verdict demand epoch state id = target_of epoch state id >>= judged demand state id
+verdict demand epoch state id = verdict_on demand state id (target_of epoch state id)
 
 -- What the operations demand that work on one kind of state: an open whose owner is confirmed, an open of any owner, a
 -- lock state, each of this node's file.

@@ -61,8 +61,10 @@ pub(crate) fn requester_of_target<'a>(
 {
     match target {
         Err(refusal) => Requester::Refused(refusal),
-        Ok(Some(found)) => Requester::Owner(owner_of_found(found), seqid),
-        Ok(None) => closer_of(tables, stateid, seqid),
+        Ok(found) => match found {
+            Some(found) => Requester::Owner(owner_of_found(found), seqid),
+            None => closer_of(tables, stateid, seqid),
+        },
     }
 }
 

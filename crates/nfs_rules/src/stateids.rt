@@ -1,11 +1,11 @@
 ghost use Rattle.std.specs.Prelude.{◌≡◌, option_map};
 ghost use Rattle.nfs_owners.specs.StateOwner.{open_owner};
-ghost use Rattle.nfs_rules.specs.Finding.{found_or_refusal_seen, found_seen, lock_or_refusal_seen, open_or_refusal_seen, target_seen};
-ghost use Rattle.nfs_rules.specs.Refusing.{◌>>=◌, first_refusal};
+ghost use Rattle.nfs_rules.specs.Finding.{found_or_refusal_seen, found_seen, lock_by, lock_or_refusal_seen, open_by, open_or_refusal_seen, target_seen};
+ghost use Rattle.nfs_rules.specs.Refusing.{first_refusal};
 ghost use Rattle.nfs_state.specs.Owners.{is_confirmed};
 ghost use Rattle.nfs_state.specs.Room.{state_of};
 ghost use Rattle.nfs_rules.specs.Stateids as stateids;
-ghost use Rattle.nfs_rules.specs.Stateids.{as_lock, as_open, found_in, has_confirmed_owner, is_all, is_of_kinds, is_special, judged, node_of, of_state, seqid_of};
+ghost use Rattle.nfs_rules.specs.Stateids.{found_in, has_confirmed_owner, is_all, is_of_kinds, is_special, node_of, of_state, seqid_of, verdict_on};
 
 use crate::demand::{Demand, Kinds};
 use nfs_locks::LockFound;
@@ -72,7 +72,7 @@ pub(crate) fn verdict<'a>(
     target: Result<Option<Found<'a>>, Refusal>,
 ) -> Result<Found<'a>, Refusal>
     ensures { found_or_refusal_seen result
-        ≡ (target_seen target.entry >>= judged demand (state_of tables.now) stateid) }
+        ≡ verdict_on demand (state_of tables.now) stateid (target_seen target.entry) }
 {
     match target {
         Err(refusal) => Err(refusal),
@@ -159,7 +159,7 @@ pub(crate) fn open_verdict<'a>(
     target: Result<Option<Found<'a>>, Refusal>,
 ) -> Result<OpenFound<'a>, Refusal>
     ensures { open_or_refusal_seen result
-        ≡ (target_seen target.entry >>= judged demand (state_of tables.now) stateid >>= as_open) }
+        ≡ open_by demand (state_of tables.now) stateid (target_seen target.entry) }
 {
     match verdict(tables, demand, stateid, target) {
         Err(refusal) => Err(refusal),
@@ -176,7 +176,7 @@ pub(crate) fn lock_verdict<'a>(
     target: Result<Option<Found<'a>>, Refusal>,
 ) -> Result<LockFound<'a>, Refusal>
     ensures { lock_or_refusal_seen result
-        ≡ (target_seen target.entry >>= judged demand (state_of tables.now) stateid >>= as_lock) }
+        ≡ lock_by demand (state_of tables.now) stateid (target_seen target.entry) }
 {
     match verdict(tables, demand, stateid, target) {
         Err(refusal) => Err(refusal),

@@ -122,8 +122,10 @@ fn unless_delegated(
     let Claim::DelegateCur { stateid, .. } = claim else {
         return Ok(node);
     };
-    target_of(tables, journal.epoch(), *stateid)?;
-    Err(Refusal::BadStateId)
+    match target_of(tables, journal.epoch(), *stateid) {
+        Err(refusal) => Err(refusal),
+        Ok(_) => Err(Refusal::BadStateId),
+    }
 }
 
 // The opening, unless an open of another owner conflicts with its share.

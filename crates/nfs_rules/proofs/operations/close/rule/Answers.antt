@@ -1,5 +1,7 @@
-use Rattle.std.proofs.Common.{◌≡◌, ◌∙◌, Some, Ok, Err, ap, rules}
+use Rattle.std.proofs.Common.{◌≡◌, ◌∙◌, Some, Ok, Err, ap, refl}
 use Rattle.std.specs.Prelude.{Result}
+use Rattle.nfs_forms.specs.declared.answer.Answer.TheVariants.{Done}
+use Rattle.nfs_forms.specs.declared.stateid.Stateid.{Stateid}
 use Rattle.nfs_forms.specs.declared.status.Refusal.{Refusal}
 use Rattle.nfs_rules.specs.Finding.{target_seen}
 use Rattle.nfs_rules.specs.Refusing.{◌>>=◌}
@@ -10,7 +12,9 @@ use Rattle.nfs_rules.proofs.operations.close.rule.Goals as goal
 use Rattle.nfs_share.specs.AllOpens.{OpenAt}
 use Rattle.nfs_share.specs.OpenFound.{open_seen}
 use Rattle.nfs_state.specs.Room.{state_of}
+use Rattle.nfs_state.specs.declared.change.Change.TheVariants.{Closes}
 use Rattle.nfs_xdr.specs.declared.op.Op.TheVariants as ops
+use Rattle.nfs_xdr.specs.declared.op_result.OpResult.TheVariants as results
 
 pub returns-in-Err : goal.returns-in-Err
 returns-in-Err c = λ journal passage is.
@@ -30,4 +34,9 @@ returns-in-Ok c = λ journal passage is.
     let demand = confirmed_open c.args.node in
     let found : Ok (open_seen c.in-Ok.found) ≡ (verdict demand journal.epoch state args.stateid >>= as_open) =
     open_judged c.confirmed_open.result demand journal.epoch state args.stateid (target_seen c.args.target) (Ok (open_seen c.in-Ok.found)) c.confirmed_open.ensures is c.in-Ok.ensures in
-    ?
+    (
+      ap (λ (id : Stateid). Some (record { answer = results.Close (Done id); change = Closes c.in-Ok.found.node c.in-Ok.found.state.now.number })) c.next_stateid.ensures
+          ∙ ap (λ (f : Result OpenAt Refusal). Some (closing f)) found,
+      record { not_resource = λ same. absurd cc; opnum = refl; short = tt },
+      tt,
+    )
