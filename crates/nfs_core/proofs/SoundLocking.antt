@@ -35,7 +35,8 @@ use Rattle.nfs_ranges.specs.declared.range.Range.{Range}
 use Rattle.nfs_rules.specs.Locking.{can_be_written, denied_by, lock_of_bytes, mode_of, unlock_of_bytes}
 use Rattle.nfs_rules.specs.Newcomers.{Newcomer, Nobody, Known, Unknown, has_turn, is_next, newcomer_by, newcomer_if, newcomer_in}
 use Rattle.nfs_rules.specs.Sequences.{IsSequenced, Owner, counts, is_ok_status, kept_with, owner_change_of, requester_of_stateid, requester_of_target}
-use Rattle.nfs_rules.specs.Stateids.{lock_verdict, target_of, verdict}
+use Rattle.nfs_rules.specs.Refusing.{◌>>=◌}
+use Rattle.nfs_rules.specs.Stateids.{as_lock, as_open, confirmed_open, lock_state, target_of, verdict}
 use Rattle.nfs_rules.specs.declared.decision.Decision.{Decision}
 use Rattle.nfs_rules.specs.declared.passage.Passage.TheVariants as passages
 use Rattle.nfs_rules.specs.declared.ruling.Ruling.{Ruling}
@@ -166,11 +167,11 @@ IsFounded state newcomer l (Some there) =
     × (is_some (find (λ x. is_numbered there.number x && is_lock_of l.owner x) (locks_of l.node state.locks)) ≡ true)
 
 -- a lock state that the stateid names
-found_lock : (epoch : ℕ) (state : State) (node : ℕ) (id : Stateid) (at : LockAt) → lock_verdict node epoch state id ≡ Ok at
+found_lock : (epoch : ℕ) (state : State) (node : ℕ) (id : Stateid) (at : LockAt) → (verdict (lock_state node) epoch state id >>= as_lock) ≡ Ok at
     → is_some (find (λ x. is_numbered at.state.number x && is_lock_of at.state.owner x) (locks_of at.node state.locks)) ≡ true
 found_lock epoch state node id at is =
     found_some (is_stateid_of id) (λ x. is_numbered at.state.number x && is_lock_of at.state.owner x) (locks_of at.node state.locks) at.state
-    (named_lock epoch state id at (lock_found node id (target_of epoch state id) at is))
+    (named_lock epoch state id at (lock_found (lock_state node) state id (target_of epoch state id) at is))
     (and_from (is_numbered at.state.number at.state) (is_lock_of at.state.owner at.state) (eq-eqb at.state.number at.state.number refl) (same_lock_owner_self at.state.owner))
 
 introduced_by : (journal : History) (state : State) (locker : NewLocker) (found : Option KnownOwner) → owner_of (lock_owner locker.lock_owner) state.owners ≡ found
@@ -198,11 +199,11 @@ new_in journal state client locker =
     (λ _. new_by journal state locker (owner_of (lock_owner locker.lock_owner) state.owners) refl) (λ _. tt)
 
 -- the open that the stateid names, whose owner the request comes from
-under_open : (journal : History) (state : State) (node : ℕ) (id : Stateid) (at : OpenAt) → verdict (record { node = node; also_unconfirmed = false }) journal.epoch state id ≡ Ok at
+under_open : (journal : History) (state : State) (node : ℕ) (id : Stateid) (at : OpenAt) → (verdict (confirmed_open node) journal.epoch state id >>= as_open) ≡ Ok at
     → (client : ClientId) → is_same_client client at.state.owner.client ≡ true
     → (l : ByteLocks) → l.owner.client ≡ client → l.open_number ≡ at.state.number → StandsUnder state.owners (opens_of at.node state.opens) l
 under_open journal state node id at is client same l mine under =
-    let found = open_found (record { node = node; also_unconfirmed = false }) state id (target_of journal.epoch state id) at is in
+    let found = open_found (confirmed_open node) state id (target_of journal.epoch state id) at is in
     found_some (is_stateid_of_open id) (bears state.owners l) (opens_of at.node state.opens) at.state (named_open journal.epoch state id at found.0)
     (bears_from state.owners l at.state (record {
       number = eq-eqb at.state.number l.open_number (sym under);
@@ -221,10 +222,10 @@ pub lock_sequenced : (args : Lock) (locker : Locker) (journal : History) (state 
 lock_sequenced args (lockers.New locker) journal state request d is = (locker.open_seqid, is)
 lock_sequenced args (lockers.Known locker) journal state request d is = (locker.lock_seqid, is)
 
-requests_open : (journal : History) (state : State) (node : ℕ) (id : Stateid) (at : OpenAt) (seqid : ℕ) (name : StateOwner) → verdict (record { node = node; also_unconfirmed = false }) journal.epoch state id ≡ Ok at
+requests_open : (journal : History) (state : State) (node : ℕ) (id : Stateid) (at : OpenAt) (seqid : ℕ) (name : StateOwner) → (verdict (confirmed_open node) journal.epoch state id >>= as_open) ≡ Ok at
     → IsOf name (requester_of_stateid journal state id seqid) → name ≡ open_owner at.state.owner
 requests_open journal state node id at seqid name is of =
-    let found = open_found (record { node = node; also_unconfirmed = false }) state id (target_of journal.epoch state id) at is in
+    let found = open_found (confirmed_open node) state id (target_of journal.epoch state id) at is in
     let same : Owner name of.0 ≡ Owner (open_owner at.state.owner) seqid = sym of.1 ∙ ap (requester_of_target journal state id seqid) found.0 in
     search same
 
@@ -233,7 +234,7 @@ locking_founded : (journal : History) (state : State) (node : ℕ) (args : Lock)
 locking_founded journal state node args (lockers.New locker) l seqid name is of =
     let newcomer = newcomer_in journal state name.client (lockers.New locker) in
     let P : Type 0 = IsFounded state newcomer l l.state in
-    bound P (verdict (record { node = node; also_unconfirmed = false }) journal.epoch state locker.open_stateid) (λ at. lock.introduction journal state args locker at) l
+    bound P (verdict (confirmed_open node) journal.epoch state locker.open_stateid >>= as_open) (λ at. lock.introduction journal state args locker at) l
     (λ at found rest.
     let reclaims = unrefused_then args.reclaim refusals.NoGrace at _ l rest in
     let client = unrefused_then (not (is_same_client locker.lock_owner.client at.state.owner.client)) refusals.Inval at _ l reclaims.1 in
@@ -259,7 +260,7 @@ locking_founded journal state node args (lockers.New locker) l seqid name is of 
 locking_founded journal state node args (lockers.Known locker) l seqid name is of =
     let newcomer = newcomer_in journal state name.client (lockers.Known locker) in
     let P : Type 0 = IsFounded state newcomer l l.state in
-    bound P (lock_verdict node journal.epoch state locker.lock_stateid) (λ at. lock.locking_of_state args at) l
+    bound P (verdict (lock_state node) journal.epoch state locker.lock_stateid >>= as_lock) (λ at. lock.locking_of_state args at) l
     (λ at found rest.
     let there : Locking = record {
       node = at.node;
@@ -366,5 +367,5 @@ locku_ready number journal state op args sound is =
     subst (λ o. IsOwnReady number journal state requester o (locku.own journal state args)) (sym is)
     (others_ready number journal state requester (ops.Locku args) (locku.own journal state args) sound refl
     (λ node name ruling of known h.
-    unlocks_ready number state name args (lock_verdict node journal.epoch state args.stateid) ruling
+    unlocks_ready number state name args (verdict (lock_state node) journal.epoch state args.stateid >>= as_lock) ruling
     (λ at found. found_lock journal.epoch state node args.stateid at found) h))

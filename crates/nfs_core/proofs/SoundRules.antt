@@ -28,7 +28,8 @@ use Rattle.nfs_rules.specs.operations.SetclientidConfirm as confirm
 use Rattle.nfs_state.specs.Owners.{KnownOwner, has_name, is_confirmed, without_owner}
 use Rattle.nfs_rules.specs.Sequences.{Owner, Refused, before_own, decision_of, is_ok_status, is_open, owner_change_of, requester_of_open, requester_of_stateid}
 use Rattle.nfs_state.specs.Changes.{change_alone, with_owner_change}
-use Rattle.nfs_rules.specs.Stateids.{verdict}
+use Rattle.nfs_rules.specs.Refusing.{◌>>=◌}
+use Rattle.nfs_rules.specs.Stateids.{any_open, as_open, confirmed_open, verdict}
 use Rattle.nfs_state.specs.State.{State, History, record_has_state}
 use Rattle.nfs_core.proofs.SafeLists.{all_always, all_find, all_none, all_weaken, found_last, found_some}
 use Rattle.nfs_core.proofs.Sound.{AreSingle, HasSameClient, IsOfRecord, IsOnlyOf, IsSound, is_live_in, same_client_self, same_name_self}
@@ -350,15 +351,15 @@ ruled_ready number journal state (ops.Open args) request d same sound is =
 ruled_ready number journal state (ops.OpenConfirm args) request d same sound is =
     sequenced_ready number journal state (requester_of_stateid journal state args.stateid args.seqid) request (open_confirm.own journal state args)
     (quiet_ready number journal state (requester_of_stateid journal state args.stateid args.seqid) request.op (open_confirm.own journal state args) sound (ap is_open same) (λ client. ap (newcomer_of journal state client) same)
-    (λ node passage ruling h. as_ruled ruling _ h (confirmation_quiet state (verdict (record { node = node; also_unconfirmed = true }) journal.epoch state args.stateid)))) d is
+    (λ node passage ruling h. as_ruled ruling _ h (confirmation_quiet state (verdict (any_open node) journal.epoch state args.stateid >>= as_open)))) d is
 ruled_ready number journal state (ops.OpenDowngrade args) request d same sound is =
     sequenced_ready number journal state (requester_of_stateid journal state args.stateid args.seqid) request (open_downgrade.own journal state args)
     (quiet_ready number journal state (requester_of_stateid journal state args.stateid args.seqid) request.op (open_downgrade.own journal state args) sound (ap is_open same) (λ client. ap (newcomer_of journal state client) same)
-    (λ node passage ruling h. found_quiet (verdict (record { node = node; also_unconfirmed = false }) journal.epoch state args.stateid) args ruling h)) d is
+    (λ node passage ruling h. found_quiet (verdict (confirmed_open node) journal.epoch state args.stateid >>= as_open) args ruling h)) d is
 ruled_ready number journal state (ops.Close args) request d same sound is =
     sequenced_ready number journal state (requester_of_stateid journal state args.stateid args.seqid) request (close.own journal state args)
     (quiet_ready number journal state (requester_of_stateid journal state args.stateid args.seqid) request.op (close.own journal state args) sound (ap is_open same) (λ client. ap (newcomer_of journal state client) same)
-    (λ node passage ruling h. as_ruled ruling _ h (closing_quiet (verdict (record { node = node; also_unconfirmed = false }) journal.epoch state args.stateid)))) d is
+    (λ node passage ruling h. as_ruled ruling _ h (closing_quiet (verdict (confirmed_open node) journal.epoch state args.stateid >>= as_open)))) d is
 ruled_ready number journal state (ops.Lock args) request d same sound is =
     let sequenced = lock_sequenced args args.locker journal state request (Some d) is in
     sequenced_ready number journal state (requester_of_stateid journal state (stateid_of args.locker) sequenced.0) request (lock.own journal state args)

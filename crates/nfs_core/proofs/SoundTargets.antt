@@ -1,6 +1,6 @@
 -- The open and the lock state that a stateid names.
-use Rattle.std.proofs.Common.{◌≡◌, inl, inr, ℕ, Bool, true, false, Option, Some, None, List, Result, Ok, Err, refl, sym, ap, ◌∙◌, subst}
-use Rattle.std.specs.Prelude.{◌==◌, ◌||◌, nat_lt, not, is_some, position, if◌then◌else◌}
+use Rattle.std.proofs.Common.{◌≡◌, inl, inr, ℕ, Bool, true, false, Option, Some, None, List, [], ◌∷◌, Result, Ok, Err, refl, sym, ap, ◌∙◌, subst}
+use Rattle.std.specs.Prelude.{⊤, ◌||◌, not, position, if◌then◌else◌}
 use Rattle.std.specs.List.{list_any}
 use Rattle.std.proofs.lemmas.Bool.{cases_Bool, cond-false, cond-true, not-false}
 use Rattle.nfs_core.proofs.SoundSequences.{some_equal}
@@ -10,10 +10,9 @@ use Rattle.nfs_forms.specs.declared.status.Refusal.TheVariants as refusals
 use Rattle.nfs_locks.specs.AllLocks.{LockAt, lock_named_in, locks_of}
 use Rattle.nfs_locks.specs.AllLocks as all_locks
 use Rattle.nfs_locks.specs.Locks.{ByteLocks, lock_named_by, is_stateid_of as is_stateid_of_lock}
-use Rattle.nfs_owners.specs.Registry.{record_of, was_given}
 use Rattle.nfs_owners.specs.StateOwner.{open_owner}
-use Rattle.nfs_rules.specs.Refusing.{◌>>=◌, refused_if}
-use Rattle.nfs_rules.specs.Stateids.{ALock, AnOpen, NoState, Refused, Target, by_seqid, is_special, lock_at, open_at, target_in, target_of}
+use Rattle.nfs_rules.specs.Refusing.{◌>>=◌, first_refusal, refused_if}
+use Rattle.nfs_rules.specs.Stateids.{ALock, AnOpen, Found, as_lock, as_open, before_state, found_in, has_confirmed_owner, judged, of_state, open_or_lock, target_of}
 use Rattle.nfs_rules.specs.declared.demand.Demand.{Demand}
 use Rattle.nfs_share.specs.AllOpens.{OpenAt, named_in, opens_of}
 use Rattle.nfs_share.specs.AllOpens as all_opens
@@ -52,45 +51,37 @@ pub bound : {A B : Type 0} (P : Type 0) (r : Result A Refusal) (next : A → Res
 bound P (Err refusal) next o from is = absurd cc
 bound P (Ok x) next o from is = from x refl is
 
-by_seqid_at : {A : Type 0} (given current : ℕ) (x at : A) → by_seqid given current x ≡ Ok at → x ≡ at
-by_seqid_at given current x at is =
-    let old = unrefused (nat_lt given current) refusals.OldStateId (if nat_lt current given then Err refusals.BadStateId else Ok x) at is in
-    let new = unrefused (nat_lt current given) refusals.BadStateId (Ok x) at old.1 in
-    ok_equal x at new.1
+-- where none of the tests refuses, each of them fails
+abbrev AreFalse : List (Bool × Refusal) → Type 0
+AreFalse [] = ⊤
+AreFalse ((test, refusal) ∷ more) = (test ≡ false) × AreFalse more
 
--- The target of a stateid.
+passed : {A : Type 0} (tests : List (Bool × Refusal)) (a o : A) → first_refusal tests a ≡ Ok o → AreFalse tests × (a ≡ o)
+passed [] a o is = (tt, ok_equal a o is)
+passed ((true, refusal) ∷ more) a o is = absurd cc
+passed ((false, refusal) ∷ more) a o is =
+    let rest = passed more a o is in
+    ((refl, rest.0), rest.1)
 
-named_target : (test : Bool) (refusal : Refusal) (next t : Target) → ((e : Refusal) → Refused e ≡ t → ⊥) → (if test then Refused refusal else next) ≡ t → next ≡ t
-named_target test refusal next t names is = elim (cases_Bool test) [
-  | inl set ↦ absurd (names refusal (sym (cond-true test (Refused refusal) next set) ∙ is))
-  | inr unset ↦ sym (cond-false test (Refused refusal) next unset) ∙ is
-]
+-- What a stateid names.
 
 -- what isn't refused is the state that the stateid names
-target_named : (epoch : ℕ) (state : State) (id : Stateid) (t : Target) → ((e : Refusal) → Refused e ≡ t → ⊥) → target_of epoch state id ≡ t → target_in (named_in id state.opens) (lock_named_in id state.locks) ≡ t
-target_named epoch state id t names is =
-    let found = target_in (named_in id state.opens) (lock_named_in id state.locks) in
-    let known = if not (is_some (record_of id.client state.clients)) then Refused refusals.Expired else found in
-    let given = if not (was_given id.client.number state.clients) then Refused refusals.BadStateId else known in
-    let fresh = if not (id.client.epoch == epoch) then Refused refusals.StaleStateId else given in
-    named_target (not (is_some (record_of id.client state.clients))) refusals.Expired found t names
-    (named_target (not (was_given id.client.number state.clients)) refusals.BadStateId known t names
-    (named_target (not (id.client.epoch == epoch)) refusals.StaleStateId given t names
-    (named_target (is_special id) refusals.BadStateId fresh t names is)))
+found_named : (epoch : ℕ) (state : State) (id : Stateid) (found : Found) → target_of epoch state id ≡ Ok (Some found) → open_or_lock (named_in id state.opens) (lock_named_in id state.locks) ≡ Some found
+found_named epoch state id found is = (passed (before_state epoch state id) (found_in state id) (Some found) is).1
 
-open_in_target : (o : Option OpenAt) (l : Option LockAt) (at : OpenAt) → target_in o l ≡ AnOpen at → o ≡ Some at
-open_in_target None None at is = absurd cc
-open_in_target None (Some other) at is = absurd cc
-open_in_target (Some other) l at is =
+open_in_found : (o : Option OpenAt) (l : Option LockAt) (at : OpenAt) → open_or_lock o l ≡ Some (AnOpen at) → o ≡ Some at
+open_in_found None None at is = absurd cc
+open_in_found None (Some other) at is = absurd cc
+open_in_found (Some other) l at is =
     let same : other ≡ at = search is in
     ap (λ x. Some x) same
 
-lock_in_target : (o : Option OpenAt) (l : Option LockAt) (at : LockAt) → target_in o l ≡ ALock at → l ≡ Some at
-lock_in_target None None at is = absurd cc
-lock_in_target None (Some other) at is =
+lock_in_found : (o : Option OpenAt) (l : Option LockAt) (at : LockAt) → open_or_lock o l ≡ Some (ALock at) → l ≡ Some at
+lock_in_found None None at is = absurd cc
+lock_in_found None (Some other) at is =
     let same : other ≡ at = search is in
     ap (λ x. Some x) same
-lock_in_target (Some other) l at is = absurd cc
+lock_in_found (Some other) l at is = absurd cc
 
 -- A stateid's open is one of its node's.
 
@@ -107,11 +98,10 @@ open_of_node id opens (Some node) at is =
     let here = open_at_node node (open_named_by id (opens_of node opens)) at is in
     subst (λ n. open_named_by id (opens_of n opens) ≡ Some at.state) here.0 here.1
 
-pub named_open : (epoch : ℕ) (state : State) (id : Stateid) (at : OpenAt) → target_of epoch state id ≡ AnOpen at → open_named_by id (opens_of at.node state.opens) ≡ Some at.state
+pub named_open : (epoch : ℕ) (state : State) (id : Stateid) (at : OpenAt) → target_of epoch state id ≡ Ok (Some (AnOpen at)) → open_named_by id (opens_of at.node state.opens) ≡ Some at.state
 named_open epoch state id at is =
-    let named = target_named epoch state id (AnOpen at) (λ e refused. cc) is in
     open_of_node id state.opens (position (list_any (is_stateid_of id)) state.opens) at
-    (open_in_target (named_in id state.opens) (lock_named_in id state.locks) at named)
+    (open_in_found (named_in id state.opens) (lock_named_in id state.locks) at (found_named epoch state id (AnOpen at) is))
 
 -- A stateid's lock state is one of its node's.
 
@@ -128,34 +118,40 @@ lock_of_node id locks (Some node) at is =
     let here = lock_at_node node (lock_named_by id (locks_of node locks)) at is in
     subst (λ n. lock_named_by id (locks_of n locks) ≡ Some at.state) here.0 here.1
 
-pub named_lock : (epoch : ℕ) (state : State) (id : Stateid) (at : LockAt) → target_of epoch state id ≡ ALock at → lock_named_by id (locks_of at.node state.locks) ≡ Some at.state
+pub named_lock : (epoch : ℕ) (state : State) (id : Stateid) (at : LockAt) → target_of epoch state id ≡ Ok (Some (ALock at)) → lock_named_by id (locks_of at.node state.locks) ≡ Some at.state
 named_lock epoch state id at is =
-    let named = target_named epoch state id (ALock at) (λ e refused. cc) is in
     lock_of_node id state.locks (position (list_any (is_stateid_of_lock id)) state.locks) at
-    (lock_in_target (named_in id state.opens) (lock_named_in id state.locks) at named)
+    (lock_in_found (named_in id state.opens) (lock_named_in id state.locks) at (found_named epoch state id (ALock at) is))
 
 -- The verdicts.
 
+opened : (found : Found) (at : OpenAt) → as_open found ≡ Ok at → found ≡ AnOpen at
+opened (AnOpen other) at is = ap AnOpen (ok_equal other at is)
+opened (ALock other) at is = absurd cc
+
+locked : (found : Found) (at : LockAt) → as_lock found ≡ Ok at → found ≡ ALock at
+locked (AnOpen other) at is = absurd cc
+locked (ALock other) at is = ap ALock (ok_equal other at is)
+
 -- the stateid names an open, and its owner is confirmed unless the operation accepts others
-pub open_found : (demand : Demand) (state : State) (id : Stateid) (target : Target) (at : OpenAt) → open_at demand state id target ≡ Ok at
-    → (target ≡ AnOpen at) × ((demand.also_unconfirmed || is_confirmed (open_owner at.state.owner) state.owners) ≡ true)
-open_found demand state id (Refused refusal) at is = absurd cc
-open_found demand state id NoState at is = absurd cc
-open_found demand state id (ALock other) at is = absurd cc
-open_found demand state id (AnOpen other) at is =
-    let accepted = demand.also_unconfirmed || is_confirmed (open_owner other.state.owner) state.owners in
-    let found = by_seqid id.seqid other.state.seqid other in
-    let here = unrefused (not (other.node == demand.node)) refusals.BadStateId (if not accepted then Err refusals.BadStateId else found) at is in
-    let confirmed = unrefused (not accepted) refusals.BadStateId found at here.1 in
-    let same = by_seqid_at id.seqid other.state.seqid other at confirmed.1 in
-    (ap AnOpen same, subst (λ (a : OpenAt). (demand.also_unconfirmed || is_confirmed (open_owner a.state.owner) state.owners) ≡ true) same (not-false accepted confirmed.0))
+pub open_found : (demand : Demand) (state : State) (id : Stateid) (target : Result (Option Found) Refusal) (at : OpenAt) → (target >>= judged demand state id >>= as_open) ≡ Ok at
+    → (target ≡ Ok (Some (AnOpen at))) × ((demand.also_unconfirmed || is_confirmed (open_owner at.state.owner) state.owners) ≡ true)
+open_found demand state id (Err refusal) at is = absurd cc
+open_found demand state id (Ok None) at is = absurd cc
+open_found demand state id (Ok (Some found)) at is =
+    let P : Type 0 = (ok (Some found) ≡ Ok (Some (AnOpen at))) × ((demand.also_unconfirmed || is_confirmed (open_owner at.state.owner) state.owners) ≡ true) in
+    bound P (first_refusal (of_state demand state id found) found) as_open at (λ x is_x opens.
+    let all = passed (of_state demand state id found) found x is_x in
+    let here : found ≡ AnOpen at = all.1 ∙ opened x at opens in
+    let accepted : Found → Bool = λ f. demand.also_unconfirmed || has_confirmed_owner state f in
+    (ap (λ f. ok (Some f)) here, not-false (accepted (AnOpen at)) (subst (λ f. not (accepted f) ≡ false) here all.0.1.1.0))) is
 
 -- the stateid names a lock state
-pub lock_found : (node : ℕ) (id : Stateid) (target : Target) (at : LockAt) → lock_at node id target ≡ Ok at → target ≡ ALock at
-lock_found node id (Refused refusal) at is = absurd cc
-lock_found node id NoState at is = absurd cc
-lock_found node id (AnOpen other) at is = absurd cc
-lock_found node id (ALock other) at is =
-    let found = by_seqid id.seqid other.state.seqid other in
-    let here = unrefused (not (other.node == node)) refusals.BadStateId found at is in
-    ap ALock (by_seqid_at id.seqid other.state.seqid other at here.1)
+pub lock_found : (demand : Demand) (state : State) (id : Stateid) (target : Result (Option Found) Refusal) (at : LockAt) → (target >>= judged demand state id >>= as_lock) ≡ Ok at → target ≡ Ok (Some (ALock at))
+lock_found demand state id (Err refusal) at is = absurd cc
+lock_found demand state id (Ok None) at is = absurd cc
+lock_found demand state id (Ok (Some found)) at is =
+    let P : Type 0 = ok (Some found) ≡ Ok (Some (ALock at)) in
+    bound P (first_refusal (of_state demand state id found) found) as_lock at (λ x is_x locks.
+    let all = passed (of_state demand state id found) found x is_x in
+    ap (λ f. ok (Some f)) (all.1 ∙ locked x at locks)) is

@@ -1,6 +1,6 @@
 -- What an OPEN opens, in the state without an owner that starts anew.
-use Rattle.std.proofs.Common.{◌≡◌, ◌≢◌, ℕ, zero, suc, ◌<◌, Bool, true, false, Option, Some, None, Result, Ok, Err, List, [], ◌∷◌, length, refl, sym, ap, ◌∙◌, arith}
-use Rattle.std.specs.Prelude.{◌&&◌, ◌||◌, ◌==◌, IsTrue, map, not, nat_lt, is_some, option_map, if◌then◌else◌}
+use Rattle.std.proofs.Common.{◌≡◌, ◌≢◌, ℕ, zero, suc, ◌<◌, Bool, true, false, Option, Some, None, Result, Ok, Err, List, [], ◌∷◌, length, refl, sym, ap, ◌∙◌, subst, arith}
+use Rattle.std.specs.Prelude.{◌&&◌, ◌||◌, IsTrue, map, nat_lt, is_some, option_map, if◌then◌else◌}
 use Rattle.std.proofs.lemmas.Bool.{lt-ltb}
 use Rattle.std.proofs.lemmas.List.{length-map}
 use Rattle.nfs_rules.specs.declared.passage.Passage.{Passage}
@@ -8,15 +8,15 @@ use Rattle.nfs_rules.specs.declared.passage.Passage.TheVariants as passages
 use Rattle.nfs_state.specs.declared.change.Change.TheVariants.{Opens}
 use Rattle.nfs_rules.specs.declared.opening.Opening.{Opening}
 use Rattle.nfs_rules.specs.declared.ruling.Ruling.{Ruling}
-use Rattle.nfs_locks.specs.AllLocks.{LockAt, lock_named_in}
-use Rattle.nfs_rules.specs.Refusing.{◌>>=◌}
-use Rattle.nfs_rules.specs.operations.Open.{answer_of, file_at, found_by, has_open_place, has_owner_place, name_of, opening, refusal_of_target, ruling_of, share_or_inval, stateid_after, unless_delegated, unless_denied}
+use Rattle.nfs_rules.specs.Refusing.{◌>>=◌, first_refusal}
+use Rattle.nfs_rules.specs.Deciding.{IsOther, IsPassage}
+use Rattle.nfs_rules.proofs.Sendable.{target_other, then_other}
+use Rattle.nfs_rules.specs.operations.Open.{answer_of, file_at, found_by, has_open_place, has_owner_place, name_of, opening, ruling_of, share_or_inval, stateid_after, unless_delegated, unless_denied}
 use Rattle.nfs_rules.specs.operations.OpenGrant.{ok_answer, granted_stateid}
 use Rattle.nfs_state.specs.Entries.{resource}
 use Rattle.nfs_state.specs.Places as places
 use Rattle.nfs_state.specs.declared.tables.Tables.{Tables}
 use Rattle.nfs_state.specs.Owners.{owner_of, without_owner}
-use Rattle.nfs_rules.specs.Deciding.{IsPassage}
 use Rattle.nfs_state.specs.Room.{state_of}
 use Rattle.nfs_state.specs.Stored.{known_owner}
 use Rattle.nfs_owners.specs.StateOwner.{open_owner}
@@ -29,10 +29,8 @@ use Rattle.nfs_owners.specs.Owners.{has_place}
 use Rattle.nfs_state.specs.Changes as changes
 use Rattle.nfs_rules.specs.Sequences.{before_own}
 use Rattle.nfs_state.specs.State.{State, History}
-use Rattle.nfs_rules.specs.Stateids as stateids
-use Rattle.nfs_owners.specs.Registry.{record_of, was_given}
-use Rattle.nfs_rules.specs.Stateids.{is_special, target_in, target_of}
-use Rattle.nfs_share.specs.AllOpens.{OpenAt, named_in, opens_of}
+use Rattle.nfs_rules.specs.Stateids.{Found, before_state, found_in, target_of}
+use Rattle.nfs_share.specs.AllOpens.{opens_of}
 use Rattle.nfs_share.specs.declared.open_state.OpenState.{OpenState}
 use Rattle.nfs_share.specs.declared.share.Share.{Share}
 use Rattle.nfs_share.specs.Opens.{is_of, is_refused, open_of, without}
@@ -72,18 +70,15 @@ none_without owner (o ∷ opens) = by (none_without owner opens) (is_of owner o)
     by rest true is = grind (arith, is, rest)
     by rest false is = grind (arith, is, rest)
 
--- no open and no lock state that a stateid names is a delegation
-refused_in : (found : Option OpenAt) (lock : Option LockAt) → refusal_of_target (target_in found lock) ≡ refusals.BadStateId
-refused_in None None = refl
-refused_in None (Some at) = refl
-refused_in (Some at) lock = refl
-
-refusal_same : (epoch : ℕ) (state : State) (name : OpenOwner) (id : Stateid) → refusal_of_target (target_of epoch (changes.without name state) id) ≡ refusal_of_target (target_of epoch state id)
-refusal_same epoch state name id =
-    grind (arith, refused_in (named_in id (changes.without name state).opens) (lock_named_in id state.locks), refused_in (named_in id state.opens) (lock_named_in id state.locks))
+-- what is refused doesn't depend on what would be found
+found_same : {A B : Type 0} (tests : List (Bool × Refusal)) (a b : A) → ◌≡◌ {A = Result B Refusal} (first_refusal tests a >>= λ x. Err refusals.BadStateId) (first_refusal tests b >>= λ x. Err refusals.BadStateId)
+found_same [] a b = refl
+found_same ((true, refusal) ∷ more) a b = refl
+found_same ((false, refusal) ∷ more) a b = found_same more a b
 
 delegated_same : (journal : History) (state : State) (name : OpenOwner) (claim : Claim) (node : ℕ) → unless_delegated journal (changes.without name state) claim node ≡ unless_delegated journal state claim node
-delegated_same journal state name (claims.DelegateCur id file) node = ap Err (refusal_same journal.epoch state name id)
+delegated_same journal state name (claims.DelegateCur id file) node =
+    found_same (before_state journal.epoch state id) (found_in (changes.without name state) id) (found_in state id)
 delegated_same journal state name claim node = refl
 
 denied_same : (state : State) (name : OpenOwner) (share : Share) (node : ℕ) → unless_denied (changes.without name state) name share node ≡ unless_denied state name share node
@@ -117,11 +112,11 @@ none_left passages.Restarts owner node state is =
 none_left passage owner node state is = absurd cc
 
 -- a CLAIM_DELEGATE_CUR is refused
-pub delegated_refused : (journal : History) (state : State) (claim : Claim) (id : Stateid) (name : List ℕ) (node epoch : ℕ) (found : stateids.Target) (refusal : Refusal)
-    → claim ≡ claims.DelegateCur id name → epoch ≡ journal.epoch → found ≡ target_of epoch state id → refusal ≡ refusal_of_target found
-    → Err refusal ≡ unless_delegated journal state claim node
-delegated_refused journal state claim id name node epoch found refusal claims_it is_epoch is_found is =
-    ap Err (is ∙ ap refusal_of_target (is_found ∙ ap (λ e. target_of e state id) is_epoch))
+pub delegated_refused : (journal : History) (state : State) (claim : Claim) (id : Stateid) (name : List ℕ) (node epoch : ℕ) (target : Result (Option Found) Refusal)
+    → claim ≡ claims.DelegateCur id name → epoch ≡ journal.epoch → target ≡ target_of epoch state id
+    → (target >>= λ found. Err refusals.BadStateId) ≡ unless_delegated journal state claim node
+delegated_refused journal state claim id name node epoch target claims_it is_epoch is_target =
+    ap (λ t. t >>= λ found. Err refusals.BadStateId) (is_target ∙ ap (λ e. target_of e state id) is_epoch)
     ∙ ap (λ c. unless_delegated journal state c node) (sym claims_it)
 
 -- No refusal of OPEN's own rule is NFS4ERR_RESOURCE.
@@ -159,18 +154,11 @@ file_never true b node is = absurd cc
 file_never false true node is = absurd cc
 file_never false false node is = absurd cc
 
-target_never : (a b c d : Bool) (found : Option OpenAt) (lock : Option LockAt) → refusal_of_target (if a then stateids.Refused refusals.BadStateId else if b then stateids.Refused refusals.StaleStateId else if c then stateids.Refused refusals.BadStateId else if d then stateids.Refused refusals.Expired else target_in found lock) ≡ refusals.Resource → ⊥
-target_never true b c d found lock is = absurd cc
-target_never false true c d found lock is = absurd cc
-target_never false false true d found lock is = absurd cc
-target_never false false false true found lock is = absurd cc
-target_never false false false false None None is = absurd cc
-target_never false false false false None (Some at) is = absurd cc
-target_never false false false false (Some at) lock is = absurd cc
-
 delegated_never : (journal : History) (state : State) (claim : Claim) (node : ℕ) → unless_delegated journal state claim node ≡ Err refusals.Resource → ⊥
 delegated_never journal state (claims.DelegateCur id name) node is =
-    target_never (is_special id) (not (id.client.epoch == journal.epoch)) (not (was_given id.client.number state.clients)) (not (is_some (record_of id.client state.clients))) (named_in id state.opens) (lock_named_in id state.locks) (err_is _ refusals.Resource is)
+    let refused : Result ℕ Refusal = target_of journal.epoch state id >>= λ found. Err refusals.BadStateId in
+    let other : IsOther refused = then_other (target_of journal.epoch state id) _ (target_other journal.epoch state id) (λ found e. cc) in
+    (subst IsOther is other) refl
 delegated_never journal state claim node is = absurd cc
 
 denied_never : (b : Bool) (opened : Opening) → (if b then Err refusals.ShareDenied else Ok opened) ≡ Err refusals.Resource → ⊥

@@ -1,102 +1,111 @@
 -- The answers of the rules that go by a stateid can be sent.
-use Rattle.std.proofs.Common.{◌≡◌, ◌≢◌, ℕ, ◌^◌, ◌<◌, Bool, true, false, Option, Some, None, Result, Ok, Err, refl, sym, subst}
-use Rattle.std.specs.Prelude.{⊤, not, nat_lt, ◌==◌, ◌||◌, is_some, if◌then◌else◌}
-use Rattle.nfs_state.specs.Owners.{is_confirmed}
-use Rattle.nfs_owners.specs.Registry.{record_of, was_given}
+use Rattle.std.proofs.Common.{◌≡◌, ◌≢◌, ℕ, Bool, true, false, List, [], ◌∷◌, Option, Some, None, Result, Ok, Err, refl, sym, ap, ◌∙◌, subst}
+use Rattle.std.specs.Prelude.{⊤, not, is_some}
+use Rattle.nfs_owners.specs.Registry.{record_of}
 use Rattle.nfs_state.specs.Entries.{IsSendable}
+use Rattle.nfs_state.specs.declared.change.Change.TheVariants.{Nothing}
+use Rattle.nfs_rules.specs.Deciding.{ByOwnRule, IsOther}
 use Rattle.nfs_rules.specs.declared.demand.Demand.{Demand}
+use Rattle.nfs_rules.specs.declared.ruling.Ruling.{Ruling}
 use Rattle.nfs_state.specs.State.{State, History}
-use Rattle.nfs_rules.specs.Refusing.{◌>>=◌, refused_if}
-use Rattle.nfs_rules.specs.Stateids.{Target, Refused, ALock, AnOpen, NoState, by_seqid, is_special, lock_at, lock_verdict, open_at, target_in, target_of, verdict}
+use Rattle.nfs_rules.specs.Refusing.{◌>>=◌, first_refusal, refused_if}
+use Rattle.nfs_rules.specs.Stateids.{ALock, AnOpen, Found, as_lock, as_open, before_state, confirmed_open, found_in, judged, lock_state, of_state, target_of, verdict}
 use Rattle.nfs_rules.specs.operations.Lock.{introduction, locking_of}
 use Rattle.nfs_rules.specs.operations.Lockt.{lockt_file, place_of}
+use Rattle.nfs_rules.proofs.Sequencing.{refusal_sendable}
 use Rattle.nfs_forms.specs.ClientId.{is_same_client}
 use Rattle.nfs_forms.specs.declared.lock_denied.LockDenied.{LockDenied}
 use Rattle.nfs_forms.specs.declared.locker.Locker.{Locker}
 use Rattle.nfs_forms.specs.declared.locker.Locker.TheVariants as lockers
 use Rattle.nfs_forms.specs.declared.locker.NewLocker.{NewLocker}
-use Rattle.nfs_locks.specs.AllLocks.{LockAt, lock_named_in, locks_of}
+use Rattle.nfs_locks.specs.AllLocks.{LockAt, locks_of}
 use Rattle.nfs_locks.specs.Locks.{lock_of}
 use Rattle.nfs_operations.specs.declared.lock.Lock.{Lock}
 use Rattle.nfs_operations.specs.declared.lockt.Lockt.{Lockt}
-use Rattle.nfs_owners.specs.StateOwner.{open_owner}
-use Rattle.nfs_share.specs.AllOpens.{OpenAt, named_in}
+use Rattle.nfs_share.specs.AllOpens.{OpenAt}
 use Rattle.nfs_forms.specs.declared.answer.Answer.TheVariants as answers
 use Rattle.nfs_forms.specs.declared.stateid.Stateid.{Stateid}
 use Rattle.nfs_forms.specs.declared.status.Refusal.{Refusal}
 use Rattle.nfs_forms.specs.declared.status.Refusal.TheVariants as refusals
+use Rattle.nfs_xdr.specs.declared.op.Op.{Op}
 use Rattle.nfs_xdr.specs.declared.op.Op.TheVariants as ops
 use Rattle.nfs_xdr.specs.declared.op_result.OpResult.TheVariants as results
+use Rattle.nfs_xdr.specs.Op.{opnum_of}
+use Rattle.nfs_xdr.specs.OpResult.{refusal_of}
 use Rattle.nfs_xdr.specs.Short.{HasShortName}
 
--- no refusal of the target is NFS4ERR_RESOURCE
-abbrev pub IsOtherTarget : Target → Type 0
-IsOtherTarget (Refused refusal) = refusal ≢ refusals.Resource
-IsOtherTarget target = ⊤
-
--- no refusal of the verdict is NFS4ERR_RESOURCE
-abbrev IsOther : {A : Type 0} → Result A Refusal → Type 0
-IsOther (Err refusal) = refusal ≢ refusals.Resource
-IsOther (Ok at) = ⊤
-
-target_in_other : (found : Option OpenAt) (lock : Option LockAt) → IsOtherTarget (target_in found lock)
-target_in_other (Some at) lock = tt
-target_in_other None (Some at) = tt
-target_in_other None None = tt
-
-target_by : (special stale unknown expired : Bool) (found : Option OpenAt) (lock : Option LockAt) → IsOtherTarget (if special then Refused refusals.BadStateId else if stale then Refused refusals.StaleStateId else if unknown then Refused refusals.BadStateId else if expired then Refused refusals.Expired else target_in found lock)
-target_by true stale unknown expired found lock = λ e. cc
-target_by false true unknown expired found lock = λ e. cc
-target_by false false true expired found lock = λ e. cc
-target_by false false false true found lock = λ e. cc
-target_by false false false false found lock = target_in_other found lock
-
-pub target_other : (epoch : ℕ) (state : State) (id : Stateid) → IsOtherTarget (target_of epoch state id)
-target_other epoch state id =
-    target_by (is_special id) (not (id.client.epoch == epoch)) (not (was_given id.client.number state.clients)) (not (is_some (record_of id.client state.clients))) (named_in id state.opens) (lock_named_in id state.locks)
-
-seqid_by : {A : Type 0} (old early : Bool) (at : A) → IsOther (if old then Err refusals.OldStateId else if early then Err refusals.BadStateId else Ok at)
-seqid_by true early at = λ e. cc
-seqid_by false true at = λ e. cc
-seqid_by false false at = tt
-
-place_by : {A : Type 0} (elsewhere : Bool) (found : Result A Refusal) → IsOther found → IsOther (if elsewhere then Err refusals.BadStateId else found)
-place_by true found other = λ e. cc
-place_by false found other = other
-
-open_at_other : (demand : Demand) (state : State) (id : Stateid) (target : Target) → IsOtherTarget target → IsOther (open_at demand state id target)
-open_at_other demand state id (Refused refusal) other = other
-open_at_other demand state id NoState other = λ e. cc
-open_at_other demand state id (ALock at) other = λ e. cc
-open_at_other demand state id (AnOpen at) other =
-    place_by (not (at.node == demand.node)) _
-    (place_by (not (demand.also_unconfirmed || is_confirmed (open_owner at.state.owner) state.owners)) (by_seqid id.seqid at.state.seqid at) (seqid_by (nat_lt id.seqid at.state.seqid) (nat_lt at.state.seqid id.seqid) at))
-
-lock_at_other : (node : ℕ) (id : Stateid) (target : Target) → IsOtherTarget target → IsOther (lock_at node id target)
-lock_at_other node id (Refused refusal) other = other
-lock_at_other node id NoState other = λ e. cc
-lock_at_other node id (AnOpen at) other = λ e. cc
-lock_at_other node id (ALock at) other =
-    place_by (not (at.node == node)) (by_seqid id.seqid at.state.seqid at) (seqid_by (nat_lt id.seqid at.state.seqid) (nat_lt at.state.seqid id.seqid) at)
-
--- the verdict on a stateid is never NFS4ERR_RESOURCE
-pub verdict_other : (demand : Demand) (epoch : ℕ) (state : State) (id : Stateid) (refusal : Refusal) → Err refusal ≡ verdict demand epoch state id → refusal ≢ refusals.Resource
-verdict_other demand epoch state id refusal same =
-    subst IsOther (sym same) (open_at_other demand state id (target_of epoch state id) (target_other epoch state id))
-
-pub lock_verdict_other : (node epoch : ℕ) (state : State) (id : Stateid) (refusal : Refusal) → Err refusal ≡ lock_verdict node epoch state id → refusal ≢ refusals.Resource
-lock_verdict_other node epoch state id refusal same =
-    subst IsOther (sym same) (lock_at_other node id (target_of epoch state id) (target_other epoch state id))
-
--- nor is a refusal of the lock that a LOCK asks for
+-- a test that doesn't refuse with NFS4ERR_RESOURCE, and what comes after it
 refused_if_other : {A : Type 0} (test : Bool) (refusal : Refusal) (a : A) → refusal ≢ refusals.Resource → IsOther (refused_if test refusal a)
 refused_if_other true refusal a other = other
 refused_if_other false refusal a other = tt
 
-then_other : {A B : Type 0} (r : Result A Refusal) (next : A → Result B Refusal) → IsOther r → ((a : A) → IsOther (next a)) → IsOther (r >>= next)
+pub then_other : {A B : Type 0} (r : Result A Refusal) (next : A → Result B Refusal) → IsOther r → ((a : A) → IsOther (next a)) → IsOther (r >>= next)
 then_other (Err refusal) next other others = other
 then_other (Ok a) next other others = others a
 
+-- no refusal in the list is NFS4ERR_RESOURCE
+abbrev AreOthers : List (Bool × Refusal) → Type 0
+AreOthers [] = ⊤
+AreOthers ((test, refusal) ∷ more) = (refusal ≢ refusals.Resource) × AreOthers more
+
+first_other : {A : Type 0} (tests : List (Bool × Refusal)) (a : A) → AreOthers tests → IsOther (first_refusal tests a)
+first_other [] a others = tt
+first_other ((true, refusal) ∷ more) a others = others.0
+first_other ((false, refusal) ∷ more) a others = first_other more a others.1
+
+pub target_other : (epoch : ℕ) (state : State) (id : Stateid) → IsOther (target_of epoch state id)
+target_other epoch state id =
+    first_other (before_state epoch state id) (found_in state id) ((λ e. cc), ((λ e. cc), ((λ e. cc), ((λ e. cc), tt))))
+
+judged_other : (demand : Demand) (state : State) (id : Stateid) (found : Option Found) → IsOther (judged demand state id found)
+judged_other demand state id None = λ e. cc
+judged_other demand state id (Some found) =
+    first_other (of_state demand state id found) found ((λ e. cc), ((λ e. cc), ((λ e. cc), ((λ e. cc), ((λ e. cc), tt)))))
+
+verdict_other : (demand : Demand) (epoch : ℕ) (state : State) (id : Stateid) → IsOther (verdict demand epoch state id)
+verdict_other demand epoch state id =
+    then_other (target_of epoch state id) (judged demand state id) (target_other epoch state id) (judged_other demand state id)
+
+as_open_other : (found : Found) → IsOther (as_open found)
+as_open_other (AnOpen at) = tt
+as_open_other (ALock at) = λ e. cc
+
+as_lock_other : (found : Found) → IsOther (as_lock found)
+as_lock_other (AnOpen at) = λ e. cc
+as_lock_other (ALock at) = tt
+
+open_other : (demand : Demand) (epoch : ℕ) (state : State) (id : Stateid) → IsOther (verdict demand epoch state id >>= as_open)
+open_other demand epoch state id = then_other (verdict demand epoch state id) as_open (verdict_other demand epoch state id) as_open_other
+
+lock_other : (demand : Demand) (epoch : ℕ) (state : State) (id : Stateid) → IsOther (verdict demand epoch state id >>= as_lock)
+lock_other demand epoch state id = then_other (verdict demand epoch state id) as_lock (verdict_other demand epoch state id) as_lock_other
+
+-- the verdict on a stateid is never NFS4ERR_RESOURCE
+pub open_refusal : (demand : Demand) (epoch : ℕ) (state : State) (id : Stateid) (refusal : Refusal) → Err refusal ≡ (verdict demand epoch state id >>= as_open) → refusal ≢ refusals.Resource
+open_refusal demand epoch state id refusal same = subst IsOther (sym same) (open_other demand epoch state id)
+
+pub lock_refusal : (demand : Demand) (epoch : ℕ) (state : State) (id : Stateid) (refusal : Refusal) → Err refusal ≡ (verdict demand epoch state id >>= as_lock) → refusal ≢ refusals.Resource
+lock_refusal demand epoch state id refusal same = subst IsOther (sym same) (lock_other demand epoch state id)
+
+-- a verdict by what was found is the verdict, where that is what the stateid names
+pub open_judged : (demand wanted : Demand) (epoch : ℕ) (state : State) (id : Stateid) (target : Result (Option Found) Refusal) (r : Result OpenAt Refusal) → demand ≡ wanted → target ≡ target_of epoch state id
+    → r ≡ (target >>= judged demand state id >>= as_open) → r ≡ (verdict wanted epoch state id >>= as_open)
+open_judged demand wanted epoch state id target r same is found =
+    found ∙ ap (λ t. t >>= judged demand state id >>= as_open) is ∙ ap (λ d. verdict d epoch state id >>= as_open) same
+
+pub lock_judged : (demand wanted : Demand) (epoch : ℕ) (state : State) (id : Stateid) (target : Result (Option Found) Refusal) (r : Result LockAt Refusal) → demand ≡ wanted → target ≡ target_of epoch state id
+    → r ≡ (target >>= judged demand state id >>= as_lock) → r ≡ (verdict wanted epoch state id >>= as_lock)
+lock_judged demand wanted epoch state id target r same is found =
+    found ∙ ap (λ t. t >>= judged demand state id >>= as_lock) is ∙ ap (λ d. verdict d epoch state id >>= as_lock) same
+
+-- a refusal by an own rule
+pub refused_ruled : (own : Option Ruling → Type 0) (state : State) (op : Op) (refusal : Refusal) (ruling : Ruling) → ruling ≡ record { answer = refusal_of (opnum_of op) refusal; change = Nothing } → refusal ≢ refusals.Resource
+    → own (Some (record { answer = refusal_of (opnum_of op) refusal; change = Nothing })) → ByOwnRule own state op (Ok ruling)
+refused_ruled own state op refusal ruling is other rules =
+    let P : Ruling → Type 0 = λ r. ByOwnRule own state op (Ok r) in
+    subst P (sym is) (rules, refusal_sendable op refusal _ other refl, tt)
+
+-- nor is a refusal of the lock that a LOCK asks for
 introduced_other : (journal : History) (state : State) (args : Lock) (locker : NewLocker) (at : OpenAt) → IsOther (introduction journal state args locker at)
 introduced_other journal state args locker at =
     then_other (refused_if args.reclaim refusals.NoGrace at) _ (refused_if_other args.reclaim refusals.NoGrace at (λ e. cc)) λ at.
@@ -108,13 +117,12 @@ introduced_other journal state args locker at =
 
 locking_other : (journal : History) (state : State) (node : ℕ) (args : Lock) (locker : Locker) → IsOther (locking_of journal state node args locker)
 locking_other journal state node args (lockers.New locker) =
-    let demand : Demand = record { node = node; also_unconfirmed = false } in
-    then_other (verdict demand journal.epoch state locker.open_stateid) _
-    (open_at_other demand state locker.open_stateid (target_of journal.epoch state locker.open_stateid) (target_other journal.epoch state locker.open_stateid))
+    then_other (verdict (confirmed_open node) journal.epoch state locker.open_stateid >>= as_open) _
+    (open_other (confirmed_open node) journal.epoch state locker.open_stateid)
     (introduced_other journal state args locker)
 locking_other journal state node args (lockers.Known locker) =
-    then_other (lock_verdict node journal.epoch state locker.lock_stateid) _
-    (lock_at_other node locker.lock_stateid (target_of journal.epoch state locker.lock_stateid) (target_other journal.epoch state locker.lock_stateid))
+    then_other (verdict (lock_state node) journal.epoch state locker.lock_stateid >>= as_lock) _
+    (lock_other (lock_state node) journal.epoch state locker.lock_stateid)
     (λ at. refused_if_other args.reclaim refusals.NoGrace _ (λ e. cc))
 
 pub locking_refusal : (journal : History) (state : State) (node : ℕ) (args : Lock) (refusal : Refusal) → Err refusal ≡ locking_of journal state node args args.locker → refusal ≢ refusals.Resource

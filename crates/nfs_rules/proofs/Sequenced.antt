@@ -21,7 +21,7 @@ use Rattle.nfs_rules.specs.Locking.{can_be_written, denied_by}
 use Rattle.nfs_xdr.specs.declared.op_result.OpResult.TheVariants as results
 use Rattle.nfs_rules.specs.Newcomers.{Newcomer, Nobody, Known, Unknown, has_turn, is_next, newcomer_by, newcomer_if, newcomer_in, newcomer_of}
 use Rattle.nfs_rules.specs.Refusing.{◌>>=◌, refused_if}
-use Rattle.nfs_rules.specs.Stateids.{verdict}
+use Rattle.nfs_rules.specs.Stateids.{as_open, confirmed_open, verdict}
 use Rattle.nfs_rules.specs.operations.Lock as lock
 use Rattle.nfs_rules.specs.operations.Lock.{IsAllowed, IsLock, Locking, allows, grant, introduction, locking_of, unless_denied}
 use Rattle.nfs_share.specs.AllOpens.{OpenAt, opens_of}
@@ -29,7 +29,7 @@ use Rattle.nfs_share.specs.Opens.{open_with_number}
 use Rattle.nfs_state.specs.Places.{has_owner_place, has_state_place}
 use Rattle.nfs_state.specs.declared.owner_change.OwnerChange.{OwnerChange}
 use Rattle.nfs_owners.specs.Kept.{IsAgain, request_of}
-use Rattle.nfs_rules.proofs.Uniqueness.{IsSequencedUnder, LockLaws, Once, downgrades_once, locks_once, next_differs, some_once, sequenced_once, unlocks_once}
+use Rattle.nfs_rules.proofs.Uniqueness.{IsSequencedUnder, LockLaws, Once, downgrades_once, locks_once, next_differs, sequence_once, some_once, sequenced_once, unlocks_once}
 use Rattle.nfs_state.specs.declared.change.Change.TheVariants as changes
 use Rattle.nfs_rules.specs.declared.decision.Decision.{Decision}
 use Rattle.nfs_rules.specs.declared.opening.Opening.{Opening}
@@ -65,12 +65,6 @@ use Rattle.nfs_xdr.specs.declared.op_result.OpResult.{OpResult}
 use Rattle.nfs_xdr.specs.Op.{opnum_of}
 use Rattle.nfs_xdr.specs.OpResult.{refusal_of, status_of}
 use Rattle.nfs_rules.proofs.Sequencing.{refusal_sendable}
-
--- the own rule of an operation that is known to be this one
-pub rules_as : (op op' : Op) (journal : History) (state : State) (node : ℕ) (passage : Passage) (ruling : Ruling) → op ≡ op' → ByOwnRule (own_of op' journal state node passage) state op' (Ok ruling) → ByOwnRule (own_of op journal state node passage) state op (Ok ruling)
-rules_as op op' journal state node passage ruling same rules =
-    let P : Op → Type 0 = λ o. ByOwnRule (own_of o journal state node passage) state o (Ok ruling) in
-    subst P (sym same) rules
 
 -- without a current filehandle the operation is refused
 pub without_filehandle : (own : Own) (journal : History) (state : State) (requester : Requester) (request : Request) (filehandle : Option ℕ) (answer : OpResult) (decision : Decision) → ((node : ℕ) → filehandle ≡ Some node → ⊥) → answer ≡ refusal_of (opnum_of request.op) refusals.NoFileHandle → decision ≡ only answer → Decides (IsSequencedUnder journal state requester own filehandle request) state request.op (Ok decision)
@@ -214,7 +208,7 @@ verdict_then journal state args locker (Ok at) locking is = introduced_is journa
 new_locking : (journal : History) (state : State) (node : ℕ) (args : Lock) (locker : NewLocker) (locking : Locking) → args.locker ≡ lockers.New locker
     → locking_of journal state node args args.locker ≡ Ok locking → (locking.owner ≡ locker.lock_owner) × (locking.state ≡ None)
 new_locking journal state node args locker locking new is =
-    verdict_then journal state args locker (verdict (record { node = node; also_unconfirmed = false }) journal.epoch state locker.open_stateid) locking
+    verdict_then journal state args locker (verdict (confirmed_open node) journal.epoch state locker.open_stateid >>= as_open) locking
     (sym (ap (locking_of journal state node args) new) ∙ is)
 
 begins_place : (place more : Bool) (r : Option Ruling) (ruling : Ruling) → Some ruling ≡ (if place && more then r else None) → place ≡ true
@@ -394,6 +388,13 @@ ruled_has_room laws journal state requester request filehandle node sequence pas
     let same = sequenced_once journal state requester own (own_once laws request.op journal state) filehandle request None (Some decision) none decided in
     cc
 
+-- what is decided where a call fails for this
+pub fails_as : (ruled : Option Decision → Type 0) (state : State) (op : Op) (shortage : Shortage) (result : Result Decision Shortage) → IsErr result → IsErrAnd result (λ e. e ≡ shortage) → Decides ruled state op (Err shortage) → Decides ruled state op result
+fails_as ruled state op shortage (Ok decision) err same decides = absurd cc
+fails_as ruled state op shortage (Err e) err same decides =
+    let P : Shortage → Type 0 = λ s. Decides ruled state op (Err s) in
+    subst P (sym same) decides
+
 -- want of memory, where the limits leave room
 pub memory_decides : (ruled : Option Decision → Type 0) (state : State) (op : Op) (result : Result Decision Shortage) → IsErr result → IsErrAnd result (λ e. e ≡ Memory) → (ruled None → ⊥) → Decides ruled state op result
 memory_decides ruled state op (Ok decision) err memory room = absurd cc
@@ -431,6 +432,25 @@ answered_has_room own journal state requester request None node has replay none 
 answered_has_room own journal state requester request (Some at) node has replay none =
     let Q : SequenceStep → Type 0 = λ s. IsSequence journal state requester request s in
     no_decision none.0 at (λ client. newcomer_of journal state client request.op) own (λ passage name is. replay_stays journal state requester request replay passage name (subst Q is none.1)) none.2
+
+no_ruling : (passage : Passage) (name : StateOwner) (newcomer : ClientId → Newcomer) (own : Own) (node : ℕ) → IsDecided (GoesOn passage name) newcomer (own node) None → (own node passage None → ⊥) → ⊥
+no_ruling passage name newcomer own node (None, is, same) room = room is
+no_ruling passage name newcomer own node (Some ruling, is, same) room = absurd cc
+
+-- what is decided where the own rule fails
+pub fails_on : (journal : History) (state : State) (requester : Requester) (own : Own) (request : Request) (filehandle : Option ℕ) (node : ℕ) (sequence : SequenceStep) (passage : Passage) (name : StateOwner) (shortage : Shortage) → filehandle ≡ Some node → sequence ≡ GoesOn passage name → IsSequence journal state requester request sequence → ByOwnRule (own node passage) state request.op (Err shortage) → Decides (IsSequencedUnder journal state requester own filehandle request) state request.op (Err shortage)
+fails_on journal state requester own request filehandle node sequence passage name Limit has is sequenced none =
+    let Q : SequenceStep → Type 0 = λ s. IsSequence journal state requester request s in
+    let F : Option ℕ → Type 0 = λ f. IsSequencedUnder journal state requester own f request None in
+    subst F (sym has) (GoesOn passage name, subst Q is sequenced, (None, none, refl))
+fails_on journal state requester own request filehandle node sequence passage name Memory has is sequenced room = λ none.
+    let newcomer : ClientId → Newcomer = λ client. newcomer_of journal state client request.op in
+    let Q : SequenceStep → Type 0 = λ s. IsSequence journal state requester request s in
+    let F : Option ℕ → Type 0 = λ f. IsSequencedUnder journal state requester own f request None in
+    let under = subst F has none in
+    let same = sequence_once journal state requester request under.0 (GoesOn passage name) under.1 (subst Q is sequenced) in
+    let decided : SequenceStep → Type 0 = λ s. IsDecided s newcomer (own node) None in
+    no_ruling passage name newcomer own node (subst decided same under.2) room
 
 -- what one relation of an own rule says, another one says too
 pub rules_onto : (P Q : Option Ruling → Type 0) (state : State) (op : Op) (result : Result Ruling Shortage) → ((r : Option Ruling) → P r → Q r) → (Q None → P None) → ByOwnRule P state op result → ByOwnRule Q state op result

@@ -16,7 +16,8 @@ use Rattle.nfs_rules.specs.operations.OpenDowngrade as open_downgrade
 use Rattle.nfs_rules.specs.operations.OpenDowngrade.{IsDowngrade, IsFound}
 use Rattle.nfs_rules.specs.Locking.{mode_of}
 use Rattle.nfs_rules.specs.Newcomers.{Newcomer, newcomer_of}
-use Rattle.nfs_rules.specs.Stateids.{lock_verdict, verdict}
+use Rattle.nfs_rules.specs.Refusing.{◌>>=◌}
+use Rattle.nfs_rules.specs.Stateids.{as_lock, as_open, confirmed_open, lock_state, verdict}
 use Rattle.nfs_share.specs.AllOpens.{OpenAt, opens_of}
 use Rattle.nfs_share.specs.Opens.{open_with_number}
 use Rattle.nfs_rules.specs.declared.ruling.Ruling.{Ruling}
@@ -133,7 +134,7 @@ pub downgrades_once : (journal : History) (state : State) (args : OpenDowngrade)
 downgrades_once journal state args node passage None u a b = absurd a
 downgrades_once journal state args node passage (Some r) None a b = absurd b
 downgrades_once journal state args node passage (Some r) (Some u) a b =
-    ap Some (found_once (verdict (record { node = node; also_unconfirmed = false }) journal.epoch state args.stateid) args r u a b)
+    ap Some (found_once (verdict (confirmed_open node) journal.epoch state args.stateid >>= as_open) args r u a b)
 
 -- What the rules of locks rest on: an offset and a length name one range at most, and there is one report at most.
 pub record LockLaws : Type 0 where
@@ -169,7 +170,7 @@ unlocking_once laws state args (Ok at) r u a b =
 
 pub unlocks_once : LockLaws → (journal : History) (state : State) (args : Locku) → Once (locku.own journal state args)
 unlocks_once laws journal state args node passage r u a b =
-    unlocking_once laws state args (lock_verdict node journal.epoch state args.stateid) r u a b
+    unlocking_once laws state args (verdict (lock_state node) journal.epoch state args.stateid >>= as_lock) r u a b
 
 pub tested_once : LockLaws → (state : State) (args : Lockt) (node : ℕ) (range : Option Range) (d e : Option Decision) → lockt.IsOfRange state args node range d → lockt.IsOfRange state args node range e → d ≡ e
 tested_once laws state args node None d e a b = a ∙ sym b

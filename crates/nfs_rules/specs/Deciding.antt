@@ -6,17 +6,18 @@ use Rattle.nfs_state.specs.declared.shortage.Shortage.TheVariants.{Limit, Memory
 use Rattle.nfs_rules.specs.declared.ruling.Ruling.{Ruling}
 use Rattle.nfs_state.specs.Room.{IsWithinLimits, HasOwnerPlace, is_known}
 use Rattle.nfs_rules.specs.Sequences.{IsSequence, Requester, Refused, Owner, SequenceStep, Answered, GoesOn}
+use Rattle.nfs_rules.specs.Stateids.{Found, target_of}
 use Rattle.nfs_rules.specs.declared.passage.Passage.{Passage}
 use Rattle.nfs_state.specs.State.{State, History}
 use Rattle.nfs_state.specs.Kept.{kept_for}
-use Rattle.nfs_state.specs.Owners.{KnownOwner, is_confirmed, owner_of}
+use Rattle.nfs_state.specs.Owners.{KnownOwner, owner_of}
 use Rattle.nfs_state.specs.declared.request.Request.{Request}
 use Rattle.nfs_owners.specs.declared.kept.Kept.{Kept}
 use Rattle.nfs_owners.specs.Kept.{IsAgain, request_of}
 use Rattle.nfs_state.specs.Entries.{IsSendable}
 use Rattle.nfs_forms.specs.declared.status.Refusal.{Refusal}
 use Rattle.nfs_forms.specs.declared.status.Refusal.TheVariants as refusals
-use Rattle.nfs_share.specs.AllOpens.{OpenAt}
+use Rattle.nfs_xdr.specs.Names.{Names, Owned}
 use Rattle.nfs_xdr.specs.declared.op.Op.{Op}
 use Rattle.nfs_xdr.specs.declared.op.Op.TheVariants as ops
 use Rattle.nfs_owners.specs.StateOwner.{open_owner}
@@ -78,6 +79,16 @@ abbrev pub HasOtherRefusal : Requester → Type 0
 HasOtherRefusal (Refused refusal) = refusal ≢ refusals.Resource
 HasOtherRefusal (Owner name seqid) = ⊤
 
+-- the same of any refusal
+abbrev pub IsOther : {A : Type 0} → Result A Refusal → Type 0
+IsOther (Err refusal) = refusal ≢ refusals.Resource
+IsOther (Ok a) = ⊤
+
+-- What was found by the stateid of an operation is what that one names.
+abbrev pub IsTargetOf : Names → History → State → Result (Option Found) Refusal → Type 0
+IsTargetOf (Owned id seqid) journal state target = target ≡ target_of journal.epoch state id
+IsTargetOf names journal state target = ⊤
+
 -- How an OPEN goes on fits what is known of the owner in its arguments.
 abbrev pub IsPassageOf : Op → Passage → State → Type 0
 IsPassageOf (ops.Open args) passage state = IsPassage passage (open_owner args.owner) state
@@ -89,8 +100,3 @@ ByOwnRule own state op (Ok ruling) =
     own (Some ruling) × IsSendable op ruling.answer × IsWithinLimits ruling.change state
 ByOwnRule own state op (Err Limit) = own None
 ByOwnRule own state op (Err Memory) = own None → ⊥
-
--- OPEN_CONFIRM's stateid names an open, by the verdict on it, whose owner isn't confirmed yet.
-abbrev pub IsConfirmable : State → Result OpenAt Refusal → Type 0
-IsConfirmable state (Err refusal) = ⊥
-IsConfirmable state (Ok at) = IsFalse (is_confirmed (open_owner at.state.owner) state.owners)

@@ -11,27 +11,47 @@ use Rattle.nfs_share.specs.OpenFound.{open_seen}
 use Rattle.nfs_rules.specs.declared.newcomer.Newcomer.{Newcomer}
 use Rattle.nfs_rules.specs.declared.newcomer.Newcomer.TheVariants as found_newcomers
 use Rattle.nfs_rules.specs.declared.operations.lock.Locking.{Locking}
-use Rattle.nfs_rules.specs.declared.stateids.Target.{Target}
-use Rattle.nfs_rules.specs.declared.stateids.Target.TheVariants as targets
+use Rattle.nfs_rules.specs.declared.stateids.Found.{Found}
+use Rattle.nfs_rules.specs.declared.stateids.Found.TheVariants as found_states
 use Rattle.nfs_rules.specs.declared.sequence.Requester.{Requester}
 use Rattle.nfs_rules.specs.declared.sequence.Requester.TheVariants as requesters
 use Rattle.nfs_rules.specs.declared.sequence.SequenceStep.{SequenceStep}
 use Rattle.nfs_rules.specs.declared.sequence.SequenceStep.TheVariants as found_sequences
 use Rattle.nfs_rules.specs.Newcomers as newcomers
 use Rattle.nfs_rules.specs.Sequences as sequences
+use Rattle.nfs_rules.specs.Refusing.{◌>>=◌}
 use Rattle.nfs_rules.specs.Stateids as stateids
+use Rattle.nfs_rules.specs.Stateids.{as_lock, as_open, verdict_on}
+use Rattle.nfs_rules.specs.declared.demand.Demand.{Demand}
 use Rattle.nfs_rules.specs.operations.Lock as lock
 use Rattle.nfs_share.specs.AllOpens.{OpenAt}
+use Rattle.nfs_state.specs.State.{State}
+use Rattle.nfs_forms.specs.declared.stateid.Stateid.{Stateid}
 use Rattle.nfs_forms.specs.declared.status.Refusal.{Refusal}
 use Rattle.nfs_forms.specs.declared.status.Refusal.TheVariants as refusals
 use Rattle.nfs_owners.specs.StateOwner.{owner_seen}
 use Rattle.nfs_owners.specs.declared.state_owner.StateOwner.{StateOwner}
 
-abbrev pub target_seen : Target → stateids.Target
-target_seen (targets.Refused refusal) = stateids.Refused refusal
-target_seen (targets.AnOpen found) = stateids.AnOpen (open_seen found)
-target_seen (targets.ALock found) = stateids.ALock (lock_found_seen found)
-target_seen targets.NoState = stateids.NoState
+abbrev pub found_seen : Found → stateids.Found
+found_seen (found_states.AnOpen found) = stateids.AnOpen (open_seen found)
+found_seen (found_states.ALock found) = stateids.ALock (lock_found_seen found)
+
+abbrev pub target_seen : Result (Option Found) Refusal → Result (Option stateids.Found) Refusal
+target_seen (Ok found) = Ok (option_map found_seen found)
+target_seen (Err refusal) = Err refusal
+
+abbrev pub found_or_refusal_seen : Result Found Refusal → Result stateids.Found Refusal
+found_or_refusal_seen (Ok found) = Ok (found_seen found)
+found_or_refusal_seen (Err refusal) = Err refusal
+
+-- the open, or the lock state, that an operation works on, by the verdict on a stateid that names this
+abbrev pub open_by : Demand → State → Stateid → Result (Option stateids.Found) Refusal
+    → Result OpenAt Refusal
+open_by demand state id target = verdict_on demand state id target >>= as_open
+
+abbrev pub lock_by : Demand → State → Stateid → Result (Option stateids.Found) Refusal
+    → Result LockAt Refusal
+lock_by demand state id target = verdict_on demand state id target >>= as_lock
 
 abbrev pub open_or_refusal_seen : Result OpenFound Refusal → Result OpenAt Refusal
 open_or_refusal_seen (Ok found) = Ok (open_seen found)

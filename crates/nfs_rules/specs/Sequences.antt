@@ -1,7 +1,7 @@
 -- Sequenced operations: OPEN, OPEN_CONFIRM, OPEN_DOWNGRADE, CLOSE, LOCK and LOCKU go by the sequence id of an owner, so
 -- that a request that comes again is answered as it was (RFC 7530, sections 9.1.7 to 9.1.11). In turn: the filehandle,
 -- the owner, its sequence id, and then the operation's own rule.
-use Rattle.std.specs.Prelude.{◌≡◌, ℕ, Bool, true, false, not, ◌&&◌, find, Option, Some, None, option_map, is_some, if◌then◌else◌}
+use Rattle.std.specs.Prelude.{◌≡◌, ℕ, Bool, true, false, not, ◌&&◌, find, Option, Some, None, option_map, is_some, Result, Ok, Err, if◌then◌else◌}
 use Rattle.nfs_state.specs.declared.change.Change.TheVariants as changes
 use Rattle.nfs_rules.specs.declared.decision.Decision.{Decision}
 use Rattle.nfs_state.specs.declared.owner_change.OwnerChange.{OwnerChange}
@@ -15,7 +15,7 @@ use Rattle.nfs_state.specs.Kept.{kept_for}
 use Rattle.nfs_state.specs.Owners.{KnownOwner, owner_of}
 use Rattle.nfs_rules.specs.Newcomers.{Newcomer, Nobody, Known, Unknown, newcomer_of}
 use Rattle.nfs_rules.specs.Stateids as stateids
-use Rattle.nfs_rules.specs.Stateids.{Target, target_of}
+use Rattle.nfs_rules.specs.Stateids.{Found, target_of}
 use Rattle.nfs_state.specs.State.{State, History}
 use Rattle.nfs_forms.specs.declared.client_id.ClientId.{ClientId}
 use Rattle.nfs_forms.specs.declared.open_owner.OpenOwner.{OpenOwner}
@@ -83,15 +83,18 @@ abbrev pub owner_or_bad : ℕ → Option KnownOwner → Requester
 owner_or_bad seqid None = Refused refusals.BadStateId
 owner_or_bad seqid (Some o) = Owner o.name seqid
 
+-- the owner of a state that was found
+abbrev pub owner_of_found : Found → StateOwner
+owner_of_found (stateids.AnOpen at) = open_owner at.state.owner
+owner_of_found (stateids.ALock at) = lock_owner at.state.owner
+
 -- The owner that a stateid names: that of its open or lock state, no matter which file the state is of, whether its
 -- owner is confirmed, and how old the stateid is; or the owner whose kept request closed the stateid's open.
-abbrev pub requester_of_target : History → State → Stateid → ℕ → Target → Requester
-requester_of_target journal state id seqid (stateids.Refused refusal) = Refused refusal
-requester_of_target journal state id seqid (stateids.AnOpen at) =
-    Owner (open_owner at.state.owner) seqid
-requester_of_target journal state id seqid (stateids.ALock at) =
-    Owner (lock_owner at.state.owner) seqid
-requester_of_target journal state id seqid stateids.NoState =
+abbrev pub requester_of_target : History → State → Stateid → ℕ → Result (Option Found) Refusal
+    → Requester
+requester_of_target journal state id seqid (Err refusal) = Refused refusal
+requester_of_target journal state id seqid (Ok (Some found)) = Owner (owner_of_found found) seqid
+requester_of_target journal state id seqid (Ok None) =
     owner_or_bad seqid (find (λ o. has_closed id (kept_for journal o)) state.owners)
 
 abbrev pub requester_of_stateid : History → State → Stateid → ℕ → Requester

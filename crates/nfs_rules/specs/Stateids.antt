@@ -1,6 +1,8 @@
 -- What a stateid names, and the verdict on it (RFC 7530, sections 9.1.4.3 and 9.1.4.4).
-use Rattle.std.specs.Prelude.{ℕ, ◌^◌, ◌-◌, ◌==◌, nat_lt, Bool, not, ◌&&◌, ◌||◌, Option, Some, None, is_some, Result, Ok, Err, if◌then◌else◌}
+use Rattle.std.specs.Prelude.{ℕ, ◌^◌, ◌-◌, ◌==◌, nat_lt, Bool, true, false, not, ◌&&◌, ◌||◌, List, [], ◌∷◌, Option, Some, None, is_some, Result, Ok, Err}
+use Rattle.nfs_rules.specs.Refusing.{◌>>=◌, first_refusal}
 use Rattle.nfs_rules.specs.declared.demand.Demand.{Demand}
+use Rattle.nfs_rules.specs.declared.demand.Kinds.{Kinds}
 use Rattle.nfs_state.specs.Owners.{is_confirmed}
 use Rattle.nfs_state.specs.State.{State}
 use Rattle.nfs_forms.specs.declared.stateid.Stateid.{Stateid}
@@ -21,63 +23,106 @@ is_all word id =
 abbrev pub is_special : Stateid → Bool
 is_special id = is_all 0 id || is_all (2 ^ 32 - 1) id
 
--- what a stateid names, before its file and its seqid are looked at
-pub data Target : Type 0 where
-  -- it can't name a state
-  Refused : Refusal → Target
-  AnOpen : OpenAt → Target
-  ALock : LockAt → Target
-  -- its client is known, and none of the client's states has its number
-  NoState : Target
+-- Why a stateid can't name a state: it is special; it is of another run of the server; its client number was never given
+-- out; its client has no confirmed record, be it gone or never confirmed.
+abbrev pub before_state : ℕ → State → Stateid → List (Bool × Refusal)
+before_state epoch state id =
+    (is_special id, refusals.BadStateId)
+    ∷ (not (id.client.epoch == epoch), refusals.StaleStateId)
+    ∷ (not (was_given id.client.number state.clients), refusals.BadStateId)
+    ∷ (not (is_some (record_of id.client state.clients)), refusals.Expired)
+    ∷ []
 
--- the target, given the open and the lock state that the stateid names
-abbrev pub target_in : Option OpenAt → Option LockAt → Target
-target_in (Some at) lock = AnOpen at
-target_in None (Some at) = ALock at
-target_in None None = NoState
+-- a state that a stateid names, as it was found
+pub data Found : Type 0 where
+  AnOpen : OpenAt → Found
+  ALock : LockAt → Found
 
--- What a stateid names: NFS4ERR_BAD_STATEID for a special one, NFS4ERR_STALE_STATEID for one of another run of the
--- server, NFS4ERR_BAD_STATEID for a client number that was never given out, NFS4ERR_EXPIRED for one whose client has no
--- confirmed record, be it gone or never confirmed.
-abbrev pub target_of : ℕ → State → Stateid → Target
-target_of epoch state id =
-    if is_special id then Refused refusals.BadStateId
-    else if not (id.client.epoch == epoch) then Refused refusals.StaleStateId
-    else if not (was_given id.client.number state.clients) then Refused refusals.BadStateId
-    else if not (is_some (record_of id.client state.clients)) then Refused refusals.Expired
-    else target_in (named_in id state.opens) (lock_named_in id state.locks)
+-- the state that is found, given the open and the lock state that the stateid names
+abbrev pub open_or_lock : Option OpenAt → Option LockAt → Option Found
+open_or_lock (Some at) lock = Some (AnOpen at)
+open_or_lock None (Some at) = Some (ALock at)
+open_or_lock None None = None
 
--- NFS4ERR_OLD_STATEID for a seqid below the state's, NFS4ERR_BAD_STATEID for one above
-abbrev pub by_seqid : {A : Type 0} → ℕ → ℕ → A → Result A Refusal
-by_seqid given current at =
-    if nat_lt given current then Err refusals.OldStateId
-    else if nat_lt current given then Err refusals.BadStateId
-    else Ok at
+-- the client's state with the stateid's number, no matter its file and its seqid, if there is one
+abbrev pub found_in : State → Stateid → Option Found
+found_in state id = open_or_lock (named_in id state.opens) (lock_named_in id state.locks)
 
--- NFS4ERR_BAD_STATEID for no open, for an open of another file, and for one of an unconfirmed owner where the operation
--- accepts only those of confirmed ones
-abbrev pub open_at : Demand → State → Stateid → Target → Result OpenAt Refusal
-open_at demand state id (Refused refusal) = Err refusal
-open_at demand state id NoState = Err refusals.BadStateId
-open_at demand state id (ALock at) = Err refusals.BadStateId
-open_at demand state id (AnOpen at) =
-    if not (at.node == demand.node) then Err refusals.BadStateId
-    else if not (demand.also_unconfirmed || is_confirmed (open_owner at.state.owner) state.owners)
-    then Err refusals.BadStateId
-    else by_seqid id.seqid at.state.seqid at
+-- what a stateid names, or why it can't name a state
+abbrev pub target_of : ℕ → State → Stateid → Result (Option Found) Refusal
+target_of epoch state id = first_refusal (before_state epoch state id) (found_in state id)
 
--- NFS4ERR_BAD_STATEID for no lock state, and for one of another file than this node's
-abbrev pub lock_at : ℕ → Stateid → Target → Result LockAt Refusal
-lock_at node id (Refused refusal) = Err refusal
-lock_at node id NoState = Err refusals.BadStateId
-lock_at node id (AnOpen at) = Err refusals.BadStateId
-lock_at node id (ALock at) =
-    if not (at.node == node) then Err refusals.BadStateId else by_seqid id.seqid at.state.seqid at
+-- the operation works on states of this one's kind
+abbrev pub is_of_kinds : Kinds → Found → Bool
+is_of_kinds kinds (AnOpen at) = kinds.opens
+is_of_kinds kinds (ALock at) = kinds.locks
 
--- the verdict on a stateid: the open that it names, or why it names none that the operation can work on
-abbrev pub verdict : Demand → ℕ → State → Stateid → Result OpenAt Refusal
-verdict demand epoch state id = open_at demand state id (target_of epoch state id)
+abbrev pub node_of : Found → ℕ
+node_of (AnOpen at) = at.node
+node_of (ALock at) = at.node
 
--- the same for an operation on a lock state of this node's file
-abbrev pub lock_verdict : ℕ → ℕ → State → Stateid → Result LockAt Refusal
-lock_verdict node epoch state id = lock_at node id (target_of epoch state id)
+-- It isn't an open of an unconfirmed owner. A lock owner needs no confirmation.
+abbrev pub has_confirmed_owner : State → Found → Bool
+has_confirmed_owner state (AnOpen at) = is_confirmed (open_owner at.state.owner) state.owners
+has_confirmed_owner state (ALock at) = true
+
+abbrev pub seqid_of : Found → ℕ
+seqid_of (AnOpen at) = at.state.seqid
+seqid_of (ALock at) = at.state.seqid
+
+-- Why an operation can't work on the state that its stateid names: the state is of another kind; it is of another file;
+-- its owner is unconfirmed, where only confirmed ones are accepted; the stateid's seqid is below the state's, or above.
+abbrev pub of_state : Demand → State → Stateid → Found → List (Bool × Refusal)
+of_state demand state id found =
+    (not (is_of_kinds demand.kinds found), refusals.BadStateId)
+    ∷ (not (node_of found == demand.node), refusals.BadStateId)
+    ∷ (not (demand.also_unconfirmed || has_confirmed_owner state found), refusals.BadStateId)
+    ∷ (nat_lt id.seqid (seqid_of found), refusals.OldStateId)
+    ∷ (nat_lt (seqid_of found) id.seqid, refusals.BadStateId)
+    ∷ []
+
+-- NFS4ERR_BAD_STATEID where there is no state
+abbrev pub judged : Demand → State → Stateid → Option Found → Result Found Refusal
+judged demand state id None = Err refusals.BadStateId
+judged demand state id (Some found) = first_refusal (of_state demand state id found) found
+
+-- the verdict on a stateid that names this
+abbrev pub verdict_on : Demand → State → Stateid → Result (Option Found) Refusal
+    → Result Found Refusal
+verdict_on demand state id target = target >>= judged demand state id
+
+-- the verdict on a stateid: the state that it names, or the first reason why the operation can't work on it
+abbrev pub verdict : Demand → ℕ → State → Stateid → Result Found Refusal
+verdict demand epoch state id = verdict_on demand state id (target_of epoch state id)
+
+-- What the operations demand that work on one kind of state: an open whose owner is confirmed, an open of any owner, a
+-- lock state, each of this node's file.
+abbrev pub confirmed_open : ℕ → Demand
+confirmed_open node = record {
+  node = node;
+  kinds = record { opens = true; locks = false };
+  also_unconfirmed = false;
+}
+
+abbrev pub any_open : ℕ → Demand
+any_open node = record {
+  node = node;
+  kinds = record { opens = true; locks = false };
+  also_unconfirmed = true;
+}
+
+abbrev pub lock_state : ℕ → Demand
+lock_state node = record {
+  node = node;
+  kinds = record { opens = false; locks = true };
+  also_unconfirmed = false;
+}
+
+-- The open, or the lock state, that was demanded; a state of another kind is NFS4ERR_BAD_STATEID.
+abbrev pub as_open : Found → Result OpenAt Refusal
+as_open (AnOpen at) = Ok at
+as_open (ALock at) = Err refusals.BadStateId
+
+abbrev pub as_lock : Found → Result LockAt Refusal
+as_lock (ALock at) = Ok at
+as_lock (AnOpen at) = Err refusals.BadStateId

@@ -12,9 +12,10 @@ mod passage;
 mod ruling;
 mod sequence;
 mod stateids;
+mod turn;
 
 pub use decision::Decision;
-pub use demand::Demand;
+pub use demand::{Demand, Kinds};
 pub use laws::at_most_one_decision;
 pub use opening::Opening;
 pub use operations::decide;

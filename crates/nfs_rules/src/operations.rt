@@ -22,7 +22,8 @@ mod setclientid;
 mod setclientid_confirm;
 
 use crate::decision::Decision;
-use crate::sequence::{requester_of_open, requester_of_stateid};
+use crate::sequence::{requester_of_open, requester_of_target};
+use crate::stateids::target_of;
 use nfs_state::{Journal, Request, Shortage, Tables};
 use nfs_xdr::{Names, Op};
 use std::alloc::Global;
@@ -45,11 +46,12 @@ pub fn decide(
     match request.op.names() {
         Names::Opener(owner, seqid) => {
             let requester = requester_of_open(tables, owner, seqid);
-            sequenced::decide(alloc, tables, journal, request, requester)
+            sequenced::decide(alloc, tables, journal, request, requester, Ok(None))
         }
         Names::Owned(stateid, seqid) => {
-            let requester = requester_of_stateid(tables, journal, stateid, seqid);
-            sequenced::decide(alloc, tables, journal, request, requester)
+            let target = target_of(tables, journal.epoch(), stateid);
+            let requester = requester_of_target(tables, stateid, seqid, target);
+            sequenced::decide(alloc, tables, journal, request, requester, target)
         }
         Names::Nothing | Names::Client(_) => decide_plain(alloc, tables, journal, request),
     }

@@ -1,15 +1,16 @@
 ghost use Rattle.std.specs.Prelude.{◌≡◌, ◌≢◌, ◌&&◌, not, IfOk, OnErr, find, option_map};
-ghost use Rattle.nfs_rules.specs.Finding.{requester_seen, sequence_seen, stored_or_bad};
-ghost use Rattle.nfs_rules.specs.Deciding.{HasOtherRefusal, HasPassage, IsReplay, IsSendableSequence};
+ghost use Rattle.nfs_rules.specs.Finding.{found_seen, requester_seen, sequence_seen, stored_or_bad, target_seen};
+ghost use Rattle.nfs_rules.specs.Deciding.{HasOtherRefusal, HasPassage, IsOther, IsReplay, IsSendableSequence};
 ghost use Rattle.nfs_state.specs.Entries.{IsSendable};
 ghost use Rattle.nfs_state.specs.Kept.{Agrees};
 ghost use Rattle.nfs_state.specs.Room.{state_of};
-ghost use Rattle.nfs_rules.specs.Sequences.{IsJudged, IsOfKnown, IsOfUnknown, IsRestart, IsSequence, is_open, refusal_to, requester_of_open, requester_of_stateid};
+ghost use Rattle.nfs_state.specs.State.{History};
+ghost use Rattle.nfs_rules.specs.Sequences.{IsJudged, IsOfKnown, IsOfUnknown, IsRestart, IsSequence, is_open, owner_of_found, refusal_to, requester_of_open, requester_of_target};
 ghost use Rattle.nfs_owners.specs.Kept.{IsAgain, closes, request_of};
 ghost use Rattle.nfs_owners.specs.StateOwner.{owner_seen};
 
 use crate::passage::Passage;
-use crate::stateids::{Target, target_of};
+use crate::stateids::Found;
 use nfs_owners::{Kept, OwnerRef, OwnerState, Verdict};
 use nfs_state::{Journal, Request, Tables};
 use nfs_xdr::{Op, OpResult, OpenOwner, Refusal, Stateid};
@@ -45,23 +46,35 @@ pub(crate) fn requester_of_open<'a>(
     }
 }
 
-/// The owner that a stateid names, by its open or its lock state, or by an open that it has closed by its kept request.
-pub(crate) fn requester_of_stateid<'a>(
+/// The owner that a stateid names, by what it names, or by an open that it has closed by its kept request.
+pub(crate) fn requester_of_target<'a>(
     tables: &'a Tables,
-    journal: &Journal,
     stateid: Stateid,
     seqid: u32,
+    target: Result<Option<Found<'a>>, Refusal>,
 ) -> Requester<'a>
-    requires { Agrees journal.now.history tables.now.owners.owners }
-    ensures requester { requester_seen result
-        ≡ requester_of_stateid journal.now.history (state_of tables.now) stateid seqid }
-    ensures refusal { HasOtherRefusal (requester_seen result) }
+    ensures requester { (journal : History) → Agrees journal tables.now.owners.owners
+        → requester_seen result ≡ requester_of_target journal (state_of tables.now) stateid seqid
+        (target_seen target.entry) }
+    ensures refusal { IsOther (target_seen target.entry)
+        → HasOtherRefusal (requester_seen result) }
 {
-    match target_of(tables, journal.epoch(), stateid) {
-        Target::Refused(refusal) => Requester::Refused(refusal),
-        Target::AnOpen(found) => Requester::Owner(OwnerRef::of_open(&found.state.owner), seqid),
-        Target::ALock(found) => Requester::Owner(OwnerRef::of_lock(&found.state.owner), seqid),
-        Target::NoState => closer_of(tables, stateid, seqid),
+    match target {
+        Err(refusal) => Requester::Refused(refusal),
+        Ok(found) => match found {
+            Some(found) => Requester::Owner(owner_of_found(found), seqid),
+            None => closer_of(tables, stateid, seqid),
+        },
+    }
+}
+
+// The owner of a state that was found.
+fn owner_of_found<'a>(found: Found<'a>) -> OwnerRef<'a>
+    ensures { owner_seen result ≡ owner_of_found (found_seen found.entry) }
+{
+    match found {
+        Found::AnOpen(found) => OwnerRef::of_open(&found.state.owner),
+        Found::ALock(found) => OwnerRef::of_lock(&found.state.owner),
     }
 }
 

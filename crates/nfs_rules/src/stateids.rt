@@ -1,62 +1,59 @@
-ghost use Rattle.std.specs.Prelude.{◌≡◌};
-ghost use Rattle.nfs_locks.specs.AllLocks.{lock_named_in};
+ghost use Rattle.std.specs.Prelude.{◌≡◌, option_map};
 ghost use Rattle.nfs_owners.specs.StateOwner.{open_owner};
-ghost use Rattle.nfs_rules.specs.Finding.{lock_or_refusal_seen, open_or_refusal_seen, target_seen};
+ghost use Rattle.nfs_rules.specs.Finding.{found_or_refusal_seen, found_seen, lock_by, lock_or_refusal_seen, open_by, open_or_refusal_seen, target_seen};
+ghost use Rattle.nfs_rules.specs.Refusing.{first_refusal};
 ghost use Rattle.nfs_state.specs.Owners.{is_confirmed};
 ghost use Rattle.nfs_state.specs.Room.{state_of};
 ghost use Rattle.nfs_rules.specs.Stateids as stateids;
-ghost use Rattle.nfs_rules.specs.Stateids.{by_seqid, is_all, is_special, lock_verdict, verdict};
-ghost use Rattle.nfs_share.specs.AllOpens.{named_in};
+ghost use Rattle.nfs_rules.specs.Stateids.{found_in, has_confirmed_owner, is_all, is_of_kinds, is_special, node_of, of_state, seqid_of, verdict_on};
 
-use crate::demand::Demand;
+use crate::demand::{Demand, Kinds};
 use nfs_locks::LockFound;
 use nfs_owners::{OwnerRef, OwnerStanding};
 use nfs_share::OpenFound;
 use nfs_state::Tables;
 use nfs_xdr::{OpenOwner, Refusal, Stateid};
 
-/// What a stateid names, before its file and its seqid are looked at.
+/// A state that a stateid names, as it was found.
 #[derive(Clone, Copy, Debug)]
-pub(crate) enum Target<'a> {
-    /// It can't name a state.
-    Refused(Refusal),
+pub(crate) enum Found<'a> {
     AnOpen(OpenFound<'a>),
     ALock(LockFound<'a>),
-    /// Its client is known, and none of the client's states has its number.
-    NoState,
 }
 
-/// What the stateid names, in the server's run `epoch`.
-pub(crate) fn target_of(tables: &Tables, epoch: u32, stateid: Stateid) -> Target<'_>
+/// What the stateid names, in the server's run `epoch`, or why it can't name a state.
+pub(crate) fn target_of(
+    tables: &Tables,
+    epoch: u32,
+    stateid: Stateid,
+) -> Result<Option<Found<'_>>, Refusal>
     ensures { target_seen result ≡ stateids.target_of epoch (state_of tables.now) stateid }
 {
     if is_special(stateid) {
-        return Target::Refused(Refusal::BadStateId);
+        return Err(Refusal::BadStateId);
     }
     if stateid.client.epoch != epoch {
-        return Target::Refused(Refusal::StaleStateId);
+        return Err(Refusal::StaleStateId);
     }
     if !tables.clients.was_given(stateid.client.number) {
-        return Target::Refused(Refusal::BadStateId);
+        return Err(Refusal::BadStateId);
     }
     if tables.clients.of(stateid.client).is_none() {
-        return Target::Refused(Refusal::Expired);
+        return Err(Refusal::Expired);
     }
-    target_in(tables, stateid)
+    Ok(found_in(tables, stateid))
 }
 
 // The open or the lock state that the stateid names.
-fn target_in(tables: &Tables, stateid: Stateid) -> Target<'_>
-    ensures { target_seen result ≡ stateids.target_in
-        (named_in stateid (state_of tables.now).opens)
-        (lock_named_in stateid (state_of tables.now).locks) }
+fn found_in(tables: &Tables, stateid: Stateid) -> Option<Found<'_>>
+    ensures { option_map found_seen result ≡ found_in (state_of tables.now) stateid }
 {
     if let Some(found) = tables.opens.find(stateid) {
-        return Target::AnOpen(found);
+        return Some(Found::AnOpen(found));
     }
     match tables.locks.find(stateid) {
-        Some(found) => Target::ALock(found),
-        None => Target::NoState,
+        Some(found) => Some(Found::ALock(found)),
+        None => None,
     }
 }
 
@@ -67,62 +64,124 @@ pub(crate) fn is_confirmed(tables: &Tables, owner: &OpenOwner) -> bool
     tables.owners.known(OwnerRef::of_open(owner)) == OwnerStanding::Confirmed
 }
 
-/// The open that the stateid names, if it is as the operation demands, or why it isn't.
-pub(crate) fn verdict(
+/// The verdict on a stateid, by what it names: the state, if it is as the operation demands, or why it isn't.
+pub(crate) fn verdict<'a>(
     tables: &Tables,
     demand: Demand,
-    epoch: u32,
     stateid: Stateid,
-) -> Result<OpenFound<'_>, Refusal>
-    ensures { open_or_refusal_seen result
-        ≡ verdict demand epoch (state_of tables.now) stateid }
+    target: Result<Option<Found<'a>>, Refusal>,
+) -> Result<Found<'a>, Refusal>
+    ensures { found_or_refusal_seen result
+        ≡ verdict_on demand (state_of tables.now) stateid (target_seen target.entry) }
 {
-    match target_of(tables, epoch, stateid) {
-        Target::Refused(refusal) => Err(refusal),
-        Target::NoState | Target::ALock(_) => Err(Refusal::BadStateId),
-        Target::AnOpen(found) => {
-            if found.node != demand.node {
-                return Err(Refusal::BadStateId);
-            }
-            if !demand.also_unconfirmed && !is_confirmed(tables, &found.state.owner) {
-                return Err(Refusal::BadStateId);
-            }
-            by_seqid(stateid.seqid, found.state.seqid)?;
-            Ok(found)
-        }
+    match target {
+        Err(refusal) => Err(refusal),
+        Ok(None) => Err(Refusal::BadStateId),
+        Ok(Some(found)) => judge(tables, demand, stateid, found),
     }
 }
 
-/// The lock state of the node's file that the stateid names, or why it names none.
-pub(crate) fn lock_verdict(
+// The state that was found, if it is as the operation demands.
+fn judge<'a>(
     tables: &Tables,
-    node: u32,
-    epoch: u32,
+    demand: Demand,
     stateid: Stateid,
-) -> Result<LockFound<'_>, Refusal>
-    ensures { lock_or_refusal_seen result
-        ≡ lock_verdict node epoch (state_of tables.now) stateid }
+    found: Found<'a>,
+) -> Result<Found<'a>, Refusal>
+    ensures { found_or_refusal_seen result
+        ≡ first_refusal (of_state demand (state_of tables.now) stateid (found_seen found.entry))
+        (found_seen found.entry) }
 {
-    match target_of(tables, epoch, stateid) {
-        Target::Refused(refusal) => Err(refusal),
-        Target::ALock(found) if found.node == node => {
-            by_seqid(stateid.seqid, found.state.seqid)?;
-            Ok(found)
-        }
-        Target::ALock(_) | Target::AnOpen(_) | Target::NoState => Err(Refusal::BadStateId),
+    if !is_of_kinds(demand.kinds, found) {
+        return Err(Refusal::BadStateId);
     }
-}
-
-// NFS4ERR_OLD_STATEID for a seqid below the state's, NFS4ERR_BAD_STATEID for one above.
-fn by_seqid(given: u32, current: u32) -> Result<(), Refusal>
-    ensures { result ≡ by_seqid given current tt }
-{
-    if given < current {
+    if node_of(found) != demand.node {
+        return Err(Refusal::BadStateId);
+    }
+    if !demand.also_unconfirmed && !has_confirmed_owner(tables, found) {
+        return Err(Refusal::BadStateId);
+    }
+    let seqid = seqid_of(found);
+    if stateid.seqid < seqid {
         Err(Refusal::OldStateId)
-    } else if current < given {
+    } else if seqid < stateid.seqid {
         Err(Refusal::BadStateId)
     } else {
-        Ok(())
+        Ok(found)
+    }
+}
+
+// Whether the operation works on states of this one's kind.
+fn is_of_kinds(kinds: Kinds, found: Found<'_>) -> bool
+    ensures { result ≡ is_of_kinds kinds (found_seen found.entry) }
+{
+    match found {
+        Found::AnOpen(_) => kinds.opens,
+        Found::ALock(_) => kinds.locks,
+    }
+}
+
+// The node of the state's file.
+fn node_of(found: Found<'_>) -> u32
+    ensures { result ≡ node_of (found_seen found.entry) }
+{
+    match found {
+        Found::AnOpen(found) => found.node,
+        Found::ALock(found) => found.node,
+    }
+}
+
+// Whether the state isn't an open of an unconfirmed owner.
+fn has_confirmed_owner(tables: &Tables, found: Found<'_>) -> bool
+    ensures { result ≡ has_confirmed_owner (state_of tables.now) (found_seen found.entry) }
+{
+    match found {
+        Found::AnOpen(found) => is_confirmed(tables, &found.state.owner),
+        Found::ALock(_) => true,
+    }
+}
+
+// The state's current seqid.
+fn seqid_of(found: Found<'_>) -> u32
+    ensures { result ≡ seqid_of (found_seen found.entry) }
+{
+    match found {
+        Found::AnOpen(found) => found.state.seqid,
+        Found::ALock(found) => found.state.seqid,
+    }
+}
+
+/// The verdict of an operation that works on opens alone.
+pub(crate) fn open_verdict<'a>(
+    tables: &Tables,
+    demand: Demand,
+    stateid: Stateid,
+    target: Result<Option<Found<'a>>, Refusal>,
+) -> Result<OpenFound<'a>, Refusal>
+    ensures { open_or_refusal_seen result
+        ≡ open_by demand (state_of tables.now) stateid (target_seen target.entry) }
+{
+    match verdict(tables, demand, stateid, target) {
+        Err(refusal) => Err(refusal),
+        Ok(Found::AnOpen(found)) => Ok(found),
+        Ok(Found::ALock(_)) => Err(Refusal::BadStateId),
+    }
+}
+
+/// The verdict of an operation that works on lock states alone.
+pub(crate) fn lock_verdict<'a>(
+    tables: &Tables,
+    demand: Demand,
+    stateid: Stateid,
+    target: Result<Option<Found<'a>>, Refusal>,
+) -> Result<LockFound<'a>, Refusal>
+    ensures { lock_or_refusal_seen result
+        ≡ lock_by demand (state_of tables.now) stateid (target_seen target.entry) }
+{
+    match verdict(tables, demand, stateid, target) {
+        Err(refusal) => Err(refusal),
+        Ok(Found::ALock(found)) => Ok(found),
+        Ok(Found::AnOpen(_)) => Err(Refusal::BadStateId),
     }
 }
 

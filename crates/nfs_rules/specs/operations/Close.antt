@@ -1,9 +1,10 @@
 -- CLOSE (RFC 7530, section 16.2): frees an open.
-use Rattle.std.specs.Prelude.{◌≡◌, false, Some, Result, Ok, Err}
+use Rattle.std.specs.Prelude.{◌≡◌, Some, Result, Ok, Err}
 use Rattle.nfs_state.specs.declared.change.Change.TheVariants.{Nothing, Closes}
 use Rattle.nfs_rules.specs.declared.ruling.Ruling.{Ruling}
 use Rattle.nfs_rules.specs.Sequences.{Own}
-use Rattle.nfs_rules.specs.Stateids.{verdict}
+use Rattle.nfs_rules.specs.Refusing.{◌>>=◌}
+use Rattle.nfs_rules.specs.Stateids.{as_open, confirmed_open, verdict}
 use Rattle.nfs_state.specs.State.{State, History}
 use Rattle.nfs_share.specs.AllOpens.{OpenAt}
 use Rattle.nfs_share.specs.Opens.{next_stateid_of}
@@ -24,4 +25,4 @@ closing (Ok at) = record {
 abbrev pub own : History → State → Close → Own
 own journal state args node passage ruling =
     ruling ≡ Some (closing
-    (verdict (record { node = node; also_unconfirmed = false }) journal.epoch state args.stateid))
+    (verdict (confirmed_open node) journal.epoch state args.stateid >>= as_open))

@@ -22,7 +22,7 @@ use Rattle.nfs_rules.specs.Locking.{can_be_written, denied_by, lock_of_bytes, mo
 use Rattle.nfs_rules.specs.Newcomers.{has_turn}
 use Rattle.nfs_rules.specs.Refusing.{◌>>=◌, refused_if}
 use Rattle.nfs_rules.specs.Sequences.{Own}
-use Rattle.nfs_rules.specs.Stateids.{lock_verdict, verdict}
+use Rattle.nfs_rules.specs.Stateids.{as_lock, as_open, confirmed_open, lock_state, verdict}
 use Rattle.nfs_rules.specs.declared.ruling.Ruling.{Ruling}
 use Rattle.nfs_share.specs.AllOpens.{OpenAt, opens_of}
 use Rattle.nfs_share.specs.Opens.{open_with_number, share_of}
@@ -76,11 +76,10 @@ locking_of_state args at = refused_if args.reclaim refusals.NoGrace (record {
 -- run to the next: NFS4ERR_NO_GRACE.
 abbrev pub locking_of : History → State → ℕ → Lock → Locker → Result Locking Refusal
 locking_of journal state node args (lockers.New locker) =
-    verdict (record { node = node; also_unconfirmed = false }) journal.epoch state
-    locker.open_stateid >>= λ at.
+    verdict (confirmed_open node) journal.epoch state locker.open_stateid >>= as_open >>= λ at.
     introduction journal state args locker at
 locking_of journal state node args (lockers.Known locker) =
-    lock_verdict node journal.epoch state locker.lock_stateid >>= λ at.
+    verdict (lock_state node) journal.epoch state locker.lock_stateid >>= as_lock >>= λ at.
     locking_of_state args at
 
 -- the open, as it is now, may do what a lock in the mode is for

@@ -10,7 +10,8 @@ use Rattle.nfs_ranges.specs.Bytes.{IsRangeOf}
 use Rattle.nfs_ranges.specs.declared.range.Range.{Range}
 use Rattle.nfs_rules.specs.Locking.{unlock_of_bytes}
 use Rattle.nfs_rules.specs.Sequences.{Own}
-use Rattle.nfs_rules.specs.Stateids.{lock_verdict}
+use Rattle.nfs_rules.specs.Refusing.{◌>>=◌}
+use Rattle.nfs_rules.specs.Stateids.{as_lock, lock_state, verdict}
 use Rattle.nfs_rules.specs.declared.ruling.Ruling.{Ruling}
 use Rattle.nfs_state.specs.State.{State, History}
 use Rattle.nfs_state.specs.declared.change.Change.TheVariants.{Nothing, Locks}
@@ -40,4 +41,5 @@ IsUnlock state args (Ok at) ruling =
 -- used.
 abbrev pub own : History → State → Locku → Own
 own journal state args node passage ruling =
-    IsUnlock state args (lock_verdict node journal.epoch state args.stateid) ruling
+    IsUnlock state args
+    (verdict (lock_state node) journal.epoch state args.stateid >>= as_lock) ruling

@@ -8,8 +8,7 @@ use Rattle.nfs_rules.specs.declared.opening.Opening.{Opening}
 use Rattle.nfs_rules.specs.declared.ruling.Ruling.{Ruling}
 use Rattle.nfs_rules.specs.Refusing.{◌>>=◌}
 use Rattle.nfs_rules.specs.Sequences.{Own, before_own}
-use Rattle.nfs_rules.specs.Stateids as stateids
-use Rattle.nfs_rules.specs.Stateids.{Target, target_of}
+use Rattle.nfs_rules.specs.Stateids.{target_of}
 use Rattle.nfs_state.specs.State.{State, History}
 use Rattle.nfs_owners.specs.declared.owner.TheConstants.{OWNER_LIMIT}
 use Rattle.nfs_share.specs.declared.open_state.OpenState.{OpenState}
@@ -65,13 +64,9 @@ file_at journal how node =
     else Ok node
 
 -- The delegation's stateid in a CLAIM_DELEGATE_CUR: there are no delegations, so it never names one.
-abbrev pub refusal_of_target : Target → Refusal
-refusal_of_target (stateids.Refused refusal) = refusal
-refusal_of_target found = refusals.BadStateId
-
 abbrev pub unless_delegated : History → State → Claim → ℕ → Result ℕ Refusal
 unless_delegated journal state (claims.DelegateCur id name) node =
-    Err (refusal_of_target (target_of journal.epoch state id))
+    target_of journal.epoch state id >>= λ found. Err refusals.BadStateId
 unless_delegated journal state claim node = Ok node
 
 -- NFS4ERR_SHARE_DENIED if an open of another owner conflicts with the share of this OPEN alone (section 9.9)

@@ -1,11 +1,12 @@
 -- OPEN_CONFIRM (RFC 7530, section 16.18): confirms an owner after its first OPEN.
-use Rattle.std.specs.Prelude.{◌≡◌, true, Some, Result, Ok, Err, if◌then◌else◌}
+use Rattle.std.specs.Prelude.{◌≡◌, Some, Result, Ok, Err, if◌then◌else◌}
 use Rattle.nfs_state.specs.declared.change.Change.TheVariants.{Nothing, Confirms}
 use Rattle.nfs_owners.specs.StateOwner.{open_owner}
 use Rattle.nfs_state.specs.Owners.{is_confirmed}
 use Rattle.nfs_rules.specs.declared.ruling.Ruling.{Ruling}
 use Rattle.nfs_rules.specs.Sequences.{Own}
-use Rattle.nfs_rules.specs.Stateids.{verdict}
+use Rattle.nfs_rules.specs.Refusing.{◌>>=◌}
+use Rattle.nfs_rules.specs.Stateids.{any_open, as_open, verdict}
 use Rattle.nfs_state.specs.State.{State, History}
 use Rattle.nfs_share.specs.AllOpens.{OpenAt}
 use Rattle.nfs_share.specs.Opens.{next_stateid_of}
@@ -33,4 +34,4 @@ confirmation state (Ok at) =
 abbrev pub own : History → State → OpenConfirm → Own
 own journal state args node passage ruling =
     ruling ≡ Some (confirmation state
-    (verdict (record { node = node; also_unconfirmed = true }) journal.epoch state args.stateid))
+    (verdict (any_open node) journal.epoch state args.stateid >>= as_open))

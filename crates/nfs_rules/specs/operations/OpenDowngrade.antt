@@ -1,9 +1,10 @@
 -- OPEN_DOWNGRADE (RFC 7530, section 16.19): gives up a part of an open's access, and of what it denies to others.
-use Rattle.std.specs.Prelude.{◌≡◌, ◌⊎◌, false, Option, Some, None, Result, Ok, Err}
+use Rattle.std.specs.Prelude.{◌≡◌, ◌⊎◌, Option, Some, None, Result, Ok, Err}
 use Rattle.nfs_state.specs.declared.change.Change.TheVariants.{Nothing, Downgrades}
 use Rattle.nfs_rules.specs.declared.ruling.Ruling.{Ruling}
 use Rattle.nfs_rules.specs.Sequences.{Own}
-use Rattle.nfs_rules.specs.Stateids.{verdict}
+use Rattle.nfs_rules.specs.Refusing.{◌>>=◌}
+use Rattle.nfs_rules.specs.Stateids.{as_open, confirmed_open, verdict}
 use Rattle.nfs_state.specs.State.{State, History}
 use Rattle.nfs_share.specs.declared.share.Share.{Share}
 use Rattle.nfs_share.specs.AllOpens.{OpenAt}
@@ -42,5 +43,4 @@ IsFound (Ok at) args ruling = IsDowngrade at (share_of_numbers args.access args.
 abbrev pub own : History → State → OpenDowngrade → Own
 own journal state args node passage None = ⊥
 own journal state args node passage (Some ruling) =
-    IsFound (verdict (record { node = node; also_unconfirmed = false }) journal.epoch state
-    args.stateid) args ruling
+    IsFound (verdict (confirmed_open node) journal.epoch state args.stateid >>= as_open) args ruling

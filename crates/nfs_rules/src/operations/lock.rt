@@ -3,8 +3,8 @@ ghost use Rattle.std.specs.Option.{option_copied};
 ghost use Rattle.nfs_locks.specs.LockFound.{lock_found_seen};
 ghost use Rattle.nfs_locks.specs.StoredLocks.{lock_seen};
 ghost use Rattle.nfs_operations.specs.declared.lock.Lock.{Lock};
-ghost use Rattle.nfs_rules.specs.Deciding.{ByOwnRule};
-ghost use Rattle.nfs_rules.specs.Finding.{locking_or_refusal_seen, locking_seen};
+ghost use Rattle.nfs_rules.specs.Deciding.{ByOwnRule, IsTargetOf};
+ghost use Rattle.nfs_rules.specs.Finding.{locking_or_refusal_seen, locking_seen, target_seen};
 ghost use Rattle.nfs_rules.specs.declared.passage.Passage.{Passage};
 ghost use Rattle.nfs_rules.specs.operations.Lock.{IsAllowed, addition, allows, beginning, first_stateid, grant, introduction, locking_of_state, locking_of, own};
 ghost use Rattle.nfs_owners.specs.StateOwner.{lock_owner};
@@ -13,19 +13,20 @@ ghost use Rattle.nfs_state.specs.Places.{has_owner_place, has_state_place};
 ghost use Rattle.nfs_state.specs.Kept.{Agrees};
 ghost use Rattle.nfs_state.specs.Room.{state_of};
 ghost use Rattle.nfs_state.specs.State.{History};
+ghost use Rattle.nfs_xdr.specs.Names.{locker_names, names_of};
 
 use crate::demand::Demand;
 use crate::locking::{denied_by, lock_of_bytes, mode_of};
 use crate::newcomer::has_turn;
 use crate::ruling::Ruling;
-use crate::stateids::{lock_verdict, verdict};
+use crate::stateids::{Found, lock_verdict, open_verdict};
 use nfs_forms::{LockOwner, Locker, NewLocker, Stateid};
 use nfs_locks::{FirstLock, LockFound, LockState, at_most_one_report};
 use nfs_operations::lock::Lock;
 use nfs_owners::OwnerRef;
 use nfs_ranges::{Mode, Range, at_most_one_range, range_of};
 use nfs_share::{OpenFound, OpenState};
-use nfs_state::{Change, Journal, Shortage, Tables};
+use nfs_state::{Change, Shortage, Tables};
 use nfs_xdr::{Answer, Op, OpResult, Opnum, Refusal};
 
 /// For whom bytes of a node's file are to be held and in which mode, under which open, and the lock state that they are
@@ -39,21 +40,23 @@ pub(crate) struct Locking<'a> {
     pub state: Option<&'a LockState>,
 }
 
-/// The own rule of LOCK, under the current filehandle `node`.
+/// The own rule of LOCK, under the current filehandle `node`, by what its stateid names.
 pub(super) fn rule(
     tables: &Tables,
-    journal: &Journal,
     node: u32,
     args: &Lock,
+    target: Result<Option<Found<'_>>, Refusal>,
 ) -> Result<Ruling, Shortage>
     requires states { tables.now.numbers < 2 ^ 32 - 1 }
-    requires kept { Agrees journal.now.history tables.now.owners.owners }
-    ensures { (passage : Passage)
-        → ByOwnRule (own journal.now.history (state_of tables.now) args.now node passage)
+    ensures { (journal : History) (passage : Passage)
+        → Agrees journal tables.now.owners.owners
+        → IsTargetOf (names_of (Op.Lock args.now)) journal (state_of tables.now)
+        (target_seen target.entry)
+        → ByOwnRule (own journal (state_of tables.now) args.now node passage)
         (state_of tables.now) (Op.Lock args.now) result }
 {
     at_most_one_range();
-    let locking = match locking_of(tables, journal, node, args) {
+    let locking = match locking_of(tables, node, args, target) {
         Err(refusal) => return Ok(Ruling::refusal(Opnum::Lock, refusal)),
         Ok(locking) => locking,
     };
@@ -72,25 +75,25 @@ pub(super) fn rule(
 // What the LOCK is to hold, or its first refusal.
 fn locking_of<'a>(
     tables: &'a Tables,
-    journal: &Journal,
     node: u32,
     args: &'a Lock,
+    target: Result<Option<Found<'a>>, Refusal>,
 ) -> Result<Locking<'a>, Refusal>
-    requires { Agrees journal.now.history tables.now.owners.owners }
-    ensures { locking_or_refusal_seen result
-        ≡ locking_of journal.now.history (state_of tables.now) node args.now args.now.locker }
+    ensures { (journal : History) → Agrees journal tables.now.owners.owners
+        → IsTargetOf (locker_names args.now.locker) journal (state_of tables.now)
+        (target_seen target.entry)
+        → locking_or_refusal_seen result
+        ≡ locking_of journal (state_of tables.now) node args.now args.now.locker }
 {
     match &args.locker {
         Locker::New(locker) => {
-            let demand = Demand {
-                node,
-                also_unconfirmed: false,
-            };
-            let found = verdict(tables, demand, journal.epoch(), locker.open_stateid)?;
+            let demand = Demand::confirmed_open(node);
+            let found = open_verdict(tables, demand, locker.open_stateid, target)?;
             introduce(tables, args, locker, found)
         }
         Locker::Known(locker) => {
-            let found = lock_verdict(tables, node, journal.epoch(), locker.lock_stateid)?;
+            let demand = Demand::lock_state(node);
+            let found = lock_verdict(tables, demand, locker.lock_stateid, target)?;
             locking_of_state(args, found)
         }
     }

@@ -1,33 +1,39 @@
 ghost use Rattle.std.specs.Prelude.{◌≡◌, Some};
 ghost use Rattle.nfs_locks.specs.LockFound.{lock_found_seen};
 ghost use Rattle.nfs_operations.specs.declared.locku.Locku.{Locku};
-ghost use Rattle.nfs_rules.specs.Deciding.{ByOwnRule};
+ghost use Rattle.nfs_rules.specs.Deciding.{ByOwnRule, IsTargetOf};
+ghost use Rattle.nfs_rules.specs.Finding.{target_seen};
 ghost use Rattle.nfs_rules.specs.declared.passage.Passage.{Passage};
 ghost use Rattle.nfs_rules.specs.operations.Locku.{own, unlocking};
 ghost use Rattle.nfs_state.specs.Room.{state_of};
+ghost use Rattle.nfs_state.specs.State.{History};
+ghost use Rattle.nfs_xdr.specs.Names.{names_of};
 
+use crate::demand::Demand;
 use crate::locking::unlock_of_bytes;
 use crate::ruling::Ruling;
-use crate::stateids::lock_verdict;
+use crate::stateids::{Found, lock_verdict};
 use nfs_locks::LockFound;
 use nfs_operations::locku::Locku;
 use nfs_ranges::{Range, at_most_one_range, range_of};
-use nfs_state::{Change, Journal, Shortage, Tables};
+use nfs_state::{Change, Shortage, Tables};
 use nfs_xdr::{Answer, Op, OpResult, Opnum, Refusal};
 
-/// The own rule of LOCKU, under the current filehandle `node`.
+/// The own rule of LOCKU, under the current filehandle `node`, by what its stateid names.
 pub(super) fn rule(
     tables: &Tables,
-    journal: &Journal,
     node: u32,
     args: &Locku,
+    target: Result<Option<Found<'_>>, Refusal>,
 ) -> Result<Ruling, Shortage>
-    ensures { (passage : Passage)
-        → ByOwnRule (own journal.now.history (state_of tables.now) args.now node passage)
+    ensures { (journal : History) (passage : Passage)
+        → IsTargetOf (names_of (Op.Locku args.now)) journal (state_of tables.now)
+        (target_seen target.entry)
+        → ByOwnRule (own journal (state_of tables.now) args.now node passage)
         (state_of tables.now) (Op.Locku args.now) result }
 {
     at_most_one_range();
-    match lock_verdict(tables, node, journal.epoch(), args.stateid) {
+    match lock_verdict(tables, Demand::lock_state(node), args.stateid, target) {
         Err(refusal) => Ok(Ruling::refusal(Opnum::Locku, refusal)),
         Ok(found) => match range_of(args.offset, args.length) {
             None => Ok(Ruling::refusal(Opnum::Locku, Refusal::Inval)),

@@ -3,10 +3,9 @@ ghost use Rattle.std.specs.Option.{option_copied};
 ghost use Rattle.std.specs.Result.{IsOk, result_map_both};
 ghost use Rattle.nfs_owners.specs.StateOwner.{open_owner};
 ghost use Rattle.nfs_rules.specs.Deciding.{ByOwnRule, IsPassage};
-ghost use Rattle.nfs_rules.specs.Finding.{target_seen};
 ghost use Rattle.nfs_state.specs.Room.{state_of};
 ghost use Rattle.nfs_rules.specs.Sequences.{before_own};
-ghost use Rattle.nfs_rules.specs.operations.Open.{file_at, found_by, has_owner_place, name_of, opening, own, refusal_of_target, rflags_of, ruling_of, unless_delegated, unless_denied, wants_new};
+ghost use Rattle.nfs_rules.specs.operations.Open.{file_at, found_by, has_owner_place, name_of, opening, own, rflags_of, ruling_of, unless_delegated, unless_denied, wants_new};
 ghost use Rattle.nfs_rules.specs.operations.OpenGrant.{ok_answer, granted_stateid, new_stateid};
 ghost use Rattle.nfs_share.specs.AllOpens.{opens_of};
 ghost use Rattle.nfs_state.specs.Places.{has_state_place};
@@ -15,7 +14,7 @@ ghost use Rattle.nfs_share.specs.Opens.{open_of};
 use crate::opening::Opening;
 use crate::passage::Passage;
 use crate::ruling::Ruling;
-use crate::stateids::{Target, target_of};
+use crate::stateids::target_of;
 use nfs_operations::open::{Open, OpenOk};
 use nfs_owners::OwnerRef;
 use nfs_share::{OpenState, Share};
@@ -123,16 +122,9 @@ fn unless_delegated(
     let Claim::DelegateCur { stateid, .. } = claim else {
         return Ok(node);
     };
-    Err(refusal_of_target(target_of(tables, journal.epoch(), *stateid)))
-}
-
-// Why a stateid names no delegation.
-fn refusal_of_target(found: Target<'_>) -> Refusal
-    ensures { result ≡ refusal_of_target (target_seen found.entry) }
-{
-    match found {
-        Target::Refused(refusal) => refusal,
-        Target::AnOpen(_) | Target::ALock(_) | Target::NoState => Refusal::BadStateId,
+    match target_of(tables, journal.epoch(), *stateid) {
+        Err(refusal) => Err(refusal),
+        Ok(_) => Err(Refusal::BadStateId),
     }
 }
 

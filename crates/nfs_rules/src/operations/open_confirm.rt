@@ -1,40 +1,32 @@
-ghost use Rattle.std.specs.Prelude.{IfOk, OnErr, Some, true};
-ghost use Rattle.nfs_state.specs.Entries.{IsSendable};
-ghost use Rattle.nfs_state.specs.Room.{IsWithinLimits, state_of};
+ghost use Rattle.nfs_state.specs.Room.{state_of};
+ghost use Rattle.nfs_state.specs.State.{History};
 ghost use Rattle.nfs_rules.specs.declared.passage.Passage.{Passage};
+ghost use Rattle.nfs_rules.specs.Deciding.{ByOwnRule, IsTargetOf};
+ghost use Rattle.nfs_rules.specs.Finding.{target_seen};
 ghost use Rattle.nfs_rules.specs.operations.OpenConfirm.{own};
-ghost use Rattle.nfs_rules.specs.Deciding.{IsConfirmable};
-ghost use Rattle.nfs_rules.specs.Stateids as stateids;
+ghost use Rattle.nfs_xdr.specs.Names.{names_of};
 
 use crate::demand::Demand;
 use crate::ruling::Ruling;
-use crate::stateids::{is_confirmed, verdict};
+use crate::stateids::{Found, is_confirmed, open_verdict};
 use nfs_operations::open_confirm::OpenConfirm;
-use nfs_state::{Change, Journal, Tables};
+use nfs_state::{Change, Shortage, Tables};
 use nfs_xdr::{Answer, Op, OpResult, Opnum, Refusal};
-use std::alloc::AllocError;
 
-/// The own rule of OPEN_CONFIRM, under the current filehandle `node`.
+/// The own rule of OPEN_CONFIRM, under the current filehandle `node`, by what its stateid names.
 pub(super) fn rule(
     tables: &Tables,
-    journal: &Journal,
     node: u32,
     args: &OpenConfirm,
-) -> Result<Ruling, AllocError>
-    ensures own { IfOk result (λ r. (passage : Passage)
-        → own journal.now.history (state_of tables.now) args.now node passage (Some r)) }
-    ensures sendable { IfOk result (λ r. IsSendable (Op.OpenConfirm args.now) r.answer) }
-    ensures numbers { IfOk result (λ r. IsWithinLimits r.change (state_of tables.now)) }
-    ensures memory { OnErr result (IsConfirmable (state_of tables.now)
-        (stateids.verdict (record { node = node; also_unconfirmed = true })
-        journal.now.history.epoch
-        (state_of tables.now) args.now.stateid)) }
+    target: Result<Option<Found<'_>>, Refusal>,
+) -> Result<Ruling, Shortage>
+    ensures { (journal : History) (passage : Passage)
+        → IsTargetOf (names_of (Op.OpenConfirm args.now)) journal (state_of tables.now)
+        (target_seen target.entry)
+        → ByOwnRule (own journal (state_of tables.now) args.now node passage)
+        (state_of tables.now) (Op.OpenConfirm args.now) result }
 {
-    let demand = Demand {
-        node,
-        also_unconfirmed: true,
-    };
-    let found = match verdict(tables, demand, journal.epoch(), args.stateid) {
+    let found = match open_verdict(tables, Demand::any_open(node), args.stateid, target) {
         Err(refusal) => return Ok(Ruling::refusal(Opnum::OpenConfirm, refusal)),
         Ok(found) => found,
     };

@@ -1,13 +1,13 @@
 //! The frame of the operations that go by the sequence id of an owner (RFC 7530, sections 9.1.7 to 9.1.11).
 
 ghost use Rattle.std.specs.Prelude.{◌≡◌, ◌<◌, ◌-◌, ◌^◌, IfOk, IsTrue, OnErr};
-ghost use Rattle.nfs_rules.specs.Deciding.{Decides, HasOtherRefusal, IsAdmitted, IsPassageOf, IsRequesterOf, ByOwnRule};
+ghost use Rattle.nfs_rules.specs.Deciding.{ByOwnRule, Decides, HasOtherRefusal, IsAdmitted, IsPassageOf, IsRequesterOf, IsTargetOf};
 ghost use Rattle.nfs_owners.specs.StateOwner.{owner_seen};
-ghost use Rattle.nfs_rules.specs.Finding.{newcomer_seen, requester_seen};
+ghost use Rattle.nfs_rules.specs.Finding.{newcomer_seen, requester_seen, target_seen};
 ghost use Rattle.nfs_state.specs.Kept.{Agrees};
 ghost use Rattle.nfs_state.specs.Room.{state_of};
 ghost use Rattle.nfs_rules.specs.Sequences.{IsSequenced, decision_of, counts, kept_with, only, owner_change_of};
-ghost use Rattle.nfs_xdr.specs.Names.{is_sequenced};
+ghost use Rattle.nfs_xdr.specs.Names.{is_sequenced, names_of};
 ghost use Rattle.nfs_rules.specs.operations.{own_of};
 
 use super::{close, lock, locku, open, open_confirm, open_downgrade};
@@ -16,6 +16,8 @@ use crate::newcomer::{Newcomer, newcomer_of};
 use crate::passage::Passage;
 use crate::ruling::Ruling;
 use crate::sequence::{Requester, SequenceStep, sequence_of};
+use crate::stateids::Found;
+use crate::turn::Turn;
 use nfs_locks::at_most_one_report;
 use nfs_owners::OwnerRef;
 use nfs_ranges::at_most_one_range;
@@ -23,16 +25,19 @@ use nfs_state::{Change, Effect, Journal, OwnerChange, Request, Shortage, Tables}
 use nfs_xdr::{Op, OpResult, Refusal, Status};
 use std::alloc::{AllocError, Global};
 
-/// Decides a sequenced operation of this requester: the filehandle, the owner and its sequence id come before the
-/// operation's own rule.
+/// Decides a sequenced operation of this requester, whose stateid, if it has one, names this target: the filehandle, the
+/// owner and its sequence id come before the operation's own rule.
 pub(super) fn decide(
     alloc: Global,
     tables: &Tables,
     journal: &Journal,
     request: &Request,
     requester: Requester<'_>,
+    target: Result<Option<Found<'_>>, Refusal>,
 ) -> Result<Decision, Shortage>
     requires refusal { HasOtherRefusal (requester_seen requester) }
+    requires target { IsTargetOf (names_of request.now.op) journal.now.history
+        (state_of tables.now) (target_seen target) }
     requires sequenced { IsTrue (is_sequenced request.now.op) }
     requires states { tables.now.numbers < 2 ^ 32 - 1 }
     requires kept { Agrees journal.now.history tables.now.owners.owners }
@@ -52,7 +57,12 @@ pub(super) fn decide(
     match sequence_of(tables, journal, request, requester)? {
         SequenceStep::Answered(answer) => Ok(answer_alone(answer)),
         SequenceStep::GoesOn(passage, name) => {
-            let ruling = rule(alloc, tables, journal, node, passage, &request.op)?;
+            let turn = Turn {
+                node,
+                passage,
+                target,
+            };
+            let ruling = rule(alloc, tables, journal, turn, &request.op)?;
             let newcomer = newcomer_of(tables, name.client, &request.op);
             Ok(decision_of(passage, name, newcomer, ruling)?)
         }
@@ -69,29 +79,35 @@ fn answer_alone(answer: OpResult) -> Decision
     }
 }
 
-// The operation's own rule, under the current filehandle `node`.
+// The operation's own rule.
 fn rule(
     alloc: Global,
     tables: &Tables,
     journal: &Journal,
-    node: u32,
-    passage: Passage,
+    turn: Turn<'_>,
     op: &Op,
 ) -> Result<Ruling, Shortage>
     requires sequenced { IsTrue (is_sequenced op.now) }
     requires states { tables.now.numbers < 2 ^ 32 - 1 }
     requires kept { Agrees journal.now.history tables.now.owners.owners }
-    requires passage { IsPassageOf op.now passage (state_of tables.now) }
-    ensures { ByOwnRule (own_of op.now journal.now.history (state_of tables.now) node passage)
-        (state_of tables.now) op.now result }
+    requires passage { IsPassageOf op.now turn.passage (state_of tables.now) }
+    requires target { IsTargetOf (names_of op.now) journal.now.history (state_of tables.now)
+        (target_seen turn.target) }
+    ensures { ByOwnRule (own_of op.now journal.now.history (state_of tables.now)
+        turn.entry.node turn.entry.passage) (state_of tables.now) op.now result }
 {
+    let Turn {
+        node,
+        passage,
+        target,
+    } = turn;
     match op {
         Op::Open(args) => open::rule(alloc, tables, journal, node, passage, args),
-        Op::OpenConfirm(args) => Ok(open_confirm::rule(tables, journal, node, args)?),
-        Op::OpenDowngrade(args) => Ok(open_downgrade::rule(tables, journal, node, args)),
-        Op::Close(args) => Ok(close::rule(tables, journal, node, args)),
-        Op::Lock(args) => lock::rule(tables, journal, node, args),
-        Op::Locku(args) => locku::rule(tables, journal, node, args),
+        Op::OpenConfirm(args) => open_confirm::rule(tables, node, args, target),
+        Op::OpenDowngrade(args) => Ok(open_downgrade::rule(tables, node, args, target)),
+        Op::Close(args) => Ok(close::rule(tables, node, args, target)),
+        Op::Lock(args) => lock::rule(tables, node, args, target),
+        Op::Locku(args) => locku::rule(tables, node, args, target),
         _ => unreachable!(),
     }
 }

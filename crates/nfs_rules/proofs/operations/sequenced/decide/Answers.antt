@@ -1,4 +1,4 @@
-use Rattle.nfs_rules.proofs.Sequenced.{answered, answered_has_room, goes_on, memory_decides, ruled_has_room, without_filehandle}
+use Rattle.nfs_rules.proofs.Sequenced.{answered, answered_has_room, fails_as, fails_on, goes_on, memory_decides, ruled_has_room, without_filehandle}
 use Rattle.nfs_rules.specs.Finding.{requester_seen, sequence_seen}
 use Rattle.nfs_state.specs.Room.{state_of}
 use Rattle.nfs_owners.specs.StateOwner.{owner_seen}
@@ -55,3 +55,16 @@ returns-in_ok-decision_of-in-GoesOn-clause-decides c =
     let found = c.in_ok-answer in
     goes_on journal state (requester_seen c.args.requester) request request.filehandle c.in-Some.node (sequence_seen found.field-0) c.in-GoesOn.passage (owner_seen c.in-GoesOn.name) c.in_ok-ruling-in-GoesOn.ruling c.in_ok-decision_of-in-GoesOn.field-0 c.in-Some.is c.requires.owner (ap sequence_seen c.in-GoesOn.is) found.ensures.sequence found.ensures.passage c.in_ok-ruling-in-GoesOn.ensures
     (c.in_ok-decision_of-in-GoesOn.ensures ∙ ap (λ n. decision_of c.in-GoesOn.passage (owner_seen c.in-GoesOn.name) n c.in_ok-ruling-in-GoesOn.ruling) (c.newcomer_of-newcomer.ensures journal c.requires.kept))
+
+pub returns-in_err-ruling-in-GoesOn-clause-decides : goal.returns-in_err-ruling-in-GoesOn-clause-decides
+returns-in_err-ruling-in-GoesOn-clause-decides c =
+    let request = c.args.request.now in
+    let journal = c.args.journal.now.history in
+    let state = state_of c.args.tables.now in
+    let requester = requester_seen c.args.requester in
+    let own = own_of request.op journal state in
+    let found = c.in_ok-answer in
+    let failed = c.from_residual-in_err-ruling-in-GoesOn in
+    let shortage = c.in_err-ruling-in-GoesOn.field-0.0 in
+    fails_as (IsSequenced journal state requester own request) state request.op shortage failed.result failed.ensures.0 failed.ensures.1
+    (fails_on journal state requester own request request.filehandle c.in-Some.node (sequence_seen found.field-0) c.in-GoesOn.passage (owner_seen c.in-GoesOn.name) shortage c.in-Some.is (ap sequence_seen c.in-GoesOn.is) found.ensures.sequence c.in_err-ruling-in-GoesOn.ensures)

@@ -1,32 +1,54 @@
-use Rattle.nfs_rules.proofs.Sequenced.{rules_as, rules_of}
+use Rattle.std.proofs.Common.{Ok, subst}
+use Rattle.nfs_rules.specs.Deciding.{IsTargetOf}
+use Rattle.nfs_rules.specs.Finding.{target_seen}
+use Rattle.nfs_rules.proofs.Sequenced.{rules_of}
 use Rattle.nfs_state.specs.Room.{state_of}
 use Rattle.nfs_rules.proofs.operations.sequenced.rule.Goals as goal
+use Rattle.nfs_xdr.specs.Names.{names_of}
+use Rattle.nfs_xdr.specs.declared.op.Op.{Op}
 use Rattle.nfs_xdr.specs.declared.op.Op.TheVariants as ops
 
-pub returns-in_ok-rule-in-OpenConfirm : goal.returns-in_ok-rule-in-OpenConfirm
-returns-in_ok-rule-in-OpenConfirm c =
-    let ruled = c.in_ok-rule-in-OpenConfirm in
-    rules_as c.args.op.now (ops.OpenConfirm c.in-OpenConfirm.args) c.args.journal.now.history (state_of c.args.tables.now) c.args.node c.args.passage ruled.field-0 c.in-OpenConfirm.is
-    (ruled.ensures.own c.args.passage, ruled.ensures.sendable, ruled.ensures.numbers)
+pub returns-in-OpenConfirm : goal.returns-in-OpenConfirm
+returns-in-OpenConfirm c =
+    let journal = c.args.journal.now.history in
+    let state = state_of c.args.tables.now in
+    let turn = c.args.turn in
+    let named : Op → Type 0 = λ op. IsTargetOf (names_of op) journal state (target_seen turn.target) in
+    rules_of c.args.op.now (ops.OpenConfirm c.in-OpenConfirm.args) journal state turn.node turn.passage c.rule-in-OpenConfirm.result c.in-OpenConfirm.is
+    (c.rule-in-OpenConfirm.ensures journal turn.passage (subst named c.in-OpenConfirm.is c.requires.target))
 
 pub returns-in-OpenDowngrade : goal.returns-in-OpenDowngrade
 returns-in-OpenDowngrade c =
-    let ruled = c.rule-in-OpenDowngrade in
-    rules_as c.args.op.now (ops.OpenDowngrade c.in-OpenDowngrade.args) c.args.journal.now.history (state_of c.args.tables.now) c.args.node c.args.passage ruled.result c.in-OpenDowngrade.is
-    (ruled.ensures.own c.args.passage, ruled.ensures.sendable, ruled.ensures.numbers)
+    let journal = c.args.journal.now.history in
+    let state = state_of c.args.tables.now in
+    let turn = c.args.turn in
+    let named : Op → Type 0 = λ op. IsTargetOf (names_of op) journal state (target_seen turn.target) in
+    rules_of c.args.op.now (ops.OpenDowngrade c.in-OpenDowngrade.args) journal state turn.node turn.passage (Ok c.rule-in-OpenDowngrade.result) c.in-OpenDowngrade.is
+    (c.rule-in-OpenDowngrade.ensures journal turn.passage (subst named c.in-OpenDowngrade.is c.requires.target))
 
 pub returns-in-Close : goal.returns-in-Close
 returns-in-Close c =
-    let ruled = c.rule-in-Close in
-    rules_as c.args.op.now (ops.Close c.in-Close.args) c.args.journal.now.history (state_of c.args.tables.now) c.args.node c.args.passage ruled.result c.in-Close.is
-    (ruled.ensures.own c.args.passage, ruled.ensures.sendable, ruled.ensures.numbers)
+    let journal = c.args.journal.now.history in
+    let state = state_of c.args.tables.now in
+    let turn = c.args.turn in
+    let named : Op → Type 0 = λ op. IsTargetOf (names_of op) journal state (target_seen turn.target) in
+    rules_of c.args.op.now (ops.Close c.in-Close.args) journal state turn.node turn.passage (Ok c.rule-in-Close.result) c.in-Close.is
+    (c.rule-in-Close.ensures journal turn.passage (subst named c.in-Close.is c.requires.target))
 
 pub returns-in-Lock : goal.returns-in-Lock
 returns-in-Lock c =
-    rules_of c.args.op.now (ops.Lock c.in-Lock.args) c.args.journal.now.history (state_of c.args.tables.now) c.args.node c.args.passage c.rule-in-Lock.result c.in-Lock.is
-    (c.rule-in-Lock.ensures c.args.passage)
+    let journal = c.args.journal.now.history in
+    let state = state_of c.args.tables.now in
+    let turn = c.args.turn in
+    let named : Op → Type 0 = λ op. IsTargetOf (names_of op) journal state (target_seen turn.target) in
+    rules_of c.args.op.now (ops.Lock c.in-Lock.args) journal state turn.node turn.passage c.rule-in-Lock.result c.in-Lock.is
+    (c.rule-in-Lock.ensures journal turn.passage c.requires.kept (subst named c.in-Lock.is c.requires.target))
 
 pub returns-in-Locku : goal.returns-in-Locku
 returns-in-Locku c =
-    rules_of c.args.op.now (ops.Locku c.in-Locku.args) c.args.journal.now.history (state_of c.args.tables.now) c.args.node c.args.passage c.rule-in-Locku.result c.in-Locku.is
-    (c.rule-in-Locku.ensures c.args.passage)
+    let journal = c.args.journal.now.history in
+    let state = state_of c.args.tables.now in
+    let turn = c.args.turn in
+    let named : Op → Type 0 = λ op. IsTargetOf (names_of op) journal state (target_seen turn.target) in
+    rules_of c.args.op.now (ops.Locku c.in-Locku.args) journal state turn.node turn.passage c.rule-in-Locku.result c.in-Locku.is
+    (c.rule-in-Locku.ensures journal turn.passage (subst named c.in-Locku.is c.requires.target))
