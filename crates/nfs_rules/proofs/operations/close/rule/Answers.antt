@@ -33,8 +33,7 @@ returns-in-Ok c = λ journal passage is.
     let state = state_of c.args.tables.now in
     let demand = confirmed_open c.args.node in
     let found : Ok (open_seen c.in-Ok.found) ≡ (verdict demand journal.epoch state args.stateid >>= as_open) =
-    open_judged c.confirmed_open.result demand journal.epoch state args.stateid (target_seen c.args.target) (Ok (open_seen c.in-Ok.found)) c.confirmed_open.ensures is c.in-Ok.ensures in
-    (
+    open_judged c.confirmed_open.result demand journal.epoch state args.stateid (target_seen c.args.target) (Ok (open_seen c.in-Ok.found)) c.confirmed_open.ensures is c.in-Ok.ensures in (
       ap (λ (id : Stateid). Some (record { answer = results.Close (Done id); change = Closes c.in-Ok.found.node c.in-Ok.found.state.now.number })) c.next_stateid.ensures
           ∙ ap (λ (f : Result OpenAt Refusal). Some (closing f)) found,
       record { not_resource = λ same. absurd cc; opnum = refl; short = tt },
