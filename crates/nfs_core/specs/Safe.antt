@@ -1,5 +1,5 @@
 -- What holds of the state at all times (RFC 7530, sections 9.1, 9.9, 9.11, 16.10 and 16.33).
-use Rattle.std.specs.Prelude.{ℕ, ◌&&◌, ◌++◌, ◌==◌, ◌≤◌, Bool, IsSomeAnd, IsTrue, List, flat_map, is_some, length, map}
+use Rattle.std.specs.Prelude.{ℕ, ◌&&◌, ◌++◌, ◌==◌, ◌≤◌, Bool, IsSomeAnd, IsTrue, List, flat_map, is_some, length, map, Option, option_and_then, slice_get}
 use Rattle.std.specs.List.{AllByRecursion, IsDistinct, list_any}
 use Rattle.std.specs.Str.{bytes_eq}
 use Rattle.nfs_forms.specs.ClientId.{is_same_client}
@@ -9,7 +9,7 @@ use Rattle.nfs_locks.specs.AllLocks.{locks_of}
 use Rattle.nfs_locks.specs.Laws.{AllLocksAreCompatible}
 use Rattle.nfs_locks.specs.Locks.{ByteLocks}
 use Rattle.nfs_rules.specs.Sequences.{counts}
-use Rattle.nfs_state.specs.Entries.{call_at}
+use Rattle.nfs_state.specs.Entries.{call_of}
 use Rattle.nfs_state.specs.Owners.{KnownOwner, is_confirmed, owner_of}
 use Rattle.nfs_state.specs.State.{State, History}
 use Rattle.nfs_owners.specs.Registry.{record_of}
@@ -141,6 +141,10 @@ pub record IsSafe (state : State) : Type 0 where
 abbrev pub HasCounted : Call → Type 0
 HasCounted call =
     IsTrue (is_sequenced call.request.op) × IsTrue (counts (status_of call.answer))
+
+-- the call that the journal's entry with this number records
+abbrev pub call_at : History → ℕ → Option Call
+call_at journal number = option_and_then call_of (slice_get journal.entries number)
 
 -- the entry that is kept for the owner is such a call in the journal
 abbrev pub KeepsRequest : History → KnownOwner → Type 0

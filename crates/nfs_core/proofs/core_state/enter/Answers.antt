@@ -1,4 +1,4 @@
-use Rattle.std.proofs.Common.{◌∙◌, ap}
+use Rattle.std.proofs.Common.{◌∙◌, ap, rules}
 use Rattle.nfs_core.proofs.Entering.{Step-next, decided_within, with_same_answer}
 use Rattle.nfs_core.proofs.core_state.enter.Goals as goal
 use Rattle.nfs_state.specs.Entries.{entry_of, with_entry}
@@ -19,6 +19,9 @@ returns-clause-entered c =
       entered.entry ∙ ap (λ a. with_entry (entry_of request a) journal) c.in_ok-answer.ensures,
       Step-next journal (state_of c.args.tables.now) _ (entry_of request decision.answer) decision.effect c.in_ok-decision.ensures.next entered.state,
     )
+
+pub returns-in_err-decision-clause-limit : goal.returns-in_err-decision-clause-limit
+returns-in_err-decision-clause-limit c is_limit = c.decide_next.ensures.limit (search (rules, is_limit))
 
 pub returns-in_err-answer-clause-memory : goal.returns-in_err-answer-clause-memory
 returns-in_err-answer-clause-memory c is_memory =
