@@ -32,7 +32,7 @@ Enters old new entry number =
 
 -- One call of `apply`: the server `old` answers the request and becomes `new`. With a number the answered request is
 -- the journal's entry of that number, as the operation's rule decides. Without a number the answer is
--- NFS4ERR_RESOURCE, and nothing changes.
+-- NFS4ERR_RESOURCE, and nothing changes but room.
 abbrev pub Applies : Server → Server → Request → OpResult → Option ℕ → Type 0
 Applies old new request answer None = (answer ≡ resource request.op) × AreAlike old new
 Applies old new request answer (Some number) =
