@@ -11,7 +11,7 @@ use Rattle.nfs_xdr.specs.declared.op.Op.{Op}
 use Rattle.nfs_xdr.specs.declared.op.Op.TheVariants as ops
 
 pub data Names : Type 0 where
-  -- neither an owner nor a state; nor a client, but for the id of SETCLIENTID and the client that is confirmed
+  -- no owner and no state, and no client that is known: SETCLIENTID and SETCLIENTID_CONFIRM introduce one
   Nothing : Names
   Client : ClientId → Names
   -- an open owner, with the sequence id of its request
@@ -19,8 +19,8 @@ pub data Names : Type 0 where
   -- a stateid, with the sequence id of the request of the state's owner
   Owned : Stateid → ℕ → Names
 
--- A LOCK names an open if its lock owner is new to the file, and else a lock state. The sequence id is that of the open's
--- owner or that of the lock owner.
+-- A LOCK for a new lock owner names an open, with the sequence id of the open's owner; one for a lock owner that is known
+-- names a lock state, with the sequence id of the lock owner.
 abbrev pub locker_names : Locker → Names
 locker_names (lockers.New locker) = Owned locker.open_stateid locker.open_seqid
 locker_names (lockers.Known locker) = Owned locker.lock_stateid locker.lock_seqid

@@ -10,7 +10,7 @@ use nfs_forms::{ClientId, Locker, OpenOwner, Stateid};
 /// request comes from, and by whose sequence id it goes.
 #[derive(Clone, Copy, Debug)]
 pub enum Names<'a> {
-    /// Neither an owner nor a state; nor a client, but for the id of SETCLIENTID and the client that is confirmed.
+    /// No owner and no state, and no client that is known: SETCLIENTID and SETCLIENTID_CONFIRM introduce one.
     Nothing,
     Client(ClientId),
     /// An open owner, with the sequence id of its request.

@@ -6,6 +6,8 @@
 #[cfg(test)]
 mod leases;
 #[cfg(test)]
+mod names;
+#[cfg(test)]
 mod opens;
 #[cfg(test)]
 mod owners;

@@ -1,10 +1,10 @@
 //! Opens of a file, and what they deny.
 
+use crate::names::name_of;
 use nfs_forms::{ClientId, OpenOwner, Stateid};
 use nfs_share::{FileShare, Modes, Share, ShareError};
 use std::alloc::{AllocError, Global};
 use std::test::Fail;
-use xdr::Opaque;
 
 const CLIENT: ClientId = ClientId {
     epoch: 1,
@@ -27,8 +27,8 @@ const BOTH_ALONE: Share = Share {
 };
 
 fn owner(alloc: Global, name: &[u8]) -> Result<OpenOwner, AllocError> {
-    let name = match Opaque::copy_of(alloc, name) {
-        Err(_) => Opaque::copy_of(alloc, name),
+    let name = match name_of(alloc, name) {
+        Err(_) => name_of(alloc, name),
         copy => copy,
     };
     Ok(OpenOwner {

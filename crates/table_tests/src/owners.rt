@@ -1,5 +1,6 @@
 //! An owner's requests, and a client from its confirmation on.
 
+use crate::names::name_of;
 use nfs_operations::setclientid::Setclientid;
 use nfs_operations::setclientid_confirm::{Outcome, SetclientidConfirm};
 use nfs_owners::{Clients, Kept, KeptRequest, Owners, OwnersError, PathMark, StateOwner, Verdict};
@@ -9,7 +10,7 @@ use nfs_xdr::{
 use std::alloc::{AllocError, Global};
 use std::process::Abort;
 use std::test::Fail;
-use xdr::{Bytes, Opaque};
+use xdr::Bytes;
 
 const CLIENT: ClientId = ClientId {
     epoch: 7,
@@ -17,7 +18,7 @@ const CLIENT: ClientId = ClientId {
 };
 
 fn owner(alloc: Global) -> Result<StateOwner, AllocError> {
-    let name = Opaque::copy_of(alloc, b"o")?;
+    let name = name_of(alloc, b"o")?;
     Ok(StateOwner::of_open(OpenOwner {
         client: CLIENT,
         name,
@@ -70,7 +71,7 @@ fn setclientid(alloc: Global) -> Result<Setclientid, AllocError> {
     };
     Ok(Setclientid {
         verifier: Verifier([1; 8]),
-        id: Opaque::copy_of(alloc, b"a")?,
+        id: name_of(alloc, b"a")?,
         callback,
     })
 }

@@ -6,17 +6,13 @@ use std::marker::Model;
 /// The greatest length of bytes that can be written: it has to fit in four bytes.
 pub const NO_LIMIT: u32 = u32::MAX;
 
-/// Owned bytes, which can be written if there are at most `LIMIT` of them (opaque<LIMIT>). Contracts see the list of
-/// them.
+/// Owned bytes (opaque<>), which can be written if there are at most `NO_LIMIT` of them. Contracts see the list of them.
 #[derive(Debug, Drop)]
-pub struct Opaque<const LIMIT: u32> {
+pub struct Bytes {
     items: Vec<u8>,
 }
 
-/// Owned bytes of any length that can be written.
-pub type Bytes = Opaque<NO_LIMIT>;
-
-impl<const LIMIT: u32> Model for Opaque<LIMIT> {
+impl Model for Bytes {
     ghost use Rattle.std.specs.Prelude.{List, ℕ};
 
     ghost Value = { List ℕ };
@@ -24,19 +20,19 @@ impl<const LIMIT: u32> Model for Opaque<LIMIT> {
     ghost view = { λ b. b.items.items };
 }
 
-impl<const LIMIT: u32> Opaque<LIMIT> {
+impl Bytes {
     /// A value that owns these bytes, taking no memory.
-    pub fn new(items: Vec<u8>) -> Opaque<LIMIT>
+    pub fn new(items: Vec<u8>) -> Bytes
         ensures { result ≡ items.items }
     {
-        Opaque { items }
+        Bytes { items }
     }
 
     /// A copy of these bytes.
-    pub fn copy_of(alloc: Global, items: &[u8]) -> Result<Opaque<LIMIT>, AllocError>
+    pub fn copy_of(alloc: Global, items: &[u8]) -> Result<Bytes, AllocError>
         ensures { IfOk result (λ b. b ≡ items.now) }
     {
-        Ok(Opaque {
+        Ok(Bytes {
             items: Vec::from_slice(alloc, items)?,
         })
     }
@@ -49,7 +45,7 @@ impl<const LIMIT: u32> Opaque<LIMIT> {
     }
 }
 
-impl<const LIMIT: u32> PartialEq for Opaque<LIMIT> {
+impl PartialEq for Bytes {
     ghost use Rattle.std.specs.Str.{bytes_eq};
     ghost use Rattle.std.specs.Cmp.Rules.{comparing};
     ghost use Rattle.std.proofs.Common.{rules};
@@ -58,16 +54,16 @@ impl<const LIMIT: u32> PartialEq for Opaque<LIMIT> {
 
     ghost laws = { Prim.search (comparing, rules) };
 
-    fn eq(&self, other: &Opaque<LIMIT>) -> bool {
+    fn eq(&self, other: &Bytes) -> bool {
         self.as_slice() == other.as_slice()
     }
 }
 
-impl<const LIMIT: u32> Clone for Opaque<LIMIT> {
+impl Clone for Bytes {
     ghost is_clone = { λ x y. y ≡ x };
 
-    fn clone(&self) -> Result<Opaque<LIMIT>, AllocError> {
-        Ok(Opaque {
+    fn clone(&self) -> Result<Bytes, AllocError> {
+        Ok(Bytes {
             items: self.items.clone()?,
         })
     }

@@ -7,6 +7,7 @@ mod fields;
 mod laws;
 mod many;
 mod measure;
+mod opaque;
 mod sequence;
 mod wire;
 mod wire_error;
@@ -15,11 +16,12 @@ pub use basic::{
     padding_of, read_constant, read_fixed, read_flag, read_opaque, read_opaque_bytes, read_u32,
     read_u64, write_fixed, write_flag, write_opaque, write_u32, write_u64,
 };
-pub use bytes::{Bytes, NO_LIMIT, Opaque};
+pub use bytes::{Bytes, NO_LIMIT};
 pub use fields::{write_five, write_four, write_three, write_two};
 pub use laws::written_is_read_again;
 pub use many::{read_many, write_many};
 pub use measure::Measure;
+pub use opaque::Opaque;
 pub use sequence::Sequence;
 pub use wire::Wire;
 pub use wire_error::WireError;

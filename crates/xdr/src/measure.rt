@@ -2,7 +2,7 @@ ghost use Rattle.std.specs.Prelude.{◌≡◌, ◌≤◌, ◌^◌, length};
 ghost use Rattle.xdr.specs.Form.{Form};
 
 use crate::basic::padding_of;
-use crate::{Opaque, Wire};
+use crate::{Bytes, Opaque, Wire};
 
 /// A type whose values know how many bytes they take when written.
 pub trait Measure: Wire {
@@ -29,6 +29,14 @@ impl Measure for u64 {
     #[tactic(auto, unfolding(crate::specs::Writing::written_number))]
     fn written_len(&self) -> usize {
         8
+    }
+}
+
+impl Measure for Bytes {
+    #[tactic(auto, unfolding(crate::specs::Writing::written_opaque, crate::specs::Writing::written_number))]
+    fn written_len(&self) -> usize {
+        let len = self.as_slice().len();
+        4 + len + padding_of(len)
     }
 }
 

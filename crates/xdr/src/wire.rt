@@ -6,12 +6,12 @@ ghost use Rattle.xdr.specs.Reading.{Answers, Gives};
 ghost use Rattle.xdr.specs.Writing.{Writes};
 
 use crate::basic::{
-    read_fixed, read_flag, read_opaque_bytes, read_u32, read_u64, write_fixed, write_flag,
-    write_opaque, write_u32, write_u64,
+    read_fixed, read_flag, read_opaque, read_opaque_bytes, read_u32, read_u64, write_fixed,
+    write_flag, write_opaque, write_u32, write_u64,
 };
 use crate::fields::write_two;
 use crate::many::{read_many, write_many};
-use crate::{Opaque, Sequence, WireError};
+use crate::{Bytes, Opaque, Sequence, WireError};
 use std::alloc::Global;
 
 /// A type that has a form on the wire, by which it is read and written.
@@ -93,6 +93,19 @@ impl<const N: usize> Wire for [u8; N] {
 
     fn write(&self, out: &mut Vec<u8>) -> Result<(), WireError> {
         write_fixed(out, self)
+    }
+}
+
+impl Wire for Bytes {
+    ghost form = { forms.opaque NO_LIMIT };
+
+    fn read(alloc: Global, bytes: &[u8]) -> Result<(Bytes, &[u8]), WireError> {
+        let (value, rest) = read_opaque(bytes, crate::NO_LIMIT)?;
+        Ok((Bytes::copy_of(alloc, value)?, rest))
+    }
+
+    fn write(&self, out: &mut Vec<u8>) -> Result<(), WireError> {
+        write_opaque(out, self.as_slice(), crate::NO_LIMIT)
     }
 }
 
