@@ -87,6 +87,7 @@ limits_alike (changes.Begins node first) old new clients states locks has = omeg
 limits_alike (changes.Locks node number change) old new clients states locks has =
     ap (λ all. is_full_for number change (locks_of node all)) locks ∙ has
 limits_alike (changes.Releases owner) old new clients states locks has = tt
+limits_alike (changes.Expires client) old new clients states locks has = tt
 
 same_clients : (owner : OwnerChange) (number : ℕ) (old : State) → (with_owner_change owner number old).clients ≡ old.clients
 same_clients owner_changes.Nothing number old = refl

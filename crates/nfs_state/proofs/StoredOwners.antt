@@ -11,7 +11,7 @@ use Rattle.nfs_state.specs.declared.owner_update.Keeping.{Keeping}
 use Rattle.nfs_state.specs.Owners as known
 use Rattle.nfs_state.specs.Owners.{KnownOwner}
 use Rattle.nfs_state.specs.Room.{HasOwnerPlace}
-use Rattle.nfs_state.specs.Changes.{with_owner_change, without, with_state_change, left_by}
+use Rattle.nfs_state.specs.Changes.{with_owner_change, without, with_state_change, without_client}
 use Rattle.nfs_state.specs.State.{History, State}
 use Rattle.nfs_state.specs.declared.change.Change.{Change}
 use Rattle.nfs_state.specs.declared.change.Change.TheVariants as own_changes
@@ -23,9 +23,6 @@ use Rattle.nfs_forms.specs.declared.client_id.ClientId.{ClientId}
 use Rattle.nfs_forms.specs.declared.lock_owner.LockOwner.{LockOwner}
 use Rattle.nfs_forms.specs.declared.open_owner.OpenOwner.{OpenOwner}
 use Rattle.nfs_forms.specs.ClientId.{is_same_client}
-use Rattle.nfs_owners.specs.declared.client_record.ClientRecord.{ClientRecord}
-use Rattle.nfs_owners.specs.declared.clients.client_change.ClientChange.{ClientChange}
-use Rattle.nfs_owners.specs.declared.clients.client_change.ClientChange.TheVariants as client_changes
 use Rattle.nfs_owners.specs.declared.kept.Kept.{Kept}
 use Rattle.nfs_owners.specs.StateOwner.{lock_owner, open_owner}
 use Rattle.nfs_owners.specs.declared.state_owner.OwnerKind.{OwnerKind}
@@ -259,15 +256,13 @@ releases_seen old name new locked fewer freed change is =
     (λ i. record (meaning old) { owners = (ap (map known_owner) fewer ∙ without_seen (lock_owner name) old.owners) i; locks = freed i })
     ∙ ap (λ ch. with_state_change ch (meaning old)) (sym is)
 
--- what is stored without the owners, the opens and the lock states of a client that is replaced
+-- what is stored without the owners, the opens and the lock states of a client
 pub left_seen : (old : Stored) (client : ClientId) (new : List Owner) (opened : List (List OpenState)) (locked : List (List StoredLock)) → new ≡ without_owners_of client old.owners
     → opened ≡ map (opens.without (opens.is_of_client client)) old.opens
     → map (map byte_locks) locked ≡ map (locks.without (locks.is_lock_of_client client)) (map (map byte_locks) old.locks)
-    → (change : ClientChange) (r : ClientRecord) → change ≡ client_changes.Replaces r client
-    → meaning (record old { owners = new; opens = opened; locks = locked }) ≡ left_by change (meaning old)
-left_seen old client new opened locked fewer closed freed change r is =
-    (λ i. record (meaning old) { owners = (ap (map known_owner) fewer ∙ without_client_seen client old.owners) i; opens = closed i; locks = freed i })
-    ∙ ap (λ ch. left_by ch (meaning old)) (sym is)
+    → meaning (record old { owners = new; opens = opened; locks = locked }) ≡ without_client client (meaning old)
+left_seen old client new opened locked fewer closed freed =
+    λ i. record (meaning old) { owners = (ap (map known_owner) fewer ∙ without_client_seen client old.owners) i; opens = closed i; locks = freed i }
 
 -- A change for which there is an owner's place has a place among the stored owners.
 pub introduces_place : (old : Stored) (name newcomer : StateOwner) (change : OwnerChange) → change ≡ changes.Introduces name newcomer

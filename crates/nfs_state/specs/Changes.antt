@@ -11,6 +11,7 @@ use Rattle.nfs_owners.specs.declared.clients.client_change.ClientChange.TheVaria
 use Rattle.nfs_locks.specs.AllLocks.{with_locks}
 use Rattle.nfs_locks.specs.Locks.{with_first_lock, with_lock_change}
 use Rattle.nfs_locks.specs.Locks as locks
+use Rattle.nfs_owners.specs.Registry as registry
 use Rattle.nfs_owners.specs.StateOwner.{lock_owner, open_owner}
 use Rattle.nfs_share.specs.AllOpens.{opens_of, with_opens}
 use Rattle.nfs_share.specs.Opens.{after_downgrade, is_numbered, is_of_client, open_of, with_each, with_next_seqid, with_opening}
@@ -47,7 +48,8 @@ with_owner_change (Restarts name) number old =
     record fresh { owners = with_record number (open_owner name) fresh.owners }
 with_owner_change (Drops name) number old = without name old
 
--- The state without the owners, the opens and the lock states of a client that a confirmation replaces.
+-- The state without the owners, the opens and the lock states of a client that a confirmation replaces, or that expires
+-- (section 9.6).
 abbrev pub without_client : ClientId → State → State
 without_client client old = record old {
   owners = filter (λ o. not (is_same_client o.name.client client)) old.owners;
@@ -96,6 +98,10 @@ with_state_change (changes.Releases owner) old = record old {
   owners = without_owner (lock_owner owner) old.owners;
   locks = map (locks.without (locks.is_lock_of owner)) old.locks;
 }
+
+with_state_change (changes.Expires client) old =
+    let left = without_client client old in
+    record left { clients = registry.without_client client.number old.clients }
 
 -- a change of an entry that means nothing for the owners
 abbrev pub change_alone : Change → Effect

@@ -1,5 +1,5 @@
 -- Requests and answers as the journal records them.
-use Rattle.std.specs.Prelude.{◌≡◌, ◌≢◌, ℕ, ◌<◌, [], ◌∷◌, ◌++◌, Option, Some, IfSome}
+use Rattle.std.specs.Prelude.{◌≡◌, ◌≢◌, ℕ, ◌<◌, [], ◌∷◌, ◌++◌, Option, Some, None, IfSome}
 use Rattle.nfs_forms.specs.declared.principal.Principal.{Principal}
 use Rattle.nfs_forms.specs.declared.status.Refusal.TheVariants.{Resource}
 use Rattle.nfs_state.specs.State.{History}
@@ -37,6 +37,7 @@ entry_of request answer =
 -- the call that an entry records, if it records one
 abbrev pub call_of : Entry → Option Call
 call_of (entries.Call call) = Some call
+call_of (entries.Expire expire) = None
 
 -- the journal with one more entry at the end
 abbrev pub with_entry : Entry → History → History

@@ -1,5 +1,5 @@
 -- What the tables store, and the memory and the numbers that a change of them needs.
-use Rattle.std.specs.Prelude.{◌<◌, ◌-◌, ◌^◌, ⊤, Bool, IsFalse, IsTrue, is_some, length}
+use Rattle.std.specs.Prelude.{◌≡◌, ◌<◌, ◌-◌, ◌^◌, ⊤, None, Bool, IsFalse, IsTrue, is_some, length}
 use Rattle.nfs_state.specs.declared.change.Change.{Change}
 use Rattle.nfs_state.specs.declared.change.Change.TheVariants as changes
 use Rattle.nfs_state.specs.declared.effect.Effect.{Effect}
@@ -49,6 +49,7 @@ HasRoom (changes.Closes node number) tables = ⊤
 HasRoom (changes.Begins node first) tables = HasLockRoomAt node tables.locks
 HasRoom (changes.Locks node number change) tables = locks.HasRoomFor node number tables.locks
 HasRoom (changes.Releases owner) tables = ⊤
+HasRoom (changes.Expires client) tables = ⊤
 
 -- what the entry means for an owner takes no memory
 abbrev pub HasOwnerRoom : OwnerChange → Tables → Type 0
@@ -82,6 +83,12 @@ is_known name state = is_some (owner_of name state.owners)
 -- the owner isn't known, and there is a place for it
 abbrev pub IsNewcomer : StateOwner → State → Type 0
 IsNewcomer name state = IsFalse (is_known name state) × (length state.owners < OWNER_LIMIT)
+
+-- The entry, for which there is room in the journal, can be committed with this effect without taking memory.
+pub record TakesNoMemory (entry : Entry) (effect : Effect) (tables : Tables) : Type 0 where
+  pub kept : kept_in entry ≡ None
+  pub owner : HasOwnerRoom effect.owner tables
+  pub change : HasRoom effect.change tables
 
 -- What is known of the owners before the entry: one that keeps it or starts anew is known; one that is recorded isn't,
 -- and there is a place for it.

@@ -3,9 +3,9 @@ use nfs_locks::FirstLock;
 use nfs_owners::ClientChange;
 use nfs_ranges::Piece;
 use nfs_share::Share;
-use nfs_xdr::OpenOwner;
+use nfs_xdr::{ClientId, OpenOwner};
 
-/// What an operation changes in the state, besides what its entry means for an owner.
+/// What an entry changes in the state, besides what its entry means for an owner.
 #[derive(Debug, Drop)]
 pub enum Change {
     Nothing,
@@ -50,4 +50,6 @@ pub enum Change {
     Releases {
         owner: LockOwner,
     },
+    /// The client is removed with all its records, its owners, its opens and its lock states.
+    Expires(ClientId),
 }

@@ -1,8 +1,8 @@
-ghost use Rattle.std.specs.Prelude.{◌≡◌, ◌<◌, IfErr, IfOk, OnErr, OnOk, length};
+ghost use Rattle.std.specs.Prelude.{◌≡◌, ◌<◌, IfErr, IfOk, IsOk, OnErr, OnOk, length};
 ghost use Rattle.nfs_state.specs.Changes.{after};
 ghost use Rattle.nfs_state.specs.Entries.{with_entry};
 ghost use Rattle.nfs_state.specs.Kept.{Agrees, kept_in, owners_after, update_by};
-ghost use Rattle.nfs_state.specs.Room.{Fits, state_of, stored_of};
+ghost use Rattle.nfs_state.specs.Room.{Fits, TakesNoMemory, state_of, stored_of};
 ghost use Rattle.nfs_state.specs.State.{History};
 
 use crate::effect::Effect;
@@ -14,7 +14,8 @@ use crate::tables::Tables;
 use std::alloc::Global;
 
 /// Makes room for the entry and for its effect, then changes the tables by the effect and adds the entry to the
-/// journal, under the number that is returned. Fails for want of memory alone, and changes nothing then.
+/// journal, under the number that is returned. Fails for want of memory alone, and changes nothing then. Where nothing is
+/// kept for an owner and there is room, it takes no memory.
 pub fn commit_entry(
     alloc: Global,
     tables: &mut Tables,
@@ -31,6 +32,7 @@ pub fn commit_entry(
         ≡ after (length journal.old.history.entries) effect (state_of tables.old)) }
     ensures kept { OnOk result (Agrees journal.new.history tables.new.owners.owners) }
     ensures memory { IfErr result (λ e. e ≡ Shortage.Memory) }
+    ensures ready { 0 < journal.old.room → TakesNoMemory entry effect tables.old → IsOk result }
     ensures same { OnErr result ((journal.new.history ≡ journal.old.history)
         × (stored_of tables.new ≡ stored_of tables.old)) }
 {
@@ -55,6 +57,7 @@ fn make_changes(
         (update_by effect.owner (kept_in entry.now)) number tables.old.owners.owners)
         → Agrees journal tables.new.owners.owners) }
     ensures memory { IfErr result (λ e. e ≡ Shortage.Memory) }
+    ensures ready { TakesNoMemory entry.now effect tables.old → IsOk result }
     ensures same { OnErr result (stored_of tables.new ≡ stored_of tables.old) }
 {
     tables.make_room(alloc, &effect.change, &effect.owner)?;

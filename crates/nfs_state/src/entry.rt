@@ -2,7 +2,7 @@ ghost use Rattle.std.specs.Prelude.{◌≡◌, IfOk};
 ghost use Rattle.nfs_state.specs.Kept.{kept_with, lock_owner_seqid, seqid_for};
 ghost use Rattle.nfs_xdr.specs.Names.{seqid_of};
 
-use crate::Request;
+use crate::{Moment, Request};
 use nfs_forms::Locker;
 use nfs_owners::{Kept, KeptRequest, OwnerKind};
 use nfs_xdr::{Names, Op, OpResult};
@@ -13,6 +13,8 @@ use std::alloc::AllocError;
 pub enum Entry {
     /// An operation that was answered.
     Call(Call),
+    /// A client whose lease had run out was removed.
+    Expire(Expire),
 }
 
 /// A request and its answer.
@@ -20,6 +22,17 @@ pub enum Entry {
 pub struct Call {
     pub request: Request,
     pub answer: OpResult,
+}
+
+/// The end of a client: its lease had run out (RFC 7530, section 9.6).
+#[derive(Debug, Drop)]
+pub struct Expire {
+    /// The client's number.
+    pub client: u32,
+    /// When its lease was renewed last.
+    pub seen: Moment,
+    /// When it was removed.
+    pub now: Moment,
 }
 
 /// How many entries a journal can have.

@@ -1,9 +1,9 @@
-ghost use Rattle.std.specs.Prelude.{◌≡◌, ◌<◌, ◌≤◌, [], ◌∷◌, ◌++◌, nat_le, length};
+ghost use Rattle.std.specs.Prelude.{◌≡◌, ◌<◌, ◌≤◌, [], ◌∷◌, ◌++◌, nat_le, length, IsOk, OnOk};
 ghost use Rattle.std.specs.Vec.{vec_len, vec_capacity};
 
 use crate::{Entry, JOURNAL_LIMIT};
 use nfs_tree::{Policy, Tree};
-use std::alloc::Global;
+use std::alloc::{AllocError, Global};
 use std::marker::Model;
 
 /// The shortest lease, in seconds.
@@ -100,6 +100,15 @@ impl Journal {
         ensures { result.now ≡ self.now.history.entries }
     {
         self.entries.as_slice()
+    }
+
+    /// Makes room for one more entry.
+    pub fn reserve(&mut self) -> Result<(), AllocError>
+        ensures same { self.new.history ≡ self.old.history }
+        ensures room { OnOk result (0 < self.new.room) }
+        ensures ready { 0 < self.old.room → IsOk result }
+    {
+        self.entries.reserve(1)
     }
 
     /// Whether the journal has as many entries as it can have.

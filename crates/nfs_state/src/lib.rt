@@ -19,7 +19,7 @@ mod tables;
 pub use change::Change;
 pub use committing::commit_entry;
 pub use effect::Effect;
-pub use entry::{Call, Entry, JOURNAL_LIMIT, copy_of_answer};
+pub use entry::{Call, Entry, Expire, JOURNAL_LIMIT, copy_of_answer};
 pub use journal::{Journal, LEASE_MAX, LEASE_MIN};
 pub use limits::{STATE_LIMIT, limits_of_the_state};
 pub use moment::Moment;

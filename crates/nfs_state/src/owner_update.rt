@@ -1,4 +1,4 @@
-ghost use Rattle.std.specs.Prelude.{◌≡◌, IfOk};
+ghost use Rattle.std.specs.Prelude.{◌≡◌, IfOk, IsOk, None};
 ghost use Rattle.nfs_state.specs.Kept.{kept_in, kept_with, update_by, update_of};
 
 use crate::owner_change::OwnerChange;
@@ -31,13 +31,16 @@ pub(crate) struct Keeping {
 impl OwnerUpdate {
     /// What the entry means for the owners, where it may be kept so.
     pub(crate) fn of(change: OwnerChange, entry: &Entry) -> Result<OwnerUpdate, AllocError>
-        ensures { IfOk result (λ u. u ≡ update_by change (kept_in entry.now)) }
+        ensures update { IfOk result (λ u. u ≡ update_by change (kept_in entry.now)) }
+        // Where there is nothing to keep, there is nothing to copy.
+        ensures ready { kept_in entry.now ≡ None → IsOk result }
     {
         match entry {
             Entry::Call(call) => match call.seqid() {
                 Some(seqid) => OwnerUpdate::of_call(change, call, seqid),
                 None => Ok(OwnerUpdate::Nothing),
             },
+            Entry::Expire(_) => Ok(OwnerUpdate::Nothing),
         }
     }
 

@@ -29,7 +29,7 @@ impl Tables {
     ghost use Rattle.std.specs.Option.{option_copied};
     ghost use Rattle.nfs_state.specs.State.{change_of, file_of, has_state, record_has_state, size_of, History};
     ghost use Rattle.nfs_state.specs.Kept.{Agrees, kept_by, owners_after, update_of};
-    ghost use Rattle.nfs_state.specs.Changes.{with_owner_change, with_state_change, left_by};
+    ghost use Rattle.nfs_state.specs.Changes.{with_owner_change, with_state_change, without_client};
     ghost use Rattle.nfs_state.specs.Changes as changed_state;
     ghost use Rattle.nfs_state.specs.Room.{IsWithinLimits, HasOwnerPlace, HasOwnerRoom, HasRoom, HasUpdateRoom, CanKeep, state_of, stored_of};
     ghost use Rattle.nfs_state.specs.declared.owner_change.OwnerChange.{OwnerChange};
@@ -130,7 +130,8 @@ impl Tables {
             | Change::Confirms { .. }
             | Change::Downgrades { .. }
             | Change::Closes { .. }
-            | Change::Releases { .. } => {}
+            | Change::Releases { .. }
+            | Change::Expires(_) => {}
         }
         Ok(())
     }
@@ -253,6 +254,10 @@ impl Tables {
                 self.owners.remove(OwnerRef::of_lock(&owner));
                 self.locks.remove_owner(&owner);
             }
+            Change::Expires(client) => {
+                self.leave(client);
+                self.clients.remove(client.number);
+            }
         }
     }
 
@@ -294,21 +299,21 @@ impl Tables {
         ensures kept { (journal : History)
             → Agrees journal self.old.owners.owners → Agrees journal self.new.owners.owners }
     {
-        self.leave(&change);
+        if let ClientChange::Replaces(_, client) = &change {
+            self.leave(*client);
+        }
         self.clients.commit(change);
     }
 
-    // Forgets the owners, the opens and the lock states of a client that is replaced.
-    fn leave(&mut self, change: &ClientChange)
-        ensures state { state_of self.new ≡ left_by change.now (state_of self.old) }
+    // Forgets the owners, the opens and the lock states of the client.
+    fn leave(&mut self, client: ClientId)
+        ensures state { state_of self.new ≡ without_client client (state_of self.old) }
         ensures clients { self.new.clients ≡ self.old.clients }
         ensures kept { (journal : History)
             → Agrees journal self.old.owners.owners → Agrees journal self.new.owners.owners }
     {
-        if let ClientChange::Replaces(_, client) = change {
-            self.owners.remove_client(*client);
-            self.opens.remove_client(*client);
-            self.locks.remove_client(*client);
-        }
+        self.owners.remove_client(client);
+        self.opens.remove_client(client);
+        self.locks.remove_client(client);
     }
 }

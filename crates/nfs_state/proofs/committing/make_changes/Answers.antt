@@ -11,7 +11,7 @@ commit_owner-requires c =
     let roomy = c.make_room.new.self in
     let has_place : Stored → Type 0 = λ stored. HasOwnerPlace c.args.effect.owner (meaning stored) in
     let place = subst has_place (sym c.in_ok-make_room.ensures.same) c.requires.fits.place in
-    record { room = subst (λ u. HasUpdateRoom u roomy) (sym c.in_ok-update.ensures) (update_room_by c.args.effect.owner (kept_in c.args.entry.now) roomy place c.in_ok-make_room.ensures.room.1) }
+    record { room = subst (λ u. HasUpdateRoom u roomy) (sym c.in_ok-update.ensures.update) (update_room_by c.args.effect.owner (kept_in c.args.entry.now) roomy place c.in_ok-make_room.ensures.room.1) }
 
 pub commit-requires-clause-numbers : goal.commit-requires-clause-numbers
 commit-requires-clause-numbers c =
@@ -19,7 +19,7 @@ commit-requires-clause-numbers c =
     let roomy = c.make_room.new.self in
     let has_place : Stored → Type 0 = λ stored. HasOwnerPlace effect.owner (meaning stored) in
     let place = subst has_place (sym c.in_ok-make_room.ensures.same) c.requires.fits.place in
-    let changed = owners_changed c.in_ok-update.update effect.owner (kept_in c.args.entry.now) c.args.number (state_of roomy) (state_of c.commit_owner.new.self) c.in_ok-update.ensures c.requires.fits.kept c.commit_owner.ensures.state c.commit_owner.ensures.nothing place in
+    let changed = owners_changed c.in_ok-update.update effect.owner (kept_in c.args.entry.now) c.args.number (state_of roomy) (state_of c.commit_owner.new.self) c.in_ok-update.ensures.update c.requires.fits.kept c.commit_owner.ensures.state c.commit_owner.ensures.nothing place in
     let are = changed ∙ ap (λ (s : Stored). with_owner_change effect.owner c.args.number (meaning s)) c.in_ok-make_room.ensures.same in
     subst (IsWithinLimits effect.change) (sym are) (limits_after effect.change effect.owner c.args.number (state_of c.args.tables.now) c.requires.fits.numbers)
 
@@ -29,7 +29,7 @@ returns-clause-state c =
     let roomy = c.make_room.new.self in
     let has_place : Stored → Type 0 = λ stored. HasOwnerPlace effect.owner (meaning stored) in
     let place = subst has_place (sym c.in_ok-make_room.ensures.same) c.requires.fits.place in
-    let changed = owners_changed c.in_ok-update.update effect.owner (kept_in c.args.entry.now) c.args.number (state_of roomy) (state_of c.commit_owner.new.self) c.in_ok-update.ensures c.requires.fits.kept c.commit_owner.ensures.state c.commit_owner.ensures.nothing place in
+    let changed = owners_changed c.in_ok-update.update effect.owner (kept_in c.args.entry.now) c.args.number (state_of roomy) (state_of c.commit_owner.new.self) c.in_ok-update.ensures.update c.requires.fits.kept c.commit_owner.ensures.state c.commit_owner.ensures.nothing place in
     c.commit.ensures.state ∙ ap (with_state_change effect.change) changed
     ∙ ap (λ (s : Stored). after c.args.number effect (meaning s)) c.in_ok-make_room.ensures.same
 
@@ -38,6 +38,6 @@ returns-clause-kept c = λ journal agrees.
     let roomy = c.make_room.new.self in
     let update = update_by c.args.effect.owner (kept_in c.args.entry.now) in
     let are = c.commit_owner.ensures.owners
-    ∙ ap (λ u. owners_after u c.args.number roomy.owners.owners) c.in_ok-update.ensures
+    ∙ ap (λ u. owners_after u c.args.number roomy.owners.owners) c.in_ok-update.ensures.update
     ∙ ap (λ (s : Stored). owners_after update c.args.number s.owners) c.in_ok-make_room.ensures.same in
     c.commit.ensures.kept journal (subst (Agrees journal) (sym are) agrees)

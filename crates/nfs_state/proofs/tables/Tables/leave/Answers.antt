@@ -6,10 +6,10 @@ use Rattle.nfs_owners.specs.Owner.{has_client}
 use Rattle.nfs_state.proofs.StoredOwners.{agrees_filter, left_seen}
 use Rattle.nfs_state.proofs.tables.Tables.leave.Goals as goal
 
-pub returns-in-Replaces-clause-state : goal.returns-in-Replaces-clause-state
-returns-in-Replaces-clause-state c =
-    left_seen (stored_of c.args.self.now) c.in-Replaces.client c.remove_client.new.self.owners _ _ c.remove_client.ensures.owners c.remove_client-in-Replaces.ensures c.remove_client-in-Replaces-2.ensures c.args.change.now _ c.in-Replaces.is
+pub returns-clause-state : goal.returns-clause-state
+returns-clause-state c =
+    left_seen (stored_of c.args.self.now) c.args.client c.remove_client.new.self.owners _ _ c.remove_client.ensures.owners c.remove_client-2.ensures c.remove_client-3.ensures
 
-pub returns-in-Replaces-clause-kept : goal.returns-in-Replaces-clause-kept
-returns-in-Replaces-clause-kept c journal agrees =
-    subst (Agrees journal) (sym c.remove_client.ensures.owners) (agrees_filter journal (λ o. not (has_client c.in-Replaces.client o)) _ agrees)
+pub returns-clause-kept : goal.returns-clause-kept
+returns-clause-kept c journal agrees =
+    subst (Agrees journal) (sym c.remove_client.ensures.owners) (agrees_filter journal (λ o. not (has_client c.args.client o)) _ agrees)
