@@ -4,11 +4,16 @@ use Rattle.std.specs.Prelude.{IfOk, IsErrOf, IsTrue, is_some, not, option_map}
 use Rattle.std.proofs.lemmas.Bool.{cond_both}
 use Rattle.nfs_core.proofs.Journals.{decides_something}
 use Rattle.nfs_core.proofs.SoundSequences.{some_equal}
+use Rattle.nfs_core.specs.Expiry.{IsKeptFor}
+use Rattle.nfs_core.specs.Server.{Server}
+use Rattle.nfs_core.specs.declared.core_error.CoreError.{CoreError}
+use Rattle.nfs_core.specs.declared.core_error.CoreError.TheVariants as core_errors
 use Rattle.nfs_core.specs.Following.{CanBeAsked, IsNext, IsWithinLimits, error_of}
 use Rattle.nfs_core.specs.declared.following.FollowError.TheVariants as errors
 use Rattle.nfs_core.specs.Step.{Allows, HasNoAnswer, HasNoStep, Step}
 use Rattle.nfs_rules.specs.Deciding.{Decides}
 use Rattle.nfs_rules.specs.declared.decision.Decision.{Decision}
+use Rattle.nfs_rules.specs.entries.Expire.{IsExpiry}
 use Rattle.nfs_rules.specs.operations.{AtMostOneDecision, IsPlain, IsRuled, IsRuledBy}
 use Rattle.nfs_rules.specs.operations.Lockt as lockt
 use Rattle.nfs_rules.specs.operations.ReleaseLockowner as release
@@ -30,7 +35,12 @@ use Rattle.nfs_state.specs.declared.owner_change.OwnerChange.TheVariants as owne
 use Rattle.nfs_xdr.specs.Names.{Names, Nothing, Client, Opener, Owned, names_of, seqid_in}
 use Rattle.nfs_state.specs.Changes.{after}
 use Rattle.nfs_state.specs.Entries.{IsSendable, entry_of}
+use Rattle.nfs_state.specs.Room.{HasOwnerPlace, HasOwnerRoom, HasRoom, TakesNoMemory}
+use Rattle.nfs_state.specs.Room.{IsWithinLimits as IsWithinNumbers}
 use Rattle.nfs_state.specs.State.{State, History}
+use Rattle.nfs_state.specs.Stored.{meaning}
+use Rattle.nfs_state.specs.declared.tables.Tables.{Tables}
+use Rattle.nfs_state.specs.declared.entry.Expire.{Expire}
 use Rattle.nfs_state.specs.declared.effect.Effect.{Effect}
 use Rattle.nfs_state.specs.declared.entry.Call.{Call}
 use Rattle.nfs_state.specs.declared.entry.Entry.{Entry}
@@ -161,3 +171,30 @@ limit_not_next shortages.Memory is = absurd cc
 -- an entry that may come next, and leads to the state that its effect gives
 pub Step-next : (journal : History) (old new : State) (entry : Entry) (effect : Effect) → IsNext journal old entry effect → new ≡ after (length journal.entries) effect old → Step journal old entry new
 Step-next journal old new entry effect next state = record { below = next.below; effect = effect; allowed = next.allowed; state = state }
+
+-- a client's end may come next
+pub expiry_next : (journal : History) (old : State) (expire : Expire) (effect : Effect) → length journal.entries < JOURNAL_LIMIT → IsExpiry journal old expire effect → IsNext journal old (entries.Expire expire) effect
+expiry_next journal old expire effect below expiry = record {
+  below = below;
+  allowed = expiry;
+  fits = record {
+    kept = ap (λ (e : Effect). e.owner) expiry.effect;
+    numbers = subst (λ (e : Effect). IsWithinNumbers e.change old) (sym expiry.effect) tt;
+    place = subst (λ (e : Effect). HasOwnerPlace e.owner old) (sym expiry.effect) tt;
+  };
+}
+
+-- where a client isn't removed though there is memory, its end may not come next
+pub no_expiry : (server : Server) (expire : Expire) (error : CoreError) → error ≢ core_errors.Memory → IsKeptFor server expire error → HasNoStep server.journal (meaning server.stored) (entries.Expire expire)
+no_expiry server expire core_errors.NotLive other kept new step = absurd (cc (kept, step.allowed.live))
+no_expiry server expire core_errors.NotDue other kept new step = kept.1 step.allowed.due
+no_expiry server expire core_errors.Full other kept new step = omega (arith, kept.1, step.below)
+no_expiry server expire core_errors.Memory other kept new step = absurd (other refl)
+
+-- a client's end takes no memory beside its entry
+pub expiry_memory : (journal : History) (old : State) (expire : Expire) (effect : Effect) (tables : Tables) → IsExpiry journal old expire effect → TakesNoMemory (entries.Expire expire) effect tables
+expiry_memory journal old expire effect tables expiry = record {
+  kept = refl;
+  owner = subst (λ (e : Effect). HasOwnerRoom e.owner tables) (sym expiry.effect) tt;
+  change = subst (λ (e : Effect). HasRoom e.change tables) (sym expiry.effect) tt;
+}

@@ -7,6 +7,7 @@ use Rattle.nfs_state.specs.declared.entry.Entry.{Entry}
 use Rattle.nfs_state.specs.declared.entry.Entry.TheVariants as entries
 use Rattle.nfs_core.specs.Lawful.{Leads, Lawful}
 use Rattle.nfs_core.specs.Safe.{HasKnownLocker, HasKnownOwner, HasLiveClient, HasLiveLocker, IsSafe, KeepsLimits, StandsUnderOpen, bears}
+use Rattle.nfs_rules.specs.entries.Expire.{client_of}
 use Rattle.nfs_state.specs.Changes.{after, with_owner_change}
 use Rattle.nfs_state.specs.State.{State, History, empty_server}
 use Rattle.nfs_core.specs.Step.{Allows, Step}
@@ -14,7 +15,7 @@ use Rattle.nfs_state.specs.Entries.{with_entry}
 use Rattle.nfs_core.proofs.SafeFiles.{locks_at}
 use Rattle.nfs_core.proofs.SafeLists.{all_replicate, all_weaken, any_found}
 use Rattle.nfs_core.proofs.Sound.{AreNumbered, HasSoundLocks, IsKnownIn, IsLockerKnownIn, IsSound, StandsUnder, OpensStay}
-use Rattle.nfs_core.proofs.SoundClients.{HasSingles, one_of_client, singles_after, singles_empty, singles_owned}
+use Rattle.nfs_core.proofs.SoundClients.{HasSingles, alone, one_of_client, singles_after, singles_empty, singles_owned}
 use Rattle.nfs_core.proofs.SoundLimits.{FirstRuns, limits_changed, limits_empty, limits_owned}
 use Rattle.nfs_core.proofs.SoundLocks.{LocksStay}
 use Rattle.nfs_core.proofs.SoundNumbers.{HasNumbers, numbered_after, numbered_empty, numbers_differ, numbers_given}
@@ -54,8 +55,10 @@ sound_empty journal =
     }
 
 -- what an entry may do is ready to keep the state sound
-allowed_ready : (journal : History) (old : State) (entry : Entry) (effect : Effect) → IsSound old → Allows journal old entry effect → IsEffectReady (length journal.entries) old effect
-allowed_ready journal old (entries.Call call) effect sound allowed =
+allowed_ready : (journal : History) (old : State) (entry : Entry) (effect : Effect) → IsSound old → HasSingles old.clients → Allows journal old entry effect → IsEffectReady (length journal.entries) old effect
+allowed_ready journal old (entries.Expire expire) effect sound singles allowed =
+    subst (IsEffectReady (length journal.entries) old) (sym allowed.effect) (tt, alone (client_of journal expire.client) old.clients.records allowed.live singles.same)
+allowed_ready journal old (entries.Call call) effect sound singles allowed =
     ruled_ready (length journal.entries) journal old call.request.op call.request (record { answer = call.answer; effect = effect }) refl sound allowed.rule
 
 -- What holds of the state after each entry.
@@ -93,7 +96,7 @@ holds_after laws number effect old ready holds = record {
 holds_step : Laws → (journal : History) (old : State) (entry : Entry) (new : State) → Step journal old entry new → Holds old → Holds new
 holds_step laws journal old entry new step holds =
     subst Holds (sym step.state)
-    (holds_after laws (length journal.entries) step.effect old (allowed_ready journal old entry step.effect holds.sound step.allowed) holds)
+    (holds_after laws (length journal.entries) step.effect old (allowed_ready journal old entry step.effect holds.sound holds.singles step.allowed) holds)
 
 holds_leads : Laws → (journal : History) (old new : State) (entries : List Entry) → Leads journal old entries new → Holds old → Holds new
 holds_leads laws journal old new [] leads holds = subst Holds (sym leads) holds

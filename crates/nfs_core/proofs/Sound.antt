@@ -8,7 +8,7 @@ use Rattle.std.proofs.lemmas.Slice.Eq.{bytes_eq-Decides}
 use Rattle.nfs_state.specs.Owners.{KnownOwner, confirmed_if_known, has_name, is_confirmed}
 use Rattle.nfs_state.specs.State.{State}
 use Rattle.nfs_core.specs.Safe.{bears}
-use Rattle.nfs_core.proofs.SafeLists.{all_always, all_filter, all_map, all_push, all_weaken, find_filtered, find_mapped, find_more, found_filtered, found_kept, found_map, found_more}
+use Rattle.nfs_core.proofs.SafeLists.{all_always, all_filter, all_map, all_push, all_weaken, find_filtered, find_mapped, find_more, found_filtered, found_kept, found_map, found_more, pairs_filter}
 use Rattle.nfs_forms.specs.ClientId.{is_same_client}
 use Rattle.nfs_forms.specs.LockOwner.{is_same_lock_owner}
 use Rattle.nfs_forms.specs.OpenOwner.{is_same_owner}
@@ -20,7 +20,7 @@ use Rattle.nfs_locks.specs.Laws.{AllLocksAreCompatible}
 use Rattle.nfs_locks.specs.Locks.{ByteLocks, is_lock_of}
 use Rattle.nfs_locks.specs.Locks as locks
 use Rattle.nfs_owners.specs.ClientChange.{with_confirmed, with_unconfirmed}
-use Rattle.nfs_owners.specs.Registry.{is_of, is_unconfirmed_of}
+use Rattle.nfs_owners.specs.Registry.{is_of, is_of_client, is_unconfirmed_of}
 use Rattle.nfs_owners.specs.StateOwner.{is_same_kind, is_same_state_owner, lock_owner, open_owner}
 use Rattle.nfs_owners.specs.declared.client_record.ClientRecord.{ClientRecord}
 use Rattle.nfs_owners.specs.declared.state_owner.OwnerKind.{OwnerKind}
@@ -353,3 +353,31 @@ live_replaced r client records owners only live =
           (subst (λ c. is_same_client c client ≡ true) (equal_clients s.client o.name.client both.1) (is_only both.0 same)))
       | inr other ↦ inl (not_from_false (is_of r.id s) other)
     ]) records only h) owners live
+
+-- A client expires.
+
+-- the record, if it has the client's number, is one of the client
+abbrev pub IsAloneOf : ClientId → ClientRecord → Type 0
+IsAloneOf client r = r.client.number ≡ client.number → r.client ≡ client
+
+-- the records without those that a test removes
+pub single_left : (p : ClientRecord → Bool) (records : List ClientRecord) → AreSingle records → AreSingle (filter (λ r. not (p r)) records)
+single_left p records single = pairs_filter HasSameClient (λ r. not (p r)) records single
+
+-- The records with the client's number, which are all its own, leave who else is live.
+pub live_expired : (client : ClientId) (records : List ClientRecord) (owners : List KnownOwner) → AllByRecursion (IsAloneOf client) records → AreLive records owners
+    → AreLive (filter (λ r. not (is_of_client client.number r)) records) (filter (λ o. not (is_same_client o.name.client client)) owners)
+live_expired client records owners alone live =
+    let gone : ClientRecord → Bool = is_of_client client.number in
+    all_filter (λ o. is_live_in records o.name.client ≡ true) (λ o. is_live_in (filter (λ r. not (gone r)) records) o.name.client ≡ true) (λ o. not (is_same_client o.name.client client))
+    (λ o h others. found_filtered (IsAloneOf client) (λ s. s.confirmed && is_same_client s.client o.name.client) (λ r. not (gone r))
+    (λ s is_alone passes.
+    let both = and_parts s.confirmed (is_same_client s.client o.name.client) passes in
+    elim (cases_Bool (gone s)) [
+      | inl same ↦
+          let is : s.client ≡ client = is_alone (eqb-true s.client.number client.number same) in
+          let of_owner : is_same_client s.client client ≡ true = subst (λ c. is_same_client c client ≡ true) (sym is) (same_client_self client) in
+          absurd (never (is_same_client o.name.client client) (not-true (is_same_client o.name.client client) others)
+          (subst (λ c. is_same_client c client ≡ true) (equal_clients s.client o.name.client both.1) of_owner))
+      | inr other ↦ not_from_false (gone s) other
+    ]) records alone h) owners live

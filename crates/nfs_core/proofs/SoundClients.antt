@@ -1,6 +1,6 @@
 -- An id has one confirmed record at most, and so has a clientid, whose number was given.
 use Rattle.std.proofs.Common.{◌≡◌, ℕ, Bool, true, false, List, [], ◌∷◌, ◌++◌, filter, refl, sym, ap, ◌∙◌, subst, arith}
-use Rattle.std.specs.Prelude.{⊤, ◌+◌, ◌≤◌, ◌&&◌, not}
+use Rattle.std.specs.Prelude.{⊤, ◌+◌, ◌≤◌, ◌&&◌, find, is_some, not}
 use Rattle.std.specs.List.{AllByRecursion, IsDistinct}
 use Rattle.std.specs.Str.{bytes_eq}
 use Rattle.std.proofs.lemmas.Bool.{and_parts, not-true}
@@ -8,12 +8,12 @@ use Rattle.std.proofs.lemmas.Slice.Eq.{bytes_eq-Decides}
 use Rattle.nfs_core.specs.Safe.{HasGivenNumber, have_same_client, have_same_id}
 use Rattle.nfs_core.proofs.SafeDistinct.{distinct_filter, distinct_none, distinct_push}
 use Rattle.nfs_core.proofs.SafeLists.{all_always, all_both, all_filter, all_push, all_weaken, found_holds, pairs_filter, pairs_push}
-use Rattle.nfs_core.proofs.Sound.{IsOfRecord, equal_clients}
+use Rattle.nfs_core.proofs.Sound.{IsAloneOf, IsOfRecord, equal_clients}
 use Rattle.nfs_core.proofs.SoundSteps.{IsChangeReady, IsClientReady}
 use Rattle.nfs_forms.specs.ClientId.{is_same_client}
 use Rattle.nfs_forms.specs.declared.client_id.ClientId.{ClientId}
 use Rattle.nfs_owners.specs.ClientChange.{with_change, with_confirmed, with_unconfirmed}
-use Rattle.nfs_owners.specs.Registry.{Registry, is_of, is_unconfirmed_of, no_clients}
+use Rattle.nfs_owners.specs.Registry.{Registry, is_of, is_of_client, is_unconfirmed_of, no_clients}
 use Rattle.nfs_owners.specs.declared.client_record.ClientRecord.{ClientRecord}
 use Rattle.nfs_owners.specs.declared.clients.client_change.ClientChange.{ClientChange}
 use Rattle.nfs_owners.specs.declared.clients.client_change.ClientChange.TheVariants as client_changes
@@ -24,9 +24,9 @@ use Rattle.nfs_state.specs.declared.change.Change.TheVariants as changes
 use Rattle.nfs_state.specs.declared.owner_change.OwnerChange.{OwnerChange}
 use Rattle.nfs_state.specs.declared.owner_change.OwnerChange.TheVariants as owner_changes
 
--- records of one client have one id
+-- records with one client number have one client and one id
 abbrev pub HasSameId : ClientRecord → ClientRecord → Type 0
-HasSameId r s = r.client ≡ s.client → r.id ≡ s.id
+HasSameId r s = r.client.number ≡ s.client.number → (r.client ≡ s.client) × (r.id ≡ s.id)
 
 abbrev HaveSameIds : List ClientRecord → Type 0
 HaveSameIds records = AllByRecursion (λ r. AllByRecursion (HasSameId r) records) records
@@ -52,9 +52,10 @@ joins_of_record last records r of same given =
     let both = and_parts (is_same_client s.client r.client) (bytes_eq s.id r.id) held.2 in
     let client : s.client ≡ r.client = equal_clients s.client r.client both.0 in
     let id : s.id ≡ r.id = (bytes_eq-Decides s.id r.id).0 both.1 in
+    let number : s.client.number ≡ r.client.number = ap (λ (c : ClientId). c.number) client in
     record {
-      before = all_weaken (HasSameId s) (λ b. HasSameId b r) (λ b row is. sym (row (client ∙ sym is)) ∙ id) records held.1.0;
-      after = all_weaken (HasSameId s) (HasSameId r) (λ b row is. sym id ∙ row (client ∙ is)) records held.1.0;
+      before = all_weaken (HasSameId s) (λ b. HasSameId b r) (λ b row is. (sym (row (number ∙ sym is)).0 ∙ client, sym (row (number ∙ sym is)).1 ∙ id)) records held.1.0;
+      after = all_weaken (HasSameId s) (HasSameId r) (λ b row is. (sym client ∙ (row (number ∙ is)).0, sym id ∙ (row (number ∙ is)).1)) records held.1.0;
       given = subst (λ (c : ClientId). (1 ≤ c.number) × (c.number ≤ last)) client held.1.1;
     }
 
@@ -65,9 +66,9 @@ fresh last a b below is same = omega (arith, below, is, same)
 joins_fresh : (last : ℕ) (records : List ClientRecord) (r : ClientRecord) → r.client.number ≡ last + 1 → AllByRecursion (HasGivenNumber last) records → Joins (last + 1) records r
 joins_fresh last records r next given = record {
   before = all_weaken (HasGivenNumber last) (λ s. HasSameId s r)
-      (λ s k is. absurd (fresh last s.client.number r.client.number k.1 next (ap (λ (c : ClientId). c.number) is))) records given;
+      (λ s k is. absurd (fresh last s.client.number r.client.number k.1 next is)) records given;
   after = all_weaken (HasGivenNumber last) (HasSameId r)
-      (λ s k is. absurd (fresh last s.client.number r.client.number k.1 next (sym (ap (λ (c : ClientId). c.number) is)))) records given;
+      (λ s k is. absurd (fresh last s.client.number r.client.number k.1 next (sym is))) records given;
   given = (omega (arith, next), omega (arith, next));
 }
 
@@ -77,7 +78,7 @@ same_after q last records r joins same =
     pairs_push HasSameId (filter q records) r (pairs_filter HasSameId q records same)
     (all_filter (λ s. HasSameId s r) (λ s. HasSameId s r) q (λ s k _. k) records joins.before)
     (all_filter (HasSameId r) (HasSameId r) q (λ s k _. k) records joins.after)
-    (λ _. refl)
+    (λ _. (refl, refl))
 
 given_after : (q : ClientRecord → Bool) (last : ℕ) (records : List ClientRecord) (r : ClientRecord) → HasGivenNumber last r → AllByRecursion (HasGivenNumber last) records
     → AllByRecursion (HasGivenNumber last) (filter q records ++ r ∷ [])
@@ -149,6 +150,13 @@ singles_changed (client_changes.Replaces r client) old ready h =
 pub singles_after : (change : Change) (old : State) → IsChangeReady change old → HasSingles old.clients → HasSingles (with_state_change change old).clients
 singles_after changes.Nothing old ready h = h
 singles_after (changes.Clients change) old ready h = singles_changed change old.clients ready h
+singles_after (changes.Expires client) old ready h =
+    let q : ClientRecord → Bool = λ r. not (is_of_client client.number r) in
+    record {
+      ids = distinct_filter have_same_id q old.clients.records h.ids;
+      same = pairs_filter HasSameId q old.clients.records h.same;
+      given = all_filter (HasGivenNumber old.clients.last_number) (HasGivenNumber old.clients.last_number) q (λ r k _. k) old.clients.records h.given;
+    }
 singles_after change old ready h = h
 
 pub singles_owned : (change : OwnerChange) (number : ℕ) (old : State) → HasSingles old.clients → HasSingles (with_owner_change change number old).clients
@@ -157,6 +165,14 @@ singles_owned change number old h = h
 
 pub singles_empty : HasSingles no_clients
 singles_empty = record { ids = distinct_none have_same_id; same = tt; given = tt }
+
+-- All records with the number of a client that is live are its own.
+pub alone : (client : ClientId) (records : List ClientRecord) → is_some (find (λ r. r.confirmed && is_same_client r.client client) records) ≡ true → HaveSameIds records → AllByRecursion (IsAloneOf client) records
+alone client records live same =
+    let held = found_holds (λ s. AllByRecursion (HasSameId s) records) (λ r. r.confirmed && is_same_client r.client client) records live same in
+    let s = held.0 in
+    let is : s.client ≡ client = equal_clients s.client client (and_parts s.confirmed (is_same_client s.client client) held.2).1 in
+    all_weaken (HasSameId s) (IsAloneOf client) (λ b row number. sym (row (ap (λ (c : ClientId). c.number) is ∙ sym number)).0 ∙ is) records held.1
 
 -- So a clientid has one confirmed record at most.
 
@@ -168,7 +184,7 @@ weaker true false d implies none = refl
 client_differs : (r s : ClientRecord) → (have_same_id r s ≡ false) × HasSameId r s → have_same_client r s ≡ false
 client_differs r s h =
     weaker (r.confirmed && s.confirmed) (is_same_client r.client s.client) (bytes_eq r.id s.id)
-    (λ same. (bytes_eq-Decides r.id s.id).1 (h.1 (equal_clients r.client s.client same))) h.0
+    (λ same. (bytes_eq-Decides r.id s.id).1 (h.1 (ap (λ (c : ClientId). c.number) (equal_clients r.client s.client same))).1) h.0
 
 pub one_of_client : (records : List ClientRecord) → IsDistinct have_same_id records → HaveSameIds records → IsDistinct have_same_client records
 unfolding IsDistinct

@@ -185,6 +185,7 @@ keep_changed K (changes.Confirms node number owner) old h =
     all_map (λ o. K o.kept_entry) (λ o. K o.kept_entry) (λ o. if has_name (open_owner owner) o then record o { confirmed = true } else o)
     (λ o k. cond_both (has_name (open_owner owner) o) (record o { confirmed = true }) o (λ (x : KnownOwner). K x.kept_entry) (λ _. k) (λ _. k)) old.owners h
 keep_changed K (changes.Releases owner) old h = keep_left K (λ o. not (has_name (lock_owner owner) o)) old.owners h
+keep_changed K (changes.Expires client) old h = keep_left K (λ o. not (is_same_client o.name.client client)) old.owners h
 keep_changed K change old h = h
 
 -- The journal.
@@ -206,6 +207,8 @@ new_counted : (journal : History) (old : State) (entry : Entry) (effect : Effect
 new_counted journal old (entries.Call call) effect allowed kept =
     last_counted journal.entries call
     (named_keeps (names_of call.request.op) call.request.op journal old call.request (record { answer = call.answer; effect = effect }) allowed.rule kept)
+new_counted journal old (entries.Expire expire) effect allowed kept =
+    absurd (subst (λ (e : Effect). keeps e.owner ≡ true) allowed.effect kept)
 
 keep_step : (journal : History) (old : State) (entry : Entry) (new : State) → Step journal old entry new → KeepRequests journal old → KeepRequests (with_entry entry journal) new
 keep_step journal old entry new step h =

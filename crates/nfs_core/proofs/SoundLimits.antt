@@ -115,6 +115,8 @@ owners_changed (changes.Clients change) old below = below
 owners_changed (changes.Confirms node number owner) old below =
     omega (arith, as_many (λ o. if has_name (open_owner owner) o then record o { confirmed = true } else o) old.owners, below)
 owners_changed (changes.Releases owner) old below = omega (arith, left_many (lock_owner owner) old.owners, below)
+owners_changed (changes.Expires client) old below =
+    omega (arith, fewer (λ o. not (is_same_client o.name.client client)) old.owners, below)
 owners_changed change old below = below
 
 -- The clients' numbers.
@@ -189,6 +191,7 @@ runs_changed first_runs (changes.Locks node number change) old ready h =
     all_set (AllByRecursion HasFewRuns) old.locks node (with_lock_change number change here) h
     (runs_added number change here ready.3 (locks_at (AllByRecursion HasFewRuns) tt node old.locks h))
 runs_changed first_runs (changes.Releases owner) old ready h = runs_dropped (is_lock_of owner) old.locks h
+runs_changed first_runs (changes.Expires client) old ready h = runs_dropped (is_lock_of_client client) old.locks h
 runs_changed first_runs change old ready h = h
 
 runs_owned : (change : OwnerChange) (number : ℕ) (old : State) → HaveFewRuns old.locks → HaveFewRuns (with_owner_change change number old).locks

@@ -15,7 +15,7 @@ use Rattle.nfs_share.specs.Opens.{after_downgrade, after_open, first_open, is_nu
 use Rattle.nfs_share.specs.Opens as opens
 use Rattle.nfs_share.specs.declared.open_state.OpenState.{OpenState}
 use Rattle.nfs_share.specs.declared.share.Share.{Share}
-use Rattle.nfs_state.specs.Changes.{after, last_state_after, with_owner_change, with_state_change}
+use Rattle.nfs_state.specs.Changes.{after, last_state_after, with_owner_change, with_state_change, without_client}
 use Rattle.nfs_state.specs.State.{State, empty_server}
 use Rattle.nfs_state.specs.declared.change.Change.{Change}
 use Rattle.nfs_state.specs.declared.change.Change.TheVariants as changes
@@ -102,15 +102,19 @@ lock_number_kept : (w : ℕ → ℕ) (change : ByteLocks → ByteLocks) → ((l 
 lock_number_kept w change keeps true l = ap w (keeps l)
 lock_number_kept w change keeps false l = refl
 
--- A change adds the next number at most.
-pub weight_changed : (w : ℕ → ℕ) (change : Change) (old : State) → weight w (with_state_change change old) ≤ weight w old + cond (gives change old) (w (old.last_state + 1)) 0
-weight_changed w changes.Nothing old = omega arith
-weight_changed w (changes.Clients (client_changes.Replaces r client)) old =
+-- A client is lost with all that it has.
+client_weight : (w : ℕ → ℕ) (client : ClientId) (old : State) → weight w (without_client client old) ≤ weight w old + 0
+client_weight w client old =
     omega (
       arith,
       sum_all_map (of_open w) (opens.without (is_of_client client)) (opens_without w (is_of_client client)) old.opens,
       sum_all_map (of_lock w) (locks.without (is_lock_of_client client)) (locks_without w (is_lock_of_client client)) old.locks,
     )
+
+-- A change adds the next number at most.
+pub weight_changed : (w : ℕ → ℕ) (change : Change) (old : State) → weight w (with_state_change change old) ≤ weight w old + cond (gives change old) (w (old.last_state + 1)) 0
+weight_changed w changes.Nothing old = omega arith
+weight_changed w (changes.Clients (client_changes.Replaces r client)) old = client_weight w client old
 weight_changed w (changes.Clients change) old = omega arith
 weight_changed w (changes.Opens node owner share) old =
     let here = opens_of node old.opens in
@@ -142,6 +146,7 @@ weight_changed w (changes.Locks node number change) old =
     omega (arith, sum_locks_set (of_lock w) 0 (map f here) node old.locks (omega (arith, same)))
 weight_changed w (changes.Releases owner) old =
     omega (arith, sum_all_map (of_lock w) (locks.without (is_lock_of owner)) (locks_without w (is_lock_of owner)) old.locks)
+weight_changed w (changes.Expires client) old = client_weight w client old
 
 -- What an entry means for an owner adds none.
 pub weight_owned : (w : ℕ → ℕ) (change : OwnerChange) (number : ℕ) (old : State) → weight w (with_owner_change change number old) ≤ weight w old

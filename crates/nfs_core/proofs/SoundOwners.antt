@@ -143,6 +143,10 @@ ones_changed (changes.Releases owner) old ready h = record {
   opens = h.opens;
   locks = locks_dropped (is_lock_of owner) old h;
 }
+ones_changed (changes.Expires client) old ready h = record {
+  opens = opens_dropped (is_of_client client) old h;
+  locks = locks_dropped (is_lock_of_client client) old h;
+}
 
 -- So does what an entry means for an owner.
 pub ones_owned : (change : OwnerChange) (number : ℕ) (old : State) → HasOnes old → HasOnes (with_owner_change change number old)

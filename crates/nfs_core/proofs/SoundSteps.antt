@@ -15,7 +15,7 @@ use Rattle.nfs_state.specs.Places.{has_state_place}
 use Rattle.nfs_state.specs.State.{State}
 use Rattle.nfs_core.proofs.SafeFiles.{opens_at, set_opens}
 use Rattle.nfs_core.proofs.SafeLists.{all_filter, all_push, all_set}
-use Rattle.nfs_core.proofs.Sound.{AreLive, IsKnownIn, IsOfRecord, IsOnlyOf, IsSound, StandsUnder, KeepsOwner, KeepsOwners, OpensStay, dropped_compatible, dropped_known, dropped_live, each_known, is_known_in, is_live_in, keeps_mapped, keeps_recorded, keeps_tested, live_confirmed, live_replaced, live_unconfirmed, mapped_live, name_left, opening_known, renamed_known, single_confirmed, single_unconfirmed}
+use Rattle.nfs_core.proofs.Sound.{AreLive, IsAloneOf, IsKnownIn, IsOfRecord, IsOnlyOf, IsSound, StandsUnder, KeepsOwner, KeepsOwners, OpensStay, dropped_compatible, dropped_known, dropped_live, each_known, is_known_in, is_live_in, keeps_mapped, keeps_recorded, keeps_tested, live_confirmed, live_expired, live_replaced, live_unconfirmed, mapped_live, name_left, opening_known, renamed_known, single_confirmed, single_left, single_unconfirmed}
 use Rattle.nfs_core.proofs.SoundLocks.{LocksStay, locks_begun, locks_changed, locks_closed, locks_numbered, locks_owned, locks_released, locks_reopened, locks_without, locks_without_client, under_each, under_opening}
 use Rattle.nfs_forms.specs.ClientId.{is_same_client}
 use Rattle.nfs_forms.specs.OpenOwner.{is_same_owner}
@@ -26,7 +26,7 @@ use Rattle.nfs_locks.specs.Laws.{IsFreeFor}
 use Rattle.nfs_locks.specs.Locks.{first_state, is_lock_of, lock_of}
 use Rattle.nfs_locks.specs.Locks as locks
 use Rattle.nfs_owners.specs.Registration.{has_number_left}
-use Rattle.nfs_owners.specs.Registry.{Registry}
+use Rattle.nfs_owners.specs.Registry.{Registry, is_of_client}
 use Rattle.nfs_owners.specs.StateOwner.{is_same_state_owner, lock_owner, open_owner}
 use Rattle.nfs_owners.specs.declared.clients.client_change.ClientChange.{ClientChange}
 use Rattle.nfs_owners.specs.declared.clients.client_change.ClientChange.TheVariants as client_changes
@@ -65,7 +65,7 @@ IsClientReady (client_changes.Replaces r client) registry =
 -- The owner of an open is known, its OPEN isn't refused, and there is a place for an open that it makes. The owner of a lock
 -- state that begins is known, an open of the node is there for it, the bytes are free for it, it has no lock state of the
 -- file, and there is a place for one; those of another change are free for the owner of a lock state with the number, and
--- leave its runs within the limit.
+-- leave its runs within the limit. No other client has the number of one that expires.
 abbrev pub IsChangeReady : Change → State → Type 0
 IsChangeReady (changes.Clients change) state = IsClientReady change state.clients
 IsChangeReady (changes.Opens node owner share) state =
@@ -82,6 +82,7 @@ IsChangeReady (changes.Locks node number change) state =
     × (is_some (find (λ l. locks.is_numbered number l && is_lock_of owner l) (locks_of node state.locks)) ≡ true)
     × IsFreeFor owner change (locks_of node state.locks)
     × (is_full_for number change (locks_of node state.locks) ≡ false)
+IsChangeReady (changes.Expires client) state = AllByRecursion (IsAloneOf client) state.clients.records
 IsChangeReady change state = ⊤
 
 abbrev pub IsEffectReady : ℕ → State → Effect → Type 0
@@ -263,6 +264,13 @@ sound_changed law lock_law (changes.Releases owner) old ready sound = record {
   compatible = sound.compatible;
   single = sound.single;
   locks = locks_released lock_law owner old.owners old.opens old.last_state old.locks sound.locks;
+}
+sound_changed law lock_law (changes.Expires client) old ready sound = record {
+  live = live_expired client old.clients.records old.owners ready sound.live;
+  known = dropped_known (λ n. is_same_client n.client client) old.owners old.opens sound.known;
+  compatible = dropped_compatible law (λ o. is_same_client o.owner.client client) old.opens sound.compatible;
+  single = single_left (is_of_client client.number) old.clients.records sound.single;
+  locks = locks_without_client lock_law client old.owners old.opens old.last_state old.locks sound.locks;
 }
 
 -- an entry keeps the state sound

@@ -2,7 +2,17 @@
 use Rattle.std.specs.Prelude.{ℕ}
 use Rattle.nfs_core.specs.declared.core_error.CoreError.{CoreError}
 use Rattle.nfs_core.specs.declared.core_error.CoreError.TheVariants as errors
+use Rattle.nfs_rules.specs.declared.entries.expire.NotExpired.{NotExpired}
+use Rattle.nfs_rules.specs.declared.entries.expire.NotExpired.TheVariants as reasons
 
 -- the number of an error
 abbrev pub number_of : CoreError → ℕ
+number_of errors.NotLive = 1
+number_of errors.NotDue = 2
+number_of errors.Full = 3
 number_of errors.Memory = 4
+
+-- a client that isn't removed for this reason
+abbrev pub error_of : NotExpired → CoreError
+error_of reasons.NotLive = errors.NotLive
+error_of reasons.NotDue = errors.NotDue

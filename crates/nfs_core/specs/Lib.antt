@@ -4,3 +4,4 @@ pub mod Safe
 pub mod Server
 pub mod CoreError
 pub mod Following
+pub mod Expiry

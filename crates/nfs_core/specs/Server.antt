@@ -6,7 +6,10 @@ use Rattle.nfs_core.specs.Lawful.{Lawful}
 use Rattle.nfs_state.specs.State.{History}
 use Rattle.nfs_core.specs.Step.{Step}
 use Rattle.nfs_state.specs.Entries.{entry_of, resource, with_entry}
+use Rattle.nfs_state.specs.Journal.{RoomyJournal}
+use Rattle.nfs_state.specs.Room.{stored_of}
 use Rattle.nfs_state.specs.Stored.{Stored, meaning}
+use Rattle.nfs_state.specs.declared.tables.Tables.{Tables}
 use Rattle.nfs_xdr.specs.declared.op_result.OpResult.{OpResult}
 
 pub record Server : Type 0 where
@@ -14,6 +17,14 @@ pub record Server : Type 0 where
   pub stored : Stored
   -- how many entries the journal can gain without memory
   pub room : ℕ
+
+-- the server with this journal, which can gain so many entries without memory, and with these tables
+abbrev pub server_of : RoomyJournal → Tables → Server
+server_of journal tables = record {
+  journal = journal.history;
+  stored = stored_of tables;
+  room = journal.room;
+}
 
 -- the server's journal leads to the state that is stored
 abbrev pub IsLawful : Server → Type 0

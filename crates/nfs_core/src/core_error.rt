@@ -1,19 +1,29 @@
 ghost use Rattle.std.specs.Prelude.{◌≡◌};
 ghost use Rattle.nfs_core.specs.CoreError.{number_of};
 
+use nfs_rules::NotExpired;
 use std::alloc::AllocError;
 use thiserror::Error;
 
 /// Why a call of the core that doesn't answer an operation failed.
 #[derive(Clone, Copy, Debug, PartialEq, Eq, Error)]
 pub enum CoreError {
+    /// The client has no confirmed record.
+    #[error("the client isn't live (1)")]
+    NotLive = 1,
+    /// The client's lease hasn't run out.
+    #[error("the client's lease hasn't run out (2)")]
+    NotDue = 2,
+    /// The journal has as many entries as it can have.
+    #[error("the journal is full (3)")]
+    Full = 3,
     /// Memory ran out.
     #[error("no memory (4)")]
     Memory = 4,
 }
 
 impl CoreError {
-    /// The error's number.
+    /// The error's number, from 1 to 4.
     pub fn number(&self) -> u32
         ensures { result ≡ number_of self.now }
     {
@@ -29,5 +39,19 @@ impl From<AllocError> for CoreError {
 
     fn from(_: AllocError) -> CoreError {
         CoreError::Memory
+    }
+}
+
+impl From<NotExpired> for CoreError {
+    ghost use Rattle.std.specs.Prelude.{◌≡◌};
+    ghost use Rattle.nfs_core.specs.CoreError.{error_of};
+
+    ghost from_gives = { λ reason e. e ≡ error_of reason };
+
+    fn from(reason: NotExpired) -> CoreError {
+        match reason {
+            NotExpired::NotLive => CoreError::NotLive,
+            NotExpired::NotDue => CoreError::NotDue,
+        }
     }
 }

@@ -1,22 +1,25 @@
-ghost use Rattle.std.specs.Prelude.{◌≡◌, ◌≤◌, ◌<◌, [], IfOk, OnErr, IsErrOf, IsTrue, length};
+ghost use Rattle.std.specs.Prelude.{◌≡◌, ◌≤◌, ◌<◌, [], IfErr, IfOk, OnErr, OnOk, IsErrOf, IsTrue, length};
+ghost use Rattle.nfs_core.specs.Expiry.{IsKeptFor, IsWithoutRoom, expire_of};
 ghost use Rattle.nfs_core.specs.Following.{CanBeAsked, IsStoredBy, IsWithinLimits};
 ghost use Rattle.nfs_core.specs.Safe.{IsSafe, KeepRequests};
-ghost use Rattle.nfs_core.specs.Server.{Applies, Enters, IsLawful};
+ghost use Rattle.nfs_core.specs.Server.{Applies, AreAlike, Enters, IsLawful, server_of};
 ghost use Rattle.nfs_core.specs.Step.{HasNoAnswer};
 ghost use Rattle.nfs_state.specs.Entries.{IsFilehandle, IsSendable, entry_of, request_of};
 ghost use Rattle.nfs_state.specs.Kept.{Agrees};
 ghost use Rattle.nfs_state.specs.Room.{state_of, stored_of};
 ghost use Rattle.nfs_state.specs.Stored.{empty_store, meaning};
+ghost use Rattle.nfs_state.specs.declared.entry.Entry.TheVariants as entries;
 ghost use Rattle.nfs_xdr.specs.Op.{has_entry, opnum_of};
 ghost use Rattle.nfs_xdr.specs.OpResult.{op_result};
 ghost use Rattle.nfs_xdr.specs.Opnum.{answer_limit};
 
 use crate::CoreError;
+use crate::expiry::remove;
 use crate::following::decide_next;
 use crate::laws::lawful_is_safe;
 use nfs_rules::at_most_one_decision;
 use nfs_state::{
-    Call, Entry, Journal, LEASE_MAX, LEASE_MIN, Moment, Request, Shortage, Tables, commit_entry,
+    Call, Entry, Expire, Journal, LEASE_MAX, LEASE_MIN, Moment, Request, Shortage, Tables, commit_entry,
     copy_of_answer,
 };
 use nfs_tree::{Policy, Tree};
@@ -110,6 +113,34 @@ impl Core {
         }
     }
 
+    /// Makes room for one more entry, so that `expire` takes no memory where it comes next.
+    pub fn prepare(&mut self) -> Result<(), CoreError>
+        ensures same { AreAlike self.old self.new }
+        ensures room { OnOk result (0 < self.new.room) }
+        ensures error { IfErr result (IsWithoutRoom self.old) }
+        ensures lawful { IsLawful self.new }
+    {
+        if self.journal.is_full() {
+            return Err(CoreError::Full);
+        }
+        Ok(self.journal.reserve()?)
+    }
+
+    /// Removes the client with this number, whose lease was renewed last at `seen` and has run out at `now`, with all that
+    /// it has. Returns the entry's number. Fails, and changes nothing, if the client isn't live, its lease hasn't run out,
+    /// the journal is full, or memory ran out.
+    pub fn expire(&mut self, client: u32, seen: Moment, now: Moment) -> Result<u32, CoreError>
+        ensures expires { IfOk result (Enters self.old self.new
+            (entries.Expire (expire_of client seen now))) }
+        ensures error { IfErr result (IsKeptFor self.old (expire_of client seen now)) }
+        ensures same { OnErr result (AreAlike self.old self.new) }
+        ensures lawful { IsLawful self.new }
+    {
+        let tables = &mut self.tables;
+        let journal = &mut self.journal;
+        remove(self.alloc, tables, journal, Expire { client, seen, now })
+    }
+
     /// The journal of the changes that led to the state.
     pub fn journal(&self) -> &Journal
         ensures journal { result.now.history ≡ self.now.journal }
@@ -133,18 +164,8 @@ fn enter(
 ) -> Result<(OpResult, u32), Shortage>
     requires asked { CanBeAsked journal.old.history request }
     requires stored { IsStoredBy journal.old.history (stored_of tables.old) }
-    ensures entered { IfOk result (λ r. Enters
-        (record {
-          journal = journal.old.history;
-          stored = stored_of tables.old;
-          room = journal.old.room;
-        })
-        (record {
-          journal = journal.new.history;
-          stored = stored_of tables.new;
-          room = journal.new.room;
-        })
-        (entry_of request r.0) r.1) }
+    ensures entered { IfOk result (λ r. Enters (server_of journal.old tables.old)
+        (server_of journal.new tables.new) (entry_of request r.0) r.1) }
     ensures kept { Agrees journal.new.history tables.new.owners.owners }
     ensures sendable { IfOk result (λ r. IsSendable request.op r.0) }
     ensures limit { IsErrOf result Shortage.Limit

@@ -2,15 +2,16 @@
 
 ghost use Rattle.std.specs.Prelude.{◌≡◌, IfOk, IsErrOf, MatchBool, OnErr};
 ghost use Rattle.nfs_core.specs.Following.{CanBeAsked, IsNext, IsStoredBy, IsWithinLimits};
-ghost use Rattle.nfs_core.specs.Server.{Enters};
+ghost use Rattle.nfs_core.specs.Server.{Enters, server_of};
 ghost use Rattle.nfs_core.specs.Step.{HasNoAnswer, HasNoStep};
 ghost use Rattle.nfs_state.specs.Entries.{IsSendable, entry_of};
 ghost use Rattle.nfs_state.specs.Kept.{Agrees};
 ghost use Rattle.nfs_state.specs.Room.{state_of, stored_of};
 ghost use Rattle.nfs_state.specs.declared.entry.Entry.TheVariants as entries;
 
+use crate::expiry;
 use nfs_rules::{Decision, at_most_one_decision, decide};
-use nfs_state::{Call, Effect, Entry, Journal, Request, Shortage, Tables, commit_entry};
+use nfs_state::{Call, Effect, Entry, Expire, Journal, Request, Shortage, Tables, commit_entry};
 use std::alloc::Global;
 
 /// Why an entry that is handed in wasn't entered.
@@ -45,18 +46,8 @@ pub(crate) fn follow(
     entry: Entry,
 ) -> Result<u32, FollowError>
     requires { IsStoredBy journal.old.history (stored_of tables.old) }
-    ensures entered { IfOk result (λ number. Enters
-        (record {
-          journal = journal.old.history;
-          stored = stored_of tables.old;
-          room = journal.old.room;
-        })
-        (record {
-          journal = journal.new.history;
-          stored = stored_of tables.new;
-          room = journal.new.room;
-        })
-        entry number) }
+    ensures entered { IfOk result (λ number. Enters (server_of journal.old tables.old)
+        (server_of journal.new tables.new) entry number) }
     ensures kept { Agrees journal.new.history tables.new.owners.owners }
     ensures not_next { IsErrOf result FollowError.NotNext
         → HasNoStep journal.old.history (state_of tables.old) entry }
@@ -82,6 +73,7 @@ fn effect_of(
 {
     match entry {
         Entry::Call(call) => effect_of_call(alloc, tables, journal, call),
+        Entry::Expire(expire) => effect_of_expire(tables, journal, expire),
     }
 }
 
@@ -107,6 +99,23 @@ fn effect_of_call(
         return Err(FollowError::NotNext);
     }
     Ok(decision.effect)
+}
+
+// The effect of the client's end, if it may come next.
+fn effect_of_expire(
+    tables: &Tables,
+    journal: &Journal,
+    expire: &Expire,
+) -> Result<Effect, FollowError>
+    ensures next { IfOk result (λ effect. IsNext journal.now.history (state_of tables.now)
+        (entries.Expire expire.now) effect) }
+    ensures not_next { IsErrOf result FollowError.NotNext
+        → HasNoStep journal.now.history (state_of tables.now) (entries.Expire expire.now) }
+{
+    match expiry::effect_of(tables, journal, expire) {
+        Ok(effect) => Ok(effect),
+        Err(_) => Err(FollowError::NotNext),
+    }
 }
 
 // Whether the request's operation has an entry in the journal, and its filehandle, if there is one, is that of a node.

@@ -6,3 +6,4 @@ pub mod Locking
 pub mod operations
 pub mod Deciding
 pub mod Finding
+pub mod entries

@@ -3,6 +3,7 @@
 
 mod decision;
 mod demand;
+mod entries;
 mod laws;
 mod locking;
 mod newcomer;
@@ -16,6 +17,7 @@ mod turn;
 
 pub use decision::Decision;
 pub use demand::{Demand, Kinds};
+pub use entries::expire::{NotExpired, expire};
 pub use laws::at_most_one_decision;
 pub use opening::Opening;
 pub use operations::decide;

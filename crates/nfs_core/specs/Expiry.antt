@@ -1,0 +1,39 @@
+-- The end of a client, and why it doesn't come.
+use Rattle.std.specs.Prelude.{◌≡◌, ℕ, ◌<◌, ◌≤◌, ⊥, IsFalse, IsTrue, length}
+use Rattle.nfs_core.specs.Server.{Server}
+use Rattle.nfs_core.specs.declared.core_error.CoreError.{CoreError}
+use Rattle.nfs_core.specs.declared.core_error.CoreError.TheVariants as errors
+use Rattle.nfs_rules.specs.entries.Expire.{IsDue, is_live}
+use Rattle.nfs_state.specs.Stored.{meaning}
+use Rattle.nfs_state.specs.declared.entry.Expire.{Expire}
+use Rattle.nfs_state.specs.declared.entry.TheConstants.{JOURNAL_LIMIT}
+
+-- the end of a client
+abbrev pub expire_of : ℕ → ℕ → ℕ → Expire
+expire_of client seen now = record { client = client; seen = seen; now = now }
+
+-- the client is live, and its lease had run out
+abbrev pub MayEnd : Server → Expire → Type 0
+MayEnd server expire =
+    IsTrue (is_live server.journal (meaning server.stored) expire.client)
+    × IsDue server.journal expire
+
+-- The client isn't removed for the first of these reasons that there is: it isn't live, its lease hasn't run out, the
+-- journal is full, or it has no room for an entry.
+abbrev pub IsKeptFor : Server → Expire → CoreError → Type 0
+IsKeptFor server expire errors.NotLive =
+    IsFalse (is_live server.journal (meaning server.stored) expire.client)
+IsKeptFor server expire errors.NotDue =
+    IsTrue (is_live server.journal (meaning server.stored) expire.client)
+    × (IsDue server.journal expire → ⊥)
+IsKeptFor server expire errors.Full =
+    MayEnd server expire × (JOURNAL_LIMIT ≤ length server.journal.entries)
+IsKeptFor server expire errors.Memory =
+    MayEnd server expire × (length server.journal.entries < JOURNAL_LIMIT) × (server.room ≡ 0)
+
+-- There is no room for one more entry: the journal is full, or memory ran out.
+abbrev pub IsWithoutRoom : Server → CoreError → Type 0
+IsWithoutRoom server errors.Full = JOURNAL_LIMIT ≤ length server.journal.entries
+IsWithoutRoom server errors.Memory =
+    (length server.journal.entries < JOURNAL_LIMIT) × (server.room ≡ 0)
+IsWithoutRoom server error = ⊥

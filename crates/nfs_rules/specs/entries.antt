@@ -1,0 +1,2 @@
+-- The rules of the entries that are no calls, a file each.
+pub mod Expire

@@ -1,0 +1,3 @@
+//! The rules of the entries that are no calls, a file each.
+
+pub(crate) mod expire;

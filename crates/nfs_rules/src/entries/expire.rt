@@ -1,0 +1,40 @@
+//! The end of a client whose lease has run out (RFC 7530, section 9.6).
+
+ghost use Rattle.std.specs.Prelude.{◌≡◌, ◌×◌, ◌↔◌, Err, IfOk, IsFalse, IsTrue};
+ghost use Rattle.nfs_rules.specs.entries.Expire.{IsDue, IsExpiry, is_live};
+ghost use Rattle.nfs_state.specs.Room.{state_of};
+
+use nfs_state::{Change, Effect, Expire, Journal, Tables};
+use nfs_xdr::ClientId;
+
+/// Why a client isn't removed.
+#[derive(Clone, Copy, Debug, PartialEq, Eq)]
+pub enum NotExpired {
+    /// The client has no confirmed record.
+    NotLive,
+    /// The lease of the client hasn't run out.
+    NotDue,
+}
+
+/// The effect of a client's end, if its lease has run out.
+pub fn expire(tables: &Tables, journal: &Journal, expire: &Expire) -> Result<Effect, NotExpired>
+    ensures expiry { IfOk result (λ effect. IsExpiry journal.now.history (state_of tables.now)
+        expire.now effect) }
+    ensures not_live { result ≡ Err NotExpired.NotLive
+        ↔ IsFalse (is_live journal.now.history (state_of tables.now) expire.now.client) }
+    ensures not_due { result ≡ Err NotExpired.NotDue
+        ↔ IsTrue (is_live journal.now.history (state_of tables.now) expire.now.client)
+        × (IsDue journal.now.history expire.now → ⊥) }
+{
+    let client = ClientId {
+        epoch: journal.epoch(),
+        number: expire.client,
+    };
+    if tables.clients.of(client).is_none() {
+        return Err(NotExpired::NotLive);
+    }
+    if expire.now.seconds() <= expire.seen.seconds() + u64::from(journal.lease()) {
+        return Err(NotExpired::NotDue);
+    }
+    Ok(Effect::change_alone(Change::Expires(client)))
+}
