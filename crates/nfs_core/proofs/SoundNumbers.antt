@@ -2,6 +2,7 @@
 use Rattle.std.proofs.Common.{◌≡◌, ℕ, zero, suc, Bool, true, false, cond, List, [], ◌∷◌, ◌++◌, map, slice_set, refl, sym, ap, subst, arith}
 use Rattle.std.specs.Prelude.{◌+◌, ◌≤◌, ◌<◌, ◌==◌, flat_map, is_some, not}
 use Rattle.std.specs.List.{AllByRecursion, IsDistinct}
+use Rattle.nfs_forms.specs.declared.client_id.ClientId.{ClientId}
 use Rattle.nfs_core.specs.Safe.{WasGiven, numbers_of}
 use Rattle.nfs_core.proofs.SafeSums.{IsOnce, all_from_count, distinct_from_once, is_one, once_given, once_less, once_never, sum_all_map, sum_all_none, sum_append, sum_filter, sum_flat, sum_map, sum_of, sum_of_all, sum_push}
 use Rattle.nfs_forms.specs.OpenOwner.{is_same_owner}
