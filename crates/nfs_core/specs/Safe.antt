@@ -137,7 +137,7 @@ pub record IsSafe (state : State) : Type 0 where
 
 -- What is kept for the owners.
 
--- The call goes by a sequence id, and its answer counts (section 9.1.7).
+-- The call goes by a sequence id, and its answer has a status that counts (section 9.1.7).
 abbrev pub HasCounted : Call → Type 0
 HasCounted call =
     IsTrue (is_sequenced call.request.op) × IsTrue (counts (status_of call.answer))

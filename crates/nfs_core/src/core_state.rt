@@ -82,8 +82,8 @@ impl Core {
     }
 
     /// Answers an operation that has an entry in the journal (`Op::has_entry`), and returns the entry's number. Without
-    /// a number the answer is NFS4ERR_RESOURCE and nothing has changed: the journal is full, memory ran out, or a limit
-    /// would be exceeded. `filehandle` has to be a node of the tree.
+    /// a number the answer is NFS4ERR_RESOURCE and nothing has changed but room: the journal is full, memory ran out, or
+    /// a limit would be exceeded. `filehandle` has to be a node of the tree.
     pub fn apply(
         &mut self,
         moment: Moment,

@@ -22,8 +22,8 @@ pub fn at_most_one_state()
     at_most_one_decision();
 }
 
-/// The law that each state which a lawful journal leads to is safe, and that what is kept for each owner is a request in
-/// the journal that counted.
+/// The law that each state which a lawful journal leads to is safe, and that what is kept for each owner is an entry of the
+/// journal: a request that goes by a sequence id, with a status that counts.
 pub fn lawful_is_safe()
     ensures safe { (journal : History) (state : State) → Lawful journal state → IsSafe state }
     ensures kept { (journal : History) (state : State) → Lawful journal state →
