@@ -1,9 +1,7 @@
 ghost use Rattle.std.specs.Prelude.{◌≡◌, ◌<◌, ◌^◌, ◌++◌, IfOk, OnOk, if◌then◌else◌};
 ghost use Rattle.nfs_tree.specs.Attributes.{requested_bits, attributes_of, mask_of, number_of, supported_bits, value_requested, value_of, values_of};
-ghost use Rattle.nfs_tree.specs.Tree.{is_directory};
 ghost use Rattle.xdr.specs.Writing.{written_u32, written_u64};
 
-use crate::Tree;
 use nfs_xdr::{Bitmap, Fattr};
 use std::alloc::{AllocError, Global};
 use xdr::{Bytes, NO_LIMIT, WireError, write_flag, write_opaque, write_u32, write_u64};
@@ -79,37 +77,16 @@ impl Attribute {
     }
 }
 
-impl Tree {
-    /// The supported attributes of a node among those that a bitmap asks for. `change` is how many writes changed the
-    /// file and `size` is how many bytes it has now; neither matters for a directory. `lease` is in seconds.
-    pub fn attributes(
-        &self,
-        alloc: Global,
-        node: u32,
-        mask: &[u32],
-        change: u64,
-        size: u64,
-        lease: u32,
-    ) -> Result<Fattr, AllocError>
-        ensures { IfOk result (λ f. f ≡ attributes_of (record {
-          node = node;
-          is_directory = is_directory self.now.nodes node;
-          change = change;
-          size = size;
-          lease = lease;
-        }) mask.now) }
+impl Subject {
+    /// The supported attributes of the node among those that a bitmap asks for. Neither the change nor the size matters
+    /// for a directory.
+    pub fn attributes(self, alloc: Global, mask: &[u32]) -> Result<Fattr, AllocError>
+        ensures { IfOk result (λ f. f ≡ attributes_of self mask.now) }
     {
-        let subject = Subject {
-            node,
-            is_directory: self.is_directory(node),
-            change,
-            size,
-            lease,
-        };
         let word = requested_bits(mask);
         Ok(Fattr {
             mask: mask_of(alloc, word)?,
-            values: Bytes::new(values_of(alloc, subject, word, &ATTRIBUTES)?),
+            values: Bytes::new(values_of(alloc, self, word, &ATTRIBUTES)?),
         })
     }
 }

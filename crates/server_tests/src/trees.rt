@@ -1,7 +1,7 @@
 //! What no answer of the program shows yet of a tree: its policy, the bytes of a file, and the attributes of a file that
 //! was written to.
 
-use nfs_tree::{Callbacks, DEFAULT_TREE, Delegations, Policy, Tree, TreeError};
+use nfs_tree::{Callbacks, DEFAULT_TREE, Delegations, Policy, Subject, Tree, TreeError};
 use std::alloc::{AllocError, Global};
 use std::test::Fail;
 
@@ -55,7 +55,14 @@ fn has_attributes(alloc: Global, node: u32, mask: u32, values: &[u32]) -> Result
     if node >= tree.len() {
         return Ok(false);
     }
-    let attributes = tree.attributes(alloc, node, &[mask], 2, 7, 90)?;
+    let subject = Subject {
+        node,
+        is_directory: tree.is_directory(node),
+        change: 2,
+        size: 7,
+        lease: 90,
+    };
+    let attributes = subject.attributes(alloc, &[mask])?;
     let is_mask = attributes.mask.as_slice() == [mask & 0x0018_0fff].as_slice();
     Ok(is_mask && attributes.values.as_slice() == bytes_of(alloc, values)?.as_slice())
 }

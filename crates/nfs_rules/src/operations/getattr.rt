@@ -1,5 +1,5 @@
 ghost use Rattle.std.specs.Prelude.{◌≡◌, IfOk};
-ghost use Rattle.nfs_rules.specs.operations.Getattr.{attributes, rule};
+ghost use Rattle.nfs_rules.specs.operations.Getattr.{attributes, rule, subject_of};
 ghost use Rattle.nfs_rules.specs.Deciding.{Decides};
 ghost use Rattle.nfs_state.specs.Entries.{IsFilehandle};
 ghost use Rattle.nfs_state.specs.Room.{state_of};
@@ -7,6 +7,7 @@ ghost use Rattle.nfs_xdr.specs.Short.{IsShort};
 
 use crate::decision::Decision;
 use nfs_state::{Change, Effect, Journal, Request, Shortage, Tables};
+use nfs_tree::Subject;
 use nfs_xdr::{Answer, Bitmap, Fattr, Op, OpResult, Refusal};
 use std::alloc::{AllocError, Global};
 
@@ -45,8 +46,20 @@ fn attributes(
     let Some(node) = filehandle else {
         return Ok(Answer::Refused(Refusal::NoFileHandle));
     };
-    let (change, size) = tables.change_and_size(node);
-    let tree = journal.tree();
-    let found = tree.attributes(alloc, node, mask.as_slice(), change, size, journal.lease())?;
+    let found = subject_of(tables, journal, node).attributes(alloc, mask.as_slice())?;
     Ok(Answer::Done(found))
+}
+
+// The node with the size and the change number that its file has now.
+fn subject_of(tables: &Tables, journal: &Journal, node: u32) -> Subject
+    ensures { result ≡ subject_of journal.now.history (state_of tables.now) node }
+{
+    let (change, size) = tables.change_and_size(node);
+    Subject {
+        node,
+        is_directory: journal.tree().is_directory(node),
+        change,
+        size,
+        lease: journal.lease(),
+    }
 }
