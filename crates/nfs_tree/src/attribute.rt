@@ -2,6 +2,7 @@ ghost use Rattle.std.specs.Prelude.{◌≡◌, ◌<◌, ◌^◌, ◌++◌, IfOk,
 ghost use Rattle.nfs_tree.specs.Attributes.{requested_bits, attributes_of, mask_of, number_of, supported_bits, value_requested, value_of, values_of};
 ghost use Rattle.xdr.specs.Writing.{written_u32, written_u64};
 
+use crate::Tree;
 use nfs_xdr::{Bitmap, Fattr};
 use std::alloc::{AllocError, Global};
 use xdr::{Bytes, NO_LIMIT, WireError, write_flag, write_opaque, write_u32, write_u64};
