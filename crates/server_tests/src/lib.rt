@@ -8,6 +8,8 @@ mod cores;
 #[cfg(test)]
 mod devices;
 #[cfg(test)]
+mod ends;
+#[cfg(test)]
 mod faults;
 #[cfg(test)]
 mod streams;
