@@ -1,7 +1,8 @@
 -- A change of the opens of one node, in the list of all files.
-use Rattle.std.proofs.Common.{◌≡◌, ℕ, zero, suc, ◌<◌, ◌≤◌, List, [], ◌∷◌, length, slice_index_or, slice_set, refl, ap, ◌∙◌, arith}
-use Rattle.nfs_share.specs.AllOpens.{HasRoomAt, opens_in, with_opens}
-use Rattle.nfs_share.specs.Opens.{FileOpens}
+use Rattle.std.proofs.Common.{◌≡◌, ℕ, zero, suc, ◌<◌, ◌≤◌, List, [], ◌∷◌, length, slice_index_or, slice_set, refl, sym, ap, ◌∙◌, subst, arith}
+use Rattle.nfs_forms.specs.declared.open_owner.OpenOwner.{OpenOwner}
+use Rattle.nfs_share.specs.AllOpens.{HasRoomAt, IsNewestAt, opens_in, with_opens}
+use Rattle.nfs_share.specs.Opens.{FileOpens, IsNewestFor}
 use Rattle.nfs_share.specs.declared.open_state.OpenState.{OpenState}
 
 -- the opens of the file at this place are changed
@@ -44,3 +45,11 @@ pub room_of : (files : List FileOpens) (node : ℕ) (file : FileOpens) → node 
 room_of [] node file below is room = absurd (omega (arith, below))
 room_of (f ∷ files) zero file below is room = omega (arith, room, ap (λ (f : FileOpens). f.room) is)
 room_of (f ∷ files) (suc node) file below is room = room_of files node file (omega (arith, below)) is room
+
+-- a number above those of all opens of all files is above those of the file at this place
+pub newest_at : (owner : OpenOwner) (number : ℕ) (files : List FileOpens) (node : ℕ) (file : FileOpens) → node < length files → file ≡ slice_index_or files node file → IsNewestAt node owner number (opens_in files) → IsNewestFor owner number file.opens
+newest_at owner number [] node file below is newest = absurd (omega (arith, below))
+newest_at owner number (f ∷ files) zero file below is newest =
+    subst (λ (f : FileOpens). IsNewestFor owner number f.opens) (sym is) (λ none. (newest none).0)
+newest_at owner number (f ∷ files) (suc node) file below is newest =
+    newest_at owner number files node file (omega (arith, below)) is (λ none. (newest none).1)

@@ -1,8 +1,9 @@
 -- The opens of all files: those of each node of the tree, by its number.
-use Rattle.std.specs.Prelude.{◌<◌, ℕ, ◌+◌, List, [], ◌∷◌, length, map, option_map, position, slice_get, slice_set, IfSome, Option, Some, None}
-use Rattle.std.specs.List.{list_any}
+use Rattle.std.specs.Prelude.{◌<◌, ℕ, ◌+◌, List, [], ◌∷◌, length, map, option_map, position, slice_get, slice_set, is_some, IfSome, IsFalse, Option, Some, None}
+use Rattle.std.specs.List.{AllByRecursion, list_any}
+use Rattle.nfs_forms.specs.declared.open_owner.OpenOwner.{OpenOwner}
 use Rattle.nfs_forms.specs.declared.stateid.Stateid.{Stateid}
-use Rattle.nfs_share.specs.Opens.{FileOpens, is_stateid_of, open_named_by}
+use Rattle.nfs_share.specs.Opens.{FileOpens, IsAbove, is_stateid_of, open_named_by, open_of}
 use Rattle.nfs_share.specs.declared.open_state.OpenState.{OpenState}
 
 -- an open, and the node of its file
@@ -44,6 +45,15 @@ named_at id opens (Some node) = at_node node (open_named_by id (opens_of node op
 -- the open that the stateid names, no matter its seqid, if there is one
 abbrev pub named_in : Stateid → List (List OpenState) → Option OpenAt
 named_in id opens = named_at id opens (position (list_any (is_stateid_of id)) opens)
+
+-- each open of each file has a lower number
+abbrev pub IsAboveAll : ℕ → List (List OpenState) → Type 0
+IsAboveAll number opens = AllByRecursion (IsAbove number) opens
+
+-- If an OPEN of the node's file by the owner is a new open, this number is above those of all opens of all files.
+abbrev pub IsNewestAt : ℕ → OpenOwner → ℕ → List (List OpenState) → Type 0
+IsNewestAt node owner number opens =
+    IsFalse (is_some (open_of owner (opens_of node opens))) → IsAboveAll number opens
 
 -- an open of the node takes no memory
 abbrev pub HasRoomAt : ℕ → List FileOpens → Type 0

@@ -1,6 +1,6 @@
 -- The opens of a file (RFC 7530, sections 9.9 to 9.11).
-use Rattle.std.specs.Prelude.{ℕ, Bool, ◌&&◌, ◌==◌, not, if◌then◌else◌, List, [], ◌∷◌, ◌++◌, filter, find, map, Option, is_some, IsSomeAnd}
-use Rattle.std.specs.List.{list_any}
+use Rattle.std.specs.Prelude.{ℕ, ◌<◌, Bool, ◌&&◌, ◌==◌, not, if◌then◌else◌, List, [], ◌∷◌, ◌++◌, filter, find, map, Option, is_some, IsFalse, IsSomeAnd}
+use Rattle.std.specs.List.{AllByRecursion, list_any}
 use Rattle.nfs_forms.specs.ClientId.{is_same_client}
 use Rattle.nfs_forms.specs.OpenOwner.{is_same_owner}
 use Rattle.nfs_forms.specs.Stateid.{seqid_after_change, next_stateid}
@@ -101,6 +101,14 @@ abbrev pub with_opening : OpenOwner → Share → ℕ → List OpenState → Lis
 with_opening owner share number opens =
     if is_some (open_of owner opens) then with_each (is_of owner) (after_open share) opens
     else opens ++ first_open owner share number ∷ []
+
+-- each open has a lower number
+abbrev pub IsAbove : ℕ → List OpenState → Type 0
+IsAbove number opens = AllByRecursion (λ o. o.number < number) opens
+
+-- If an OPEN of the owner is a new open, this number is above those of all opens.
+abbrev pub IsNewestFor : OpenOwner → ℕ → List OpenState → Type 0
+IsNewestFor owner number opens = IsFalse (is_some (open_of owner opens)) → IsAbove number opens
 
 -- There is an open with this number, and OPEN_DOWNGRADE of it to the share is allowed.
 abbrev pub CanDowngrade : ℕ → Share → List OpenState → Type 0

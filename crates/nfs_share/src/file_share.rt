@@ -1,7 +1,7 @@
 ghost use Rattle.std.specs.Prelude.{◌≡◌, ◌≤◌, ◌<◌, ◌+◌, ◌↔◌, IfErr, IfNone, IfOk, IsErrOf, IsOk, IsTrue, OnErr, OnOk, OnSome, Some, length, [], ◌∷◌, ◌++◌, ◌⊎◌, option_map};
 ghost use Rattle.std.specs.List.{list_any};
 ghost use Rattle.std.specs.Option.{option_copied};
-ghost use Rattle.nfs_share.specs.Opens.{CanDowngrade, with_next_seqid, after_downgrade, is_denied, is_numbered, is_of, is_of_client, is_refused, is_stateid_of, open_named_by, after_open, next_stateid_of, open_with_number, open_of, share_of, stateid_of, with_each, with_opening, without};
+ghost use Rattle.nfs_share.specs.Opens.{CanDowngrade, IsNewestFor, with_next_seqid, after_downgrade, is_denied, is_numbered, is_of, is_of_client, is_refused, is_stateid_of, open_named_by, after_open, next_stateid_of, open_with_number, open_of, share_of, stateid_of, with_each, with_opening, without};
 
 use crate::changes::{advance_each, downgrade_each, join_each};
 use crate::{Modes, OpenState, Share, ShareError};
@@ -39,11 +39,11 @@ impl FileShare {
         }
     }
 
-    /// The opens in the order in which they came.
-    pub fn opens(&self) -> &[OpenState]
-        ensures { result.now ≡ self.now.opens }
+    /// How many opens there are.
+    pub fn len(&self) -> usize
+        ensures { result ≡ length self.now.opens }
     {
-        self.opens.as_slice()
+        self.opens.len()
     }
 
     /// The open whose stateid has this number, if there is one.
@@ -120,14 +120,15 @@ impl FileShare {
         self.opens.reserve(1)
     }
 
-    /// OPEN (RFC 7530, section 16.16): adds the share to the owner's open, or makes an open with this number. Returns
-    /// the open's stateid.
+    /// OPEN (RFC 7530, section 16.16): adds the share to the owner's open, or makes an open with this number, which has
+    /// to be above those of all opens then. Returns the open's stateid.
     pub fn try_open(
         &mut self,
         owner: OpenOwner,
         share: Share,
         number: u32,
     ) -> Result<Stateid, ShareError>
+        requires newest { IsNewestFor owner number self.old.opens }
         ensures ok { OnOk result (
             self.new.opens ≡ with_opening owner share number self.old.opens) }
         ensures stateid { IfOk result (λ stateid.
@@ -151,6 +152,7 @@ impl FileShare {
     /// OPEN, no matter what others deny: as `try_open`, where there is room. It takes no memory.
     pub fn grant(&mut self, owner: OpenOwner, share: Share, number: u32)
         requires room { 0 < self.old.room }
+        requires newest { IsNewestFor owner number self.old.opens }
         ensures { self.new.opens ≡ with_opening owner share number self.old.opens }
     {
         if self.join(&owner, share).is_none() {

@@ -1,7 +1,7 @@
 ghost use Rattle.std.specs.Prelude.{◌≡◌, ◌<◌, ◌-◌, ℕ, [], IfOk, IfSome, IsOk, OnOk, length, map, nat_lt, option_map, position, replicate};
 ghost use Rattle.std.specs.List.{list_any};
 ghost use Rattle.std.specs.Option.{option_copied};
-ghost use Rattle.nfs_share.specs.AllOpens.{HasRoomAt, at_node, named_in, open_count, opens_in, opens_of, with_opens};
+ghost use Rattle.nfs_share.specs.AllOpens.{HasRoomAt, IsNewestAt, at_node, named_in, open_count, opens_in, opens_of, with_opens};
 ghost use Rattle.nfs_share.specs.OpenFound.{open_seen};
 ghost use Rattle.nfs_share.specs.Opens.{after_downgrade, is_numbered, is_of, is_of_client, is_refused, is_stateid_of, open_of, open_with_number, with_each, with_next_seqid, with_opening, without};
 
@@ -127,9 +127,10 @@ impl Opens {
     }
 
     /// OPEN of the node's file, no matter what others deny: adds the share to the owner's open, or makes an open with
-    /// this number. It takes no memory.
+    /// this number, which has to be above those of all opens then. It takes no memory.
     pub fn grant(&mut self, node: u32, owner: OpenOwner, share: Share, number: u32)
         requires room { HasRoomAt node self.old }
+        requires newest { IsNewestAt node owner number (opens_in self.old) }
         ensures { opens_in self.new
             ≡ with_opens node (with_opening owner share number) (opens_in self.old) }
     {
@@ -202,7 +203,7 @@ fn places_left(files: &[FileShare], limit: usize) -> usize
 {
     let mut left = limit;
     for file in files.iter() {
-        left = left.saturating_sub(file.opens().len());
+        left = left.saturating_sub(file.len());
     }
     left
 }

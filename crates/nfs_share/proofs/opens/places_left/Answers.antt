@@ -6,7 +6,7 @@ use Rattle.nfs_share.proofs.opens.places_left.Goals as goal
 pub loop-file-preserved : goal.loop-file-preserved
 loop-file-preserved c =
     let files = c.args.files.now in
-    place_taken (opens_in files) c.loop-file.file-index [] c.loop-file.left (length c.opens.result.now) c.saturating_sub-left.result
+    place_taken (opens_in files) c.loop-file.file-index [] c.loop-file.left c.len.result c.saturating_sub-left.result
     (c.args.limit - open_count (opens_in files)) (omega (arith, as_many files))
-    (ap length (c.opens.ensures ∙ ap (λ f. f.opens) c.file-item.is ∙ opens_seen files c.loop-file.file-index c.file-item.result [] c.loop-file-test.true))
+    (c.len.ensures ∙ ap length (ap (λ f. f.opens) c.file-item.is ∙ opens_seen files c.loop-file.file-index c.file-item.result [] c.loop-file-test.true))
     (omega (arith, c.saturating_sub-left.ensures)) c.loop-file.invariant

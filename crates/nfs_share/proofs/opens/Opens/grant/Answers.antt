@@ -1,8 +1,13 @@
-use Rattle.std.proofs.Common.{ap, ◌∙◌, arith}
-use Rattle.nfs_share.specs.AllOpens.{opens_in, with_opens}
+use Rattle.std.proofs.Common.{ap, ◌∙◌, subst, sym, arith}
+use Rattle.nfs_share.specs.AllOpens.{IsNewestAt, opens_in, with_opens}
 use Rattle.nfs_share.specs.Opens.{with_opening}
-use Rattle.nfs_share.proofs.OneFile.{changed_at}
+use Rattle.nfs_share.proofs.OneFile.{changed_at, newest_at}
 use Rattle.nfs_share.proofs.opens.Opens.grant.Goals as goal
+
+pub grant-requires-clause-newest : goal.grant-requires-clause-newest
+grant-requires-clause-newest c =
+    newest_at c.args.owner c.args.number c.self.inside.files.items c.args.node c.index_mut.result.now (omega (arith, c.if-node-len.true, c.len.ensures)) c.index_mut.ensures.value
+    (subst (λ files. IsNewestAt c.args.node c.args.owner c.args.number (opens_in files)) (sym c.self.view_is) c.requires.newest)
 
 pub returns-then-node-len : goal.returns-then-node-len
 returns-then-node-len c =
