@@ -17,6 +17,7 @@ use Rattle.nfs_share.specs.Opens as opens
 use Rattle.nfs_share.specs.declared.open_state.OpenState.{OpenState}
 use Rattle.nfs_share.specs.declared.share.Share.{Share}
 use Rattle.nfs_state.specs.Changes.{after, last_state_after, with_owner_change, with_state_change, without_client}
+use Rattle.nfs_state.specs.Room.{HasGivenNumbers}
 use Rattle.nfs_state.specs.State.{State, empty_server}
 use Rattle.nfs_state.specs.declared.change.Change.{Change}
 use Rattle.nfs_state.specs.declared.change.Change.TheVariants as changes
@@ -221,3 +222,34 @@ numbers_given state h =
     (λ n some.
     let there : 0 < weight (is_one n) state = omega (arith, some, weight_of_numbers (is_one n) state) in
     ((h n).least there, (h n).most there))
+
+-- So each open and each lock state has a number that was given.
+
+front : (P : ℕ → Type 0) (xs ys : List ℕ) → AllByRecursion P (xs ++ ys) → AllByRecursion P xs
+front P [] ys h = tt
+front P (x ∷ xs) ys h = (h.0, front P xs ys h.1)
+
+back : (P : ℕ → Type 0) (xs ys : List ℕ) → AllByRecursion P (xs ++ ys) → AllByRecursion P ys
+back P [] ys h = h
+back P (x ∷ xs) ys h = back P xs ys h.1
+
+module _ {X : Type 0} (number_of : X → ℕ) (last : ℕ) where
+  below_mapped : (xs : List X) → AllByRecursion (WasGiven last) (map number_of xs) → AllByRecursion (λ x. number_of x < last + 1) xs
+  below_mapped [] h = tt
+  below_mapped (x ∷ xs) h = (omega (arith, h.0.1), below_mapped xs h.1)
+
+  below_flat : (lists : List (List X)) → AllByRecursion (WasGiven last) (flat_map (map number_of) lists) → AllByRecursion (AllByRecursion (λ x. number_of x < last + 1)) lists
+  below_flat [] h = tt
+  below_flat (xs ∷ lists) h =
+      let more = flat_map (map number_of) lists in
+      (below_mapped xs (front (WasGiven last) (map number_of xs) more h), below_flat lists (back (WasGiven last) (map number_of xs) more h))
+
+pub given_numbers : (state : State) → AllByRecursion (WasGiven state.last_state) (numbers_of state) → HasGivenNumbers state
+given_numbers state given =
+    let last = state.last_state in
+    let of_opens = flat_map (map (λ (o : OpenState). o.number)) state.opens in
+    let of_locks = flat_map (map (λ (l : ByteLocks). l.number)) state.locks in
+    record {
+      of_opens = below_flat (λ (o : OpenState). o.number) last state.opens (front (WasGiven last) of_opens of_locks given);
+      of_locks = below_flat (λ (l : ByteLocks). l.number) last state.locks (back (WasGiven last) of_opens of_locks given);
+    }

@@ -12,16 +12,18 @@ use Rattle.nfs_state.specs.declared.shortage.Shortage.{Shortage}
 use Rattle.nfs_state.specs.declared.shortage.Shortage.TheVariants as shortages
 use Rattle.nfs_state.specs.Entries.{IsFilehandle}
 use Rattle.nfs_state.specs.Kept.{Agrees}
-use Rattle.nfs_state.specs.Room.{Fits}
+use Rattle.nfs_state.specs.Room.{Fits, HasGivenNumbers}
 use Rattle.nfs_state.specs.State.{State, History}
-use Rattle.nfs_state.specs.Stored.{Stored}
+use Rattle.nfs_state.specs.Stored.{Stored, meaning}
 use Rattle.nfs_xdr.specs.Op.{has_entry}
 
--- What is stored agrees with this journal as far as a decision needs it: no more confirm values and no more numbers of
--- states were given out than the journal has entries, and what is stored for each owner is what its entry has.
+-- What is stored agrees with this journal as far as a decision and its effect need it: no more confirm values and no more
+-- numbers of states were given out than the journal has entries, each state has a number that was given, and what is
+-- stored for each owner is what its entry has.
 pub record IsStoredBy (journal : History) (stored : Stored) : Type 0 where
   pub confirms : stored.clients.last_confirm ≤ length journal.entries
   pub states : stored.last_state ≤ length journal.entries
+  pub given : HasGivenNumbers (meaning stored)
   pub owners : Agrees journal stored.owners
 
 -- The request can be asked: its operation has an entry in the journal, and its filehandle, if there is one, is that of

@@ -99,6 +99,7 @@ impl Core {
         ensures form { op_result.Fits result.0 }
         ensures lawful { IsLawful self.new }
     {
+        lawful_is_safe();
         let tables = &mut self.tables;
         let journal = &mut self.journal;
         let Ok(request) = Request::of_copy(moment, principal, op, filehandle) else {

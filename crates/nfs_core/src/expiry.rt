@@ -2,10 +2,10 @@
 
 ghost use Rattle.std.specs.Prelude.{◌≡◌, ◌≢◌, ◌<◌, Err, IfErr, IfOk, OnErr, length};
 ghost use Rattle.nfs_core.specs.Expiry.{IsKeptFor};
-ghost use Rattle.nfs_core.specs.Following.{IsNext};
+ghost use Rattle.nfs_core.specs.Following.{IsNext, IsStoredBy};
 ghost use Rattle.nfs_core.specs.Server.{AreAlike, Enters, server_of};
 ghost use Rattle.nfs_state.specs.Kept.{Agrees};
-ghost use Rattle.nfs_state.specs.Room.{state_of};
+ghost use Rattle.nfs_state.specs.Room.{state_of, stored_of};
 ghost use Rattle.nfs_state.specs.declared.entry.Entry.TheVariants as entries;
 
 use crate::CoreError;
@@ -20,7 +20,7 @@ pub(crate) fn remove(
     journal: &mut Journal,
     expire: Expire,
 ) -> Result<u32, CoreError>
-    requires kept { Agrees journal.old.history tables.old.owners.owners }
+    requires { IsStoredBy journal.old.history (stored_of tables.old) }
     ensures entered { IfOk result (λ number. Enters (server_of journal.old tables.old)
         (server_of journal.new tables.new) (entries.Expire expire) number) }
     ensures kept { Agrees journal.new.history tables.new.owners.owners }

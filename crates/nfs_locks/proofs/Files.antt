@@ -5,8 +5,8 @@ use Rattle.std.specs.List.{list_any}
 use Rattle.std.proofs.lemmas.List.{append-nil, drop_all, get_or-map, length-map, map-set, take_all}
 use Rattle.std.proofs.lemmas.List.Edits.{map_over_more}
 use Rattle.nfs_forms.specs.declared.stateid.Stateid.{Stateid}
-use Rattle.nfs_locks.specs.AllLocks.{at_node, lock_count, lock_named_in, locks_in, locks_of, named_at, stored_in, with_locks}
-use Rattle.nfs_locks.specs.Locks.{ByteLocks, is_stateid_of, lock_named_by}
+use Rattle.nfs_locks.specs.AllLocks.{IsAboveAll, at_node, lock_count, lock_named_in, locks_in, locks_of, named_at, stored_in, with_locks}
+use Rattle.nfs_locks.specs.Locks.{ByteLocks, IsAbove, is_stateid_of, lock_named_by}
 use Rattle.nfs_locks.specs.StoredLocks.{StoredLocks, byte_locks, lock_seen, locks_seen, stored_lock, stored_locks}
 use Rattle.nfs_locks.specs.declared.lock_state.LockState.{LockState}
 use Rattle.nfs_locks.proofs.Elements.{any_seen}
@@ -36,6 +36,12 @@ pub no_locks_at : (files : List StoredLocks) (node : ℕ) → length files ≤ n
 no_locks_at [] node above = refl
 no_locks_at (f ∷ files) zero above = absurd (omega (arith, above))
 no_locks_at (f ∷ files) (suc node) above = no_locks_at files node (omega (arith, above))
+
+-- a number above those of all lock states is above those of a node
+pub above_of : (number : ℕ) (locks : List (List ByteLocks)) (node : ℕ) → IsAboveAll number locks → IsAbove number (locks_of node locks)
+above_of number [] node above = tt
+above_of number (l ∷ locks) zero above = above.0
+above_of number (l ∷ locks) (suc node) above = above_of number locks node above.1
 
 -- the lock states of the file at this place are changed
 pub changed_at : (change : List ByteLocks → List ByteLocks) (files : List StoredLocks) (node : ℕ) (old new : StoredLocks) → node < length files → old ≡ slice_index_or files node old → locks_seen new.states ≡ change (locks_seen old.states) → locks_in (slice_set files node new) ≡ with_locks node change (locks_in files)

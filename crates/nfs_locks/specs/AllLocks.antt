@@ -3,7 +3,7 @@ use Rattle.std.specs.Prelude.{◌≡◌, ℕ, ◌+◌, ◌<◌, Bool, ◌&&◌, 
 use Rattle.std.specs.List.{list_any, AllByRecursion}
 use Rattle.nfs_forms.specs.declared.lock_owner.LockOwner.{LockOwner}
 use Rattle.nfs_forms.specs.declared.stateid.Stateid.{Stateid}
-use Rattle.nfs_locks.specs.Locks.{ByteLocks, holds_bytes, is_lock_of, is_numbered, is_stateid_of, lock_named_by, would_be_full}
+use Rattle.nfs_locks.specs.Locks.{ByteLocks, IsAbove, holds_bytes, is_lock_of, is_numbered, is_stateid_of, lock_named_by, would_be_full}
 use Rattle.nfs_locks.specs.StoredLocks.{StoredLock, StoredLocks, byte_locks, stored_lock}
 use Rattle.nfs_locks.specs.declared.lock_state.LockState.{LockState}
 use Rattle.nfs_ranges.specs.declared.piece.Piece.{Piece}
@@ -60,6 +60,10 @@ holds owner locks = list_any (list_any (λ l. is_lock_of owner l && holds_bytes 
 abbrev pub is_full_for : ℕ → Piece → List ByteLocks → Bool
 is_full_for number change locks =
     list_any (λ l. is_numbered number l && would_be_full change l) locks
+
+-- each lock state of each file has a lower number
+abbrev pub IsAboveAll : ℕ → List (List ByteLocks) → Type 0
+IsAboveAll number locks = AllByRecursion (IsAbove number) locks
 
 -- a first lock takes no memory: there is room for its state, and ranges are made for it
 abbrev pub HasLockRoom : StoredLocks → Type 0

@@ -1,5 +1,6 @@
 -- The lock states of a file (RFC 7530, sections 9.1.4 and 16.10 to 16.12): each is what one lock owner holds of it.
-use Rattle.std.specs.Prelude.{ℕ, Bool, ◌&&◌, ◌==◌, nat_lt, not, if◌then◌else◌, List, [], ◌∷◌, ◌++◌, filter, find, map, Option}
+use Rattle.std.specs.Prelude.{ℕ, ◌<◌, Bool, ◌&&◌, ◌==◌, nat_lt, not, if◌then◌else◌, List, [], ◌∷◌, ◌++◌, filter, find, map, Option}
+use Rattle.std.specs.List.{AllByRecursion}
 use Rattle.nfs_forms.specs.ClientId.{is_same_client}
 use Rattle.nfs_forms.specs.LockOwner.{is_same_lock_owner}
 use Rattle.nfs_forms.specs.Stateid.{seqid_after_change, next_stateid}
@@ -96,3 +97,7 @@ with_lock_change number change locks =
 -- the lock states without those that pass the test
 abbrev pub without : (ByteLocks → Bool) → List ByteLocks → List ByteLocks
 without test locks = filter (λ l. not (test l)) locks
+
+-- each lock state has a lower number
+abbrev pub IsAbove : ℕ → List ByteLocks → Type 0
+IsAbove number locks = AllByRecursion (λ l. l.number < number) locks

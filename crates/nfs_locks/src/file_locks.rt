@@ -2,7 +2,7 @@ ghost use Rattle.std.specs.Prelude.{◌≡◌, ◌≤◌, ◌<◌, ◌&&◌, [],
 ghost use Rattle.std.specs.List.{AllByRecursion, find, list_any};
 ghost use Rattle.std.specs.Option.{option_copied};
 ghost use Rattle.nfs_locks.specs.AllLocks.{HasLockRoom, HasRangeRoom, is_full_for};
-ghost use Rattle.nfs_locks.specs.Locks.{holds_bytes, is_lock_of, is_lock_of_client, is_numbered, is_stateid_of, is_under, with_first_lock, with_lock_change, without, would_be_full};
+ghost use Rattle.nfs_locks.specs.Locks.{IsAbove, holds_bytes, is_lock_of, is_lock_of_client, is_numbered, is_stateid_of, is_under, with_first_lock, with_lock_change, without, would_be_full};
 ghost use Rattle.nfs_locks.specs.Report.{IsReport};
 ghost use Rattle.nfs_locks.specs.ReportSeen.{report_seen};
 ghost use Rattle.nfs_locks.specs.StoredLocks.{lock_seen, locks_seen, stored_locks};
@@ -137,9 +137,11 @@ impl FileLocks {
         reserve_each(&mut self.states, number)
     }
 
-    /// LOCK of an owner that has no lock state of the file: makes one with this number. It takes no memory.
+    /// LOCK of an owner that has no lock state of the file: makes one with this number, which has to be above those of
+    /// all others. It takes no memory.
     pub fn begin(&mut self, first: FirstLock, number: u32)
         requires room { HasLockRoom self.old }
+        requires newest { IsAbove number (locks_seen self.old.states) }
         ensures { locks_seen self.new.states
             ≡ with_first_lock first number (locks_seen self.old.states) }
     {

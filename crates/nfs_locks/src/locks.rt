@@ -1,7 +1,7 @@
 ghost use Rattle.std.specs.Prelude.{◌≡◌, ◌<◌, ◌-◌, ◌&&◌, [], IfOk, IfSome, IsFalse, IsOk, OnOk, length, map, option_map, position, replicate};
 ghost use Rattle.std.specs.List.{list_any};
 ghost use Rattle.std.specs.Option.{option_copied};
-ghost use Rattle.nfs_locks.specs.AllLocks.{HasLockRoomAt, HasRoomFor, at_node, holds, is_full_for, lock_count, lock_named_in, locks_in, locks_of, stored_in, with_locks};
+ghost use Rattle.nfs_locks.specs.AllLocks.{HasLockRoomAt, HasRoomFor, IsAboveAll, at_node, holds, is_full_for, lock_count, lock_named_in, locks_in, locks_of, stored_in, with_locks};
 ghost use Rattle.nfs_locks.specs.LockFound.{lock_found_seen};
 ghost use Rattle.nfs_locks.specs.Locks.{holds_bytes, is_lock_of, is_lock_of_client, is_stateid_of, is_under, lock_of, with_first_lock, with_lock_change, without};
 ghost use Rattle.nfs_locks.specs.Report.{IsReport};
@@ -152,10 +152,11 @@ impl Locks {
         Ok(())
     }
 
-    /// LOCK of an owner that has no lock state of the node's file, no matter what others hold: makes one with this number.
-    /// It takes no memory.
+    /// LOCK of an owner that has no lock state of the node's file, no matter what others hold: makes one with this
+    /// number, which has to be above those of all others. It takes no memory.
     pub fn begin(&mut self, node: u32, first: FirstLock, number: u32)
         requires room { HasLockRoomAt node self.old }
+        requires newest { IsAboveAll number (locks_in self.old) }
         ensures { locks_in self.new
             ≡ with_locks node (with_first_lock first number) (locks_in self.old) }
     {

@@ -1,7 +1,7 @@
 -- What an entry means for an owner: its room among the stored owners, and the limits of the change after it.
-use Rattle.std.proofs.Common.{◌≡◌, ◌<◌, ℕ, suc, true, false, Option, None, Some, List, [], ◌∷◌, length, map, refl, sym, ap, ◌∙◌, subst, arith}
-use Rattle.std.specs.Prelude.{◌||◌, is_some, nat_lt, if◌then◌else◌}
-use Rattle.std.proofs.lemmas.Bool.{cond-true}
+use Rattle.std.proofs.Common.{◌≡◌, ◌<◌, ℕ, suc, true, false, Option, None, Some, List, [], ◌∷◌, filter, length, map, refl, sym, ap, ◌∙◌, subst, arith}
+use Rattle.std.specs.Prelude.{◌||◌, ◌+◌, is_some, not, nat_lt, if◌then◌else◌}
+use Rattle.std.proofs.lemmas.Bool.{cond-true, cond_both}
 use Rattle.std.proofs.lemmas.List.{length-map}
 use Rattle.nfs_owners.specs.declared.owner.TheConstants.{OWNER_LIMIT}
 use Rattle.nfs_state.specs.declared.change.Change.{Change}
@@ -13,9 +13,14 @@ use Rattle.nfs_state.specs.declared.owner_change.OwnerChange.TheVariants as owne
 use Rattle.nfs_state.specs.declared.tables.Tables.{Tables}
 use Rattle.nfs_state.specs.Kept.{CanBeKept, update_by, update_of}
 use Rattle.nfs_state.specs.Owners as known
+use Rattle.nfs_forms.specs.OpenOwner.{is_same_owner}
+use Rattle.nfs_forms.specs.declared.open_owner.OpenOwner.{OpenOwner}
 use Rattle.nfs_locks.specs.AllLocks.{is_full_for, locks_of}
-use Rattle.nfs_state.specs.Room.{IsWithinLimits, HasOwnerPlace, HasOwnerRoom, CanKeep, HasUpdateRoom, IsNewcomer, is_known as is_known_in, state_of}
-use Rattle.nfs_state.specs.Changes.{with_owner_change}
+use Rattle.nfs_state.specs.Room.{IsWithinLimits, HasGivenNumbers, HasOwnerPlace, HasOwnerRoom, CanKeep, HasUpdateRoom, IsNewcomer, is_known as is_known_in, state_of}
+use Rattle.nfs_share.specs.AllOpens.{IsAboveAll}
+use Rattle.nfs_share.specs.Opens.{IsAbove}
+use Rattle.nfs_share.specs.declared.open_state.OpenState.{OpenState}
+use Rattle.nfs_state.specs.Changes.{with_owner_change, without}
 use Rattle.nfs_state.specs.State.{State}
 use Rattle.nfs_state.specs.Stored.{known_owner}
 use Rattle.nfs_owners.specs.StateOwner.{open_owner}
@@ -104,6 +109,27 @@ same_locks owner number old = refl
 pub limits_after : (change : Change) (owner : OwnerChange) (number : ℕ) (old : State) → IsWithinLimits change old → IsWithinLimits change (with_owner_change owner number old)
 limits_after change owner number old has =
     limits_alike change old (with_owner_change owner number old) (same_clients owner number old) (same_last_state owner number old) (same_locks owner number old) has
+
+-- nor does it give a number to a state
+above_left : (number : ℕ) (keep : OpenState → Bool) (opens : List OpenState) → IsAbove number opens → IsAbove number (filter keep opens)
+above_left number keep [] above = tt
+above_left number keep (o ∷ opens) above =
+    cond_both (keep o) (o ∷ filter keep opens) (filter keep opens) (IsAbove number)
+    (λ _. (above.0, above_left number keep opens above.1))
+    (λ _. above_left number keep opens above.1)
+
+all_above_left : (number : ℕ) (keep : OpenState → Bool) (opens : List (List OpenState)) → IsAboveAll number opens → IsAboveAll number (map (λ opens. filter keep opens) opens)
+all_above_left number keep [] above = tt
+all_above_left number keep (here ∷ opens) above = (above_left number keep here above.0, all_above_left number keep opens above.1)
+
+given_without : (name : OpenOwner) (old : State) → HasGivenNumbers old → IsAboveAll (old.last_state + 1) (without name old).opens
+given_without name old given = all_above_left (old.last_state + 1) (λ o. not (is_same_owner o.owner name)) old.opens given.of_opens
+
+pub given_after : (owner : OwnerChange) (number : ℕ) (old : State) → HasGivenNumbers old → HasGivenNumbers (with_owner_change owner number old)
+given_after owner_changes.Nothing number old given = given
+given_after (owner_changes.Restarts name) number old given = record { of_opens = given_without name old given; of_locks = given.of_locks }
+given_after (owner_changes.Drops name) number old given = record { of_opens = given_without name old given; of_locks = given.of_locks }
+given_after owner number old given = record { of_opens = given.of_opens; of_locks = given.of_locks }
 
 -- an owner that keeps a request, which is known before it, leaves who is known and how many they are
 known_after_change : (change : OwnerState → OwnerState) (name other : StateOwner) (owners : List Owner) → is_known other (with_change change name owners) ≡ is_known other owners

@@ -1,5 +1,5 @@
 -- What the tables store, and the memory and the numbers that a change of them needs.
-use Rattle.std.specs.Prelude.{◌≡◌, ◌<◌, ◌-◌, ◌^◌, ⊤, None, Bool, IsFalse, IsTrue, is_some, length}
+use Rattle.std.specs.Prelude.{◌≡◌, ◌<◌, ◌+◌, ◌-◌, ◌^◌, ⊤, None, Bool, IsFalse, IsTrue, is_some, length}
 use Rattle.nfs_state.specs.declared.change.Change.{Change}
 use Rattle.nfs_state.specs.declared.change.Change.TheVariants as changes
 use Rattle.nfs_state.specs.declared.effect.Effect.{Effect}
@@ -22,6 +22,7 @@ use Rattle.nfs_state.specs.State.{State}
 use Rattle.nfs_state.specs.Stored.{Stored, meaning}
 use Rattle.nfs_owners.specs.ClientRoom.{HasNumbersFor, HasRoomFor, IsOfItsKind}
 use Rattle.nfs_share.specs.AllOpens.{HasRoomAt, opens_in}
+use Rattle.nfs_share.specs.AllOpens as opens
 
 -- what the tables store, no matter how much room they have
 abbrev pub stored_of : Tables → Stored
@@ -114,6 +115,11 @@ IsWithinLimits (changes.Begins node first) state = state.last_state < 2 ^ 32 - 1
 IsWithinLimits (changes.Locks node number change) state =
     IsFalse (is_full_for number change (locks_of node state.locks))
 IsWithinLimits change state = ⊤
+
+-- each open and each lock state has a number that was given: at most the last
+pub record HasGivenNumbers (state : State) : Type 0 where
+  pub of_opens : opens.IsAboveAll (state.last_state + 1) state.opens
+  pub of_locks : locks.IsAboveAll (state.last_state + 1) state.locks
 
 -- The entry with this effect can be committed in this state: owners may keep it, the numbers that its change uses are
 -- left, and there is a place for an owner that it records.

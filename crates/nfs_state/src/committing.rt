@@ -2,7 +2,7 @@ ghost use Rattle.std.specs.Prelude.{◌≡◌, ◌<◌, IfErr, IfOk, IsOk, OnErr
 ghost use Rattle.nfs_state.specs.Changes.{after};
 ghost use Rattle.nfs_state.specs.Entries.{with_entry};
 ghost use Rattle.nfs_state.specs.Kept.{Agrees, kept_in, owners_after, update_by};
-ghost use Rattle.nfs_state.specs.Room.{Fits, TakesNoMemory, state_of, stored_of};
+ghost use Rattle.nfs_state.specs.Room.{Fits, HasGivenNumbers, TakesNoMemory, state_of, stored_of};
 ghost use Rattle.nfs_state.specs.State.{History};
 
 use crate::effect::Effect;
@@ -25,6 +25,7 @@ pub fn commit_entry(
 ) -> Result<u32, Shortage>
     requires below { length journal.old.history.entries < JOURNAL_LIMIT }
     requires fits { Fits entry effect (state_of tables.old) }
+    requires given { HasGivenNumbers (state_of tables.old) }
     requires kept { Agrees journal.old.history tables.old.owners.owners }
     ensures number { IfOk result (λ n. n ≡ length journal.old.history.entries) }
     ensures entry { OnOk result (journal.new.history ≡ with_entry entry journal.old.history) }
@@ -51,6 +52,7 @@ fn make_changes(
     number: u32,
 ) -> Result<(), Shortage>
     requires fits { Fits entry.now effect (state_of tables.old) }
+    requires given { HasGivenNumbers (state_of tables.old) }
     ensures state { OnOk result (state_of tables.new
         ≡ after number effect (state_of tables.old)) }
     ensures kept { OnOk result ((journal : History) → Agrees journal (owners_after

@@ -31,7 +31,7 @@ impl Tables {
     ghost use Rattle.nfs_state.specs.Kept.{Agrees, kept_by, owners_after, update_of};
     ghost use Rattle.nfs_state.specs.Changes.{with_owner_change, with_state_change, without_client};
     ghost use Rattle.nfs_state.specs.Changes as changed_state;
-    ghost use Rattle.nfs_state.specs.Room.{IsWithinLimits, HasOwnerPlace, HasOwnerRoom, HasRoom, HasUpdateRoom, CanKeep, state_of, stored_of};
+    ghost use Rattle.nfs_state.specs.Room.{IsWithinLimits, HasGivenNumbers, HasOwnerPlace, HasOwnerRoom, HasRoom, HasUpdateRoom, CanKeep, state_of, stored_of};
     ghost use Rattle.nfs_state.specs.declared.owner_change.OwnerChange.{OwnerChange};
     ghost use Rattle.nfs_owners.specs.declared.kept.Kept.{Kept};
     ghost use Rattle.nfs_state.specs.declared.change.Change.{Change};
@@ -219,6 +219,7 @@ impl Tables {
     pub(crate) fn commit(&mut self, change: Change)
         requires room { HasRoom change self.old }
         requires numbers { IsWithinLimits change (state_of self.old) }
+        requires given { HasGivenNumbers (state_of self.old) }
         ensures state { state_of self.new ≡ with_state_change change (state_of self.old) }
         ensures kept { (journal : History)
             → Agrees journal self.old.owners.owners → Agrees journal self.new.owners.owners }
@@ -265,6 +266,7 @@ impl Tables {
     fn commit_open(&mut self, node: u32, owner: OpenOwner, share: Share)
         requires room { HasRoomAt node self.old.opens }
         requires numbers { self.old.numbers < 2 ^ 32 - 1 }
+        requires given { HasGivenNumbers (state_of self.old) }
         ensures state { state_of self.new
             ≡ with_state_change (changes.Opens node owner share) (state_of self.old) }
         ensures owners { self.new.owners ≡ self.old.owners }
@@ -280,6 +282,7 @@ impl Tables {
     fn commit_first_lock(&mut self, node: u32, first: FirstLock)
         requires room { HasLockRoomAt node self.old.locks }
         requires numbers { self.old.numbers < 2 ^ 32 - 1 }
+        requires given { HasGivenNumbers (state_of self.old) }
         ensures state { state_of self.new
             ≡ with_state_change (changes.Begins node first) (state_of self.old) }
         ensures owners { self.new.owners ≡ self.old.owners }

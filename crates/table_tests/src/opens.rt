@@ -1,5 +1,8 @@
 //! Opens of a file, and what they deny.
 
+ghost use Rattle.std.specs.Prelude.{ℕ, ◌+◌};
+ghost use Rattle.nfs_share.specs.Opens.{IsAbove};
+
 use crate::names::name_of;
 use nfs_forms::{ClientId, OpenOwner, Stateid};
 use nfs_share::{FileShare, Modes, Share, ShareError};
@@ -43,11 +46,20 @@ fn try_open(
     name: &[u8],
     share: Share,
     number: u32,
-) -> Result<Stateid, ShareError> {
+) -> Result<Stateid, ShareError>
+    requires newest { IsAbove number file.old.opens }
+    ensures numbers { IsAbove (number + 1) file.new.opens }
+{
     match file.try_open(owner(alloc, name)?, share, number) {
         Err(ShareError::Memory) => file.try_open(owner(alloc, name)?, share, number),
         answer => answer,
     }
+}
+
+fn downgrade(file: &mut FileShare, number: u32, share: Share) -> Result<Stateid, ShareError>
+    ensures numbers { (above : ℕ) → IsAbove above file.old.opens → IsAbove above file.new.opens }
+{
+    file.downgrade(number, share)
 }
 
 /// Owner `a` opens the file to read it, and then also to write it alone, so that owner `b` has to wait for it to
@@ -62,10 +74,10 @@ fn opens_and_downgrades(rt: HostRuntime) -> Result<(), Fail> {
     assert!(rt; stateid.seqid == 2 && stateid.client == CLIENT && stateid.number == 7);
     assert!(rt; file.share_of(&owner(alloc, b"a")?) == Some(BOTH_ALONE));
     assert!(rt; file.denies(Modes::WRITE) && !file.denies(Modes::READ));
-    assert!(rt; try_open(alloc, &mut file, b"b", WRITE, 8) == Err(ShareError::Denied));
-    assert!(rt; file.downgrade(7, WRITE) == Err(ShareError::Invalid));
-    assert_eq!(rt; file.downgrade(7, READ)?.seqid, 3);
+    assert!(rt; try_open(alloc, &mut file, b"b", WRITE, 9) == Err(ShareError::Denied));
+    assert!(rt; downgrade(&mut file, 7, WRITE) == Err(ShareError::Invalid));
+    assert_eq!(rt; downgrade(&mut file, 7, READ)?.seqid, 3);
     assert!(rt; file.share_of(&owner(alloc, b"a")?) == Some(READ));
-    assert_eq!(rt; try_open(alloc, &mut file, b"b", WRITE, 8)?.number, 8);
+    assert_eq!(rt; try_open(alloc, &mut file, b"b", WRITE, 10)?.number, 10);
     Ok(())
 }

@@ -1,9 +1,9 @@
 use Rattle.std.proofs.Common.{◌∙◌, ap, sym, subst}
 use Rattle.nfs_state.specs.Kept.{Agrees, kept_in, owners_after, update_by}
 use Rattle.nfs_state.specs.Changes.{after, with_owner_change, with_state_change}
-use Rattle.nfs_state.specs.Room.{HasOwnerPlace, HasUpdateRoom, IsWithinLimits, state_of}
+use Rattle.nfs_state.specs.Room.{HasGivenNumbers, HasOwnerPlace, HasUpdateRoom, IsWithinLimits, state_of}
 use Rattle.nfs_state.specs.Stored.{Stored, meaning}
-use Rattle.nfs_state.proofs.OwnerRoom.{limits_after, owners_changed, update_room_by}
+use Rattle.nfs_state.proofs.OwnerRoom.{given_after, limits_after, owners_changed, update_room_by}
 use Rattle.nfs_state.proofs.committing.make_changes.Goals as goal
 
 pub commit_owner-requires : goal.commit_owner-requires
@@ -22,6 +22,16 @@ commit-requires-clause-numbers c =
     let changed = owners_changed c.in_ok-update.update effect.owner (kept_in c.args.entry.now) c.args.number (state_of roomy) (state_of c.commit_owner.new.self) c.in_ok-update.ensures.update c.requires.fits.kept c.commit_owner.ensures.state c.commit_owner.ensures.nothing place in
     let are = changed ∙ ap (λ (s : Stored). with_owner_change effect.owner c.args.number (meaning s)) c.in_ok-make_room.ensures.same in
     subst (IsWithinLimits effect.change) (sym are) (limits_after effect.change effect.owner c.args.number (state_of c.args.tables.now) c.requires.fits.numbers)
+
+pub commit-requires-clause-given : goal.commit-requires-clause-given
+commit-requires-clause-given c =
+    let effect = c.args.effect in
+    let roomy = c.make_room.new.self in
+    let has_place : Stored → Type 0 = λ stored. HasOwnerPlace effect.owner (meaning stored) in
+    let place = subst has_place (sym c.in_ok-make_room.ensures.same) c.requires.fits.place in
+    let changed = owners_changed c.in_ok-update.update effect.owner (kept_in c.args.entry.now) c.args.number (state_of roomy) (state_of c.commit_owner.new.self) c.in_ok-update.ensures.update c.requires.fits.kept c.commit_owner.ensures.state c.commit_owner.ensures.nothing place in
+    let are = changed ∙ ap (λ (s : Stored). with_owner_change effect.owner c.args.number (meaning s)) c.in_ok-make_room.ensures.same in
+    subst HasGivenNumbers (sym are) (given_after effect.owner c.args.number (state_of c.args.tables.now) c.requires.given)
 
 pub returns-clause-state : goal.returns-clause-state
 returns-clause-state c =

@@ -1,6 +1,7 @@
 use Rattle.std.proofs.Common.{rules}
 use Rattle.nfs_state.specs.Room.{state_of, stored_of}
 use Rattle.nfs_core.proofs.Journals.{Lawful-confirm, Lawful-entered, Lawful-same, Lawful-state}
+use Rattle.nfs_core.proofs.SoundNumbers.{given_numbers}
 use Rattle.nfs_core.proofs.core_state.Core.apply.Goals as goal
 use Rattle.nfs_core.proofs.core_state.Core.apply.Goals.{in-Ok-enter, in-Err}
 
@@ -14,6 +15,7 @@ enter-requires-clause-stored c =
     record {
       confirms = Lawful-confirm journal state c.self.invariant.0;
       states = Lawful-state journal state c.self.invariant.0;
+      given = given_numbers state (c.lawful_is_safe.ensures.safe journal state c.self.invariant.0).numbers_given;
       owners = c.self.invariant.1;
     }
 
