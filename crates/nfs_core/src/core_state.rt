@@ -137,6 +137,7 @@ impl Core {
         ensures same { OnErr result (AreAlike self.old self.new) }
         ensures lawful { IsLawful self.new }
     {
+        lawful_is_safe();
         let tables = &mut self.tables;
         let journal = &mut self.journal;
         remove(self.alloc, tables, journal, Expire { client, seen, now })
