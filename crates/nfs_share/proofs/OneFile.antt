@@ -46,6 +46,14 @@ room_of [] node file below is room = absurd (omega (arith, below))
 room_of (f ∷ files) zero file below is room = omega (arith, room, ap (λ (f : FileOpens). f.room) is)
 room_of (f ∷ files) (suc node) file below is room = room_of files node file (omega (arith, below)) is room
 
+-- Of the files, one gets no less room: those that have room keep it.
+pub rooms_grow : (files : List FileOpens) (node : ℕ) (old new : FileOpens) → node < length files → old ≡ slice_index_or files node old → old.room ≤ new.room → (other : ℕ) → HasRoomAt other files → HasRoomAt other (slice_set files node new)
+rooms_grow [] node old new below is grows other has = absurd (omega (arith, below))
+rooms_grow (f ∷ files) zero old new below is grows zero has = omega (arith, has, grows, ap (λ (f : FileOpens). f.room) is)
+rooms_grow (f ∷ files) zero old new below is grows (suc other) has = has
+rooms_grow (f ∷ files) (suc node) old new below is grows zero has = has
+rooms_grow (f ∷ files) (suc node) old new below is grows (suc other) has = rooms_grow files node old new (omega (arith, below)) is grows other has
+
 -- a number above those of all opens of all files is above those of the file at this place
 pub newest_at : (owner : OpenOwner) (number : ℕ) (files : List FileOpens) (node : ℕ) (file : FileOpens) → node < length files → file ≡ slice_index_or files node file → IsNewestAt node owner number (opens_in files) → IsNewestFor owner number file.opens
 newest_at owner number [] node file below is newest = absurd (omega (arith, below))

@@ -136,7 +136,8 @@ impl FileShare {
         ensures denied { IsErrOf result ShareError.Denied
             ↔ IsTrue (is_refused owner share self.old.opens) }
         ensures memory { IfErr result (λ e.
-            (e ≡ ShareError.Denied) ⊎ ((e ≡ ShareError.Memory) × (self.old.room ≡ 0))) }
+            (e ≡ ShareError.Denied) ⊎ ((e ≡ ShareError.Memory) × (self.old.room ≡ 0)
+            × (open_of owner self.old.opens ≡ None))) }
         ensures err { OnErr result (self.new ≡ self.old) }
         ensures room { OnOk result (self.old.room ≤ self.new.room + 1) }
     {

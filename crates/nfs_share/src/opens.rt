@@ -118,6 +118,7 @@ impl Opens {
         ensures opens { opens_in self.new ≡ opens_in self.old }
         ensures room { OnOk result (HasRoomAt node self.new) }
         ensures ready { HasRoomAt node self.old → IsOk result }
+        ensures others { (other : ℕ) → HasRoomAt other self.old → HasRoomAt other self.new }
     {
         let node = node as usize;
         if node < self.files.len() {

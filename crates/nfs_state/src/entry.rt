@@ -71,7 +71,7 @@ fn copy_of_op(op: &Op) -> Result<Op, AllocError>
     op.clone()
 }
 
-/// A copy of the answer. (The contract of `clone` speaks of each kind of result on its own.)
+/// A copy of the answer.
 pub fn copy_of_answer(answer: &OpResult) -> Result<OpResult, AllocError>
     ensures { IfOk result (λ r. r ≡ answer.now) }
 {

@@ -1,6 +1,6 @@
-use Rattle.std.proofs.Common.{ap, subst, ◌∙◌, arith}
+use Rattle.std.proofs.Common.{ap, subst, sym, ◌∙◌, arith}
 use Rattle.nfs_share.specs.AllOpens.{HasRoomAt, opens_in}
-use Rattle.nfs_share.proofs.OneFile.{no_room_at, room_at, same_at}
+use Rattle.nfs_share.proofs.OneFile.{no_room_at, room_at, rooms_grow, same_at}
 use Rattle.nfs_share.proofs.opens.Opens.reserve.Goals as goal
 
 pub returns-in_err-reserve-clause-opens : goal.returns-in_err-reserve-clause-opens
@@ -20,3 +20,13 @@ returns-in_ok-reserve-clause-room c =
 pub returns-else-node-len-clause-room : goal.returns-else-node-len-clause-room
 returns-else-node-len-clause-room c =
     subst (HasRoomAt c.args.node) c.self.view_is (no_room_at c.self.inside.files.items c.args.node (omega (arith, c.if-node-len.false, c.len.ensures)))
+
+pub returns-in_err-reserve-clause-others : goal.returns-in_err-reserve-clause-others
+returns-in_err-reserve-clause-others c other has =
+    rooms_grow c.self.inside.files.items c.args.node c.index_mut.result.now c.reserve.new.self (omega (arith, c.if-node-len.true, c.len.ensures)) c.index_mut.ensures.value c.reserve.ensures.grows other
+    (subst (HasRoomAt other) (sym c.self.view_is) has)
+
+pub returns-in_ok-reserve-clause-others : goal.returns-in_ok-reserve-clause-others
+returns-in_ok-reserve-clause-others c other has =
+    rooms_grow c.self.inside.files.items c.args.node c.index_mut.result.now c.reserve.new.self (omega (arith, c.if-node-len.true, c.len.ensures)) c.index_mut.ensures.value c.reserve.ensures.grows other
+    (subst (HasRoomAt other) (sym c.self.view_is) has)
