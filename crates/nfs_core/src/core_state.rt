@@ -19,8 +19,8 @@ use crate::following::decide_next;
 use crate::laws::lawful_is_safe;
 use nfs_rules::at_most_one_decision;
 use nfs_state::{
-    Call, Entry, Expire, Journal, LEASE_MAX, LEASE_MIN, Moment, Request, Shortage, Tables, commit_entry,
-    copy_of_answer,
+    Call, Entry, Expire, Journal, LEASE_MAX, LEASE_MIN, Moment, Request, Shortage, Tables,
+    commit_entry, copy_of_answer,
 };
 use nfs_tree::{Policy, Tree};
 use nfs_xdr::{Op, OpResult, Principal, Refusal};

@@ -98,7 +98,6 @@ with_state_change (changes.Releases owner) old = record old {
   owners = without_owner (lock_owner owner) old.owners;
   locks = map (locks.without (locks.is_lock_of owner)) old.locks;
 }
-
 with_state_change (changes.Expires client) old =
     let left = without_client client old in
     record left { clients = registry.without_client client.number old.clients }
