@@ -4,4 +4,4 @@ use Rattle.nfs_state.proofs.tables.Tables.commit_first_lock.Goals as goal
 
 pub begin-requires-clause-newest : goal.begin-requires-clause-newest
 begin-requires-clause-newest c =
-    subst (λ number. IsAboveAll number (locks_in c.args.self.now.locks)) (sym c.upcoming.ensures) c.requires.given.of_locks
+    subst (λ number. IsAboveAll number (locks_in c.args.self.now.locks)) (sym c.upcoming-number.ensures) c.requires.given.of_locks
