@@ -55,11 +55,12 @@ no_answer once journal old request (Err shortages.Limit) decides is_limit answer
     λ new step. decides_something once journal old request (record { answer = answer; effect = step.effect }) step.allowed.rule decides
 no_answer once journal old request (Err shortages.Memory) decides is_limit answer = absurd cc
 
--- where memory runs out, no limit is passed
-pub within_limits : (journal : History) (old : State) (request : Request) (result : Result Decision Shortage) → length journal.entries < JOURNAL_LIMIT → Decides (IsRuled request.op journal old request) old request.op result → IsErrOf result shortages.Memory → IsWithinLimits journal old request
-within_limits journal old request (Ok decision) below decides is_memory = absurd cc
-within_limits journal old request (Err shortages.Limit) below decides is_memory = absurd cc
-within_limits journal old request (Err shortages.Memory) below decides is_memory = (below, decides)
+-- where memory runs out, the rule gives a decision, and so it passes no limit
+pub within_limits : AtMostOneDecision → (journal : History) (old : State) (request : Request) (result : Result Decision Shortage) → length journal.entries < JOURNAL_LIMIT → Decides (IsRuled request.op journal old request) old request.op result → IsErrOf result shortages.Memory → IsWithinLimits journal old request
+within_limits once journal old request (Ok decision) below decides is_memory = absurd cc
+within_limits once journal old request (Err shortages.Limit) below decides is_memory = absurd cc
+within_limits once journal old request (Err shortages.Memory) below decides is_memory =
+    (below, decides_something once journal old request decides.0 decides.1)
 
 -- nor where it runs out after the decision
 pub decided_within : AtMostOneDecision → (journal : History) (old : State) (request : Request) (decision : Decision) → IsNext journal old (entry_of request decision.answer) decision.effect → IsWithinLimits journal old request

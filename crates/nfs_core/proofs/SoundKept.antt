@@ -103,8 +103,8 @@ under_counts op decides (Some node) d by is = by node is
 sequenced_counts : (journal : History) (state : State) (requester : Requester) (own : Own) (request : Request) (d : Decision) → IsSequenced journal state requester own request (Some d) → Counted d
 sequenced_counts journal state requester own request d is =
     under_counts request.op
-    (λ node. (sequence : SequenceStep) × IsSequence journal state requester request sequence × IsDecided sequence (λ client. newcomer_of journal state client request.op) (own node) (Some d))
-    request.filehandle d (λ node k. decided_counts k.0 journal state request.op (own node) d k.2) is
+    (λ node. (sequence : SequenceStep) × IsSequence journal state requester request sequence × IsDecided sequence (λ client. newcomer_of journal state client request.op) (own request node) (Some d))
+    request.filehandle d (λ node k. decided_counts k.0 journal state request.op (own request node) d k.2) is
 
 -- The other operations have nothing kept.
 

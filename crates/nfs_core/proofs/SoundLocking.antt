@@ -328,12 +328,12 @@ locks_ready number state name newcomer args (Err refusal) ruling founded is =
 locks_ready number state name newcomer args (Ok l) ruling founded is =
     ranged_ready number state name newcomer l is.0 ruling (founded l refl) is.2
 
-pub lock_ready : (number : ℕ) (journal : History) (state : State) (op : Op) (args : Lock) (seqid : ℕ) → IsSound state → op ≡ ops.Lock args
-    → IsOwnReady number journal state (requester_of_stateid journal state (stateid_of args.locker) seqid) op (lock.own journal state args)
-lock_ready number journal state op args seqid sound is =
+pub lock_ready : (number : ℕ) (journal : History) (state : State) (op : Op) (args : Lock) (request : Request) (seqid : ℕ) → IsSound state → op ≡ ops.Lock args
+    → IsOwnReady number journal state (requester_of_stateid journal state (stateid_of args.locker) seqid) op (lock.own journal state args request)
+lock_ready number journal state op args request seqid sound is =
     let requester = requester_of_stateid journal state (stateid_of args.locker) seqid in
-    subst (λ o. IsOwnReady number journal state requester o (lock.own journal state args)) (sym is)
-    (others_ready number journal state requester (ops.Lock args) (lock.own journal state args) sound refl
+    subst (λ o. IsOwnReady number journal state requester o (lock.own journal state args request)) (sym is)
+    (others_ready number journal state requester (ops.Lock args) (lock.own journal state args request) sound refl
     (λ node name ruling of known h.
     locks_ready number state name (newcomer_in journal state name.client args.locker) args (lock.locking_of journal state node args args.locker) ruling
     (λ l found. locking_founded journal state node args args.locker l seqid name found of) h))
@@ -360,12 +360,12 @@ unlocks_ready number state name args (Err refusal) ruling found is =
 unlocks_ready number state name args (Ok at) ruling found is =
     unlocking_ready number state name at is.0 ruling (found at refl) is.2
 
-pub locku_ready : (number : ℕ) (journal : History) (state : State) (op : Op) (args : Locku) → IsSound state → op ≡ ops.Locku args
-    → IsOwnReady number journal state (requester_of_stateid journal state args.stateid args.seqid) op (locku.own journal state args)
-locku_ready number journal state op args sound is =
+pub locku_ready : (number : ℕ) (journal : History) (state : State) (op : Op) (args : Locku) (request : Request) → IsSound state → op ≡ ops.Locku args
+    → IsOwnReady number journal state (requester_of_stateid journal state args.stateid args.seqid) op (locku.own journal state args request)
+locku_ready number journal state op args request sound is =
     let requester = requester_of_stateid journal state args.stateid args.seqid in
-    subst (λ o. IsOwnReady number journal state requester o (locku.own journal state args)) (sym is)
-    (others_ready number journal state requester (ops.Locku args) (locku.own journal state args) sound refl
+    subst (λ o. IsOwnReady number journal state requester o (locku.own journal state args request)) (sym is)
+    (others_ready number journal state requester (ops.Locku args) (locku.own journal state args request) sound refl
     (λ node name ruling of known h.
     unlocks_ready number state name args (verdict (lock_state node) journal.epoch state args.stateid >>= as_lock) ruling
     (λ at found. found_lock journal.epoch state node args.stateid at found) h))

@@ -298,8 +298,8 @@ requests_open state owner seqid name is =
           absurd cc
     ]
 
-open_ready : (number : ℕ) (journal : History) (state : State) (op : Op) (args : Open) → IsSound state → op ≡ ops.Open args → IsOwnReady number journal state (requester_of_open state args.owner args.seqid) op (opening.own journal state args)
-open_ready number journal state op args sound is node passage name ruling of fit h =
+open_ready : (number : ℕ) (journal : History) (state : State) (op : Op) (args : Open) (request : Request) → IsSound state → op ≡ ops.Open args → IsOwnReady number journal state (requester_of_open state args.owner args.seqid) op (opening.own journal state args request)
+open_ready number journal state op args request sound is node passage name ruling of fit h =
     let asked = requests_open state args.owner args.seqid name of in
     let fits : IsFit state op (open_owner args.owner) passage = subst (λ n. IsFit state op n passage) asked.0 fit in
     let nobody : newcomer_of journal state args.owner.client op ≡ Nobody = ap (newcomer_of journal state args.owner.client) is in
@@ -347,28 +347,28 @@ ruled_ready number journal state (ops.SetclientidConfirm args) request d same so
     )
 ruled_ready number journal state (ops.Open args) request d same sound is =
     sequenced_ready number journal state (requester_of_open state args.owner args.seqid) request (opening.own journal state args)
-    (open_ready number journal state request.op args sound same) d is
+    (open_ready number journal state request.op args request sound same) d is
 ruled_ready number journal state (ops.OpenConfirm args) request d same sound is =
     sequenced_ready number journal state (requester_of_stateid journal state args.stateid args.seqid) request (open_confirm.own journal state args)
-    (quiet_ready number journal state (requester_of_stateid journal state args.stateid args.seqid) request.op (open_confirm.own journal state args) sound (ap is_open same) (λ client. ap (newcomer_of journal state client) same)
+    (quiet_ready number journal state (requester_of_stateid journal state args.stateid args.seqid) request.op (open_confirm.own journal state args request) sound (ap is_open same) (λ client. ap (newcomer_of journal state client) same)
     (λ node passage ruling h. as_ruled ruling _ h (confirmation_quiet state (verdict (any_open node) journal.epoch state args.stateid >>= as_open)))) d is
 ruled_ready number journal state (ops.OpenDowngrade args) request d same sound is =
     sequenced_ready number journal state (requester_of_stateid journal state args.stateid args.seqid) request (open_downgrade.own journal state args)
-    (quiet_ready number journal state (requester_of_stateid journal state args.stateid args.seqid) request.op (open_downgrade.own journal state args) sound (ap is_open same) (λ client. ap (newcomer_of journal state client) same)
+    (quiet_ready number journal state (requester_of_stateid journal state args.stateid args.seqid) request.op (open_downgrade.own journal state args request) sound (ap is_open same) (λ client. ap (newcomer_of journal state client) same)
     (λ node passage ruling h. found_quiet (verdict (confirmed_open node) journal.epoch state args.stateid >>= as_open) args ruling h)) d is
 ruled_ready number journal state (ops.Close args) request d same sound is =
     sequenced_ready number journal state (requester_of_stateid journal state args.stateid args.seqid) request (close.own journal state args)
-    (quiet_ready number journal state (requester_of_stateid journal state args.stateid args.seqid) request.op (close.own journal state args) sound (ap is_open same) (λ client. ap (newcomer_of journal state client) same)
+    (quiet_ready number journal state (requester_of_stateid journal state args.stateid args.seqid) request.op (close.own journal state args request) sound (ap is_open same) (λ client. ap (newcomer_of journal state client) same)
     (λ node passage ruling h. as_ruled ruling _ h (closing_quiet (verdict (confirmed_open node) journal.epoch state args.stateid >>= as_open)))) d is
 ruled_ready number journal state (ops.Lock args) request d same sound is =
     let sequenced = lock_sequenced args args.locker journal state request (Some d) is in
     sequenced_ready number journal state (requester_of_stateid journal state (stateid_of args.locker) sequenced.0) request (lock.own journal state args)
-    (lock_ready number journal state request.op args sequenced.0 sound same) d sequenced.1
+    (lock_ready number journal state request.op args request sequenced.0 sound same) d sequenced.1
 ruled_ready number journal state (ops.Lockt args) request d same sound is =
     test_ready number state args (lockt.lockt_file journal state request.filehandle args) d is
 ruled_ready number journal state (ops.Locku args) request d same sound is =
     sequenced_ready number journal state (requester_of_stateid journal state args.stateid args.seqid) request (locku.own journal state args)
-    (locku_ready number journal state request.op args sound same) d is
+    (locku_ready number journal state request.op args request sound same) d is
 ruled_ready number journal state (ops.ReleaseLockowner args) request d same sound is =
     as_decided number state d _ is (release_ready number state args)
 ruled_ready number journal state op request d same sound is = absurd cc

@@ -153,5 +153,5 @@ IsLock state args (Ok locking) ruling =
 
 -- the rule of LOCK under the current filehandle; no ruling if a limit would be exceeded
 abbrev pub own : History → State → Lock → Own
-own journal state args node passage ruling =
+own journal state args request node passage ruling =
     IsLock state args (locking_of journal state node args args.locker) ruling

@@ -130,6 +130,6 @@ ruling_of state passage owner (Ok o) =
 
 -- the rule of OPEN under the current filehandle, in the state without an owner that starts anew
 abbrev pub own : History → State → Open → Own
-own journal state args node passage ruling =
+own journal state args request node passage ruling =
     let seen = before_own passage args.owner state in
     ruling ≡ ruling_of seen passage args.owner (opening journal seen node args)

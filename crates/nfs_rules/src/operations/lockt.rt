@@ -1,5 +1,6 @@
 ghost use Rattle.std.specs.Prelude.{◌≡◌, ◌≤◌, IfOk, IsErrOf, Ok, Some, None, length};
 ghost use Rattle.nfs_rules.specs.Deciding.{Decides};
+ghost use Rattle.nfs_rules.specs.declared.decision.Decision.{Decision};
 ghost use Rattle.nfs_rules.specs.operations.Lockt.{IsRuled, IsTest, lockt_file, only};
 ghost use Rattle.nfs_state.specs.Room.{state_of};
 ghost use Rattle.nfs_xdr.specs.Short.{IsShort};
@@ -7,9 +8,8 @@ ghost use Rattle.nfs_xdr.specs.Short.{IsShort};
 use crate::decision::Decision;
 use crate::locking::{denied_by, mode_of};
 use nfs_forms::LockDenied;
-use nfs_locks::at_most_one_report;
 use nfs_operations::lockt::Lockt;
-use nfs_ranges::{at_most_one_range, range_of};
+use nfs_ranges::range_of;
 use nfs_state::{Change, Effect, Journal, Request, Shortage, Tables};
 use nfs_xdr::{Answer, Op, OpResult, Refusal};
 
@@ -61,16 +61,17 @@ fn test(tables: &Tables, node: u32, args: &Lockt) -> Result<Answer<(), LockDenie
     ensures limit { IsErrOf result Shortage.Limit
         → IsTest (state_of tables.now) args.now (Ok node) None }
     ensures memory { IsErrOf result Shortage.Memory
-        → IsTest (state_of tables.now) args.now (Ok node) None → ⊥ }
+        → (d : Decision) × IsTest (state_of tables.now) args.now (Ok node) (Some d) }
 {
-    at_most_one_range();
-    at_most_one_report();
     let Some(range) = range_of(args.offset, args.length) else {
         return Ok(Answer::Refused(Refusal::Inval));
     };
     let mode = mode_of(args.locktype);
     match tables.locks.report(node, &args.owner, range, mode) {
         None => Ok(Answer::Done(())),
-        Some(report) => Ok(Answer::Denied(denied_by(report)?)),
+        Some(report) => match denied_by(report) {
+            Ok(denied) => Ok(Answer::Denied(denied)),
+            Err(shortage) => Err(shortage),
+        },
     }
 }

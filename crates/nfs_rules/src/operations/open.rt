@@ -9,6 +9,7 @@ ghost use Rattle.nfs_rules.specs.operations.Open.{file_at, found_by, has_owner_p
 ghost use Rattle.nfs_rules.specs.operations.OpenGrant.{ok_answer, granted_stateid, new_stateid};
 ghost use Rattle.nfs_share.specs.AllOpens.{opens_of};
 ghost use Rattle.nfs_state.specs.Places.{has_state_place};
+ghost use Rattle.nfs_state.specs.declared.request.Request.{Request};
 ghost use Rattle.nfs_share.specs.Opens.{open_of};
 
 use crate::opening::Opening;
@@ -36,7 +37,8 @@ pub(super) fn rule(
 ) -> Result<Ruling, Shortage>
     requires states { tables.now.numbers < 2 ^ 32 - 1 }
     requires passage { IsPassage passage (open_owner args.now.owner) (state_of tables.now) }
-    ensures rules { ByOwnRule (own journal.now.history (state_of tables.now) args.now directory passage)
+    ensures rules { (request : Request) → ByOwnRule
+        (own journal.now.history (state_of tables.now) args.now request directory passage)
         (state_of tables.now) (Op.Open args.now) result }
     ensures error { OnErr result
         (IsOk (opening journal.now.history (state_of tables.now) directory args.now)) }

@@ -5,7 +5,7 @@ use Rattle.nfs_locks.specs.AllLocks.{locks_of}
 use Rattle.nfs_locks.specs.ReportSeen.{report_seen}
 use Rattle.nfs_rules.specs.Finding.{locking_seen}
 use Rattle.nfs_rules.specs.Locking.{can_be_written}
-use Rattle.nfs_rules.specs.operations.Lock.{IsAllowed, grant, unless_denied}
+use Rattle.nfs_rules.specs.operations.Lock.{IsAllowed, grant}
 use Rattle.nfs_rules.proofs.Sendable.{denied_sendable}
 use Rattle.nfs_rules.proofs.Sequenced.{not_reported, rules_onto}
 use Rattle.nfs_rules.proofs.operations.lock.lock.Goals as goal
@@ -29,7 +29,7 @@ returns-in-Ok c = λ args.
 
 pub returns-in-Err : goal.returns-in-Err
 returns-in-Err c = λ args.
-    not_reported c.at_most_one_report.ensures (state_of c.args.tables.now) (locking_seen c.args.locking) c.args.range (report_seen c.in-Some.report) (ops.Lock args) c.in-Err.shortage
+    not_reported (state_of c.args.tables.now) (locking_seen c.args.locking) c.args.range (report_seen c.in-Some.report) (ops.Lock args) c.in-Err.shortage
     c.in-Some.ensures c.in-Err.ensures.limit c.in-Err.ensures.memory
 
 pub returns-in-None : goal.returns-in-None
@@ -38,6 +38,4 @@ returns-in-None c = λ args.
     let l = locking_seen c.args.locking in
     rules_onto (λ r. r ≡ grant state l c.args.range l.state) (IsAllowed true state l c.args.range) state (ops.Lock args) c.grant.result
     (λ r same. (None, c.in-None.ensures, same))
-    (λ none. none.2 ∙ ap (unless_denied state l c.args.range)
-    (c.at_most_one_report.ensures (locks_of l.node state.locks) l.owner c.args.range l.mode none.0 None none.1 c.in-None.ensures))
     (c.grant.ensures args)

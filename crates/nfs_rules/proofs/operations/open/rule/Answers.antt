@@ -12,7 +12,7 @@ use Rattle.nfs_xdr.specs.Short.{IsShort}
 use Rattle.nfs_rules.proofs.operations.open.rule.Goals as goal
 
 pub returns-in-Ok-clause-rules : goal.returns-in-Ok-clause-rules
-returns-in-Ok-clause-rules c =
+returns-in-Ok-clause-rules c = λ request.
     let args = c.args.args.now in
     let state = state_of c.args.tables.now in
     let seen = before_own c.args.passage args.owner state in
@@ -22,7 +22,7 @@ returns-in-Ok-clause-rules c =
     subst rules (ap (ruling_of seen c.args.passage args.owner) same) c.grant.ensures
 
 pub returns-in-Err-clause-rules : goal.returns-in-Err-clause-rules
-returns-in-Err-clause-rules c =
+returns-in-Err-clause-rules c = λ request.
     let args = c.args.args.now in
     let journal = c.args.journal.now.history in
     let state = state_of c.args.tables.now in
