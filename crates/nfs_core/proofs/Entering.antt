@@ -13,9 +13,7 @@ use Rattle.nfs_rules.specs.operations.{AtMostOneDecision, IsPlain, IsRuled, IsRu
 use Rattle.nfs_rules.specs.operations.Lockt as lockt
 use Rattle.nfs_rules.specs.operations.ReleaseLockowner as release
 use Rattle.nfs_rules.specs.operations.Setclientid as setclientid
-use Rattle.nfs_forms.specs.declared.answer.Answer.{Answer}
 use Rattle.nfs_forms.specs.declared.answer.Answer.TheVariants.{Refused}
-use Rattle.nfs_forms.specs.declared.lock_denied.LockDenied.{LockDenied}
 use Rattle.nfs_forms.specs.declared.status.Refusal.{Refusal}
 use Rattle.nfs_forms.specs.declared.status.Refusal.TheVariants as refusals
 use Rattle.nfs_locks.specs.AllLocks.{holds}
@@ -72,14 +70,11 @@ registers : (decision : Decision) (found : Option (registrations.Outcome × Clie
 registers decision None is = absurd cc
 registers decision (Some x) is = ap (λ (d : Decision). d.effect.owner) (some_equal decision (setclientid.decision_of x) is)
 
-tests_range : (decision : Decision) (answer : Option (Answer (Unit {0}) LockDenied (Unit {0}))) → Some decision ≡ option_map lockt.only answer → decision.effect.owner ≡ owner_changes.Nothing
-tests_range decision None is = absurd cc
-tests_range decision (Some answer) is = ap (λ (d : Decision). d.effect.owner) (some_equal decision (lockt.only answer) is)
-
 tests_of_range : (old : State) (args : Lockt) (node : ℕ) (decision : Decision) (range : Option Range) → lockt.IsOfRange old args node range (Some decision) → decision.effect.owner ≡ owner_changes.Nothing
 tests_of_range old args node decision None is =
     ap (λ (d : Decision). d.effect.owner) (some_equal decision (lockt.only (Refused refusals.Inval)) is)
-tests_of_range old args node decision (Some range) is = tests_range decision (lockt.answer_of is.0) is.2
+tests_of_range old args node decision (Some range) is =
+    ap (λ (d : Decision). d.effect.owner) (some_equal decision (lockt.only (lockt.answer_of is.0)) is.2)
 
 tests : (old : State) (args : Lockt) (decision : Decision) (place : Result ℕ Refusal) → lockt.IsTest old args place (Some decision) → decision.effect.owner ≡ owner_changes.Nothing
 tests old args decision (Err refusal) is =

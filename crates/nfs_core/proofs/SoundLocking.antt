@@ -32,7 +32,7 @@ use Rattle.nfs_owners.specs.declared.owner.TheConstants.{OWNER_LIMIT}
 use Rattle.nfs_owners.specs.declared.state_owner.StateOwner.{StateOwner}
 use Rattle.nfs_ranges.specs.declared.piece.Piece.{Piece}
 use Rattle.nfs_ranges.specs.declared.range.Range.{Range}
-use Rattle.nfs_rules.specs.Locking.{can_be_written, denied_by, lock_of_bytes, mode_of, unlock_of_bytes}
+use Rattle.nfs_rules.specs.Locking.{denied_by, lock_of_bytes, mode_of, unlock_of_bytes}
 use Rattle.nfs_rules.specs.Newcomers.{Newcomer, Nobody, Known, Unknown, has_turn, is_next, newcomer_by, newcomer_if, newcomer_in}
 use Rattle.nfs_rules.specs.Sequences.{IsSequenced, Owner, counts, is_ok_status, kept_with, owner_change_of, requester_of_stateid, requester_of_target}
 use Rattle.nfs_rules.specs.Refusing.{◌>>=◌}
@@ -301,11 +301,8 @@ denied_ready : (number : ℕ) (state : State) (name : StateOwner) (newcomer : Ne
     → IsContinuing number state name newcomer ruling
 denied_ready number state name newcomer l range None ruling founded free is =
     granted_ready number state name newcomer l range l.state ruling founded free is
-denied_ready number state name newcomer l range (Some report) ruling founded met is = by (can_be_written report) is
-  where
-    by : (b : Bool) → Some ruling ≡ (if b then Some (record { answer = results.Lock (Denied (denied_by report)); change = changes.Nothing }) else None) → IsContinuing number state name newcomer ruling
-    by true same = refuses_ready number state name newcomer (results.Lock (Denied (denied_by report))) ruling refl same
-    by false same = absurd cc
+denied_ready number state name newcomer l range (Some report) ruling founded met is =
+    refuses_ready number state name newcomer (results.Lock (Denied (denied_by report))) ruling refl is
 
 allowed_ready : (number : ℕ) (state : State) (name : StateOwner) (newcomer : Newcomer) (l : Locking) (range : Range) (may : Bool) (ruling : Ruling)
     → IsFounded state newcomer l l.state → lock.IsAllowed may state l range (Some ruling) → IsContinuing number state name newcomer ruling

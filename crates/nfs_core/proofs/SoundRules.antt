@@ -38,10 +38,8 @@ use Rattle.nfs_core.proofs.SoundSequences.{IsFit, IsOf, IsOwnReady, as_decided, 
 use Rattle.nfs_core.proofs.SoundSteps.{IsChangeReady, IsClientReady, IsOwnerReady, IsReady}
 use Rattle.nfs_core.proofs.SoundTargets.{bound, ok_equal, unrefused}
 use Rattle.nfs_forms.specs.ClientId.{is_same_client}
-use Rattle.nfs_forms.specs.declared.answer.Answer.{Answer}
 use Rattle.nfs_forms.specs.declared.answer.Answer.TheVariants as answers
 use Rattle.nfs_forms.specs.declared.answer.Answer.TheVariants.{Done}
-use Rattle.nfs_forms.specs.declared.lock_denied.LockDenied.{LockDenied}
 use Rattle.nfs_xdr.specs.declared.op_result.OpResult.TheVariants as results
 use Rattle.nfs_forms.specs.Principal.{is_same_principal}
 use Rattle.nfs_forms.specs.declared.open_owner.OpenOwner.{OpenOwner}
@@ -308,13 +306,9 @@ open_ready number journal state op args request sound is node passage name rulin
 
 -- LOCKT and RELEASE_LOCKOWNER
 
-reports_ready : (number : ℕ) (state : State) (answer : Option (Answer (Unit {0}) LockDenied (Unit {0}))) (d : Decision) → Some d ≡ option_map lockt.only answer → IsReady number state d
-reports_ready number state None d is = absurd cc
-reports_ready number state (Some answer) d is = as_decided number state d (lockt.only answer) is (tt, tt)
-
 tests_ready : (number : ℕ) (state : State) (args : Lockt) (node : ℕ) (range : Option Range) (d : Decision) → lockt.IsOfRange state args node range (Some d) → IsReady number state d
 tests_ready number state args node None d is = as_decided number state d _ is (tt, tt)
-tests_ready number state args node (Some range) d is = reports_ready number state (lockt.answer_of is.0) d is.2
+tests_ready number state args node (Some range) d is = as_decided number state d (lockt.only (lockt.answer_of is.0)) is.2 (tt, tt)
 
 test_ready : (number : ℕ) (state : State) (args : Lockt) (result : Result ℕ Refusal) (d : Decision) → lockt.IsTest state args result (Some d) → IsReady number state d
 test_ready number state args (Err refusal) d is = as_decided number state d _ is (tt, tt)

@@ -1,9 +1,8 @@
 -- What is decided for a sequenced operation, from whether it is answered without its own rule, and from that rule.
 use Rattle.std.proofs.Common.{inl, inr, ◌≡◌, ◌≢◌, ℕ, ◌<◌, ◌≤◌, Bool, true, false, nat_lt, Option, Some, None, Result, Ok, Err, length, refl, sym, ap, ◌∙◌, subst, arith}
-use Rattle.std.specs.Result.{IsErr, IsErrAnd, IsErrOf}
-use Rattle.nfs_forms.specs.declared.lock_denied.LockDenied.{LockDenied}
+use Rattle.std.specs.Result.{IsErr, IsErrAnd}
 use Rattle.std.specs.Prelude.{⊤, ◌⊎◌, List, IsTrue, IsFalse, is_some, not, ◌&&◌, ◌||◌, if◌then◌else◌}
-use Rattle.std.proofs.lemmas.Bool.{and_parts, cond-false, cond-true, ltb-true}
+use Rattle.std.proofs.lemmas.Bool.{and_parts, ltb-true}
 use Rattle.nfs_forms.specs.ClientId.{is_same_client}
 use Rattle.nfs_forms.specs.declared.lock_owner.LockOwner.{LockOwner}
 use Rattle.nfs_forms.specs.declared.locker.Locker.{Locker}
@@ -11,14 +10,11 @@ use Rattle.nfs_forms.specs.declared.locker.Locker.TheVariants as lockers
 use Rattle.nfs_forms.specs.declared.locker.NewLocker.{NewLocker}
 use Rattle.nfs_locks.specs.AllLocks.{locks_of}
 use Rattle.nfs_locks.specs.Locks.{lock_of}
-use Rattle.nfs_locks.specs.Report.{IsReport, Report}
+use Rattle.nfs_locks.specs.Report.{Report}
 use Rattle.nfs_operations.specs.declared.lock.Lock.{Lock}
 use Rattle.nfs_ranges.specs.declared.mode.Mode.{Mode}
 use Rattle.nfs_ranges.specs.declared.range.Range.{Range}
 use Rattle.nfs_locks.specs.Locks.{ByteLocks}
-use Rattle.nfs_forms.specs.declared.answer.Answer.TheVariants.{Denied}
-use Rattle.nfs_rules.specs.Locking.{can_be_written, denied_by}
-use Rattle.nfs_xdr.specs.declared.op_result.OpResult.TheVariants as results
 use Rattle.nfs_rules.specs.Newcomers.{Newcomer, Nobody, Known, Unknown, has_turn, is_next, newcomer_by, newcomer_if, newcomer_in, newcomer_of}
 use Rattle.nfs_rules.specs.Refusing.{◌>>=◌, refused_if}
 use Rattle.nfs_rules.specs.Stateids.{as_open, confirmed_open, verdict}
@@ -29,7 +25,6 @@ use Rattle.nfs_share.specs.Opens.{open_with_number}
 use Rattle.nfs_state.specs.Places.{has_owner_place, has_state_place}
 use Rattle.nfs_state.specs.declared.owner_change.OwnerChange.{OwnerChange}
 use Rattle.nfs_rules.proofs.Uniqueness.{IsSequencedUnder}
-use Rattle.nfs_state.specs.declared.change.Change.TheVariants as changes
 use Rattle.nfs_rules.specs.declared.decision.Decision.{Decision}
 use Rattle.nfs_rules.specs.declared.opening.Opening.{Opening}
 use Rattle.nfs_state.specs.declared.owner_change.OwnerChange.TheVariants.{Nothing, Keeps, Introduces, Records, Restarts, Drops}
@@ -214,18 +209,13 @@ begins_place : (place more : Bool) (r : Option Ruling) (ruling : Ruling) → Som
 begins_place true more r ruling same = refl
 begins_place false more r ruling same = absurd cc
 
-denied_not_ok : (b : Bool) (answer : OpResult) (ruling : Ruling) → is_ok_status (status_of answer) ≡ false → Some ruling ≡ (if b then Some (record { answer = answer; change = changes.Nothing }) else None)
-    → is_ok_status (status_of ruling.answer) ≡ true → ⊥
-denied_not_ok true answer ruling not_ok same ok = let never : false ≡ true = sym not_ok ∙ sym (ap is_done same) ∙ ok in cc
-denied_not_ok false answer ruling not_ok same ok = cc
-
 allowed_place : (allowed : Bool) (state : State) (locking : Locking) (range : Range) (ruling : Ruling) → locking.state ≡ None → IsAllowed allowed state locking range (Some ruling)
     → is_ok_status (status_of ruling.answer) ≡ true → has_owner_place (lock_owner locking.owner) state ≡ true
 allowed_place false state locking range ruling new is ok = let never : false ≡ true = sym (ap is_done is) ∙ ok in absurd cc
 allowed_place true state locking range ruling new is ok = by is.0 is.2
   where
     by : (report : Option Report) → Some ruling ≡ unless_denied state locking range report → has_owner_place (lock_owner locking.owner) state ≡ true
-    by (Some report) same = absurd (denied_not_ok (can_be_written report) (results.Lock (Denied (denied_by report))) ruling refl same ok)
+    by (Some report) same = let never : false ≡ true = sym (ap is_done same) ∙ ok in absurd cc
     by None same =
         begins_place (has_owner_place (lock_owner locking.owner) state) (has_state_place state) _ ruling
         (same ∙ ap (grant state locking range) new)
@@ -415,14 +405,3 @@ pub rules_of : (op op' : Op) (journal : History) (state : State) (request : Requ
 rules_of op op' journal state request node passage result same rules =
     let P : Op → Type 0 = λ o. ByOwnRule (own_of o journal state request node passage) state o result in
     subst P (sym same) rules
-
--- A LOCK that meets another owner's lock, where the report of it isn't made.
-pub not_reported : (state : State) (locking : Locking) (range : Range) (report : Report) (op : Op) (shortage : Shortage)
-    → IsReport (locks_of locking.node state.locks) locking.owner range locking.mode (Some report)
-    → (IsErrOf {T = LockDenied} (Err shortage) Limit → can_be_written report ≡ false) → (IsErrOf {T = LockDenied} (Err shortage) Memory → can_be_written report ≡ true)
-    → ByOwnRule (IsAllowed true state locking range) state op (Err shortage)
-not_reported state locking range report op Limit met limit memory =
-    (Some report, met, sym (cond-false (can_be_written report) (Some (record { answer = results.Lock (Denied (denied_by report)); change = changes.Nothing })) None (limit refl)))
-not_reported state locking range report op Memory met limit memory =
-    let denied : Ruling = record { answer = results.Lock (Denied (denied_by report)); change = changes.Nothing } in
-    (denied, (Some report, met, sym (cond-true (can_be_written report) (Some denied) None (memory refl))))

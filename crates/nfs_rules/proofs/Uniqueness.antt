@@ -177,7 +177,7 @@ pub tested_once : LockLaws → (state : State) (args : Lockt) (node : ℕ) (rang
 tested_once laws state args node None d e a b = a ∙ sym b
 tested_once laws state args node (Some range) d e a b =
     let same = laws.one_report (locks_of node state.locks) args.owner range (mode_of args.locktype) a.0 b.0 a.1 b.1 in
-    a.2 ∙ ap (λ report. option_map lockt.only (answer_of report)) same ∙ sym b.2
+    a.2 ∙ ap (λ report. Some (lockt.only (answer_of report))) same ∙ sym b.2
 
 pub asked_once : LockLaws → (state : State) (args : Lockt) (found : Result ℕ Refusal) (d e : Option Decision) → IsTest state args found d → IsTest state args found e → d ≡ e
 asked_once laws state args (Err refusal) d e a b = a ∙ sym b

@@ -173,13 +173,10 @@ fn lock(tables: &Tables, locking: Locking<'_>, range: Range) -> Result<Ruling, S
         ..
     } = locking;
     match tables.locks.report(node, owner, range, mode) {
-        Some(report) => match denied_by(report) {
-            Ok(denied) => Ok(Ruling {
-                answer: OpResult::Lock(Answer::Denied(denied)),
-                change: Change::Nothing,
-            }),
-            Err(shortage) => Err(shortage),
-        },
+        Some(report) => Ok(Ruling {
+            answer: OpResult::Lock(Answer::Denied(denied_by(report)?)),
+            change: Change::Nothing,
+        }),
         None => grant(tables, locking, range),
     }
 }

@@ -1,4 +1,4 @@
-ghost use Rattle.std.specs.Prelude.{◌≡◌, ◌≤◌, IfOk, IsErrOf, Ok, Some, None, length};
+ghost use Rattle.std.specs.Prelude.{◌≡◌, IfOk, Ok, OnErr, Some};
 ghost use Rattle.nfs_rules.specs.Deciding.{Decides};
 ghost use Rattle.nfs_rules.specs.declared.decision.Decision.{Decision};
 ghost use Rattle.nfs_rules.specs.operations.Lockt.{IsRuled, IsTest, lockt_file, only};
@@ -12,6 +12,7 @@ use nfs_operations::lockt::Lockt;
 use nfs_ranges::range_of;
 use nfs_state::{Change, Effect, Journal, Request, Shortage, Tables};
 use nfs_xdr::{Answer, Op, OpResult, Refusal};
+use std::alloc::AllocError;
 
 /// Decides a LOCKT: its answer, and that it changes nothing.
 pub(super) fn decide(
@@ -54,14 +55,12 @@ fn lockt_file(
 }
 
 // Whether a LOCK of the node's file would be refused, and for which lock.
-fn test(tables: &Tables, node: u32, args: &Lockt) -> Result<Answer<(), LockDenied>, Shortage>
+fn test(tables: &Tables, node: u32, args: &Lockt) -> Result<Answer<(), LockDenied>, AllocError>
     ensures answer { IfOk result (λ a.
         IsTest (state_of tables.now) args.now (Ok node) (Some (only a))) }
     ensures short { IfOk result (λ a. IsShort (OpResult.Lockt a)) }
-    ensures limit { IsErrOf result Shortage.Limit
-        → IsTest (state_of tables.now) args.now (Ok node) None }
-    ensures memory { IsErrOf result Shortage.Memory
-        → (d : Decision) × IsTest (state_of tables.now) args.now (Ok node) (Some d) }
+    ensures memory { OnErr result
+        ((d : Decision) × IsTest (state_of tables.now) args.now (Ok node) (Some d)) }
 {
     let Some(range) = range_of(args.offset, args.length) else {
         return Ok(Answer::Refused(Refusal::Inval));
@@ -69,9 +68,6 @@ fn test(tables: &Tables, node: u32, args: &Lockt) -> Result<Answer<(), LockDenie
     let mode = mode_of(args.locktype);
     match tables.locks.report(node, &args.owner, range, mode) {
         None => Ok(Answer::Done(())),
-        Some(report) => match denied_by(report) {
-            Ok(denied) => Ok(Answer::Denied(denied)),
-            Err(shortage) => Err(shortage),
-        },
+        Some(report) => Ok(Answer::Denied(denied_by(report)?)),
     }
 }
