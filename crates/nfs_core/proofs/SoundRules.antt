@@ -254,7 +254,7 @@ ruling_ready : (number : ℕ) (journal : History) (state : State) (op : Op) (arg
     → IsSound state → is_live_in state.clients.records args.owner.client ≡ true → IsFit state op (open_owner args.owner) passage
     → newcomer_of journal state args.owner.client op ≡ Nobody
     → opening.opening journal (before_own passage args.owner state) directory args ≡ result
-    → Some ruling ≡ opening.ruling_of (before_own passage args.owner state) passage args.owner result
+    → Some ruling ≡ opening.ruling_of (before_own passage args.owner state) passage args.owner (opening.opening_or_ruling result)
     → IsReady number state (decision_of passage (open_owner args.owner) (newcomer_of journal state args.owner.client op) ruling)
 ruling_ready number journal state op args passage directory ruling (Err refusal) sound live fit nobody is rules =
     subst (λ r. IsReady number state (decision_of passage (open_owner args.owner) (newcomer_of journal state args.owner.client op) r)) (sym (some_equal ruling _ rules))

@@ -37,7 +37,7 @@ use Rattle.nfs_state.specs.declared.shortage.Shortage.TheVariants.{Limit, Memory
 use Rattle.nfs_rules.specs.Deciding.{ByOwnRule, Decides, HasAnswer, HasPassage, IsPassage, IsRequesterOf, IsSendableSequence}
 use Rattle.nfs_state.specs.Entries.{IsSendable}
 use Rattle.nfs_rules.specs.operations.{own_of}
-use Rattle.nfs_rules.specs.operations.Open.{has_open_place, opening, ruling_of}
+use Rattle.nfs_rules.specs.operations.Open.{has_open_place, opening, opening_or_ruling, ruling_of}
 use Rattle.nfs_state.specs.Owners.{KnownOwner, owner_of}
 use Rattle.nfs_state.specs.Room.{HasOwnerPlace, IsNewcomer, is_known}
 use Rattle.nfs_rules.specs.Sequences.{Answered, GoesOn, IsDecided, IsJudged, IsOfKnown, IsOfOwner, IsSequence, Own, Owner, Refused, Requester, SequenceStep, counts, decision_of, is_ok_status, is_open, kept_with, only, owner_change_of}
@@ -110,7 +110,7 @@ abbrev is_done : Option Ruling → Bool
 is_done None = false
 is_done (Some ruling) = is_ok_status (status_of ruling.answer)
 
-ruling_place : (state : State) (owner : OpenOwner) (found : Result Opening Refusal) (ruling : Ruling) → Some ruling ≡ ruling_of state passages.Begins owner found → is_ok_status (status_of ruling.answer) ≡ true → length state.owners < OWNER_LIMIT
+ruling_place : (state : State) (owner : OpenOwner) (found : Result Opening Refusal) (ruling : Ruling) → Some ruling ≡ ruling_of state passages.Begins owner (opening_or_ruling found) → is_ok_status (status_of ruling.answer) ≡ true → length state.owners < OWNER_LIMIT
 ruling_place state owner (Err refusal) ruling same ok = let never : false ≡ true = sym (ap is_done same) ∙ ok in absurd cc
 ruling_place state owner (Ok o) ruling same ok =
     place_by (length state.owners) OWNER_LIMIT (nat_lt (length state.owners) OWNER_LIMIT) (has_open_place state owner o.node) _ ruling refl same
