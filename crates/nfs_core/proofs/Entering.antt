@@ -18,9 +18,7 @@ use Rattle.nfs_rules.specs.operations.{AtMostOneDecision, IsPlain, IsRuled, IsRu
 use Rattle.nfs_rules.specs.operations.Lockt as lockt
 use Rattle.nfs_rules.specs.operations.ReleaseLockowner as release
 use Rattle.nfs_rules.specs.operations.Setclientid as setclientid
-use Rattle.nfs_forms.specs.declared.answer.Answer.{Answer}
 use Rattle.nfs_forms.specs.declared.answer.Answer.TheVariants.{Refused}
-use Rattle.nfs_forms.specs.declared.lock_denied.LockDenied.{LockDenied}
 use Rattle.nfs_forms.specs.declared.status.Refusal.{Refusal}
 use Rattle.nfs_forms.specs.declared.status.Refusal.TheVariants as refusals
 use Rattle.nfs_locks.specs.AllLocks.{holds}
@@ -65,11 +63,12 @@ no_answer once journal old request (Err shortages.Limit) decides is_limit answer
     λ new step. decides_something once journal old request (record { answer = answer; effect = step.effect }) step.allowed.rule decides
 no_answer once journal old request (Err shortages.Memory) decides is_limit answer = absurd cc
 
--- where memory runs out, no limit is passed
-pub within_limits : (journal : History) (old : State) (request : Request) (result : Result Decision Shortage) → length journal.entries < JOURNAL_LIMIT → Decides (IsRuled request.op journal old request) old request.op result → IsErrOf result shortages.Memory → IsWithinLimits journal old request
-within_limits journal old request (Ok decision) below decides is_memory = absurd cc
-within_limits journal old request (Err shortages.Limit) below decides is_memory = absurd cc
-within_limits journal old request (Err shortages.Memory) below decides is_memory = (below, decides)
+-- where memory runs out, the rule gives a decision, and so it passes no limit
+pub within_limits : AtMostOneDecision → (journal : History) (old : State) (request : Request) (result : Result Decision Shortage) → length journal.entries < JOURNAL_LIMIT → Decides (IsRuled request.op journal old request) old request.op result → IsErrOf result shortages.Memory → IsWithinLimits journal old request
+within_limits once journal old request (Ok decision) below decides is_memory = absurd cc
+within_limits once journal old request (Err shortages.Limit) below decides is_memory = absurd cc
+within_limits once journal old request (Err shortages.Memory) below decides is_memory =
+    (below, decides_something once journal old request decides.0 decides.1)
 
 -- nor where it runs out after the decision
 pub decided_within : AtMostOneDecision → (journal : History) (old : State) (request : Request) (decision : Decision) → IsNext journal old (entry_of request decision.answer) decision.effect → IsWithinLimits journal old request
@@ -81,14 +80,11 @@ registers : (decision : Decision) (found : Option (registrations.Outcome × Clie
 registers decision None is = absurd cc
 registers decision (Some x) is = ap (λ (d : Decision). d.effect.owner) (some_equal decision (setclientid.decision_of x) is)
 
-tests_range : (decision : Decision) (answer : Option (Answer (Unit {0}) LockDenied (Unit {0}))) → Some decision ≡ option_map lockt.only answer → decision.effect.owner ≡ owner_changes.Nothing
-tests_range decision None is = absurd cc
-tests_range decision (Some answer) is = ap (λ (d : Decision). d.effect.owner) (some_equal decision (lockt.only answer) is)
-
 tests_of_range : (old : State) (args : Lockt) (node : ℕ) (decision : Decision) (range : Option Range) → lockt.IsOfRange old args node range (Some decision) → decision.effect.owner ≡ owner_changes.Nothing
 tests_of_range old args node decision None is =
     ap (λ (d : Decision). d.effect.owner) (some_equal decision (lockt.only (Refused refusals.Inval)) is)
-tests_of_range old args node decision (Some range) is = tests_range decision (lockt.answer_of is.0) is.2
+tests_of_range old args node decision (Some range) is =
+    ap (λ (d : Decision). d.effect.owner) (some_equal decision (lockt.only (lockt.answer_of is.0)) is.2)
 
 tests : (old : State) (args : Lockt) (decision : Decision) (place : Result ℕ Refusal) → lockt.IsTest old args place (Some decision) → decision.effect.owner ≡ owner_changes.Nothing
 tests old args decision (Err refusal) is =

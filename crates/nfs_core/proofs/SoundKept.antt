@@ -9,8 +9,6 @@ use Rattle.nfs_core.specs.Step.{Allows, Step}
 use Rattle.nfs_core.proofs.SafeLists.{all_filter, all_map, all_push, all_weaken}
 use Rattle.nfs_core.proofs.SoundSequences.{never, some_equal}
 use Rattle.nfs_forms.specs.ClientId.{is_same_client}
-use Rattle.nfs_forms.specs.declared.answer.Answer.{Answer}
-use Rattle.nfs_forms.specs.declared.lock_denied.LockDenied.{LockDenied}
 use Rattle.nfs_forms.specs.declared.status.Refusal.{Refusal}
 use Rattle.nfs_forms.specs.declared.status.Refusal.TheVariants as refusals
 use Rattle.nfs_forms.specs.declared.status.Status.{Status}
@@ -103,8 +101,8 @@ under_counts op decides (Some node) d by is = by node is
 sequenced_counts : (journal : History) (state : State) (requester : Requester) (own : Own) (request : Request) (d : Decision) → IsSequenced journal state requester own request (Some d) → Counted d
 sequenced_counts journal state requester own request d is =
     under_counts request.op
-    (λ node. (sequence : SequenceStep) × IsSequence journal state requester request sequence × IsDecided sequence (λ client. newcomer_of journal state client request.op) (own node) (Some d))
-    request.filehandle d (λ node k. decided_counts k.0 journal state request.op (own node) d k.2) is
+    (λ node. (sequence : SequenceStep) × IsSequence journal state requester request sequence × IsDecided sequence (λ client. newcomer_of journal state client request.op) (own request node) (Some d))
+    request.filehandle d (λ node k. decided_counts k.0 journal state request.op (own request node) d k.2) is
 
 -- The other operations have nothing kept.
 
@@ -112,13 +110,9 @@ registers_none : (d : Decision) (o : Option (registrations.Outcome × ClientChan
 registers_none d None is = absurd cc
 registers_none d (Some x) is = not_kept d (setclientid.decision_of x) is refl
 
-reports_none : (d : Decision) (answer : Option (Answer (Unit {0}) LockDenied (Unit {0}))) → Some d ≡ option_map lockt.only answer → keeps d.effect.owner ≡ false
-reports_none d None is = absurd cc
-reports_none d (Some answer) is = not_kept d (lockt.only answer) is refl
-
 ranges_none : (state : State) (args : Lockt) (node : ℕ) (range : Option Range) (d : Decision) → lockt.IsOfRange state args node range (Some d) → keeps d.effect.owner ≡ false
 ranges_none state args node None d is = not_kept d _ is refl
-ranges_none state args node (Some range) d is = reports_none d (lockt.answer_of is.0) is.2
+ranges_none state args node (Some range) d is = not_kept d (lockt.only (lockt.answer_of is.0)) is.2 refl
 
 tests_none : (state : State) (args : Lockt) (result : Result ℕ Refusal) (d : Decision) → lockt.IsTest state args result (Some d) → keeps d.effect.owner ≡ false
 tests_none state args (Err refusal) d is = not_kept d _ is refl

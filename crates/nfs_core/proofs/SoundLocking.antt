@@ -32,7 +32,7 @@ use Rattle.nfs_owners.specs.declared.owner.TheConstants.{OWNER_LIMIT}
 use Rattle.nfs_owners.specs.declared.state_owner.StateOwner.{StateOwner}
 use Rattle.nfs_ranges.specs.declared.piece.Piece.{Piece}
 use Rattle.nfs_ranges.specs.declared.range.Range.{Range}
-use Rattle.nfs_rules.specs.Locking.{can_be_written, denied_by, lock_of_bytes, mode_of, unlock_of_bytes}
+use Rattle.nfs_rules.specs.Locking.{denied_by, lock_of_bytes, mode_of, unlock_of_bytes}
 use Rattle.nfs_rules.specs.Newcomers.{Newcomer, Nobody, Known, Unknown, has_turn, is_next, newcomer_by, newcomer_if, newcomer_in}
 use Rattle.nfs_rules.specs.Sequences.{IsSequenced, Owner, counts, is_ok_status, kept_with, owner_change_of, requester_of_stateid, requester_of_target}
 use Rattle.nfs_rules.specs.Refusing.{◌>>=◌}
@@ -301,11 +301,8 @@ denied_ready : (number : ℕ) (state : State) (name : StateOwner) (newcomer : Ne
     → IsContinuing number state name newcomer ruling
 denied_ready number state name newcomer l range None ruling founded free is =
     granted_ready number state name newcomer l range l.state ruling founded free is
-denied_ready number state name newcomer l range (Some report) ruling founded met is = by (can_be_written report) is
-  where
-    by : (b : Bool) → Some ruling ≡ (if b then Some (record { answer = results.Lock (Denied (denied_by report)); change = changes.Nothing }) else None) → IsContinuing number state name newcomer ruling
-    by true same = refuses_ready number state name newcomer (results.Lock (Denied (denied_by report))) ruling refl same
-    by false same = absurd cc
+denied_ready number state name newcomer l range (Some report) ruling founded met is =
+    refuses_ready number state name newcomer (results.Lock (Denied (denied_by report))) ruling refl is
 
 allowed_ready : (number : ℕ) (state : State) (name : StateOwner) (newcomer : Newcomer) (l : Locking) (range : Range) (may : Bool) (ruling : Ruling)
     → IsFounded state newcomer l l.state → lock.IsAllowed may state l range (Some ruling) → IsContinuing number state name newcomer ruling
@@ -328,12 +325,12 @@ locks_ready number state name newcomer args (Err refusal) ruling founded is =
 locks_ready number state name newcomer args (Ok l) ruling founded is =
     ranged_ready number state name newcomer l is.0 ruling (founded l refl) is.2
 
-pub lock_ready : (number : ℕ) (journal : History) (state : State) (op : Op) (args : Lock) (seqid : ℕ) → IsSound state → op ≡ ops.Lock args
-    → IsOwnReady number journal state (requester_of_stateid journal state (stateid_of args.locker) seqid) op (lock.own journal state args)
-lock_ready number journal state op args seqid sound is =
+pub lock_ready : (number : ℕ) (journal : History) (state : State) (op : Op) (args : Lock) (request : Request) (seqid : ℕ) → IsSound state → op ≡ ops.Lock args
+    → IsOwnReady number journal state (requester_of_stateid journal state (stateid_of args.locker) seqid) op (lock.own journal state args request)
+lock_ready number journal state op args request seqid sound is =
     let requester = requester_of_stateid journal state (stateid_of args.locker) seqid in
-    subst (λ o. IsOwnReady number journal state requester o (lock.own journal state args)) (sym is)
-    (others_ready number journal state requester (ops.Lock args) (lock.own journal state args) sound refl
+    subst (λ o. IsOwnReady number journal state requester o (lock.own journal state args request)) (sym is)
+    (others_ready number journal state requester (ops.Lock args) (lock.own journal state args request) sound refl
     (λ node name ruling of known h.
     locks_ready number state name (newcomer_in journal state name.client args.locker) args (lock.locking_of journal state node args args.locker) ruling
     (λ l found. locking_founded journal state node args args.locker l seqid name found of) h))
@@ -360,12 +357,12 @@ unlocks_ready number state name args (Err refusal) ruling found is =
 unlocks_ready number state name args (Ok at) ruling found is =
     unlocking_ready number state name at is.0 ruling (found at refl) is.2
 
-pub locku_ready : (number : ℕ) (journal : History) (state : State) (op : Op) (args : Locku) → IsSound state → op ≡ ops.Locku args
-    → IsOwnReady number journal state (requester_of_stateid journal state args.stateid args.seqid) op (locku.own journal state args)
-locku_ready number journal state op args sound is =
+pub locku_ready : (number : ℕ) (journal : History) (state : State) (op : Op) (args : Locku) (request : Request) → IsSound state → op ≡ ops.Locku args
+    → IsOwnReady number journal state (requester_of_stateid journal state args.stateid args.seqid) op (locku.own journal state args request)
+locku_ready number journal state op args request sound is =
     let requester = requester_of_stateid journal state args.stateid args.seqid in
-    subst (λ o. IsOwnReady number journal state requester o (locku.own journal state args)) (sym is)
-    (others_ready number journal state requester (ops.Locku args) (locku.own journal state args) sound refl
+    subst (λ o. IsOwnReady number journal state requester o (locku.own journal state args request)) (sym is)
+    (others_ready number journal state requester (ops.Locku args) (locku.own journal state args request) sound refl
     (λ node name ruling of known h.
     unlocks_ready number state name args (verdict (lock_state node) journal.epoch state args.stateid >>= as_lock) ruling
     (λ at found. found_lock journal.epoch state node args.stateid at found) h))

@@ -38,10 +38,8 @@ use Rattle.nfs_core.proofs.SoundSequences.{IsFit, IsOf, IsOwnReady, as_decided, 
 use Rattle.nfs_core.proofs.SoundSteps.{IsChangeReady, IsClientReady, IsOwnerReady, IsReady}
 use Rattle.nfs_core.proofs.SoundTargets.{bound, ok_equal, unrefused}
 use Rattle.nfs_forms.specs.ClientId.{is_same_client}
-use Rattle.nfs_forms.specs.declared.answer.Answer.{Answer}
 use Rattle.nfs_forms.specs.declared.answer.Answer.TheVariants as answers
 use Rattle.nfs_forms.specs.declared.answer.Answer.TheVariants.{Done}
-use Rattle.nfs_forms.specs.declared.lock_denied.LockDenied.{LockDenied}
 use Rattle.nfs_xdr.specs.declared.op_result.OpResult.TheVariants as results
 use Rattle.nfs_forms.specs.Principal.{is_same_principal}
 use Rattle.nfs_forms.specs.declared.open_owner.OpenOwner.{OpenOwner}
@@ -256,7 +254,7 @@ ruling_ready : (number : ℕ) (journal : History) (state : State) (op : Op) (arg
     → IsSound state → is_live_in state.clients.records args.owner.client ≡ true → IsFit state op (open_owner args.owner) passage
     → newcomer_of journal state args.owner.client op ≡ Nobody
     → opening.opening journal (before_own passage args.owner state) directory args ≡ result
-    → Some ruling ≡ opening.ruling_of (before_own passage args.owner state) passage args.owner result
+    → Some ruling ≡ opening.ruling_of (before_own passage args.owner state) passage args.owner (opening.opening_or_ruling result)
     → IsReady number state (decision_of passage (open_owner args.owner) (newcomer_of journal state args.owner.client op) ruling)
 ruling_ready number journal state op args passage directory ruling (Err refusal) sound live fit nobody is rules =
     subst (λ r. IsReady number state (decision_of passage (open_owner args.owner) (newcomer_of journal state args.owner.client op) r)) (sym (some_equal ruling _ rules))
@@ -298,8 +296,8 @@ requests_open state owner seqid name is =
           absurd cc
     ]
 
-open_ready : (number : ℕ) (journal : History) (state : State) (op : Op) (args : Open) → IsSound state → op ≡ ops.Open args → IsOwnReady number journal state (requester_of_open state args.owner args.seqid) op (opening.own journal state args)
-open_ready number journal state op args sound is node passage name ruling of fit h =
+open_ready : (number : ℕ) (journal : History) (state : State) (op : Op) (args : Open) (request : Request) → IsSound state → op ≡ ops.Open args → IsOwnReady number journal state (requester_of_open state args.owner args.seqid) op (opening.own journal state args request)
+open_ready number journal state op args request sound is node passage name ruling of fit h =
     let asked = requests_open state args.owner args.seqid name of in
     let fits : IsFit state op (open_owner args.owner) passage = subst (λ n. IsFit state op n passage) asked.0 fit in
     let nobody : newcomer_of journal state args.owner.client op ≡ Nobody = ap (newcomer_of journal state args.owner.client) is in
@@ -308,13 +306,9 @@ open_ready number journal state op args sound is node passage name ruling of fit
 
 -- LOCKT and RELEASE_LOCKOWNER
 
-reports_ready : (number : ℕ) (state : State) (answer : Option (Answer (Unit {0}) LockDenied (Unit {0}))) (d : Decision) → Some d ≡ option_map lockt.only answer → IsReady number state d
-reports_ready number state None d is = absurd cc
-reports_ready number state (Some answer) d is = as_decided number state d (lockt.only answer) is (tt, tt)
-
 tests_ready : (number : ℕ) (state : State) (args : Lockt) (node : ℕ) (range : Option Range) (d : Decision) → lockt.IsOfRange state args node range (Some d) → IsReady number state d
 tests_ready number state args node None d is = as_decided number state d _ is (tt, tt)
-tests_ready number state args node (Some range) d is = reports_ready number state (lockt.answer_of is.0) d is.2
+tests_ready number state args node (Some range) d is = as_decided number state d (lockt.only (lockt.answer_of is.0)) is.2 (tt, tt)
 
 test_ready : (number : ℕ) (state : State) (args : Lockt) (result : Result ℕ Refusal) (d : Decision) → lockt.IsTest state args result (Some d) → IsReady number state d
 test_ready number state args (Err refusal) d is = as_decided number state d _ is (tt, tt)
@@ -347,28 +341,28 @@ ruled_ready number journal state (ops.SetclientidConfirm args) request d same so
     )
 ruled_ready number journal state (ops.Open args) request d same sound is =
     sequenced_ready number journal state (requester_of_open state args.owner args.seqid) request (opening.own journal state args)
-    (open_ready number journal state request.op args sound same) d is
+    (open_ready number journal state request.op args request sound same) d is
 ruled_ready number journal state (ops.OpenConfirm args) request d same sound is =
     sequenced_ready number journal state (requester_of_stateid journal state args.stateid args.seqid) request (open_confirm.own journal state args)
-    (quiet_ready number journal state (requester_of_stateid journal state args.stateid args.seqid) request.op (open_confirm.own journal state args) sound (ap is_open same) (λ client. ap (newcomer_of journal state client) same)
+    (quiet_ready number journal state (requester_of_stateid journal state args.stateid args.seqid) request.op (open_confirm.own journal state args request) sound (ap is_open same) (λ client. ap (newcomer_of journal state client) same)
     (λ node passage ruling h. as_ruled ruling _ h (confirmation_quiet state (verdict (any_open node) journal.epoch state args.stateid >>= as_open)))) d is
 ruled_ready number journal state (ops.OpenDowngrade args) request d same sound is =
     sequenced_ready number journal state (requester_of_stateid journal state args.stateid args.seqid) request (open_downgrade.own journal state args)
-    (quiet_ready number journal state (requester_of_stateid journal state args.stateid args.seqid) request.op (open_downgrade.own journal state args) sound (ap is_open same) (λ client. ap (newcomer_of journal state client) same)
+    (quiet_ready number journal state (requester_of_stateid journal state args.stateid args.seqid) request.op (open_downgrade.own journal state args request) sound (ap is_open same) (λ client. ap (newcomer_of journal state client) same)
     (λ node passage ruling h. found_quiet (verdict (confirmed_open node) journal.epoch state args.stateid >>= as_open) args ruling h)) d is
 ruled_ready number journal state (ops.Close args) request d same sound is =
     sequenced_ready number journal state (requester_of_stateid journal state args.stateid args.seqid) request (close.own journal state args)
-    (quiet_ready number journal state (requester_of_stateid journal state args.stateid args.seqid) request.op (close.own journal state args) sound (ap is_open same) (λ client. ap (newcomer_of journal state client) same)
+    (quiet_ready number journal state (requester_of_stateid journal state args.stateid args.seqid) request.op (close.own journal state args request) sound (ap is_open same) (λ client. ap (newcomer_of journal state client) same)
     (λ node passage ruling h. as_ruled ruling _ h (closing_quiet (verdict (confirmed_open node) journal.epoch state args.stateid >>= as_open)))) d is
 ruled_ready number journal state (ops.Lock args) request d same sound is =
     let sequenced = lock_sequenced args args.locker journal state request (Some d) is in
     sequenced_ready number journal state (requester_of_stateid journal state (stateid_of args.locker) sequenced.0) request (lock.own journal state args)
-    (lock_ready number journal state request.op args sequenced.0 sound same) d sequenced.1
+    (lock_ready number journal state request.op args request sequenced.0 sound same) d sequenced.1
 ruled_ready number journal state (ops.Lockt args) request d same sound is =
     test_ready number state args (lockt.lockt_file journal state request.filehandle args) d is
 ruled_ready number journal state (ops.Locku args) request d same sound is =
     sequenced_ready number journal state (requester_of_stateid journal state args.stateid args.seqid) request (locku.own journal state args)
-    (locku_ready number journal state request.op args sound same) d is
+    (locku_ready number journal state request.op args request sound same) d is
 ruled_ready number journal state (ops.ReleaseLockowner args) request d same sound is =
     as_decided number state d _ is (release_ready number state args)
 ruled_ready number journal state op request d same sound is = absurd cc

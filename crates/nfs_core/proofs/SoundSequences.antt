@@ -100,37 +100,37 @@ sequence_fits journal state (Owner name seqid) request passage owner h =
     ((seqid, ap (λ n. Owner n seqid) (sym fits.0)), fits.1)
 
 -- what the own rule of an operation gives, as what is decided, is ready
-abbrev pub IsOwnReady : ℕ → History → State → Requester → Op → Own → Type 0
+abbrev pub IsOwnReady : ℕ → History → State → Requester → Op → (ℕ → Passage → Option Ruling → Type 0) → Type 0
 IsOwnReady number journal state requester op own =
     (node : ℕ) (passage : Passage) (owner : StateOwner) (ruling : Ruling) → IsOf owner requester → IsFit state op owner passage → own node passage (Some ruling)
     → IsReady number state (decision_of passage owner (newcomer_of journal state owner.client op) ruling)
 
-rules_ready : (number : ℕ) (journal : History) (state : State) (requester : Requester) (op : Op) (own : Own) → IsOwnReady number journal state requester op own
+rules_ready : (number : ℕ) (journal : History) (state : State) (requester : Requester) (op : Op) (own : ℕ → Passage → Option Ruling → Type 0) → IsOwnReady number journal state requester op own
     → (node : ℕ) (passage : Passage) (owner : StateOwner) (ruling : Option Ruling) (d : Decision) → IsOf owner requester → IsFit state op owner passage → own node passage ruling
     → Some d ≡ option_map (decision_of passage owner (newcomer_of journal state owner.client op)) ruling → IsReady number state d
 rules_ready number journal state requester op own ready node passage owner None d of fit h is = absurd cc
 rules_ready number journal state requester op own ready node passage owner (Some ruling) d of fit h is =
     as_decided number state d (decision_of passage owner (newcomer_of journal state owner.client op) ruling) is (ready node passage owner ruling of fit h)
 
-decided_ready : (number : ℕ) (journal : History) (state : State) (requester : Requester) (request : Request) (own : Own) → IsOwnReady number journal state requester request.op own
+decided_ready : (number : ℕ) (journal : History) (state : State) (requester : Requester) (request : Request) (own : Own) → IsOwnReady number journal state requester request.op (own request)
     → (node : ℕ) (sequence : SequenceStep) (d : Decision) → IsSequence journal state requester request sequence
-    → IsDecided sequence (λ client. newcomer_of journal state client request.op) (own node) (Some d) → IsReady number state d
+    → IsDecided sequence (λ client. newcomer_of journal state client request.op) (own request node) (Some d) → IsReady number state d
 decided_ready number journal state requester request own ready node (Answered answer) d h is =
     as_decided number state d (only answer) is (tt, tt)
 decided_ready number journal state requester request own ready node (GoesOn passage owner) d h is =
     let fits = sequence_fits journal state requester request passage owner h in
-    rules_ready number journal state requester request.op own ready node passage owner is.0 d fits.0 fits.1 is.1 is.2
+    rules_ready number journal state requester request.op (own request) ready node passage owner is.0 d fits.0 fits.1 is.1 is.2
 
 -- what is decided under the current filehandle
 under_ready : (number : ℕ) (state : State) (op : Op) (decides : ℕ → Type 0) (filehandle : Option ℕ) (d : Decision) → ((node : ℕ) → decides node → IsReady number state d) → IsUnder filehandle op decides (Some d) → IsReady number state d
 under_ready number state op decides None d ready is = as_decided number state d _ is (tt, tt)
 under_ready number state op decides (Some node) d ready h = ready node h
 
-pub sequenced_ready : (number : ℕ) (journal : History) (state : State) (requester : Requester) (request : Request) (own : Own) → IsOwnReady number journal state requester request.op own
+pub sequenced_ready : (number : ℕ) (journal : History) (state : State) (requester : Requester) (request : Request) (own : Own) → IsOwnReady number journal state requester request.op (own request)
     → (d : Decision) → IsSequenced journal state requester own request (Some d) → IsReady number state d
 sequenced_ready number journal state requester request own ready d h =
     under_ready number state request.op
-    (λ node. (sequence : SequenceStep) × IsSequence journal state requester request sequence × IsDecided sequence (λ client. newcomer_of journal state client request.op) (own node) (Some d))
+    (λ node. (sequence : SequenceStep) × IsSequence journal state requester request sequence × IsDecided sequence (λ client. newcomer_of journal state client request.op) (own request node) (Some d))
     request.filehandle d (λ node k. decided_ready number journal state requester request own ready node k.0 d k.1 k.2) h
 
 -- The lock owner that a request introduces is of the same client as the owner of the request.
@@ -236,7 +236,7 @@ IsContinuing number state name newcomer ruling =
     × IsChangeReady ruling.change (with_owner_change (owner_change_of passages.Continues name newcomer (status_of ruling.answer)) number state)
 
 -- Operations other than OPEN: their requests continue.
-pub others_ready : (number : ℕ) (journal : History) (state : State) (requester : Requester) (op : Op) (own : Own) → IsSound state → is_open op ≡ false
+pub others_ready : (number : ℕ) (journal : History) (state : State) (requester : Requester) (op : Op) (own : ℕ → Passage → Option Ruling → Type 0) → IsSound state → is_open op ≡ false
     → ((node : ℕ) (name : StateOwner) (ruling : Ruling) → IsOf name requester → is_known_in state.owners name ≡ true → own node passages.Continues (Some ruling)
     → IsContinuing number state name (newcomer_of journal state name.client op) ruling)
     → IsOwnReady number journal state requester op own
@@ -247,7 +247,7 @@ others_ready number journal state requester op own sound other ready node passag
 others_ready number journal state requester op own sound other ready node passages.Restarts owner ruling of fit h = absurd (never (is_open op) other fit.0)
 
 -- operations that introduce nobody, and whose changes are ready in each state
-pub quiet_ready : (number : ℕ) (journal : History) (state : State) (requester : Requester) (op : Op) (own : Own) → IsSound state → is_open op ≡ false
+pub quiet_ready : (number : ℕ) (journal : History) (state : State) (requester : Requester) (op : Op) (own : ℕ → Passage → Option Ruling → Type 0) → IsSound state → is_open op ≡ false
     → ((client : ClientId) → newcomer_of journal state client op ≡ Nobody)
     → ((node : ℕ) (passage : Passage) (ruling : Ruling) → own node passage (Some ruling) → (s : State) → IsChangeReady ruling.change s)
     → IsOwnReady number journal state requester op own

@@ -6,7 +6,6 @@ use Rattle.std.proofs.lemmas.Bool.{cases_Bool, cond-false, cond-true, not-false}
 use Rattle.nfs_core.proofs.SoundSequences.{some_equal}
 use Rattle.nfs_forms.specs.declared.stateid.Stateid.{Stateid}
 use Rattle.nfs_forms.specs.declared.status.Refusal.{Refusal}
-use Rattle.nfs_forms.specs.declared.status.Refusal.TheVariants as refusals
 use Rattle.nfs_locks.specs.AllLocks.{LockAt, lock_named_in, locks_of}
 use Rattle.nfs_locks.specs.AllLocks as all_locks
 use Rattle.nfs_locks.specs.Locks.{ByteLocks, lock_named_by, is_stateid_of as is_stateid_of_lock}

@@ -1,6 +1,7 @@
 -- What an OPEN opens, in the state without an owner that starts anew.
 use Rattle.std.proofs.Common.{◌≡◌, ◌≢◌, ℕ, zero, suc, ◌<◌, Bool, true, false, Option, Some, None, Result, Ok, Err, List, [], ◌∷◌, length, refl, sym, ap, ◌∙◌, subst, arith}
 use Rattle.std.specs.Prelude.{◌&&◌, ◌||◌, IsTrue, map, nat_lt, is_some, option_map, if◌then◌else◌}
+use Rattle.std.specs.Result.{IsOk}
 use Rattle.std.proofs.lemmas.Bool.{lt-ltb}
 use Rattle.std.proofs.lemmas.List.{length-map}
 use Rattle.nfs_rules.specs.declared.passage.Passage.{Passage}
@@ -11,9 +12,8 @@ use Rattle.nfs_rules.specs.declared.ruling.Ruling.{Ruling}
 use Rattle.nfs_rules.specs.Refusing.{◌>>=◌, first_refusal}
 use Rattle.nfs_rules.specs.Deciding.{IsOther, IsPassage}
 use Rattle.nfs_rules.proofs.Sendable.{target_other, then_other}
-use Rattle.nfs_rules.specs.operations.Open.{answer_of, file_at, found_by, has_open_place, has_owner_place, name_of, opening, ruling_of, share_or_inval, stateid_after, unless_delegated, unless_denied}
+use Rattle.nfs_rules.specs.operations.Open.{answer_of, file_at, found_by, has_open_place, has_owner_place, name_of, opening, opening_or_ruling, refused, ruling_of, share_or_inval, stateid_after, unless_delegated, unless_denied}
 use Rattle.nfs_rules.specs.operations.OpenGrant.{ok_answer, granted_stateid}
-use Rattle.nfs_state.specs.Entries.{resource}
 use Rattle.nfs_state.specs.Places as places
 use Rattle.nfs_state.specs.declared.tables.Tables.{Tables}
 use Rattle.nfs_state.specs.Owners.{owner_of, without_owner}
@@ -38,7 +38,7 @@ use Rattle.nfs_share.specs.Share.{share_of_numbers}
 use Rattle.nfs_tree.specs.Tree.{found_or, resolution}
 use Rattle.nfs_forms.specs.declared.claim.Claim.{Claim}
 use Rattle.nfs_forms.specs.declared.claim.Claim.TheVariants as claims
-use Rattle.nfs_forms.specs.declared.answer.Answer.TheVariants.{Done, Refused}
+use Rattle.nfs_forms.specs.declared.answer.Answer.TheVariants.{Done}
 use Rattle.nfs_forms.specs.declared.open_how.OpenHow.{OpenHow}
 use Rattle.nfs_forms.specs.declared.open_how.OpenHow.TheVariants as hows
 use Rattle.nfs_forms.specs.declared.open_owner.OpenOwner.{OpenOwner}
@@ -46,8 +46,6 @@ use Rattle.nfs_operations.specs.declared.«open».Open.{Open}
 use Rattle.nfs_forms.specs.declared.stateid.Stateid.{Stateid}
 use Rattle.nfs_forms.specs.declared.status.Refusal.{Refusal}
 use Rattle.nfs_forms.specs.declared.status.Refusal.TheVariants as refusals
-use Rattle.nfs_xdr.specs.declared.op.Op.TheVariants as ops
-use Rattle.nfs_xdr.specs.declared.op_result.OpResult.{OpResult}
 use Rattle.nfs_xdr.specs.declared.op_result.OpResult.TheVariants as results
 
 -- the opens of a node that are left are among those of all nodes that are left
@@ -174,12 +172,17 @@ opening_never journal state directory args =
     and_never (unless_delegated journal state args.claim file) _ (delegated_never journal state args.claim file) λ node.
     denied_never _ _
 
-refused_is : (a b : Refusal) → results.Open (Refused a) ≡ results.Open (Refused b) → a ≡ b
-refused_is a b same = search same
+pub opening_refusal : (journal : History) (state : State) (directory : ℕ) (args : Open) (refusal : Refusal) → opening journal state directory args ≡ Err refusal → refusal ≢ refusals.Resource
+opening_refusal journal state directory args refusal refuses is = opening_never journal state directory args (refuses ∙ ap Err is)
 
-pub not_resource : (journal : History) (state : State) (directory : ℕ) (args : Open) (refusal : Refusal) (answer : OpResult) → opening journal state directory args ≡ Err refusal → answer ≡ results.Open (Refused refusal) → answer ≢ resource (ops.Open args)
-not_resource journal state directory args refusal answer refuses is same =
-    opening_never journal state directory args (refuses ∙ ap Err (refused_is refusal refusals.Resource (sym is ∙ same)))
+-- a ruling in place of an opening is that of a refusal
+pub ruling_refuses : (r : Result Opening Refusal) (ruling : Ruling) → Err ruling ≡ opening_or_ruling r → (refusal : Refusal) × (r ≡ Err refusal) × (ruling ≡ refused refusal)
+ruling_refuses (Err refusal) ruling same = (refusal, refl, search same)
+ruling_refuses (Ok o) ruling same = absurd cc
+
+pub opening_opens : (r : Result Opening Refusal) (o : Opening) → Ok o ≡ opening_or_ruling r → IsOk r
+opening_opens (Err refusal) o same = absurd cc
+opening_opens (Ok opened) o same = refl
 
 -- what the rule gives for an OPEN without a refusal
 pub ruled_by : (passage : Passage) (state : State) (owner : OpenOwner) (o : Opening) → option_map {U = Ruling} (λ id. record { answer = ok_answer passage id; change = Opens o.node owner o.share }) (granted_stateid passage state owner o.node) ≡ ruling_of state passage owner (Ok o)

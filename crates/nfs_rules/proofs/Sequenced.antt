@@ -1,9 +1,8 @@
 -- What is decided for a sequenced operation, from whether it is answered without its own rule, and from that rule.
 use Rattle.std.proofs.Common.{inl, inr, ◌≡◌, ◌≢◌, ℕ, ◌<◌, ◌≤◌, Bool, true, false, nat_lt, Option, Some, None, Result, Ok, Err, length, refl, sym, ap, ◌∙◌, subst, arith}
-use Rattle.std.specs.Result.{IsErr, IsErrAnd, IsErrOf}
-use Rattle.nfs_forms.specs.declared.lock_denied.LockDenied.{LockDenied}
+use Rattle.std.specs.Result.{IsErr, IsErrAnd}
 use Rattle.std.specs.Prelude.{⊤, ◌⊎◌, List, IsTrue, IsFalse, is_some, not, ◌&&◌, ◌||◌, if◌then◌else◌}
-use Rattle.std.proofs.lemmas.Bool.{and_parts, cond-false, cond-true, ltb-true}
+use Rattle.std.proofs.lemmas.Bool.{and_parts, ltb-true}
 use Rattle.nfs_forms.specs.ClientId.{is_same_client}
 use Rattle.nfs_forms.specs.declared.lock_owner.LockOwner.{LockOwner}
 use Rattle.nfs_forms.specs.declared.locker.Locker.{Locker}
@@ -11,14 +10,11 @@ use Rattle.nfs_forms.specs.declared.locker.Locker.TheVariants as lockers
 use Rattle.nfs_forms.specs.declared.locker.NewLocker.{NewLocker}
 use Rattle.nfs_locks.specs.AllLocks.{locks_of}
 use Rattle.nfs_locks.specs.Locks.{lock_of}
-use Rattle.nfs_locks.specs.Report.{IsReport, Report}
+use Rattle.nfs_locks.specs.Report.{Report}
 use Rattle.nfs_operations.specs.declared.lock.Lock.{Lock}
 use Rattle.nfs_ranges.specs.declared.mode.Mode.{Mode}
 use Rattle.nfs_ranges.specs.declared.range.Range.{Range}
 use Rattle.nfs_locks.specs.Locks.{ByteLocks}
-use Rattle.nfs_forms.specs.declared.answer.Answer.TheVariants.{Denied}
-use Rattle.nfs_rules.specs.Locking.{can_be_written, denied_by}
-use Rattle.nfs_xdr.specs.declared.op_result.OpResult.TheVariants as results
 use Rattle.nfs_rules.specs.Newcomers.{Newcomer, Nobody, Known, Unknown, has_turn, is_next, newcomer_by, newcomer_if, newcomer_in, newcomer_of}
 use Rattle.nfs_rules.specs.Refusing.{◌>>=◌, refused_if}
 use Rattle.nfs_rules.specs.Stateids.{as_open, confirmed_open, verdict}
@@ -28,9 +24,7 @@ use Rattle.nfs_share.specs.AllOpens.{OpenAt, opens_of}
 use Rattle.nfs_share.specs.Opens.{open_with_number}
 use Rattle.nfs_state.specs.Places.{has_owner_place, has_state_place}
 use Rattle.nfs_state.specs.declared.owner_change.OwnerChange.{OwnerChange}
-use Rattle.nfs_owners.specs.Kept.{IsAgain, request_of}
-use Rattle.nfs_rules.proofs.Uniqueness.{IsSequencedUnder, LockLaws, Once, downgrades_once, locks_once, next_differs, sequence_once, some_once, sequenced_once, unlocks_once}
-use Rattle.nfs_state.specs.declared.change.Change.TheVariants as changes
+use Rattle.nfs_rules.proofs.Uniqueness.{IsSequencedUnder}
 use Rattle.nfs_rules.specs.declared.decision.Decision.{Decision}
 use Rattle.nfs_rules.specs.declared.opening.Opening.{Opening}
 use Rattle.nfs_state.specs.declared.owner_change.OwnerChange.TheVariants.{Nothing, Keeps, Introduces, Records, Restarts, Drops}
@@ -40,10 +34,10 @@ use Rattle.nfs_state.specs.declared.request.Request.{Request}
 use Rattle.nfs_rules.specs.declared.ruling.Ruling.{Ruling}
 use Rattle.nfs_state.specs.declared.shortage.Shortage.{Shortage}
 use Rattle.nfs_state.specs.declared.shortage.Shortage.TheVariants.{Limit, Memory}
-use Rattle.nfs_rules.specs.Deciding.{Decides, HasPassage, IsReplay, IsRequesterOf, IsReplayOf, IsSendableSequence, ByOwnRule, IsPassage}
+use Rattle.nfs_rules.specs.Deciding.{ByOwnRule, Decides, HasAnswer, HasPassage, IsPassage, IsRequesterOf, IsSendableSequence}
 use Rattle.nfs_state.specs.Entries.{IsSendable}
 use Rattle.nfs_rules.specs.operations.{own_of}
-use Rattle.nfs_rules.specs.operations.Open.{has_open_place, opening, ruling_of}
+use Rattle.nfs_rules.specs.operations.Open.{has_open_place, opening, opening_or_ruling, ruling_of}
 use Rattle.nfs_state.specs.Owners.{KnownOwner, owner_of}
 use Rattle.nfs_state.specs.Room.{HasOwnerPlace, IsNewcomer, is_known}
 use Rattle.nfs_rules.specs.Sequences.{Answered, GoesOn, IsDecided, IsJudged, IsOfKnown, IsOfOwner, IsSequence, Own, Owner, Refused, Requester, SequenceStep, counts, decision_of, is_ok_status, is_open, kept_with, only, owner_change_of}
@@ -116,16 +110,16 @@ abbrev is_done : Option Ruling → Bool
 is_done None = false
 is_done (Some ruling) = is_ok_status (status_of ruling.answer)
 
-ruling_place : (state : State) (owner : OpenOwner) (found : Result Opening Refusal) (ruling : Ruling) → Some ruling ≡ ruling_of state passages.Begins owner found → is_ok_status (status_of ruling.answer) ≡ true → length state.owners < OWNER_LIMIT
+ruling_place : (state : State) (owner : OpenOwner) (found : Result Opening Refusal) (ruling : Ruling) → Some ruling ≡ ruling_of state passages.Begins owner (opening_or_ruling found) → is_ok_status (status_of ruling.answer) ≡ true → length state.owners < OWNER_LIMIT
 ruling_place state owner (Err refusal) ruling same ok = let never : false ≡ true = sym (ap is_done same) ∙ ok in absurd cc
 ruling_place state owner (Ok o) ruling same ok =
     place_by (length state.owners) OWNER_LIMIT (nat_lt (length state.owners) OWNER_LIMIT) (has_open_place state owner o.node) _ ruling refl same
 
 -- an OPEN that is granted to an owner that isn't known has a place for it
-place_of : (op : Op) (journal : History) (state : State) (node : ℕ) (ruling : Ruling) → is_open op ≡ true → own_of op journal state node passages.Begins (Some ruling) → is_ok_status (status_of ruling.answer) ≡ true → length state.owners < OWNER_LIMIT
-place_of (ops.Open args) journal state node ruling is own ok = ruling_place state args.owner (opening journal state node args) ruling own ok
-place_of (ops.Access v) journal state node ruling is own ok = absurd cc
-place_of op journal state node ruling is own ok = absurd cc
+place_of : (op : Op) (journal : History) (state : State) (request : Request) (node : ℕ) (ruling : Ruling) → is_open op ≡ true → own_of op journal state request node passages.Begins (Some ruling) → is_ok_status (status_of ruling.answer) ≡ true → length state.owners < OWNER_LIMIT
+place_of (ops.Open args) journal state request node ruling is own ok = ruling_place state args.owner (opening journal state node args) ruling own ok
+place_of (ops.Access v) journal state request node ruling is own ok = absurd cc
+place_of op journal state request node ruling is own ok = absurd cc
 
 -- What a LOCK introduces, by what is known of the lock owner.
 if_known : (journal : History) (locker : NewLocker) (found : Option KnownOwner) (l : LockOwner) → newcomer_if journal locker found ≡ Known l
@@ -215,18 +209,13 @@ begins_place : (place more : Bool) (r : Option Ruling) (ruling : Ruling) → Som
 begins_place true more r ruling same = refl
 begins_place false more r ruling same = absurd cc
 
-denied_not_ok : (b : Bool) (answer : OpResult) (ruling : Ruling) → is_ok_status (status_of answer) ≡ false → Some ruling ≡ (if b then Some (record { answer = answer; change = changes.Nothing }) else None)
-    → is_ok_status (status_of ruling.answer) ≡ true → ⊥
-denied_not_ok true answer ruling not_ok same ok = let never : false ≡ true = sym not_ok ∙ sym (ap is_done same) ∙ ok in cc
-denied_not_ok false answer ruling not_ok same ok = cc
-
 allowed_place : (allowed : Bool) (state : State) (locking : Locking) (range : Range) (ruling : Ruling) → locking.state ≡ None → IsAllowed allowed state locking range (Some ruling)
     → is_ok_status (status_of ruling.answer) ≡ true → has_owner_place (lock_owner locking.owner) state ≡ true
 allowed_place false state locking range ruling new is ok = let never : false ≡ true = sym (ap is_done is) ∙ ok in absurd cc
 allowed_place true state locking range ruling new is ok = by is.0 is.2
   where
     by : (report : Option Report) → Some ruling ≡ unless_denied state locking range report → has_owner_place (lock_owner locking.owner) state ≡ true
-    by (Some report) same = absurd (denied_not_ok (can_be_written report) (results.Lock (Denied (denied_by report))) ruling refl same ok)
+    by (Some report) same = let never : false ≡ true = sym (ap is_done same) ∙ ok in absurd cc
     by None same =
         begins_place (has_owner_place (lock_owner locking.owner) state) (has_state_place state) _ ruling
         (same ∙ ap (grant state locking range) new)
@@ -250,14 +239,14 @@ newcomer_below true below unknown place = absurd cc
 newcomer_below false below unknown place = place
 
 -- what a new lock owner that isn't known has a place for, where the LOCK is granted
-newcomer_place : (journal : History) (state : State) (client : ClientId) (op : Op) (node : ℕ) (passage : Passage) (ruling : Ruling) (l : LockOwner)
-    → newcomer_of journal state client op ≡ Unknown l → own_of op journal state node passage (Some ruling)
+newcomer_place : (journal : History) (state : State) (client : ClientId) (op : Op) (request : Request) (node : ℕ) (passage : Passage) (ruling : Ruling) (l : LockOwner)
+    → newcomer_of journal state client op ≡ Unknown l → own_of op journal state request node passage (Some ruling)
     → is_ok_status (status_of ruling.answer) ≡ true → IsNewcomer (lock_owner l) state
-newcomer_place journal state client op node passage ruling l is own ok =
+newcomer_place journal state client op request node passage ruling l is own ok =
     let new = newcomer_unknown journal state client op l is in
     let args = new.0 in
     let locker = new.1 in
-    let own_lock = subst (λ o. own_of o journal state node passage (Some ruling)) new.2 own in
+    let own_lock = subst (λ o. own_of o journal state request node passage (Some ruling)) new.2 own in
     let place = lock_place journal state args locker node (locking_of journal state node args args.locker) ruling new.3 refl own_lock ok in
     let place_here : has_owner_place (lock_owner l) state ≡ true = ap (λ o. has_owner_place (lock_owner o) state) new.4 ∙ place in
     (new.5, ltb-true _ _ (newcomer_below (is_known (lock_owner l) state) (nat_lt (length state.owners) OWNER_LIMIT) new.5 place_here))
@@ -337,21 +326,21 @@ open_owner_of journal state (Owner n seqid) request passage name asked is =
     by passages.Restarts (inl same) named = absurd cc
     by passages.Restarts (inr opens) named = named opens
 
-owner_place : (journal : History) (state : State) (requester : Requester) (request : Request) (node : ℕ) (passage : Passage) (name : StateOwner) (ruling : Ruling) → IsSequence journal state requester request (GoesOn passage name) → IsPassage passage name state → IsOpenOwner passage name → own_of request.op journal state node passage (Some ruling) → HasOwnerPlace (owner_change_of passage name (newcomer_of journal state name.client request.op) (status_of ruling.answer)) state
+owner_place : (journal : History) (state : State) (requester : Requester) (request : Request) (node : ℕ) (passage : Passage) (name : StateOwner) (ruling : Ruling) → IsSequence journal state requester request (GoesOn passage name) → IsPassage passage name state → IsOpenOwner passage name → own_of request.op journal state request node passage (Some ruling) → HasOwnerPlace (owner_change_of passage name (newcomer_of journal state name.client request.op) (status_of ruling.answer)) state
 owner_place journal state requester request node passages.Continues name ruling sequenced known kind own =
     let newcomer = newcomer_of journal state name.client request.op in
     let status = status_of ruling.answer in
     counted_place (counts status) (kept_with name newcomer status) state
     (kept_place state name newcomer status known (newcomer_known journal state name.client request.op)
-    (λ l is ok. newcomer_place journal state name.client request.op node passages.Continues ruling l is own ok))
+    (λ l is ok. newcomer_place journal state name.client request.op request node passages.Continues ruling l is own ok))
 owner_place journal state requester request node passages.Begins name ruling sequenced unknown kind own =
     records_place (is_ok_status (status_of ruling.answer)) name state kind unknown
-    (λ ok. place_of request.op journal state node ruling (begins_open journal state requester request name sequenced) own ok)
+    (λ ok. place_of request.op journal state request node ruling (begins_open journal state requester request name sequenced) own ok)
 owner_place journal state requester request node passages.Restarts name ruling sequenced known kind own =
     restarts_place (is_ok_status (status_of ruling.answer)) name state kind known
 
 -- what is decided by the operation's own rule
-pub goes_on : (journal : History) (state : State) (requester : Requester) (request : Request) (filehandle : Option ℕ) (node : ℕ) (sequence : SequenceStep) (passage : Passage) (name : StateOwner) (ruling : Ruling) (decision : Decision) → filehandle ≡ Some node → IsRequesterOf request.op requester → sequence ≡ GoesOn passage name → IsSequence journal state requester request sequence → HasPassage state sequence → ByOwnRule (own_of request.op journal state node passage) state request.op (Ok ruling) → decision ≡ decision_of passage name (newcomer_of journal state name.client request.op) ruling → Decides (IsSequencedUnder journal state requester (own_of request.op journal state) filehandle request) state request.op (Ok decision)
+pub goes_on : (journal : History) (state : State) (requester : Requester) (request : Request) (filehandle : Option ℕ) (node : ℕ) (sequence : SequenceStep) (passage : Passage) (name : StateOwner) (ruling : Ruling) (decision : Decision) → filehandle ≡ Some node → IsRequesterOf request.op requester → sequence ≡ GoesOn passage name → IsSequence journal state requester request sequence → HasPassage state sequence → ByOwnRule (own_of request.op journal state request node passage) state request.op (Ok ruling) → decision ≡ decision_of passage name (newcomer_of journal state name.client request.op) ruling → Decides (IsSequencedUnder journal state requester (own_of request.op journal state) filehandle request) state request.op (Ok decision)
 goes_on journal state requester request filehandle node sequence passage name ruling decision has asked is sequenced passes ruled made =
     let own = own_of request.op journal state in
     let newcomer = newcomer_of journal state name.client request.op in
@@ -367,26 +356,22 @@ goes_on journal state requester request filehandle node sequence passage name ru
       owner_place journal state requester request node passage name ruling on (subst H is passes) (open_owner_of journal state requester request passage name asked on) ruled.0,
     ))
 
-own_once : LockLaws → (op : Op) (journal : History) (state : State) → Once (own_of op journal state)
-own_once laws (ops.Open args) journal state = λ n p r u x y. x ∙ sym y
-own_once laws (ops.OpenConfirm args) journal state = λ n p r u x y. x ∙ sym y
-own_once laws (ops.OpenDowngrade args) journal state = downgrades_once journal state args
-own_once laws (ops.Close args) journal state = λ n p r u x y. x ∙ sym y
-own_once laws (ops.Lock args) journal state = locks_once laws journal state args
-own_once laws (ops.Locku args) journal state = unlocks_once laws journal state args
-own_once laws op journal state = λ n p r u x y. absurd x
-
--- where the own rule gives a ruling, the limits leave room
-pub ruled_has_room : LockLaws → (journal : History) (state : State) (requester : Requester) (request : Request) (filehandle : Option ℕ) (node : ℕ) (sequence : SequenceStep) (passage : Passage) (name : StateOwner) (ruling : Ruling) → filehandle ≡ Some node → sequence ≡ GoesOn passage name → IsSequence journal state requester request sequence → own_of request.op journal state node passage (Some ruling) → IsSequencedUnder journal state requester (own_of request.op journal state) filehandle request None → ⊥
-ruled_has_room laws journal state requester request filehandle node sequence passage name ruling has is sequenced ruled none =
-    let own = own_of request.op journal state in
+-- where the own rule gives a ruling, there is a decision
+pub ruled_decides : (journal : History) (state : State) (requester : Requester) (own : Own) (request : Request) (filehandle : Option ℕ) (node : ℕ) (sequence : SequenceStep) (passage : Passage) (name : StateOwner) (ruling : Ruling) → filehandle ≡ Some node → sequence ≡ GoesOn passage name → IsSequence journal state requester request sequence → own request node passage (Some ruling) → (decision : Decision) × IsSequencedUnder journal state requester own filehandle request (Some decision)
+ruled_decides journal state requester own request filehandle node sequence passage name ruling has is sequenced ruled =
     let decision = decision_of passage name (newcomer_of journal state name.client request.op) ruling in
     let Q : SequenceStep → Type 0 = λ s. IsSequence journal state requester request s in
     let F : Option ℕ → Type 0 = λ f. IsSequencedUnder journal state requester own f request (Some decision) in
-    let decided : IsSequencedUnder journal state requester own filehandle request (Some decision) =
-    subst F (sym has) (GoesOn passage name, subst Q is sequenced, (Some ruling, ruled, refl)) in
-    let same = sequenced_once journal state requester own (own_once laws request.op journal state) filehandle request None (Some decision) none decided in
-    cc
+    (decision, subst F (sym has) (GoesOn passage name, subst Q is sequenced, (Some ruling, ruled, refl)))
+
+-- what is decided where the own rule fails
+pub fails_on : (journal : History) (state : State) (requester : Requester) (own : Own) (request : Request) (filehandle : Option ℕ) (node : ℕ) (sequence : SequenceStep) (passage : Passage) (name : StateOwner) (shortage : Shortage) → filehandle ≡ Some node → sequence ≡ GoesOn passage name → IsSequence journal state requester request sequence → ByOwnRule (own request node passage) state request.op (Err shortage) → Decides (IsSequencedUnder journal state requester own filehandle request) state request.op (Err shortage)
+fails_on journal state requester own request filehandle node sequence passage name Limit has is sequenced none =
+    let Q : SequenceStep → Type 0 = λ s. IsSequence journal state requester request s in
+    let F : Option ℕ → Type 0 = λ f. IsSequencedUnder journal state requester own f request None in
+    subst F (sym has) (GoesOn passage name, subst Q is sequenced, (None, none, refl))
+fails_on journal state requester own request filehandle node sequence passage name Memory has is sequenced ruled =
+    ruled_decides journal state requester own request filehandle node sequence passage name ruled.0 has is sequenced ruled.1
 
 -- what is decided where a call fails for this
 pub fails_as : (ruled : Option Decision → Type 0) (state : State) (op : Op) (shortage : Shortage) (result : Result Decision Shortage) → IsErr result → IsErrAnd result (λ e. e ≡ shortage) → Decides ruled state op (Err shortage) → Decides ruled state op result
@@ -395,85 +380,28 @@ fails_as ruled state op shortage (Err e) err same decides =
     let P : Shortage → Type 0 = λ s. Decides ruled state op (Err s) in
     subst P (sym same) decides
 
--- want of memory, where the limits leave room
-pub memory_decides : (ruled : Option Decision → Type 0) (state : State) (op : Op) (result : Result Decision Shortage) → IsErr result → IsErrAnd result (λ e. e ≡ Memory) → (ruled None → ⊥) → Decides ruled state op result
-memory_decides ruled state op (Ok decision) err memory room = absurd cc
-memory_decides ruled state op (Err Limit) err memory room = absurd cc
-memory_decides ruled state op (Err Memory) err memory room = room
-
--- the kept request again doesn't go on as the next one
-judged_stays : (kept : Kept) (name : StateOwner) (seqid : ℕ) (request : Request) → IsAgain kept seqid (request_of request.op request.filehandle) → (passage : Passage) (owner : StateOwner) → IsJudged kept name seqid request (GoesOn passage owner) → ⊥
-judged_stays kept name seqid request again passage owner (verdicts.New, is, same) = next_differs kept.seqid (sym again.0 ∙ is)
-judged_stays kept name seqid request again passage owner (verdicts.Replay answer, is, same) = absurd cc
-judged_stays kept name seqid request again passage owner (verdicts.Bad, is, same) = absurd cc
-
-known_stays : (b : Bool) (kept : Kept) (name : StateOwner) (seqid : ℕ) (request : Request) → IsAgain kept seqid (request_of request.op request.filehandle) → (passage : Passage) (owner : StateOwner) → IsOfKnown b kept name seqid request (GoesOn passage owner) → ⊥
-known_stays true kept name seqid request again passage owner is = is.0 again
-known_stays false kept name seqid request again passage owner is = judged_stays kept name seqid request again passage owner is
-
-owner_stays : (journal : History) (found : Option KnownOwner) (name : StateOwner) (seqid : ℕ) (request : Request) → IsReplayOf journal found seqid request → (passage : Passage) (owner : StateOwner) → IsOfOwner journal found name seqid request (GoesOn passage owner) → ⊥
-owner_stays journal None name seqid request replay passage owner is = absurd replay
-owner_stays journal (Some o) name seqid request replay passage owner is =
-    let again : Kept → Type 0 = λ kept. IsAgain kept seqid (request_of request.op request.filehandle) in
-    known_stays (is_open request.op && not o.confirmed) is.0 name seqid request (subst again (some_once (kept_for journal o) replay.0 is.0 replay.1 is.1) replay.2) passage owner is.2
-
--- the last request again doesn't go on to its own rule
-pub replay_stays : (journal : History) (state : State) (requester : Requester) (request : Request) → IsReplay journal state requester request → (passage : Passage) (owner : StateOwner) → IsSequence journal state requester request (GoesOn passage owner) → ⊥
-replay_stays journal state (Refused refusal) request replay passage owner is = absurd replay
-replay_stays journal state (Owner name seqid) request replay passage owner is = owner_stays journal (owner_of name state.owners) name seqid request replay passage owner is
-
-no_decision : (s : SequenceStep) (node : ℕ) (newcomer : ClientId → Newcomer) (own : Own) → ((passage : Passage) (name : StateOwner) → s ≡ GoesOn passage name → ⊥) → IsDecided s newcomer (own node) None → ⊥
-no_decision (Answered answer) node newcomer own stays none = absurd cc
-no_decision (GoesOn passage name) node newcomer own stays none = stays passage name refl
-
--- the last request again is within the limits, since it doesn't go on to the operation's own rule
-pub answered_has_room : (own : Own) (journal : History) (state : State) (requester : Requester) (request : Request) (filehandle : Option ℕ) (node : ℕ) → filehandle ≡ Some node → IsReplay journal state requester request → IsSequencedUnder journal state requester own filehandle request None → ⊥
-answered_has_room own journal state requester request None node has replay none = absurd cc
-answered_has_room own journal state requester request (Some at) node has replay none =
-    let Q : SequenceStep → Type 0 = λ s. IsSequence journal state requester request s in
-    no_decision none.0 at (λ client. newcomer_of journal state client request.op) own (λ passage name is. replay_stays journal state requester request replay passage name (subst Q is none.1)) none.2
-
-no_ruling : (passage : Passage) (name : StateOwner) (newcomer : ClientId → Newcomer) (own : Own) (node : ℕ) → IsDecided (GoesOn passage name) newcomer (own node) None → (own node passage None → ⊥) → ⊥
-no_ruling passage name newcomer own node (None, is, same) room = room is
-no_ruling passage name newcomer own node (Some ruling, is, same) room = absurd cc
-
--- what is decided where the own rule fails
-pub fails_on : (journal : History) (state : State) (requester : Requester) (own : Own) (request : Request) (filehandle : Option ℕ) (node : ℕ) (sequence : SequenceStep) (passage : Passage) (name : StateOwner) (shortage : Shortage) → filehandle ≡ Some node → sequence ≡ GoesOn passage name → IsSequence journal state requester request sequence → ByOwnRule (own node passage) state request.op (Err shortage) → Decides (IsSequencedUnder journal state requester own filehandle request) state request.op (Err shortage)
-fails_on journal state requester own request filehandle node sequence passage name Limit has is sequenced none =
-    let Q : SequenceStep → Type 0 = λ s. IsSequence journal state requester request s in
-    let F : Option ℕ → Type 0 = λ f. IsSequencedUnder journal state requester own f request None in
-    subst F (sym has) (GoesOn passage name, subst Q is sequenced, (None, none, refl))
-fails_on journal state requester own request filehandle node sequence passage name Memory has is sequenced room = λ none.
-    let newcomer : ClientId → Newcomer = λ client. newcomer_of journal state client request.op in
-    let Q : SequenceStep → Type 0 = λ s. IsSequence journal state requester request s in
-    let F : Option ℕ → Type 0 = λ f. IsSequencedUnder journal state requester own f request None in
-    let under = subst F has none in
-    let same = sequence_once journal state requester request under.0 (GoesOn passage name) under.1 (subst Q is sequenced) in
-    let decided : SequenceStep → Type 0 = λ s. IsDecided s newcomer (own node) None in
-    no_ruling passage name newcomer own node (subst decided same under.2) room
-
--- what one relation of an own rule says, another one says too
-pub rules_onto : (P Q : Option Ruling → Type 0) (state : State) (op : Op) (result : Result Ruling Shortage) → ((r : Option Ruling) → P r → Q r) → (Q None → P None) → ByOwnRule P state op result → ByOwnRule Q state op result
-rules_onto P Q state op (Ok ruling) onto back h = (onto (Some ruling) h.0, h.1, h.2)
-rules_onto P Q state op (Err Limit) onto back h = onto None h
-rules_onto P Q state op (Err Memory) onto back h = λ q. h (back q)
-
--- the rule of an operation that is known to be this one
-pub rules_of : (op op' : Op) (journal : History) (state : State) (node : ℕ) (passage : Passage) (result : Result Ruling Shortage) → op ≡ op' → ByOwnRule (own_of op' journal state node passage) state op' result → ByOwnRule (own_of op journal state node passage) state op result
-rules_of op op' journal state node passage result same rules =
-    let P : Op → Type 0 = λ o. ByOwnRule (own_of o journal state node passage) state o result in
+-- what an own rule says where a call fails for this
+pub rules_fail : (own : Option Ruling → Type 0) (state : State) (op : Op) (shortage : Shortage) (result : Result Ruling Shortage) → IsErr result → IsErrAnd result (λ e. e ≡ shortage) → ByOwnRule own state op (Err shortage) → ByOwnRule own state op result
+rules_fail own state op shortage (Ok ruling) err same rules = absurd cc
+rules_fail own state op shortage (Err e) err same rules =
+    let P : Shortage → Type 0 = λ s. ByOwnRule own state op (Err s) in
     subst P (sym same) rules
 
--- A LOCK that meets another owner's lock, where the report of it isn't made.
-pub not_reported : ((locks : List ByteLocks) (owner : LockOwner) (range : Range) (mode : Mode) (a b : Option Report) → IsReport locks owner range mode a → IsReport locks owner range mode b → a ≡ b) → (state : State) (locking : Locking) (range : Range) (report : Report) (op : Op) (shortage : Shortage)
-    → IsReport (locks_of locking.node state.locks) locking.owner range locking.mode (Some report)
-    → (IsErrOf {T = LockDenied} (Err shortage) Limit → can_be_written report ≡ false) → (IsErrOf {T = LockDenied} (Err shortage) Memory → can_be_written report ≡ true)
-    → ByOwnRule (IsAllowed true state locking range) state op (Err shortage)
-not_reported one_report state locking range report op Limit met limit memory =
-    (Some report, met, sym (cond-false (can_be_written report) (Some (record { answer = results.Lock (Denied (denied_by report)); change = changes.Nothing })) None (limit refl)))
-not_reported one_report state locking range report op Memory met limit memory = λ none.
-    let denied : Ruling = record { answer = results.Lock (Denied (denied_by report)); change = changes.Nothing } in
-    let one = one_report (locks_of locking.node state.locks) locking.owner range locking.mode none.0 (Some report) none.1 met in
-    let given : None ≡ Some denied =
-    none.2 ∙ ap (unless_denied state locking range) one ∙ cond-true (can_be_written report) (Some denied) None (memory refl) in
-    cc
+-- a request that is answered without its own rule has a decision
+pub answered_decides : (own : Own) (journal : History) (state : State) (requester : Requester) (request : Request) (filehandle : Option ℕ) (node : ℕ) → filehandle ≡ Some node → HasAnswer (IsSequence journal state requester request) → (decision : Decision) × IsSequencedUnder journal state requester own filehandle request (Some decision)
+answered_decides own journal state requester request filehandle node has is =
+    let decision = only is.0 in
+    let F : Option ℕ → Type 0 = λ f. IsSequencedUnder journal state requester own f request (Some decision) in
+    (decision, subst F (sym has) (Answered is.0, is.1, refl))
+
+-- what one relation of an own rule says, another one says too
+pub rules_onto : (P Q : Option Ruling → Type 0) (state : State) (op : Op) (result : Result Ruling Shortage) → ((r : Option Ruling) → P r → Q r) → ByOwnRule P state op result → ByOwnRule Q state op result
+rules_onto P Q state op (Ok ruling) onto h = (onto (Some ruling) h.0, h.1, h.2)
+rules_onto P Q state op (Err Limit) onto h = onto None h
+rules_onto P Q state op (Err Memory) onto h = (h.0, onto (Some h.0) h.1)
+
+-- the rule of an operation that is known to be this one
+pub rules_of : (op op' : Op) (journal : History) (state : State) (request : Request) (node : ℕ) (passage : Passage) (result : Result Ruling Shortage) → op ≡ op' → ByOwnRule (own_of op' journal state request node passage) state op' result → ByOwnRule (own_of op journal state request node passage) state op result
+rules_of op op' journal state request node passage result same rules =
+    let P : Op → Type 0 = λ o. ByOwnRule (own_of o journal state request node passage) state o result in
+    subst P (sym same) rules

@@ -1,8 +1,9 @@
 -- What is found of an owner among the stored ones is what the rules find among the known ones.
-use Rattle.std.proofs.Common.{◌≡◌, ℕ, Bool, true, false, Option, Some, None, List, [], ◌∷◌, refl, sym, ap, ◌∙◌, subst, length, ◌≤◌, arith}
+use Rattle.std.proofs.Common.{◌≡◌, ℕ, Bool, true, false, Option, Some, None, List, [], ◌∷◌, Result, Ok, Err, refl, sym, ap, ◌∙◌, subst, length, ◌≤◌, arith}
 use Rattle.std.specs.Prelude.{◌≢◌, ◌&&◌, not, map, find, option_map, is_some, if◌then◌else◌}
 use Rattle.std.specs.List.{AllByRecursion}
-use Rattle.nfs_rules.specs.Deciding.{HasPassage, IsReplayOf}
+use Rattle.std.specs.Result.{OnErr}
+use Rattle.nfs_rules.specs.Deciding.{HasPassage}
 use Rattle.nfs_state.specs.Entries.{IsSendable}
 use Rattle.nfs_rules.specs.Finding.{stored_or_bad}
 use Rattle.nfs_state.specs.Kept.{Agrees, IsKeptIn, kept_for}
@@ -87,6 +88,11 @@ replay_sendable kept seqid op filehandle answer sendable again is =
     let same : op ≡ kept.request.op = ap (λ (r : KeptRequest). r.op) again.1 in
     rw (same, is) sendable
 
+-- what holds holds where there is an error
+pub on_err : {T E P : Type 0} (r : Result T E) → P → OnErr r P
+on_err (Ok a) p = tt
+on_err (Err e) p = p
+
 -- A refusal with another status is another answer.
 refused_once : (op : Op) (r s : Refusal) → refusal_of (opnum_of op) r ≡ refusal_of (opnum_of op) s → r ≡ s
 refused_once (ops.Open args) r s same = cc
@@ -108,12 +114,6 @@ owner_sequence : (journal : History) (name : StateOwner) (stored : List Owner) (
 owner_sequence journal name stored o seqid request s agrees found is =
     let of_owner : Option KnownOwner → Type 0 = λ known. IsOfOwner journal known name seqid request s in
     subst of_owner (sym (owner_known name stored ∙ ap (option_map known_owner) found)) (o.state.kept, (kept_found journal name stored o agrees found).entry, is)
-
--- The last request again by what is stored of the owner is the last one again by what is kept for the known owner.
-owner_replay : (journal : History) (name : StateOwner) (stored : List Owner) (o : Owner) (seqid : ℕ) (request : Request) → Agrees journal stored → owners.owner_of name stored ≡ Some o → IsAgain o.state.kept seqid (request_of request.op request.filehandle) → IsReplayOf journal (owner_of name (map known_owner stored)) seqid request
-owner_replay journal name stored o seqid request agrees found again =
-    let of_owner : Option KnownOwner → Type 0 = λ known. IsReplayOf journal known seqid request in
-    subst of_owner (sym (owner_known name stored ∙ ap (option_map known_owner) found)) (o.state.kept, (kept_found journal name stored o agrees found).entry, again)
 
 pub unknown_sequence : (journal : History) (name : StateOwner) (stored : List Owner) (seqid : ℕ) (request : Request) (s : SequenceStep) → owners.owner_of name stored ≡ None → IsOfUnknown name request s → IsOfOwner journal (owner_of name (map known_owner stored)) name seqid request s
 unknown_sequence journal name stored seqid request s none is =
@@ -192,12 +192,6 @@ known_sequence journal name stored s seqid request step agrees found is =
     by_owner (owners.owner_of name stored) s
     (λ s. IsOfKnown (is_open request.op && not s.confirmed) s.kept name seqid request step → IsOfOwner journal (owner_of name (map known_owner stored)) name seqid request step)
     (λ o one is. owner_sequence journal name stored o seqid request step agrees one is) found is
-
-pub known_replay : (journal : History) (name : StateOwner) (stored : List Owner) (s : OwnerState) (seqid : ℕ) (request : Request) → Agrees journal stored → found_state name stored ≡ Some s → IsAgain s.kept seqid (request_of request.op request.filehandle) → IsReplayOf journal (owner_of name (map known_owner stored)) seqid request
-known_replay journal name stored s seqid request agrees found again =
-    by_owner (owners.owner_of name stored) s
-    (λ s. IsAgain s.kept seqid (request_of request.op request.filehandle) → IsReplayOf journal (owner_of name (map known_owner stored)) seqid request)
-    (λ o one again. owner_replay journal name stored o seqid request agrees one again) found again
 
 pub passage_known : (state : State) (name : StateOwner) (stored : List Owner) (s : OwnerState) (seqid : ℕ) (request : Request) (step : SequenceStep) → state.owners ≡ map known_owner stored → found_state name stored ≡ Some s → IsOfKnown (is_open request.op && not s.confirmed) s.kept name seqid request step → HasPassage state step
 passage_known state name stored s seqid request step are found is =

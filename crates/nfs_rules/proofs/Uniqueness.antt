@@ -83,7 +83,11 @@ pub some_once : {A : Type 0} (o : Option A) (x y : A) → o ≡ Some x → o ≡
 some_once None x y a b = absurd cc
 some_once (Some z) x y a b = search (a, b)
 
-pub decided_once : (newcomer : ClientId → Newcomer) (own : Own) → ((node : ℕ) (passage : Passage) (r u : Option Ruling) → own node passage r → own node passage u → r ≡ u) → (s : SequenceStep) (node : ℕ) (d e : Option Decision) → IsDecided s newcomer (own node) d → IsDecided s newcomer (own node) e → d ≡ e
+-- an own rule gives at most one ruling
+abbrev pub Once : (ℕ → Passage → Option Ruling → Type 0) → Type 0
+Once own = (node : ℕ) (passage : Passage) (r u : Option Ruling) → own node passage r → own node passage u → r ≡ u
+
+pub decided_once : (newcomer : ClientId → Newcomer) (own : ℕ → Passage → Option Ruling → Type 0) → Once own → (s : SequenceStep) (node : ℕ) (d e : Option Decision) → IsDecided s newcomer (own node) d → IsDecided s newcomer (own node) e → d ≡ e
 decided_once newcomer own once (Answered answer) node d e a b = a ∙ sym b
 decided_once newcomer own once (GoesOn passage name) node d e a b = a.2 ∙ ap (option_map (decision_of passage name (newcomer name.client))) (once node passage a.0 b.0 a.1 b.1) ∙ sym b.2
 
@@ -98,9 +102,6 @@ pub sequence_once : (journal : History) (state : State) (requester : Requester) 
 sequence_once journal state (Refused refusal) request s t a b = a ∙ sym b
 sequence_once journal state (Owner name seqid) request s t a b = owner_once journal (owner_of name state.owners) name seqid request s t a b
 
-abbrev pub Once : Own → Type 0
-Once own = (node : ℕ) (passage : Passage) (r u : Option Ruling) → own node passage r → own node passage u → r ≡ u
-
 -- what is decided for a sequenced operation under this filehandle
 abbrev pub IsSequencedUnder : History → State → Requester → Own → Option ℕ → Request → Option Decision → Type 0
 IsSequencedUnder journal state requester own filehandle request decision =
@@ -108,16 +109,16 @@ IsSequencedUnder journal state requester own filehandle request decision =
     (λ node.
     (sequence : SequenceStep)
     × IsSequence journal state requester request sequence
-    × IsDecided sequence (λ client. newcomer_of journal state client request.op) (own node) decision)
+    × IsDecided sequence (λ client. newcomer_of journal state client request.op) (own request node) decision)
     decision
 
-pub sequenced_once : (journal : History) (state : State) (requester : Requester) (own : Own) → Once own → (filehandle : Option ℕ) (request : Request) (d e : Option Decision) → IsSequencedUnder journal state requester own filehandle request d → IsSequencedUnder journal state requester own filehandle request e → d ≡ e
-sequenced_once journal state requester own once None request d e a b = a ∙ sym b
-sequenced_once journal state requester own once (Some node) request d e a b =
+pub sequenced_once : (journal : History) (state : State) (requester : Requester) (own : Own) (filehandle : Option ℕ) (request : Request) → Once (own request) → (d e : Option Decision) → IsSequencedUnder journal state requester own filehandle request d → IsSequencedUnder journal state requester own filehandle request e → d ≡ e
+sequenced_once journal state requester own None request once d e a b = a ∙ sym b
+sequenced_once journal state requester own (Some node) request once d e a b =
     let newcomer : ClientId → Newcomer = λ client. newcomer_of journal state client request.op in
     let same = sequence_once journal state requester request a.0 b.0 a.1 b.1 in
-    let is_decided : SequenceStep → Type 0 = λ s. IsDecided s newcomer (own node) d in
-    decided_once newcomer own once b.0 node d e (subst is_decided same a.2) b.2
+    let is_decided : SequenceStep → Type 0 = λ s. IsDecided s newcomer (own request node) d in
+    decided_once newcomer (own request) once b.0 node d e (subst is_decided same a.2) b.2
 
 downgrade_once : (at : OpenAt) (share : Option Share) (r u : Ruling) → IsDowngrade at share r → IsDowngrade at share u → r ≡ u
 downgrade_once at None r u a b = a ∙ sym b
@@ -130,10 +131,10 @@ found_once : (found : Result OpenAt Refusal) (args : OpenDowngrade) (r u : Rulin
 found_once (Err refusal) args r u a b = a ∙ sym b
 found_once (Ok at) args r u a b = downgrade_once at (share_of_numbers args.access args.deny) r u a b
 
-pub downgrades_once : (journal : History) (state : State) (args : OpenDowngrade) → Once (open_downgrade.own journal state args)
-downgrades_once journal state args node passage None u a b = absurd a
-downgrades_once journal state args node passage (Some r) None a b = absurd b
-downgrades_once journal state args node passage (Some r) (Some u) a b =
+pub downgrades_once : (journal : History) (state : State) (args : OpenDowngrade) (request : Request) → Once (open_downgrade.own journal state args request)
+downgrades_once journal state args request node passage None u a b = absurd a
+downgrades_once journal state args request node passage (Some r) None a b = absurd b
+downgrades_once journal state args request node passage (Some r) (Some u) a b =
     ap Some (found_once (verdict (confirmed_open node) journal.epoch state args.stateid >>= as_open) args r u a b)
 
 -- What the rules of locks rest on: an offset and a length name one range at most, and there is one report at most.
@@ -158,8 +159,8 @@ locking_once laws state args (Ok locking) r u a b =
     let same = laws.one_range args.offset args.length a.0 b.0 a.1 b.1 in
     ranged_once laws state locking b.0 r u (subst (λ range. lock.IsOfRange state locking range r) same a.2) b.2
 
-pub locks_once : LockLaws → (journal : History) (state : State) (args : Lock) → Once (lock.own journal state args)
-locks_once laws journal state args node passage r u a b =
+pub locks_once : LockLaws → (journal : History) (state : State) (args : Lock) (request : Request) → Once (lock.own journal state args request)
+locks_once laws journal state args request node passage r u a b =
     locking_once laws state args (locking_of journal state node args args.locker) r u a b
 
 unlocking_once : LockLaws → (state : State) (args : Locku) (found : Result LockAt Refusal) (r u : Option Ruling) → IsUnlock state args found r → IsUnlock state args found u → r ≡ u
@@ -168,15 +169,15 @@ unlocking_once laws state args (Ok at) r u a b =
     let same = laws.one_range args.offset args.length a.0 b.0 a.1 b.1 in
     a.2 ∙ ap (unlocking state at) same ∙ sym b.2
 
-pub unlocks_once : LockLaws → (journal : History) (state : State) (args : Locku) → Once (locku.own journal state args)
-unlocks_once laws journal state args node passage r u a b =
+pub unlocks_once : LockLaws → (journal : History) (state : State) (args : Locku) (request : Request) → Once (locku.own journal state args request)
+unlocks_once laws journal state args request node passage r u a b =
     unlocking_once laws state args (verdict (lock_state node) journal.epoch state args.stateid >>= as_lock) r u a b
 
 pub tested_once : LockLaws → (state : State) (args : Lockt) (node : ℕ) (range : Option Range) (d e : Option Decision) → lockt.IsOfRange state args node range d → lockt.IsOfRange state args node range e → d ≡ e
 tested_once laws state args node None d e a b = a ∙ sym b
 tested_once laws state args node (Some range) d e a b =
     let same = laws.one_report (locks_of node state.locks) args.owner range (mode_of args.locktype) a.0 b.0 a.1 b.1 in
-    a.2 ∙ ap (λ report. option_map lockt.only (answer_of report)) same ∙ sym b.2
+    a.2 ∙ ap (λ report. Some (lockt.only (answer_of report))) same ∙ sym b.2
 
 pub asked_once : LockLaws → (state : State) (args : Lockt) (found : Result ℕ Refusal) (d e : Option Decision) → IsTest state args found d → IsTest state args found e → d ≡ e
 asked_once laws state args (Err refusal) d e a b = a ∙ sym b
@@ -184,14 +185,14 @@ asked_once laws state args (Ok node) d e a b =
     let same = laws.one_range args.offset args.length a.0 b.0 a.1 b.1 in
     tested_once laws state args node b.0 d e (subst (λ range. lockt.IsOfRange state args node range d) same a.2) b.2
 
-own_once : LockLaws → (op : Op) (journal : History) (state : State) → Once (own_of op journal state)
-own_once laws (ops.Open args) journal state node passage r u a b = a ∙ sym b
-own_once laws (ops.OpenConfirm args) journal state node passage r u a b = a ∙ sym b
-own_once laws (ops.OpenDowngrade args) journal state node passage r u a b = downgrades_once journal state args node passage r u a b
-own_once laws (ops.Close args) journal state node passage r u a b = a ∙ sym b
-own_once laws (ops.Lock args) journal state node passage r u a b = locks_once laws journal state args node passage r u a b
-own_once laws (ops.Locku args) journal state node passage r u a b = unlocks_once laws journal state args node passage r u a b
-own_once laws op journal state node passage r u a b = absurd a
+own_once : LockLaws → (op : Op) (journal : History) (state : State) (request : Request) → Once (own_of op journal state request)
+own_once laws (ops.Open args) journal state request node passage r u a b = a ∙ sym b
+own_once laws (ops.OpenConfirm args) journal state request node passage r u a b = a ∙ sym b
+own_once laws (ops.OpenDowngrade args) journal state request node passage r u a b = downgrades_once journal state args request node passage r u a b
+own_once laws (ops.Close args) journal state request node passage r u a b = a ∙ sym b
+own_once laws (ops.Lock args) journal state request node passage r u a b = locks_once laws journal state args request node passage r u a b
+own_once laws (ops.Locku args) journal state request node passage r u a b = unlocks_once laws journal state args request node passage r u a b
+own_once laws op journal state request node passage r u a b = absurd a
 
 plain_once : LockLaws → (op : Op) (journal : History) (state : State) (request : Request) (d e : Option Decision) → IsPlain op journal state request d → IsPlain op journal state request e → d ≡ e
 plain_once laws (ops.Lockt args) journal state request d e a b =
@@ -200,9 +201,9 @@ plain_once laws op journal state request d e a b = a ∙ sym b
 
 ruled_by_once : LockLaws → (names : Names) (op : Op) (journal : History) (state : State) (request : Request) (d e : Option Decision) → IsRuledBy names op journal state request d → IsRuledBy names op journal state request e → d ≡ e
 ruled_by_once laws (Opener owner seqid) op journal state request d e a b =
-    sequenced_once journal state (requester_of_open state owner seqid) (own_of op journal state) (own_once laws op journal state) request.filehandle request d e a b
+    sequenced_once journal state (requester_of_open state owner seqid) (own_of op journal state) request.filehandle request (own_once laws op journal state request) d e a b
 ruled_by_once laws (Owned id seqid) op journal state request d e a b =
-    sequenced_once journal state (requester_of_stateid journal state id seqid) (own_of op journal state) (own_once laws op journal state) request.filehandle request d e a b
+    sequenced_once journal state (requester_of_stateid journal state id seqid) (own_of op journal state) request.filehandle request (own_once laws op journal state request) d e a b
 ruled_by_once laws Nothing op journal state request d e a b = plain_once laws op journal state request d e a b
 ruled_by_once laws (Client client) op journal state request d e a b = plain_once laws op journal state request d e a b
 

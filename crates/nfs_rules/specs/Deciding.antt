@@ -1,25 +1,21 @@
 -- What the functions that decide an operation guarantee: `decide`, and the crate's own functions below it.
-use Rattle.std.specs.Prelude.{◌≡◌, ◌≢◌, ◌⊎◌, ⊤, ℕ, Option, Some, None, is_some, Result, Ok, Err, IsFalse, IsTrue}
+use Rattle.std.specs.Prelude.{◌≡◌, ◌≢◌, ⊤, Option, Some, None, Result, Ok, Err, IsFalse, IsTrue}
 use Rattle.nfs_rules.specs.declared.decision.Decision.{Decision}
 use Rattle.nfs_state.specs.declared.shortage.Shortage.{Shortage}
 use Rattle.nfs_state.specs.declared.shortage.Shortage.TheVariants.{Limit, Memory}
 use Rattle.nfs_rules.specs.declared.ruling.Ruling.{Ruling}
 use Rattle.nfs_state.specs.Room.{IsWithinLimits, HasOwnerPlace, is_known}
-use Rattle.nfs_rules.specs.Sequences.{IsSequence, Requester, Refused, Owner, SequenceStep, Answered, GoesOn}
+use Rattle.nfs_rules.specs.Sequences.{Requester, Refused, Owner, SequenceStep, Answered, GoesOn}
 use Rattle.nfs_rules.specs.Stateids.{Found, target_of}
 use Rattle.nfs_rules.specs.declared.passage.Passage.{Passage}
 use Rattle.nfs_state.specs.State.{State, History}
-use Rattle.nfs_state.specs.Kept.{kept_for}
-use Rattle.nfs_state.specs.Owners.{KnownOwner, owner_of}
-use Rattle.nfs_state.specs.declared.request.Request.{Request}
-use Rattle.nfs_owners.specs.declared.kept.Kept.{Kept}
-use Rattle.nfs_owners.specs.Kept.{IsAgain, request_of}
 use Rattle.nfs_state.specs.Entries.{IsSendable}
 use Rattle.nfs_forms.specs.declared.status.Refusal.{Refusal}
 use Rattle.nfs_forms.specs.declared.status.Refusal.TheVariants as refusals
 use Rattle.nfs_xdr.specs.Names.{Names, Owned}
 use Rattle.nfs_xdr.specs.declared.op.Op.{Op}
 use Rattle.nfs_xdr.specs.declared.op.Op.TheVariants as ops
+use Rattle.nfs_xdr.specs.declared.op_result.OpResult.{OpResult}
 use Rattle.nfs_owners.specs.StateOwner.{open_owner}
 use Rattle.nfs_owners.specs.declared.state_owner.StateOwner.{StateOwner}
 use Rattle.nfs_rules.specs.declared.passage.Passage.TheVariants as passages
@@ -29,14 +25,14 @@ abbrev pub IsPassage : Passage → StateOwner → State → Type 0
 IsPassage passages.Begins name state = IsFalse (is_known name state)
 IsPassage passage name state = IsTrue (is_known name state)
 
--- In this state, what was decided about the operation is what its rule says. Limit is returned exactly if the rule
--- gives no decision.
+-- In this state, what was decided about the operation is what its rule says. Limit is returned only if the rule gives no
+-- decision, and Memory only if it gives one.
 abbrev pub Decides : (Option Decision → Type 0) → State → Op → Result Decision Shortage → Type 0
 Decides ruled state op (Ok decision) =
     ruled (Some decision) × IsSendable op decision.answer
     × IsWithinLimits decision.effect.change state × HasOwnerPlace decision.effect.owner state
 Decides ruled state op (Err Limit) = ruled None
-Decides ruled state op (Err Memory) = ruled None → ⊥
+Decides ruled state op (Err Memory) = (decision : Decision) × ruled (Some decision)
 
 -- an answer that is given without the operation's own rule can be sent
 abbrev pub IsSendableSequence : Op → SequenceStep → Type 0
@@ -53,26 +49,9 @@ abbrev pub IsRequesterOf : Op → Requester → Type 0
 IsRequesterOf (ops.Open args) (Owner name seqid) = name ≡ open_owner args.owner
 IsRequesterOf op requester = ⊤
 
--- The request is the last one again of its owner, by what is kept for it in the journal.
-abbrev pub IsReplayOf : History → Option KnownOwner → ℕ → Request → Type 0
-IsReplayOf journal None seqid request = ⊥
-IsReplayOf journal (Some o) seqid request =
-    (kept : Kept)
-    × (kept_for journal o ≡ Some kept)
-    × IsAgain kept seqid (request_of request.op request.filehandle)
-
-abbrev pub IsReplay : History → State → Requester → Request → Type 0
-IsReplay journal state (Refused refusal) request = ⊥
-IsReplay journal state (Owner name seqid) request =
-    IsReplayOf journal (owner_of name state.owners) seqid request
-
--- The request isn't refused before its own rule: there is a filehandle, and it is the last one again, or it goes on.
-abbrev pub IsAdmitted : History → State → Requester → Request → Type 0
-IsAdmitted journal state requester request =
-    IsTrue (is_some request.filehandle)
-    × (IsReplay journal state requester request
-    ⊎ ((passage : Passage) × (name : StateOwner)
-    × IsSequence journal state requester request (GoesOn passage name)))
+-- the request is answered without its own rule
+abbrev pub HasAnswer : (SequenceStep → Type 0) → Type 0
+HasAnswer is_step = (answer : OpResult) × is_step (Answered answer)
 
 -- A request without an owner isn't refused with NFS4ERR_RESOURCE, which would have no entry in the journal.
 abbrev pub HasOtherRefusal : Requester → Type 0
@@ -94,9 +73,10 @@ abbrev pub IsPassageOf : Op → Passage → State → Type 0
 IsPassageOf (ops.Open args) passage state = IsPassage passage (open_owner args.owner) state
 IsPassageOf op passage state = ⊤
 
--- In this state, the answer and the change of the operation's own rule. Limit is returned exactly if it gives none.
+-- In this state, the answer and the change of the operation's own rule. Limit is returned only if it gives none, and
+-- Memory only if it gives a ruling.
 abbrev pub ByOwnRule : (Option Ruling → Type 0) → State → Op → Result Ruling Shortage → Type 0
 ByOwnRule own state op (Ok ruling) =
     own (Some ruling) × IsSendable op ruling.answer × IsWithinLimits ruling.change state
 ByOwnRule own state op (Err Limit) = own None
-ByOwnRule own state op (Err Memory) = own None → ⊥
+ByOwnRule own state op (Err Memory) = (ruling : Ruling) × own (Some ruling)

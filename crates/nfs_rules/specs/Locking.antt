@@ -1,10 +1,9 @@
 -- What LOCK, LOCKT and LOCKU have in common (RFC 7530, sections 9.2, 9.3 and 16.10 to 16.12): the mode of a lock's
 -- bytes, and the lock that is in the way of another.
-use Rattle.std.specs.Prelude.{Bool, length, nat_le, Some, None}
+use Rattle.std.specs.Prelude.{Some, None}
 use Rattle.nfs_forms.specs.declared.lock_denied.LockDenied.{LockDenied}
 use Rattle.nfs_forms.specs.declared.lock_type.LockType.{LockType}
 use Rattle.nfs_forms.specs.declared.lock_type.LockType.TheVariants as types
-use Rattle.nfs_forms.specs.declared.open_owner.TheConstants.{OWNER_NAME_LIMIT}
 use Rattle.nfs_locks.specs.Report.{Report}
 use Rattle.nfs_ranges.specs.Bytes.{length_of}
 use Rattle.nfs_ranges.specs.declared.mode.Mode.{Mode}
@@ -31,10 +30,6 @@ lock_of_bytes mode range = record { range = range; mode = Some mode }
 
 abbrev pub unlock_of_bytes : Range → Piece
 unlock_of_bytes range = record { range = range; mode = None }
-
--- The report can be written: its owner's name isn't longer than a name may be. No name that is read is longer.
-abbrev pub can_be_written : Report → Bool
-can_be_written report = nat_le (length report.owner.name) OWNER_NAME_LIMIT
 
 -- what NFS4ERR_DENIED tells of the lock that is in the way
 abbrev pub denied_by : Report → LockDenied

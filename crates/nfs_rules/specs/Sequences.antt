@@ -182,10 +182,10 @@ decision_of passage name newcomer ruling = record {
   };
 }
 
--- An operation's own rule: it relates the node of the current filehandle and how the request goes on to what is
--- decided; `None` if a limit would be exceeded, in which case nothing changes.
+-- An operation's own rule: it relates the request, the node of the current filehandle and how the request goes on to
+-- what is decided; `None` if a limit would be exceeded, in which case nothing changes.
 abbrev pub Own : Type 1
-Own = ℕ → Passage → Option Ruling → Type 0
+Own = Request → ℕ → Passage → Option Ruling → Type 0
 
 -- an answer without an operation's own rule, which changes nothing
 abbrev pub only : OpResult → Decision
@@ -212,8 +212,8 @@ IsSequenced journal state requester own request decision =
     (λ node.
     (sequence : SequenceStep)
     × IsSequence journal state requester request sequence
-    × IsDecided sequence (λ client. newcomer_of journal state client request.op) (own node)
-    decision)
+    × IsDecided sequence (λ client. newcomer_of journal state client request.op)
+    (own request node) decision)
     decision
 
 -- the state that an OPEN's own rule sees: without the owner that it starts anew

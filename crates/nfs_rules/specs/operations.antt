@@ -39,7 +39,7 @@ own_of (ops.OpenDowngrade args) journal state = open_downgrade.own journal state
 own_of (ops.Close args) journal state = close.own journal state args
 own_of (ops.Lock args) journal state = lock.own journal state args
 own_of (ops.Locku args) journal state = locku.own journal state args
-own_of op journal state = λ node passage ruling. ⊥
+own_of op journal state = λ request node passage ruling. ⊥
 
 -- what the rule of an operation decides that goes by no sequence id
 abbrev pub IsPlain : Op → History → State → Request → Option Decision → Type 0

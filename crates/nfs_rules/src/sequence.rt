@@ -1,12 +1,12 @@
 ghost use Rattle.std.specs.Prelude.{◌≡◌, ◌≢◌, ◌&&◌, not, IfOk, OnErr, find, option_map};
 ghost use Rattle.nfs_rules.specs.Finding.{found_seen, requester_seen, sequence_seen, stored_or_bad, target_seen};
-ghost use Rattle.nfs_rules.specs.Deciding.{HasOtherRefusal, HasPassage, IsOther, IsReplay, IsSendableSequence};
+ghost use Rattle.nfs_rules.specs.Deciding.{HasAnswer, HasOtherRefusal, HasPassage, IsOther, IsSendableSequence};
 ghost use Rattle.nfs_state.specs.Entries.{IsSendable};
 ghost use Rattle.nfs_state.specs.Kept.{Agrees};
 ghost use Rattle.nfs_state.specs.Room.{state_of};
 ghost use Rattle.nfs_state.specs.State.{History};
 ghost use Rattle.nfs_rules.specs.Sequences.{IsJudged, IsOfKnown, IsOfUnknown, IsRestart, IsSequence, is_open, owner_of_found, refusal_to, requester_of_open, requester_of_target};
-ghost use Rattle.nfs_owners.specs.Kept.{IsAgain, closes, request_of};
+ghost use Rattle.nfs_owners.specs.Kept.{closes};
 ghost use Rattle.nfs_owners.specs.StateOwner.{owner_seen};
 
 use crate::passage::Passage;
@@ -104,8 +104,8 @@ pub(crate) fn sequence_of<'a>(
         (requester_seen requester.entry) request.now (sequence_seen s)) }
     ensures sendable { IfOk result (λ s. IsSendableSequence request.now.op (sequence_seen s)) }
     ensures passage { IfOk result (λ s. HasPassage (state_of tables.now) (sequence_seen s)) }
-    ensures memory { OnErr result (IsReplay journal.now.history (state_of tables.now)
-        (requester_seen requester.entry) request.now) }
+    ensures memory { OnErr result (HasAnswer (IsSequence journal.now.history (state_of tables.now)
+        (requester_seen requester.entry) request.now)) }
 {
     let (name, seqid) = match requester {
         Requester::Refused(refusal) => return Ok(refusal_to(&request.op, refusal)),
@@ -141,8 +141,9 @@ fn resume<'a>(
         (is_open request.now.op && not known.now.confirmed)
         known.now.kept (owner_seen name.entry) seqid request.now (sequence_seen s)) }
     ensures sendable { IfOk result (λ s. IsSendableSequence request.now.op (sequence_seen s)) }
-    ensures memory { OnErr result (IsAgain known.now.kept seqid
-        (request_of request.now.op request.now.filehandle)) }
+    ensures memory { OnErr result (HasAnswer (IsOfKnown
+        (is_open request.now.op && not known.now.confirmed)
+        known.now.kept (owner_seen name.entry) seqid request.now)) }
 {
     if is_open(&request.op) && !known.confirmed {
         restart(&known.kept, request, name, seqid)
@@ -162,8 +163,8 @@ fn judge<'a>(
     ensures sequence { IfOk result (λ s.
         IsJudged kept.now (owner_seen name.entry) seqid request.now (sequence_seen s)) }
     ensures sendable { IfOk result (λ s. IsSendableSequence request.now.op (sequence_seen s)) }
-    ensures memory { OnErr result (IsAgain kept.now seqid
-        (request_of request.now.op request.now.filehandle)) }
+    ensures memory { OnErr result (HasAnswer
+        (IsJudged kept.now (owner_seen name.entry) seqid request.now)) }
 {
     match kept.judge(seqid, &request.op, request.filehandle) {
         Verdict::New => Ok(SequenceStep::GoesOn(Passage::Continues, name)),
@@ -183,8 +184,8 @@ fn restart<'a>(
     ensures sequence { IfOk result (λ s.
         IsRestart kept.now (owner_seen name.entry) seqid request.now (sequence_seen s)) }
     ensures sendable { IfOk result (λ s. IsSendableSequence request.now.op (sequence_seen s)) }
-    ensures memory { OnErr result (IsAgain kept.now seqid
-        (request_of request.now.op request.now.filehandle)) }
+    ensures memory { OnErr result (HasAnswer
+        (IsRestart kept.now (owner_seen name.entry) seqid request.now)) }
 {
     match kept.judge(seqid, &request.op, request.filehandle) {
         Verdict::Replay(answer) => Ok(SequenceStep::Answered(answer.clone()?)),

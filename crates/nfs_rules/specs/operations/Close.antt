@@ -23,6 +23,6 @@ closing (Ok at) = record {
 
 -- the rule of CLOSE under the current filehandle: the stateid has to name an open of a confirmed owner there
 abbrev pub own : History → State → Close → Own
-own journal state args node passage ruling =
+own journal state args request node passage ruling =
     ruling ≡ Some (closing
     (verdict (confirmed_open node) journal.epoch state args.stateid >>= as_open))

@@ -18,7 +18,7 @@ use Rattle.nfs_ranges.specs.Bytes.{IsRangeOf}
 use Rattle.nfs_ranges.specs.declared.mode.Mode.{Mode}
 use Rattle.nfs_ranges.specs.declared.mode.Mode.TheVariants as modes
 use Rattle.nfs_ranges.specs.declared.range.Range.{Range}
-use Rattle.nfs_rules.specs.Locking.{can_be_written, denied_by, lock_of_bytes, mode_of}
+use Rattle.nfs_rules.specs.Locking.{denied_by, lock_of_bytes, mode_of}
 use Rattle.nfs_rules.specs.Newcomers.{has_turn}
 use Rattle.nfs_rules.specs.Refusing.{◌>>=◌, refused_if}
 use Rattle.nfs_rules.specs.Sequences.{Own}
@@ -121,13 +121,11 @@ abbrev pub grant : State → Locking → Range → Option ByteLocks → Option R
 grant state locking range None = beginning state locking range
 grant state locking range (Some l) = addition state locking range l
 
--- NFS4ERR_DENIED, with a report, if another owner's lock is in the way; no ruling if the report can't be written
+-- NFS4ERR_DENIED, with a report, if another owner's lock is in the way
 abbrev pub unless_denied : State → Locking → Range → Option Report → Option Ruling
 unless_denied state locking range None = grant state locking range locking.state
 unless_denied state locking range (Some report) =
-    if can_be_written report
-    then Some (record { answer = results.Lock (Denied (denied_by report)); change = Nothing })
-    else None
+    Some (record { answer = results.Lock (Denied (denied_by report)); change = Nothing })
 
 -- NFS4ERR_OPENMODE for what the open may not do
 abbrev pub IsAllowed : Bool → State → Locking → Range → Option Ruling → Type 0
@@ -153,5 +151,5 @@ IsLock state args (Ok locking) ruling =
 
 -- the rule of LOCK under the current filehandle; no ruling if a limit would be exceeded
 abbrev pub own : History → State → Lock → Own
-own journal state args node passage ruling =
+own journal state args request node passage ruling =
     IsLock state args (locking_of journal state node args args.locker) ruling

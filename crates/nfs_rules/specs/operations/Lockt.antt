@@ -1,5 +1,5 @@
 -- LOCKT (RFC 7530, section 16.11): asks whether a LOCK would be refused, and for which lock. It needs no open.
-use Rattle.std.specs.Prelude.{◌≡◌, ℕ, not, Option, Some, None, is_some, option_map, Result, Ok, Err, if◌then◌else◌}
+use Rattle.std.specs.Prelude.{◌≡◌, ℕ, not, Option, Some, None, is_some, Result, Ok, Err}
 use Rattle.nfs_forms.specs.declared.answer.Answer.{Answer}
 use Rattle.nfs_forms.specs.declared.answer.Answer.TheVariants.{Done, Denied, Refused}
 use Rattle.nfs_forms.specs.declared.lock_denied.LockDenied.{LockDenied}
@@ -11,7 +11,7 @@ use Rattle.nfs_operations.specs.declared.lockt.Lockt.{Lockt}
 use Rattle.nfs_owners.specs.Registry.{record_of}
 use Rattle.nfs_ranges.specs.Bytes.{IsRangeOf}
 use Rattle.nfs_ranges.specs.declared.range.Range.{Range}
-use Rattle.nfs_rules.specs.Locking.{can_be_written, denied_by, mode_of}
+use Rattle.nfs_rules.specs.Locking.{denied_by, mode_of}
 use Rattle.nfs_rules.specs.Refusing.{◌>>=◌, refused_if}
 use Rattle.nfs_rules.specs.declared.decision.Decision.{Decision}
 use Rattle.nfs_state.specs.Changes.{change_alone}
@@ -37,10 +37,10 @@ lockt_file journal state filehandle args =
     refusals.StaleClientId node >>= λ node.
     refused_if (is_directory journal.nodes node) refusals.IsDir node
 
--- NFS4_OK, or NFS4ERR_DENIED with a report of the lock that is in the way; none if the report can't be written
-abbrev pub answer_of : Option Report → Option (Answer (Unit {0}) LockDenied (Unit {0}))
-answer_of None = Some (Done tt)
-answer_of (Some report) = if can_be_written report then Some (Denied (denied_by report)) else None
+-- NFS4_OK, or NFS4ERR_DENIED with a report of the lock that is in the way
+abbrev pub answer_of : Option Report → Answer (Unit {0}) LockDenied (Unit {0})
+answer_of None = Done tt
+answer_of (Some report) = Denied (denied_by report)
 
 -- NFS4ERR_INVAL for an offset and a length that name no bytes
 abbrev pub IsOfRange : State → Lockt → ℕ → Option Range → Option Decision → Type 0
@@ -48,7 +48,7 @@ IsOfRange state args node None decision = decision ≡ Some (only (Refused refus
 IsOfRange state args node (Some range) decision =
     (report : Option Report)
     × IsReport (locks_of node state.locks) args.owner range (mode_of args.locktype) report
-    × (decision ≡ option_map only (answer_of report))
+    × (decision ≡ Some (only (answer_of report)))
 
 abbrev pub IsTest : State → Lockt → Result ℕ Refusal → Option Decision → Type 0
 IsTest state args (Err refusal) decision = decision ≡ Some (only (Refused refusal))

@@ -40,6 +40,6 @@ IsUnlock state args (Ok at) ruling =
 -- The rule of LOCKU under the current filehandle: the stateid has to name a lock state there. The type of the lock isn't
 -- used.
 abbrev pub own : History → State → Locku → Own
-own journal state args node passage ruling =
+own journal state args request node passage ruling =
     IsUnlock state args
     (verdict (lock_state node) journal.epoch state args.stateid >>= as_lock) ruling

@@ -85,6 +85,15 @@ opening journal state directory args =
     unless_delegated journal state args.claim file >>= λ node.
     unless_denied state args.owner share node
 
+-- an OPEN that is refused changes nothing
+abbrev pub refused : Refusal → Ruling
+refused refusal = record { answer = results.Open (Refused refusal); change = Nothing }
+
+-- what an OPEN opens, or the ruling of its refusal
+abbrev pub opening_or_ruling : Result Opening Refusal → Result Opening Ruling
+opening_or_ruling (Err refusal) = Err (refused refusal)
+opening_or_ruling (Ok o) = Ok o
+
 -- the stateid that the owner gets for the file: that of its open with the next seqid, or that of a new open
 abbrev pub stateid_after : State → OpenOwner → Option OpenState → Stateid
 stateid_after state owner None =
@@ -117,9 +126,8 @@ has_open_place state owner node =
     is_some (open_of owner (opens_of node state.opens)) || has_state_place state
 
 -- the answer and the change, or `None` if a limit would be exceeded
-abbrev pub ruling_of : State → Passage → OpenOwner → Result Opening Refusal → Option Ruling
-ruling_of state passage owner (Err refusal) =
-    Some (record { answer = results.Open (Refused refusal); change = Nothing })
+abbrev pub ruling_of : State → Passage → OpenOwner → Result Opening Ruling → Option Ruling
+ruling_of state passage owner (Err ruling) = Some ruling
 ruling_of state passage owner (Ok o) =
     if has_owner_place passage state && has_open_place state owner o.node
     then Some (record {
@@ -130,6 +138,7 @@ ruling_of state passage owner (Ok o) =
 
 -- the rule of OPEN under the current filehandle, in the state without an owner that starts anew
 abbrev pub own : History → State → Open → Own
-own journal state args node passage ruling =
+own journal state args request node passage ruling =
     let seen = before_own passage args.owner state in
-    ruling ≡ ruling_of seen passage args.owner (opening journal seen node args)
+    ruling ≡ ruling_of seen passage args.owner
+    (opening_or_ruling (opening journal seen node args))

@@ -32,6 +32,6 @@ confirmation state (Ok at) =
 
 -- the rule of OPEN_CONFIRM under the current filehandle: the stateid has to name an open there
 abbrev pub own : History → State → OpenConfirm → Own
-own journal state args node passage ruling =
+own journal state args request node passage ruling =
     ruling ≡ Some (confirmation state
     (verdict (any_open node) journal.epoch state args.stateid >>= as_open))

@@ -41,6 +41,6 @@ IsFound (Ok at) args ruling = IsDowngrade at (share_of_numbers args.access args.
 
 -- the rule of OPEN_DOWNGRADE under the current filehandle: the stateid has to name an open of a confirmed owner there
 abbrev pub own : History → State → OpenDowngrade → Own
-own journal state args node passage None = ⊥
-own journal state args node passage (Some ruling) =
+own journal state args request node passage None = ⊥
+own journal state args request node passage (Some ruling) =
     IsFound (verdict (confirmed_open node) journal.epoch state args.stateid >>= as_open) args ruling

@@ -13,6 +13,7 @@ ghost use Rattle.nfs_state.specs.Places.{has_owner_place, has_state_place};
 ghost use Rattle.nfs_state.specs.Kept.{Agrees};
 ghost use Rattle.nfs_state.specs.Room.{state_of};
 ghost use Rattle.nfs_state.specs.State.{History};
+ghost use Rattle.nfs_state.specs.declared.request.Request.{Request};
 ghost use Rattle.nfs_xdr.specs.Names.{locker_names, names_of};
 
 use crate::demand::Demand;
@@ -21,10 +22,10 @@ use crate::newcomer::has_turn;
 use crate::ruling::Ruling;
 use crate::stateids::{Found, lock_verdict, open_verdict};
 use nfs_forms::{LockOwner, Locker, NewLocker, Stateid};
-use nfs_locks::{FirstLock, LockFound, LockState, at_most_one_report};
+use nfs_locks::{FirstLock, LockFound, LockState};
 use nfs_operations::lock::Lock;
 use nfs_owners::OwnerRef;
-use nfs_ranges::{Mode, Range, at_most_one_range, range_of};
+use nfs_ranges::{Mode, Range, range_of};
 use nfs_share::{OpenFound, OpenState};
 use nfs_state::{Change, Shortage, Tables};
 use nfs_xdr::{Answer, Op, OpResult, Opnum, Refusal};
@@ -48,14 +49,13 @@ pub(super) fn rule(
     target: Result<Option<Found<'_>>, Refusal>,
 ) -> Result<Ruling, Shortage>
     requires states { tables.now.numbers < 2 ^ 32 - 1 }
-    ensures { (journal : History) (passage : Passage)
+    ensures { (journal : History) (request : Request) (passage : Passage)
         → Agrees journal tables.now.owners.owners
         → IsTargetOf (names_of (Op.Lock args.now)) journal (state_of tables.now)
         (target_seen target.entry)
-        → ByOwnRule (own journal (state_of tables.now) args.now node passage)
+        → ByOwnRule (own journal (state_of tables.now) args.now request node passage)
         (state_of tables.now) (Op.Lock args.now) result }
 {
-    at_most_one_range();
     let locking = match locking_of(tables, node, args, target) {
         Err(refusal) => return Ok(Ruling::refusal(Opnum::Lock, refusal)),
         Ok(locking) => locking,
@@ -166,7 +166,6 @@ fn lock(tables: &Tables, locking: Locking<'_>, range: Range) -> Result<Ruling, S
         → ByOwnRule (IsAllowed true (state_of tables.now) (locking_seen locking.entry) range)
         (state_of tables.now) (Op.Lock args) result }
 {
-    at_most_one_report();
     let Locking {
         node,
         owner,
@@ -174,13 +173,10 @@ fn lock(tables: &Tables, locking: Locking<'_>, range: Range) -> Result<Ruling, S
         ..
     } = locking;
     match tables.locks.report(node, owner, range, mode) {
-        Some(report) => match denied_by(report) {
-            Ok(denied) => Ok(Ruling {
-                answer: OpResult::Lock(Answer::Denied(denied)),
-                change: Change::Nothing,
-            }),
-            Err(shortage) => Err(shortage),
-        },
+        Some(report) => Ok(Ruling {
+            answer: OpResult::Lock(Answer::Denied(denied_by(report)?)),
+            change: Change::Nothing,
+        }),
         None => grant(tables, locking, range),
     }
 }

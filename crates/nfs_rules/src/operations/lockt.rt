@@ -1,5 +1,6 @@
-ghost use Rattle.std.specs.Prelude.{◌≡◌, ◌≤◌, IfOk, IsErrOf, Ok, Some, None, length};
+ghost use Rattle.std.specs.Prelude.{◌≡◌, IfOk, Ok, OnErr, Some};
 ghost use Rattle.nfs_rules.specs.Deciding.{Decides};
+ghost use Rattle.nfs_rules.specs.declared.decision.Decision.{Decision};
 ghost use Rattle.nfs_rules.specs.operations.Lockt.{IsRuled, IsTest, lockt_file, only};
 ghost use Rattle.nfs_state.specs.Room.{state_of};
 ghost use Rattle.nfs_xdr.specs.Short.{IsShort};
@@ -7,11 +8,11 @@ ghost use Rattle.nfs_xdr.specs.Short.{IsShort};
 use crate::decision::Decision;
 use crate::locking::{denied_by, mode_of};
 use nfs_forms::LockDenied;
-use nfs_locks::at_most_one_report;
 use nfs_operations::lockt::Lockt;
-use nfs_ranges::{at_most_one_range, range_of};
+use nfs_ranges::range_of;
 use nfs_state::{Change, Effect, Journal, Request, Shortage, Tables};
 use nfs_xdr::{Answer, Op, OpResult, Refusal};
+use std::alloc::AllocError;
 
 /// Decides a LOCKT: its answer, and that it changes nothing.
 pub(super) fn decide(
@@ -54,17 +55,13 @@ fn lockt_file(
 }
 
 // Whether a LOCK of the node's file would be refused, and for which lock.
-fn test(tables: &Tables, node: u32, args: &Lockt) -> Result<Answer<(), LockDenied>, Shortage>
+fn test(tables: &Tables, node: u32, args: &Lockt) -> Result<Answer<(), LockDenied>, AllocError>
     ensures answer { IfOk result (λ a.
         IsTest (state_of tables.now) args.now (Ok node) (Some (only a))) }
     ensures short { IfOk result (λ a. IsShort (OpResult.Lockt a)) }
-    ensures limit { IsErrOf result Shortage.Limit
-        → IsTest (state_of tables.now) args.now (Ok node) None }
-    ensures memory { IsErrOf result Shortage.Memory
-        → IsTest (state_of tables.now) args.now (Ok node) None → ⊥ }
+    ensures memory { OnErr result
+        ((d : Decision) × IsTest (state_of tables.now) args.now (Ok node) (Some d)) }
 {
-    at_most_one_range();
-    at_most_one_report();
     let Some(range) = range_of(args.offset, args.length) else {
         return Ok(Answer::Refused(Refusal::Inval));
     };

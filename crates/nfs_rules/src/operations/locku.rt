@@ -7,6 +7,7 @@ ghost use Rattle.nfs_rules.specs.declared.passage.Passage.{Passage};
 ghost use Rattle.nfs_rules.specs.operations.Locku.{own, unlocking};
 ghost use Rattle.nfs_state.specs.Room.{state_of};
 ghost use Rattle.nfs_state.specs.State.{History};
+ghost use Rattle.nfs_state.specs.declared.request.Request.{Request};
 ghost use Rattle.nfs_xdr.specs.Names.{names_of};
 
 use crate::demand::Demand;
@@ -15,7 +16,7 @@ use crate::ruling::Ruling;
 use crate::stateids::{Found, lock_verdict};
 use nfs_locks::LockFound;
 use nfs_operations::locku::Locku;
-use nfs_ranges::{Range, at_most_one_range, range_of};
+use nfs_ranges::{Range, range_of};
 use nfs_state::{Change, Shortage, Tables};
 use nfs_xdr::{Answer, Op, OpResult, Opnum, Refusal};
 
@@ -26,13 +27,12 @@ pub(super) fn rule(
     args: &Locku,
     target: Result<Option<Found<'_>>, Refusal>,
 ) -> Result<Ruling, Shortage>
-    ensures { (journal : History) (passage : Passage)
+    ensures { (journal : History) (request : Request) (passage : Passage)
         → IsTargetOf (names_of (Op.Locku args.now)) journal (state_of tables.now)
         (target_seen target.entry)
-        → ByOwnRule (own journal (state_of tables.now) args.now node passage)
+        → ByOwnRule (own journal (state_of tables.now) args.now request node passage)
         (state_of tables.now) (Op.Locku args.now) result }
 {
-    at_most_one_range();
     match lock_verdict(tables, Demand::lock_state(node), args.stateid, target) {
         Err(refusal) => Ok(Ruling::refusal(Opnum::Locku, refusal)),
         Ok(found) => match range_of(args.offset, args.length) {

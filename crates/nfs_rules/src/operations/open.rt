@@ -5,10 +5,11 @@ ghost use Rattle.nfs_owners.specs.StateOwner.{open_owner};
 ghost use Rattle.nfs_rules.specs.Deciding.{ByOwnRule, IsPassage};
 ghost use Rattle.nfs_state.specs.Room.{state_of};
 ghost use Rattle.nfs_rules.specs.Sequences.{before_own};
-ghost use Rattle.nfs_rules.specs.operations.Open.{file_at, found_by, has_owner_place, name_of, opening, own, rflags_of, ruling_of, unless_delegated, unless_denied, wants_new};
+ghost use Rattle.nfs_rules.specs.operations.Open.{file_at, found_by, has_owner_place, name_of, opening, opening_or_ruling, own, rflags_of, ruling_of, unless_delegated, unless_denied, wants_new};
 ghost use Rattle.nfs_rules.specs.operations.OpenGrant.{ok_answer, granted_stateid, new_stateid};
 ghost use Rattle.nfs_share.specs.AllOpens.{opens_of};
 ghost use Rattle.nfs_state.specs.Places.{has_state_place};
+ghost use Rattle.nfs_state.specs.declared.request.Request.{Request};
 ghost use Rattle.nfs_share.specs.Opens.{open_of};
 
 use crate::opening::Opening;
@@ -36,14 +37,25 @@ pub(super) fn rule(
 ) -> Result<Ruling, Shortage>
     requires states { tables.now.numbers < 2 ^ 32 - 1 }
     requires passage { IsPassage passage (open_owner args.now.owner) (state_of tables.now) }
-    ensures rules { ByOwnRule (own journal.now.history (state_of tables.now) args.now directory passage)
+    ensures rules { (request : Request) → ByOwnRule
+        (own journal.now.history (state_of tables.now) args.now request directory passage)
         (state_of tables.now) (Op.Open args.now) result }
     ensures error { OnErr result
         (IsOk (opening journal.now.history (state_of tables.now) directory args.now)) }
 {
-    match find_opening(tables, journal, directory, args) {
+    match opening_or_ruling(find_opening(tables, journal, directory, args)) {
         Ok(opening) => grant(alloc, tables, passage, args, opening),
-        Err(refusal) => Ok(Ruling::refusal(Opnum::Open, refusal)),
+        Err(ruling) => Ok(ruling),
+    }
+}
+
+// What the OPEN opens, or the ruling of its refusal.
+fn opening_or_ruling(opening: Result<Opening, Refusal>) -> Result<Opening, Ruling>
+    ensures { result ≡ opening_or_ruling opening }
+{
+    match opening {
+        Err(refusal) => Err(Ruling::refusal(Opnum::Open, refusal)),
+        Ok(opening) => Ok(opening),
     }
 }
 

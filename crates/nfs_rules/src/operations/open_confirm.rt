@@ -1,5 +1,6 @@
 ghost use Rattle.nfs_state.specs.Room.{state_of};
 ghost use Rattle.nfs_state.specs.State.{History};
+ghost use Rattle.nfs_state.specs.declared.request.Request.{Request};
 ghost use Rattle.nfs_rules.specs.declared.passage.Passage.{Passage};
 ghost use Rattle.nfs_rules.specs.Deciding.{ByOwnRule, IsTargetOf};
 ghost use Rattle.nfs_rules.specs.Finding.{target_seen};
@@ -20,10 +21,10 @@ pub(super) fn rule(
     args: &OpenConfirm,
     target: Result<Option<Found<'_>>, Refusal>,
 ) -> Result<Ruling, Shortage>
-    ensures { (journal : History) (passage : Passage)
+    ensures { (journal : History) (request : Request) (passage : Passage)
         → IsTargetOf (names_of (Op.OpenConfirm args.now)) journal (state_of tables.now)
         (target_seen target.entry)
-        → ByOwnRule (own journal (state_of tables.now) args.now node passage)
+        → ByOwnRule (own journal (state_of tables.now) args.now request node passage)
         (state_of tables.now) (Op.OpenConfirm args.now) result }
 {
     let found = match open_verdict(tables, Demand::any_open(node), args.stateid, target) {

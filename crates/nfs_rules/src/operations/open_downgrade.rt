@@ -1,6 +1,7 @@
 ghost use Rattle.std.specs.Prelude.{Ok};
 ghost use Rattle.nfs_state.specs.Room.{state_of};
 ghost use Rattle.nfs_state.specs.State.{History};
+ghost use Rattle.nfs_state.specs.declared.request.Request.{Request};
 ghost use Rattle.nfs_rules.specs.declared.passage.Passage.{Passage};
 ghost use Rattle.nfs_rules.specs.Deciding.{ByOwnRule, IsTargetOf};
 ghost use Rattle.nfs_rules.specs.Finding.{target_seen};
@@ -22,10 +23,10 @@ pub(super) fn rule(
     args: &OpenDowngrade,
     target: Result<Option<Found<'_>>, Refusal>,
 ) -> Ruling
-    ensures { (journal : History) (passage : Passage)
+    ensures { (journal : History) (request : Request) (passage : Passage)
         → IsTargetOf (names_of (Op.OpenDowngrade args.now)) journal (state_of tables.now)
         (target_seen target.entry)
-        → ByOwnRule (own journal (state_of tables.now) args.now node passage)
+        → ByOwnRule (own journal (state_of tables.now) args.now request node passage)
         (state_of tables.now) (Op.OpenDowngrade args.now) (Ok result) }
 {
     let demand = Demand::confirmed_open(node);

@@ -1,7 +1,7 @@
 //! The frame of the operations that go by the sequence id of an owner (RFC 7530, sections 9.1.7 to 9.1.11).
 
-ghost use Rattle.std.specs.Prelude.{◌≡◌, ◌<◌, ◌-◌, ◌^◌, IfOk, IsTrue, OnErr};
-ghost use Rattle.nfs_rules.specs.Deciding.{ByOwnRule, Decides, HasOtherRefusal, IsAdmitted, IsPassageOf, IsRequesterOf, IsTargetOf};
+ghost use Rattle.std.specs.Prelude.{◌≡◌, ◌<◌, ◌-◌, ◌^◌, IfOk, IsTrue};
+ghost use Rattle.nfs_rules.specs.Deciding.{ByOwnRule, Decides, HasOtherRefusal, IsPassageOf, IsRequesterOf, IsTargetOf};
 ghost use Rattle.nfs_owners.specs.StateOwner.{owner_seen};
 ghost use Rattle.nfs_rules.specs.Finding.{newcomer_seen, requester_seen, target_seen};
 ghost use Rattle.nfs_state.specs.Kept.{Agrees};
@@ -18,9 +18,7 @@ use crate::ruling::Ruling;
 use crate::sequence::{Requester, SequenceStep, sequence_of};
 use crate::stateids::Found;
 use crate::turn::Turn;
-use nfs_locks::at_most_one_report;
 use nfs_owners::OwnerRef;
-use nfs_ranges::at_most_one_range;
 use nfs_state::{Change, Effect, Journal, OwnerChange, Request, Shortage, Tables};
 use nfs_xdr::{Op, OpResult, Refusal, Status};
 use std::alloc::{AllocError, Global};
@@ -42,15 +40,11 @@ pub(super) fn decide(
     requires states { tables.now.numbers < 2 ^ 32 - 1 }
     requires kept { Agrees journal.now.history tables.now.owners.owners }
     requires owner { IsRequesterOf request.now.op (requester_seen requester) }
-    ensures decides { Decides (IsSequenced journal.now.history (state_of tables.now)
+    ensures { Decides (IsSequenced journal.now.history (state_of tables.now)
         (requester_seen requester.entry)
         (own_of request.now.op journal.now.history (state_of tables.now))
         request.now) (state_of tables.now) request.now.op result }
-    ensures error { OnErr result (IsAdmitted journal.now.history (state_of tables.now)
-        (requester_seen requester.entry) request.now) }
 {
-    at_most_one_range();
-    at_most_one_report();
     let Some(node) = request.filehandle else {
         return Ok(answer_alone(request.op.opnum().refusal(Refusal::NoFileHandle)));
     };
@@ -62,7 +56,7 @@ pub(super) fn decide(
                 passage,
                 target,
             };
-            let ruling = rule(alloc, tables, journal, turn, &request.op)?;
+            let ruling = rule(alloc, tables, journal, request, turn)?;
             let newcomer = newcomer_of(tables, name.client, &request.op);
             Ok(decision_of(passage, name, newcomer, ruling)?)
         }
@@ -84,24 +78,25 @@ fn rule(
     alloc: Global,
     tables: &Tables,
     journal: &Journal,
+    request: &Request,
     turn: Turn<'_>,
-    op: &Op,
 ) -> Result<Ruling, Shortage>
-    requires sequenced { IsTrue (is_sequenced op.now) }
+    requires sequenced { IsTrue (is_sequenced request.now.op) }
     requires states { tables.now.numbers < 2 ^ 32 - 1 }
     requires kept { Agrees journal.now.history tables.now.owners.owners }
-    requires passage { IsPassageOf op.now turn.passage (state_of tables.now) }
-    requires target { IsTargetOf (names_of op.now) journal.now.history (state_of tables.now)
-        (target_seen turn.target) }
-    ensures { ByOwnRule (own_of op.now journal.now.history (state_of tables.now)
-        turn.entry.node turn.entry.passage) (state_of tables.now) op.now result }
+    requires passage { IsPassageOf request.now.op turn.passage (state_of tables.now) }
+    requires target { IsTargetOf (names_of request.now.op) journal.now.history
+        (state_of tables.now) (target_seen turn.target) }
+    ensures { ByOwnRule (own_of request.now.op journal.now.history (state_of tables.now)
+        request.now turn.entry.node turn.entry.passage)
+        (state_of tables.now) request.now.op result }
 {
     let Turn {
         node,
         passage,
         target,
     } = turn;
-    match op {
+    match &request.op {
         Op::Open(args) => open::rule(alloc, tables, journal, node, passage, args),
         Op::OpenConfirm(args) => open_confirm::rule(tables, node, args, target),
         Op::OpenDowngrade(args) => Ok(open_downgrade::rule(tables, node, args, target)),

@@ -16,4 +16,4 @@ returns-clause-limit c is_limit =
 
 pub returns-clause-memory : goal.returns-clause-memory
 returns-clause-memory c is_memory =
-    within_limits c.args.journal.now.history (state_of c.args.tables.now) c.args.request.now c.decide.result (search rules) c.decide.ensures is_memory
+    within_limits c.at_most_one_decision.ensures c.args.journal.now.history (state_of c.args.tables.now) c.args.request.now c.decide.result (search rules) c.decide.ensures is_memory

@@ -1,13 +1,13 @@
 use Rattle.std.proofs.Common.{◌≡◌, None, refl, sym, ap, ◌∙◌, subst}
 use Rattle.std.specs.Option.{option_copied}
 use Rattle.std.proofs.lemmas.Result.{IfOk-weaker, on_err_weaker}
-use Rattle.nfs_rules.specs.Deciding.{IsReplay}
+use Rattle.nfs_rules.specs.Deciding.{HasAnswer}
 use Rattle.nfs_rules.specs.declared.sequence.Requester.{Requester}
 use Rattle.nfs_rules.specs.declared.sequence.SequenceStep.{SequenceStep}
 use Rattle.nfs_rules.specs.Finding.{requester_seen, sequence_seen}
 use Rattle.nfs_state.specs.Room.{state_of}
-use Rattle.nfs_rules.specs.Sequences.{IsSequence}
-use Rattle.nfs_rules.proofs.Sequencing.{known_replay, known_sequence, none_found, passage_known, passage_unknown, sendable_found, unknown_sequence}
+use Rattle.nfs_rules.specs.Sequences.{Answered, IsSequence}
+use Rattle.nfs_rules.proofs.Sequencing.{known_sequence, none_found, passage_known, passage_unknown, sendable_found, unknown_sequence}
 use Rattle.nfs_owners.specs.Owner.{owner_of}
 use Rattle.nfs_owners.specs.StateOwner.{owner_seen}
 use Rattle.nfs_rules.proofs.sequence.sequence_of.Goals as goal
@@ -43,7 +43,10 @@ returns-in-Some-clause-passage c =
 
 pub returns-in-Some-clause-memory : goal.returns-in-Some-clause-memory
 returns-in-Some-clause-memory c =
-    let is_replay : Requester → Type 0 = λ r. IsReplay c.args.journal.now.history (state_of c.args.tables.now) (requester_seen r) c.args.request.now in
+    let has_answer : Requester → Type 0 = λ r. HasAnswer (IsSequence c.args.journal.now.history (state_of c.args.tables.now) (requester_seen r) c.args.request.now) in
     on_err_weaker c.resume.result
-    (λ again. subst is_replay (sym c.in-Owner.is) (known_replay c.args.journal.now.history (owner_seen c.in-Owner.name) c.args.tables.now.owners.owners c.in-Some.known.now c.in-Owner.seqid c.args.request.now c.requires.kept (sym c.find.ensures ∙ ap option_copied c.in-Some.is) again))
+    (λ has. subst has_answer (sym c.in-Owner.is) (
+      has.0,
+      known_sequence c.args.journal.now.history (owner_seen c.in-Owner.name) c.args.tables.now.owners.owners c.in-Some.known.now c.in-Owner.seqid c.args.request.now (Answered has.0) c.requires.kept (sym c.find.ensures ∙ ap option_copied c.in-Some.is) has.1,
+    ))
     c.resume.ensures.memory

@@ -17,18 +17,18 @@ use Rattle.nfs_xdr.specs.declared.op.Op.TheVariants as ops
 use Rattle.nfs_xdr.specs.declared.op_result.OpResult.TheVariants as results
 
 pub returns-in-Err : goal.returns-in-Err
-returns-in-Err c = λ journal passage is.
+returns-in-Err c = λ journal request passage is.
     let args = c.args.args.now in
     let state = state_of c.args.tables.now in
     let demand = confirmed_open c.args.node in
     let found : Err c.in-Err.refusal ≡ (verdict demand journal.epoch state args.stateid >>= as_open) =
     open_judged c.confirmed_open.result demand journal.epoch state args.stateid (target_seen c.args.target) (Err c.in-Err.refusal) c.confirmed_open.ensures is c.in-Err.ensures in
-    refused_ruled (own journal state args c.args.node passage) state (ops.Close args) c.in-Err.refusal c.refusal.result c.refusal.ensures
+    refused_ruled (own journal state args request c.args.node passage) state (ops.Close args) c.in-Err.refusal c.refusal.result c.refusal.ensures
     (open_refusal demand journal.epoch state args.stateid c.in-Err.refusal found)
     (ap (λ (f : Result OpenAt Refusal). Some (closing f)) found)
 
 pub returns-in-Ok : goal.returns-in-Ok
-returns-in-Ok c = λ journal passage is.
+returns-in-Ok c = λ journal request passage is.
     let args = c.args.args.now in
     let state = state_of c.args.tables.now in
     let demand = confirmed_open c.args.node in

@@ -15,17 +15,17 @@ use Rattle.nfs_state.specs.Room.{state_of}
 use Rattle.nfs_xdr.specs.declared.op.Op.TheVariants as ops
 
 pub returns-in-Err : goal.returns-in-Err
-returns-in-Err c = λ journal passage agrees is.
+returns-in-Err c = λ journal request passage agrees is.
     let args = c.args.args.now in
     let state = state_of c.args.tables.now in
     let found : Err c.in-Err.refusal ≡ locking_of journal state c.args.node args args.locker = c.in-Err.ensures journal agrees is in
     let Q : Result Locking Refusal → Type 0 = λ v. IsLock state args v (Some (refusal_of c.in-Err.refusal)) in
-    refused_ruled (own journal state args c.args.node passage) state (ops.Lock args) c.in-Err.refusal c.refusal.result c.refusal.ensures
+    refused_ruled (own journal state args request c.args.node passage) state (ops.Lock args) c.in-Err.refusal c.refusal.result c.refusal.ensures
     (locking_refusal journal state c.args.node args c.in-Err.refusal found)
     (subst Q found refl)
 
 pub returns : goal.returns
-returns c = λ journal passage agrees is.
+returns c = λ journal request passage agrees is.
     let args = c.args.args.now in
     let state = state_of c.args.tables.now in
     let l = locking_seen c.in-Ok.locking in
@@ -36,10 +36,6 @@ returns c = λ journal passage agrees is.
     sym (c.allows.ensures ∙ ap (allows l.mode) c.open_numbered-open.ensures) ∙ c.if-not-allows.false in
     let Q : Option Ruling → Result Locking Refusal → Type 0 = λ r v. IsLock state args v r in
     let A : Option Ruling → Bool → Type 0 = λ r b. IsAllowed b state l range r in
-    let R : Option Range → Type 0 = λ rg. lock.IsOfRange state l rg None in
     rules_onto (IsAllowed true state l range) (λ r. IsLock state args locks r) state (ops.Lock args) c.lock.result
     (λ r h. subst (Q r) found (Some range, c.in-Some.ensures, subst (A r) (sym may) h))
-    (λ none.
-    let here = subst (Q None) (sym found) none in
-    subst (A None) may (subst R (c.at_most_one_range.ensures args.offset args.length here.0 (Some range) here.1 c.in-Some.ensures) here.2))
     (c.lock.ensures args)

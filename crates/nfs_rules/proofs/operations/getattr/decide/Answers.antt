@@ -1,0 +1,19 @@
+use Rattle.std.proofs.Common.{◌≡◌, refl}
+use Rattle.nfs_rules.specs.operations.Getattr.{attributes, rule}
+use Rattle.nfs_rules.proofs.Sequenced.{fails_as}
+use Rattle.nfs_rules.proofs.operations.getattr.decide.Goals as goal
+use Rattle.nfs_state.specs.Changes.{change_alone}
+use Rattle.nfs_state.specs.Room.{state_of}
+use Rattle.nfs_state.specs.declared.change.Change.TheVariants.{Nothing}
+use Rattle.nfs_state.specs.declared.shortage.Shortage.TheVariants.{Memory}
+use Rattle.nfs_xdr.specs.declared.op.Op.TheVariants as ops
+use Rattle.nfs_xdr.specs.declared.op_result.OpResult.TheVariants as results
+
+pub returns-in_err-answer : goal.returns-in_err-answer
+returns-in_err-answer c =
+    let journal = c.args.journal.now.history in
+    let state = state_of c.args.tables.now in
+    let filehandle = c.args.request.now.filehandle in
+    let mask = c.args.mask.now in
+    fails_as (λ d. d ≡ rule journal state filehandle mask) state (ops.Getattr mask) Memory c.from_residual.result c.from_residual.ensures.0 c.from_residual.ensures.1
+    (record { answer = results.Getattr (attributes journal state filehandle mask); effect = change_alone Nothing }, refl)
