@@ -1,5 +1,5 @@
 -- The end of a client, and why it doesn't come.
-use Rattle.std.specs.Prelude.{◌≡◌, ℕ, ◌<◌, ◌≤◌, ⊥, IsFalse, IsTrue, length}
+use Rattle.std.specs.Prelude.{◌≡◌, ℕ, ◌<◌, ◌≤◌, IsFalse, IsTrue, length}
 use Rattle.nfs_core.specs.Server.{Server}
 use Rattle.nfs_core.specs.declared.core_error.CoreError.{CoreError}
 use Rattle.nfs_core.specs.declared.core_error.CoreError.TheVariants as errors

@@ -1,6 +1,6 @@
 //! The end of a client whose lease has run out (RFC 7530, section 9.6).
 
-ghost use Rattle.std.specs.Prelude.{◌≡◌, ◌×◌, ◌↔◌, Err, IfOk, IsFalse, IsTrue};
+ghost use Rattle.std.specs.Prelude.{◌≡◌, ◌↔◌, Err, IfOk, IsFalse, IsTrue};
 ghost use Rattle.nfs_rules.specs.entries.Expire.{IsDue, IsExpiry, is_live};
 ghost use Rattle.nfs_state.specs.Room.{state_of};
 
