@@ -174,9 +174,9 @@ expiry_next journal old expire effect below expiry = record {
   below = below;
   allowed = expiry;
   fits = record {
-    kept = ap (λ (e : Effect). e.owner) expiry.effect;
-    numbers = subst (λ (e : Effect). IsWithinNumbers e.change old) (sym expiry.effect) tt;
-    place = subst (λ (e : Effect). HasOwnerPlace e.owner old) (sym expiry.effect) tt;
+    kept = ap (λ (e : Effect). e.owner) expiry.removal;
+    numbers = subst (λ (e : Effect). IsWithinNumbers e.change old) (sym expiry.removal) tt;
+    place = subst (λ (e : Effect). HasOwnerPlace e.owner old) (sym expiry.removal) tt;
   };
 }
 
@@ -191,6 +191,6 @@ no_expiry server expire core_errors.Memory other kept new step = absurd (other r
 pub expiry_memory : (journal : History) (old : State) (expire : Expire) (effect : Effect) (tables : Tables) → IsExpiry journal old expire effect → TakesNoMemory (entries.Expire expire) effect tables
 expiry_memory journal old expire effect tables expiry = record {
   kept = refl;
-  owner = subst (λ (e : Effect). HasOwnerRoom e.owner tables) (sym expiry.effect) tt;
-  change = subst (λ (e : Effect). HasRoom e.change tables) (sym expiry.effect) tt;
+  owner = subst (λ (e : Effect). HasOwnerRoom e.owner tables) (sym expiry.removal) tt;
+  change = subst (λ (e : Effect). HasRoom e.change tables) (sym expiry.removal) tt;
 }

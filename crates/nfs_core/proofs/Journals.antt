@@ -74,7 +74,7 @@ Allows-once once journal old (entries.Call call) effect effect' a a' =
     let d : Decision = record { answer = call.answer; effect = effect } in
     let d' : Decision = record { answer = call.answer; effect = effect' } in
     ap (λ (x : Decision). x.effect) (some_equal d d' (once journal old call.request (Some d) (Some d') a.rule a'.rule))
-Allows-once once journal old (entries.Expire expire) effect effect' a a' = a.effect ∙ sym a'.effect
+Allows-once once journal old (entries.Expire expire) effect effect' a a' = a.removal ∙ sym a'.removal
 
 -- an entry leads to at most one state
 Step-once : AtMostOneDecision → (journal : History) (old : State) (entry : Entry) (new new' : State) → Step journal old entry new → Step journal old entry new' → new ≡ new'

@@ -57,7 +57,7 @@ sound_empty journal =
 -- what an entry may do is ready to keep the state sound
 allowed_ready : (journal : History) (old : State) (entry : Entry) (effect : Effect) → IsSound old → HasSingles old.clients → Allows journal old entry effect → IsEffectReady (length journal.entries) old effect
 allowed_ready journal old (entries.Expire expire) effect sound singles allowed =
-    subst (IsEffectReady (length journal.entries) old) (sym allowed.effect) (tt, alone (client_of journal expire.client) old.clients.records allowed.live singles.same)
+    subst (IsEffectReady (length journal.entries) old) (sym allowed.removal) (tt, alone (client_of journal expire.client) old.clients.records allowed.live singles.same)
 allowed_ready journal old (entries.Call call) effect sound singles allowed =
     ruled_ready (length journal.entries) journal old call.request.op call.request (record { answer = call.answer; effect = effect }) refl sound allowed.rule
 

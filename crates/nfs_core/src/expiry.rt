@@ -42,8 +42,8 @@ pub(crate) fn effect_of(
     expire: &Expire,
 ) -> Result<Effect, CoreError>
     ensures next { IfOk result (λ effect. IsNext journal.now.history (state_of tables.now)
-        (entries.Expire expire.now) effect) }
-    ensures error { IfErr result (IsKeptFor (server_of journal.now tables.now) expire.now) }
+        (entries.Expire expire.entry.now) effect) }
+    ensures error { IfErr result (IsKeptFor (server_of journal.now tables.now) expire.entry.now) }
     ensures memory { result ≢ Err CoreError.Memory }
 {
     let effect = nfs_rules::expire(tables, journal, expire)?;

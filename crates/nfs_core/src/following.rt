@@ -108,9 +108,9 @@ fn effect_of_expire(
     expire: &Expire,
 ) -> Result<Effect, FollowError>
     ensures next { IfOk result (λ effect. IsNext journal.now.history (state_of tables.now)
-        (entries.Expire expire.now) effect) }
+        (entries.Expire expire.entry.now) effect) }
     ensures not_next { IsErrOf result FollowError.NotNext
-        → HasNoStep journal.now.history (state_of tables.now) (entries.Expire expire.now) }
+        → HasNoStep journal.now.history (state_of tables.now) (entries.Expire expire.entry.now) }
 {
     match expiry::effect_of(tables, journal, expire) {
         Ok(effect) => Ok(effect),

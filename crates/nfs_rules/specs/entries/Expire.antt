@@ -25,4 +25,4 @@ pub record IsExpiry (journal : History) (state : State) (expire : Expire)
     (effect : Effect) : Type 0 where
   pub live : IsTrue (is_live journal state expire.client)
   pub due : IsDue journal expire
-  pub effect : effect ≡ change_alone (changes.Expires (client_of journal expire.client))
+  pub removal : effect ≡ change_alone (changes.Expires (client_of journal expire.client))

@@ -19,12 +19,12 @@ pub enum NotExpired {
 /// The effect of a client's end, if its lease has run out.
 pub fn expire(tables: &Tables, journal: &Journal, expire: &Expire) -> Result<Effect, NotExpired>
     ensures expiry { IfOk result (λ effect. IsExpiry journal.now.history (state_of tables.now)
-        expire.now effect) }
+        expire.entry.now effect) }
     ensures not_live { result ≡ Err NotExpired.NotLive
-        ↔ IsFalse (is_live journal.now.history (state_of tables.now) expire.now.client) }
+        ↔ IsFalse (is_live journal.now.history (state_of tables.now) expire.entry.now.client) }
     ensures not_due { result ≡ Err NotExpired.NotDue
-        ↔ IsTrue (is_live journal.now.history (state_of tables.now) expire.now.client)
-        × (IsDue journal.now.history expire.now → ⊥) }
+        ↔ IsTrue (is_live journal.now.history (state_of tables.now) expire.entry.now.client)
+        × (IsDue journal.now.history expire.entry.now → ⊥) }
 {
     let client = ClientId {
         epoch: journal.epoch(),

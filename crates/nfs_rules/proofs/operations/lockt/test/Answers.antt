@@ -10,8 +10,8 @@ use Rattle.nfs_rules.proofs.Sequencing.{on_err}
 use Rattle.nfs_rules.proofs.operations.lockt.test.Goals as goal
 use Rattle.nfs_state.specs.Room.{state_of}
 
-pub returns-in_err-denied_by-in-Some-clause-memory : goal.returns-in_err-denied_by-in-Some-clause-memory
-returns-in_err-denied_by-in-Some-clause-memory c =
+pub returns-in_err-denied_by-in-Some-report-clause-memory : goal.returns-in_err-denied_by-in-Some-report-clause-memory
+returns-in_err-denied_by-in-Some-report-clause-memory c =
     let report = report_seen c.in-Some-report.report in
     let meets : Mode → Type 0 = λ mode. IsReport (locks_of c.args.node (state_of c.args.tables.now).locks) c.args.args.now.owner c.in-Some.range mode (Some report) in
     on_err c.from_residual.result
