@@ -1,8 +1,8 @@
 -- Lawful journals: those whose entries the rules allow.
-use Rattle.std.proofs.Common.{◌≡◌, Bool, true, false, ℕ, ◌≤◌, Option, Some, None, List, [], ◌∷◌, ◌++◌, length, map, refl, sym, ap, ◌∙◌, ◌+◌, subst, append_assoc, append-nil, arith}
+use Rattle.std.proofs.Common.{◌≡◌, Bool, true, false, ℕ, ◌≤◌, Option, Some, None, List, [], ◌∷◌, ◌++◌, length, map, refl, sym, ap, ◌∙◌, ◌+◌, subst, append_assoc, append-nil, arith, Result, Ok, Err}
 use Rattle.nfs_state.specs.declared.effect.Effect.{Effect}
 use Rattle.nfs_state.specs.declared.entry.Call.{Call}
-use Rattle.std.specs.Prelude.{is_some}
+use Rattle.std.specs.Prelude.{IfOk, OnErr, is_some}
 use Rattle.nfs_state.specs.declared.request.Request.{Request}
 use Rattle.nfs_share.specs.AllOpens.{opens_of}
 use Rattle.nfs_share.specs.Opens.{open_of}
@@ -29,6 +29,11 @@ use Rattle.nfs_state.specs.State.{State, History, empty_server}
 use Rattle.nfs_core.specs.Step.{Allows, AtMostOneStep, Step}
 use Rattle.nfs_state.specs.Entries.{with_entry}
 use Rattle.nfs_state.specs.Kept.{Agrees}
+use Rattle.nfs_state.specs.Journal.{RoomyJournal}
+use Rattle.nfs_state.specs.Room.{state_of, stored_of}
+use Rattle.nfs_state.specs.declared.tables.Tables.{Tables}
+use Rattle.nfs_core.specs.Server.{AreAlike, Enters, server_of}
+use Rattle.nfs_core.specs.declared.core_error.CoreError.{CoreError}
 
 -- entries that lead to a state, and one more entry that leads on from there
 Leads-append : (journal : History) (old mid new : State) (entries : List Entry) (entry : Entry) → Leads journal old entries mid → Step (record journal { entries = journal.entries ++ entries }) mid entry new → Leads journal old (entries ++ entry ∷ []) new
@@ -104,6 +109,15 @@ Lawful-once once journal state state' lawful lawful' =
 -- a core that hasn't changed is as lawful as before
 pub Lawful-same : (journal journal' : History) (stored stored' : Stored) → journal' ≡ journal → stored' ≡ stored → Lawful journal (meaning stored) → Lawful journal' (meaning stored')
 Lawful-same journal journal' stored stored' same_journal same_stored lawful = rw (same_journal, same_stored) lawful
+
+-- a core that tried to add an entry
+pub Lawful-tried : (old new : RoomyJournal) (tables tables' : Tables) (entry : Entry) (result : Result ℕ CoreError) → Lawful old.history (state_of tables)
+    → IfOk result (λ number. Enters (server_of old tables) (server_of new tables') entry number) → OnErr result (AreAlike (server_of old tables) (server_of new tables'))
+    → Lawful new.history (state_of tables')
+Lawful-tried old new tables tables' entry (Ok number) lawful entered same =
+    Lawful-entered old.history new.history (state_of tables) (state_of tables') entry lawful entered.1 entered.2
+Lawful-tried old new tables tables' entry (Err error) lawful entered same =
+    Lawful-same old.history new.history (stored_of tables) (stored_of tables') same.0 same.1 lawful
 
 -- and what it stores agrees with its journal as before
 pub Agrees-same : (journal journal' : History) (stored stored' : Stored) → journal' ≡ journal → stored' ≡ stored → Agrees journal stored.owners → Agrees journal' stored'.owners

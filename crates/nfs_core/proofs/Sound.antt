@@ -369,7 +369,7 @@ pub live_expired : (client : ClientId) (records : List ClientRecord) (owners : L
     → AreLive (filter (λ r. not (is_of_client client.number r)) records) (filter (λ o. not (is_same_client o.name.client client)) owners)
 live_expired client records owners alone live =
     let gone : ClientRecord → Bool = is_of_client client.number in
-    all_filter (λ o. is_live_in records o.name.client ≡ true) (λ o. is_live_in (filter (λ r. not (gone r)) records) o.name.client ≡ true) (λ o. not (is_same_client o.name.client client))
+    all_filter {X = KnownOwner} (λ o. is_live_in records o.name.client ≡ true) (λ o. is_live_in (filter (λ r. not (gone r)) records) o.name.client ≡ true) (λ o. not (is_same_client o.name.client client))
     (λ o h others. found_filtered (IsAloneOf client) (λ s. s.confirmed && is_same_client s.client o.name.client) (λ r. not (gone r))
     (λ s is_alone passes.
     let both = and_parts s.confirmed (is_same_client s.client o.name.client) passes in

@@ -202,7 +202,7 @@ new_counted journal old (entries.Call call) effect allowed kept =
     last_counted journal.entries call
     (named_keeps (names_of call.request.op) call.request.op journal old call.request (record { answer = call.answer; effect = effect }) allowed.rule kept)
 new_counted journal old (entries.Expire expire) effect allowed kept =
-    absurd (subst (λ (e : Effect). keeps e.owner ≡ true) allowed.removal kept)
+    absurd (cc (ap (λ (e : Effect). keeps e.owner) allowed.removal, kept))
 
 keep_step : (journal : History) (old : State) (entry : Entry) (new : State) → Step journal old entry new → KeepRequests journal old → KeepRequests (with_entry entry journal) new
 keep_step journal old entry new step h =

@@ -4,7 +4,12 @@ use Rattle.nfs_core.specs.Step.{Step}
 use Rattle.nfs_state.specs.Room.{state_of}
 use Rattle.nfs_state.specs.declared.entry.Entry.{Entry}
 
-pub returns-clause-not_next : goal.returns-clause-not_next
-returns-clause-not_next c is new step =
+pub returns-in-Call-clause-not_next : goal.returns-in-Call-clause-not_next
+returns-in-Call-clause-not_next c is new step =
     let before : Entry → Type 0 = λ e. Step c.args.journal.now.history (state_of c.args.tables.now) e new in
     c.effect_of_call.ensures.not_next is new (subst before (search rules) step)
+
+pub returns-in-Expire-clause-not_next : goal.returns-in-Expire-clause-not_next
+returns-in-Expire-clause-not_next c is new step =
+    let before : Entry → Type 0 = λ e. Step c.args.journal.now.history (state_of c.args.tables.now) e new in
+    c.effect_of_expire.ensures.not_next is new (subst before (search rules) step)
