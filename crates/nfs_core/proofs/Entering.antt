@@ -4,11 +4,11 @@ use Rattle.std.specs.Prelude.{IfOk, IsErrOf, IsTrue, is_some, not, option_map}
 use Rattle.std.proofs.lemmas.Bool.{cond_both}
 use Rattle.nfs_core.proofs.Journals.{decides_something}
 use Rattle.nfs_core.proofs.SoundSequences.{some_equal}
-use Rattle.nfs_core.specs.Expiry.{IsKeptFor}
+use Rattle.nfs_core.specs.Expiry.{IsNotEndedFor}
 use Rattle.nfs_core.specs.Server.{Server}
 use Rattle.nfs_core.specs.declared.core_error.CoreError.{CoreError}
 use Rattle.nfs_core.specs.declared.core_error.CoreError.TheVariants as core_errors
-use Rattle.nfs_core.specs.Following.{CanBeAsked, IsNext, IsWithinLimits, error_of}
+use Rattle.nfs_core.specs.Following.{CanBeAsked, IsNext, MayBeAnswered, error_of}
 use Rattle.nfs_core.specs.declared.following.FollowError.TheVariants as errors
 use Rattle.nfs_core.specs.Step.{Allows, HasNoAnswer, HasNoStep, Step}
 use Rattle.nfs_rules.specs.Deciding.{Decides}
@@ -64,16 +64,14 @@ no_answer once journal old request (Err shortages.Limit) decides is_limit answer
 no_answer once journal old request (Err shortages.Memory) decides is_limit answer = absurd cc
 
 -- where memory runs out, the rule gives a decision, and so it passes no limit
-pub within_limits : AtMostOneDecision → (journal : History) (old : State) (request : Request) (result : Result Decision Shortage) → length journal.entries < JOURNAL_LIMIT → Decides (IsRuled request.op journal old request) old request.op result → IsErrOf result shortages.Memory → IsWithinLimits journal old request
+pub within_limits : AtMostOneDecision → (journal : History) (old : State) (request : Request) (result : Result Decision Shortage) → length journal.entries < JOURNAL_LIMIT → Decides (IsRuled request.op journal old request) old request.op result → IsErrOf result shortages.Memory → MayBeAnswered journal old request
 within_limits once journal old request (Ok decision) below decides is_memory = absurd cc
 within_limits once journal old request (Err shortages.Limit) below decides is_memory = absurd cc
-within_limits once journal old request (Err shortages.Memory) below decides is_memory =
-    (below, decides_something once journal old request decides.0 decides.1)
+within_limits once journal old request (Err shortages.Memory) below decides is_memory = (below, decides)
 
 -- nor where it runs out after the decision
-pub decided_within : AtMostOneDecision → (journal : History) (old : State) (request : Request) (decision : Decision) → IsNext journal old (entry_of request decision.answer) decision.effect → IsWithinLimits journal old request
-decided_within once journal old request decision next =
-    (next.below, decides_something once journal old request decision next.allowed.rule)
+pub decided_within : AtMostOneDecision → (journal : History) (old : State) (request : Request) (decision : Decision) → IsNext journal old (entry_of request decision.answer) decision.effect → MayBeAnswered journal old request
+decided_within once journal old request decision next = (next.below, (decision, next.allowed.rule))
 
 -- an operation that goes by no sequence id means nothing for the owners
 registers : (decision : Decision) (found : Option (registrations.Outcome × ClientChange)) → Some decision ≡ option_map setclientid.decision_of found → decision.effect.owner ≡ owner_changes.Nothing
@@ -181,7 +179,7 @@ expiry_next journal old expire effect below expiry = record {
 }
 
 -- where a client isn't removed though there is memory, its end may not come next
-pub no_expiry : (server : Server) (expire : Expire) (error : CoreError) → error ≢ core_errors.Memory → IsKeptFor server expire error → HasNoStep server.journal (meaning server.stored) (entries.Expire expire)
+pub no_expiry : (server : Server) (expire : Expire) (error : CoreError) → error ≢ core_errors.Memory → IsNotEndedFor server expire error → HasNoStep server.journal (meaning server.stored) (entries.Expire expire)
 no_expiry server expire core_errors.NotLive other kept new step = absurd (cc (kept, step.allowed.live))
 no_expiry server expire core_errors.NotDue other kept new step = kept.1 step.allowed.due
 no_expiry server expire core_errors.Full other kept new step = omega (arith, kept.1, step.below)

@@ -113,6 +113,7 @@ safe state holds =
       known = sound.known;
       live = all_weaken (AllByRecursion (HasKnownOwner state)) (AllByRecursion (HasLiveClient state))
           (λ opens known. all_weaken (HasKnownOwner state) (HasLiveClient state) (λ o h. live_owner state sound (open_owner o.owner) h) opens known) state.opens sound.known;
+      owners_live = sound.live;
       locks_compatible = sound.locks.compatible;
       lockers_known = sound.locks.known;
       lockers_live = all_weaken (AllByRecursion (HasKnownLocker state)) (AllByRecursion (HasLiveLocker state))

@@ -1,4 +1,4 @@
--- The end of a client, and why it doesn't come.
+-- Why a client isn't removed, and why there is no room for an entry.
 use Rattle.std.specs.Prelude.{◌≡◌, ℕ, ◌<◌, ◌≤◌, IsFalse, IsTrue, length}
 use Rattle.nfs_core.specs.Server.{Server}
 use Rattle.nfs_core.specs.declared.core_error.CoreError.{CoreError}
@@ -18,17 +18,17 @@ MayEnd server expire =
     IsTrue (is_live server.journal (meaning server.stored) expire.client)
     × IsDue server.journal expire
 
--- The client isn't removed for the first of these reasons that there is: it isn't live, its lease hasn't run out, the
+-- The client doesn't end for the first of these reasons that there is: it isn't live, its lease hasn't run out, the
 -- journal is full, or it has no room for an entry.
-abbrev pub IsKeptFor : Server → Expire → CoreError → Type 0
-IsKeptFor server expire errors.NotLive =
+abbrev pub IsNotEndedFor : Server → Expire → CoreError → Type 0
+IsNotEndedFor server expire errors.NotLive =
     IsFalse (is_live server.journal (meaning server.stored) expire.client)
-IsKeptFor server expire errors.NotDue =
+IsNotEndedFor server expire errors.NotDue =
     IsTrue (is_live server.journal (meaning server.stored) expire.client)
     × (IsDue server.journal expire → ⊥)
-IsKeptFor server expire errors.Full =
+IsNotEndedFor server expire errors.Full =
     MayEnd server expire × (JOURNAL_LIMIT ≤ length server.journal.entries)
-IsKeptFor server expire errors.Memory =
+IsNotEndedFor server expire errors.Memory =
     MayEnd server expire × (length server.journal.entries < JOURNAL_LIMIT) × (server.room ≡ 0)
 
 -- There is no room for one more entry: the journal is full, or memory ran out.

@@ -1,8 +1,9 @@
 -- What may come next in a journal, as it is judged before it is entered.
-use Rattle.std.specs.Prelude.{ℕ, ◌<◌, ◌≤◌, IsTrue, None, length}
+use Rattle.std.specs.Prelude.{ℕ, ◌<◌, ◌≤◌, IsTrue, length, Some}
 use Rattle.nfs_core.specs.Step.{Allows}
 use Rattle.nfs_core.specs.declared.following.FollowError.{FollowError}
 use Rattle.nfs_core.specs.declared.following.FollowError.TheVariants as errors
+use Rattle.nfs_rules.specs.declared.decision.Decision.{Decision}
 use Rattle.nfs_rules.specs.operations.{IsRuled}
 use Rattle.nfs_state.specs.declared.effect.Effect.{Effect}
 use Rattle.nfs_state.specs.declared.entry.Entry.{Entry}
@@ -38,11 +39,11 @@ pub record IsNext (journal : History) (old : State) (entry : Entry) (effect : Ef
   pub allowed : Allows journal old entry effect
   pub fits : Fits entry effect old
 
--- The journal isn't full, and the rule of the request's operation passes no limit.
-abbrev pub IsWithinLimits : History → State → Request → Type 0
-IsWithinLimits journal old request =
+-- The journal isn't full, and the rule of the request's operation gives a decision, so that no limit is passed.
+abbrev pub MayBeAnswered : History → State → Request → Type 0
+MayBeAnswered journal old request =
     (length journal.entries < JOURNAL_LIMIT)
-    × (IsRuled request.op journal old request None → ⊥)
+    × ((decision : Decision) × IsRuled request.op journal old request (Some decision))
 
 -- Where a limit would be passed, no entry may come next.
 abbrev pub error_of : Shortage → FollowError

@@ -37,6 +37,10 @@ HasKnownOwner state o = IsTrue (is_some (owner_of (open_owner o.owner) state.own
 abbrev pub HasLiveClient : State → OpenState → Type 0
 HasLiveClient state o = IsTrue (is_some (record_of o.owner.client state.clients))
 
+-- the owner's client has a confirmed record
+abbrev pub IsOfLiveClient : State → KnownOwner → Type 0
+IsOfLiveClient state o = IsTrue (is_some (record_of o.name.client state.clients))
+
 -- each open of each node
 abbrev pub EachOpen : (OpenState → Type 0) → State → Type 0
 EachOpen P state = AllByRecursion (AllByRecursion P) state.opens
@@ -117,6 +121,8 @@ pub record IsSafe (state : State) : Type 0 where
   pub compatible : AllByRecursion AllAreCompatible state.opens
   pub known : EachOpen (HasKnownOwner state) state
   pub live : EachOpen (HasLiveClient state) state
+  -- an owner is known only as long as its client has a confirmed record
+  pub owners_live : AllByRecursion (IsOfLiveClient state) state.owners
   -- no byte of a node is held by two lock owners, unless both hold it for reading
   pub locks_compatible : AllByRecursion AllLocksAreCompatible state.locks
   pub lockers_known : EachLock (HasKnownLocker state) state

@@ -1,6 +1,6 @@
 ghost use Rattle.std.specs.Prelude.{◌≡◌, ◌≤◌, ◌<◌, [], IfErr, IfOk, OnErr, OnOk, IsErrOf, IsTrue, length};
-ghost use Rattle.nfs_core.specs.Expiry.{IsKeptFor, IsWithoutRoom, expire_of};
-ghost use Rattle.nfs_core.specs.Following.{CanBeAsked, IsStoredBy, IsWithinLimits};
+ghost use Rattle.nfs_core.specs.Expiry.{IsNotEndedFor, IsWithoutRoom, expire_of};
+ghost use Rattle.nfs_core.specs.Following.{CanBeAsked, IsStoredBy, MayBeAnswered};
 ghost use Rattle.nfs_core.specs.Safe.{IsSafe, KeepRequests};
 ghost use Rattle.nfs_core.specs.Server.{Applies, AreAlike, Enters, IsLawful, server_of};
 ghost use Rattle.nfs_core.specs.Step.{HasNoAnswer};
@@ -14,13 +14,13 @@ ghost use Rattle.nfs_xdr.specs.OpResult.{op_result};
 ghost use Rattle.nfs_xdr.specs.Opnum.{answer_limit};
 
 use crate::CoreError;
-use crate::expiry::remove;
+use crate::expiry::enter_expiry;
 use crate::following::decide_next;
 use crate::laws::lawful_is_safe;
 use nfs_rules::at_most_one_decision;
 use nfs_state::{
-    Call, Entry, Expire, Journal, LEASE_MAX, LEASE_MIN, Moment, Request, Shortage, Tables,
-    commit_entry, copy_of_answer,
+    Call, Entry, Expire, JOURNAL_LIMIT, Journal, LEASE_MAX, LEASE_MIN, Moment, Request, Shortage,
+    Tables, commit_entry, copy_of_answer,
 };
 use nfs_tree::{Policy, Tree};
 use nfs_xdr::{Op, OpResult, Principal, Refusal};
@@ -117,7 +117,8 @@ impl Core {
     /// Makes room for one more entry, so that `expire` takes no memory where it comes next.
     pub fn prepare(&mut self) -> Result<(), CoreError>
         ensures same { AreAlike self.old self.new }
-        ensures room { OnOk result (0 < self.new.room) }
+        ensures room { OnOk result ((0 < self.new.room)
+            × (length self.new.journal.entries < JOURNAL_LIMIT)) }
         ensures error { IfErr result (IsWithoutRoom self.old) }
         ensures lawful { IsLawful self.new }
     {
@@ -128,19 +129,19 @@ impl Core {
     }
 
     /// Removes the client with this number, whose lease was renewed last at `seen` and has run out at `now`, with all that
-    /// it has. Returns the entry's number. Fails, and changes nothing, if the client isn't live, its lease hasn't run out,
-    /// the journal is full, or memory ran out.
+    /// it has. Returns the entry's number. Fails, and changes nothing but room, if the client isn't live, its lease hasn't
+    /// run out, the journal is full, or memory ran out.
     pub fn expire(&mut self, client: u32, seen: Moment, now: Moment) -> Result<u32, CoreError>
         ensures expires { IfOk result (Enters self.old self.new
             (entries.Expire (expire_of client seen now))) }
-        ensures error { IfErr result (IsKeptFor self.old (expire_of client seen now)) }
+        ensures error { IfErr result (IsNotEndedFor self.old (expire_of client seen now)) }
         ensures same { OnErr result (AreAlike self.old self.new) }
         ensures lawful { IsLawful self.new }
     {
         lawful_is_safe();
         let tables = &mut self.tables;
         let journal = &mut self.journal;
-        remove(self.alloc, tables, journal, Expire { client, seen, now })
+        enter_expiry(self.alloc, tables, journal, Expire { client, seen, now })
     }
 
     /// The journal of the changes that led to the state.
@@ -173,7 +174,7 @@ fn enter(
     ensures limit { IsErrOf result Shortage.Limit
         → HasNoAnswer journal.old.history (state_of tables.old) request }
     ensures memory { IsErrOf result Shortage.Memory
-        → IsWithinLimits journal.old.history (state_of tables.old) request }
+        → MayBeAnswered journal.old.history (state_of tables.old) request }
     ensures same { OnErr result ((journal.new.history ≡ journal.old.history)
         × (stored_of tables.new ≡ stored_of tables.old)) }
 {

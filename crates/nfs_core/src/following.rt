@@ -1,7 +1,7 @@
 //! What may come next in a journal, and entering an entry that is handed in.
 
-ghost use Rattle.std.specs.Prelude.{◌≡◌, IfOk, IsErrOf, MatchBool, OnErr};
-ghost use Rattle.nfs_core.specs.Following.{CanBeAsked, IsNext, IsStoredBy, IsWithinLimits};
+ghost use Rattle.std.specs.Prelude.{◌≡◌, ◌≢◌, Err, IfOk, IsErrOf, MatchBool, OnErr};
+ghost use Rattle.nfs_core.specs.Following.{CanBeAsked, IsNext, IsStoredBy, MayBeAnswered};
 ghost use Rattle.nfs_core.specs.Server.{Enters, server_of};
 ghost use Rattle.nfs_core.specs.Step.{HasNoAnswer, HasNoStep};
 ghost use Rattle.nfs_state.specs.Entries.{IsSendable, entry_of};
@@ -9,7 +9,7 @@ ghost use Rattle.nfs_state.specs.Kept.{Agrees};
 ghost use Rattle.nfs_state.specs.Room.{state_of, stored_of};
 ghost use Rattle.nfs_state.specs.declared.entry.Entry.TheVariants as entries;
 
-use crate::expiry;
+use crate::expiry::decide_expiry;
 use nfs_rules::{Decision, at_most_one_decision, decide};
 use nfs_state::{Call, Effect, Entry, Expire, Journal, Request, Shortage, Tables, commit_entry};
 use std::alloc::Global;
@@ -111,8 +111,9 @@ fn effect_of_expire(
         (entries.Expire expire.entry.now) effect) }
     ensures not_next { IsErrOf result FollowError.NotNext
         → HasNoStep journal.now.history (state_of tables.now) (entries.Expire expire.entry.now) }
+    ensures memory { result ≢ Err FollowError.Memory }
 {
-    match expiry::effect_of(tables, journal, expire) {
+    match decide_expiry(tables, journal, expire) {
         Ok(effect) => Ok(effect),
         Err(_) => Err(FollowError::NotNext),
     }
@@ -146,7 +147,7 @@ pub(crate) fn decide_next(
     ensures limit { IsErrOf result Shortage.Limit
         → HasNoAnswer journal.now.history (state_of tables.now) request.now }
     ensures memory { IsErrOf result Shortage.Memory
-        → IsWithinLimits journal.now.history (state_of tables.now) request.now }
+        → MayBeAnswered journal.now.history (state_of tables.now) request.now }
 {
     at_most_one_decision();
     if journal.is_full() {
