@@ -1,6 +1,6 @@
 -- stateid4 (RFC 7530, section 9.1.4). This server writes into the 12 bytes of `other` the clientid and the state's
 -- number.
-use Rattle.std.specs.Prelude.{ℕ, ◌+◌, ◌-◌, ◌^◌, ◌==◌, if◌then◌else◌}
+use Rattle.std.specs.Prelude.{ℕ, ◌+◌, ◌-◌, ◌^◌, Bool, ◌==◌, ◌&&◌, ◌||◌, if◌then◌else◌}
 use Rattle.std.proofs.Common.{refl}
 use Rattle.nfs_forms.specs.ClientId.{client_id}
 use Rattle.nfs_forms.specs.declared.stateid.Stateid.{Stateid}
@@ -19,3 +19,13 @@ seqid_after_change seqid = if seqid == 2 ^ 32 - 1 then 1 else seqid + 1
 -- the stateid after the state's next change
 abbrev pub next_stateid : Stateid → Stateid
 next_stateid s = record s { seqid = seqid_after_change s.seqid }
+
+-- each of the four words of the stateid is this number
+abbrev pub is_all : ℕ → Stateid → Bool
+is_all word id =
+    (id.seqid == word) && (id.client.epoch == word) && (id.client.number == word)
+    && (id.number == word)
+
+-- A special stateid: all bits are zero, or all are one (section 9.1.4.3). It names no state.
+abbrev pub is_special : Stateid → Bool
+is_special id = is_all 0 id || is_all (2 ^ 32 - 1) id

@@ -1,4 +1,6 @@
+ghost use Rattle.std.specs.Prelude.{◌≡◌};
 ghost use Rattle.nfs_forms.specs.ClientId as forms;
+ghost use Rattle.nfs_forms.specs.ClientId.{number_in};
 ghost use Rattle.xdr.specs.Reading.{Answers};
 
 use std::alloc::Global;
@@ -11,6 +13,15 @@ pub struct ClientId {
     pub epoch: u32,
     /// The client's number in that run, from 1.
     pub number: u32,
+}
+
+impl ClientId {
+    /// The client's number, if it was given in the run with this number.
+    pub fn number_in(self, epoch: u32) -> Option<u32>
+        ensures { result ≡ number_in epoch self }
+    {
+        (self.epoch == epoch).then_some(self.number)
+    }
 }
 
 impl Wire for ClientId {

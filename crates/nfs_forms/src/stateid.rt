@@ -1,5 +1,6 @@
 ghost use Rattle.std.specs.Prelude.{◌≡◌};
 ghost use Rattle.nfs_forms.specs.Stateid as forms;
+ghost use Rattle.nfs_forms.specs.Stateid.{is_all, is_special};
 ghost use Rattle.xdr.specs.Reading.{Answers};
 
 use crate::ClientId;
@@ -29,6 +30,25 @@ impl Stateid {
             self.seqid + 1
         };
         Stateid { seqid, ..self }
+    }
+
+    /// Whether all bits of the stateid are zero, or all are one (RFC 7530, section 9.1.4.3).
+    pub fn is_special(self) -> bool
+        ensures { result ≡ is_special self }
+    {
+        self.is_all(0) || self.is_all(u32::MAX)
+    }
+
+    // Whether each of the four words of the stateid is this number.
+    fn is_all(self, word: u32) -> bool
+        ensures { result ≡ is_all word self }
+    {
+        let Stateid {
+            seqid,
+            client,
+            number,
+        } = self;
+        seqid == word && client.epoch == word && client.number == word && number == word
     }
 }
 

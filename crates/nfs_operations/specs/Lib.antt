@@ -12,6 +12,7 @@ pub mod OpenDowngrade
 pub mod Putfh
 pub mod Putrootfh
 pub mod ReleaseLockowner
+pub mod Renew
 pub mod Restorefh
 pub mod Savefh
 pub mod Setclientid

@@ -17,6 +17,7 @@ pub mod open_downgrade;
 pub mod putfh;
 pub mod putrootfh;
 pub mod release_lockowner;
+pub mod renew;
 pub mod restorefh;
 pub mod savefh;
 pub mod setclientid;

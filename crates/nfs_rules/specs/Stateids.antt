@@ -1,10 +1,11 @@
 -- What a stateid names, and the verdict on it (RFC 7530, sections 9.1.4.3 and 9.1.4.4).
-use Rattle.std.specs.Prelude.{ℕ, ◌^◌, ◌-◌, ◌==◌, nat_lt, Bool, true, false, not, ◌&&◌, ◌||◌, List, [], ◌∷◌, Option, Some, None, is_some, Result, Ok, Err}
+use Rattle.std.specs.Prelude.{ℕ, ◌==◌, nat_lt, Bool, true, false, not, ◌&&◌, ◌||◌, List, [], ◌∷◌, Option, Some, None, is_some, Result, Ok, Err}
 use Rattle.nfs_rules.specs.Refusing.{◌>>=◌, first_refusal}
 use Rattle.nfs_rules.specs.declared.demand.Demand.{Demand}
 use Rattle.nfs_rules.specs.declared.demand.Kinds.{Kinds}
 use Rattle.nfs_state.specs.Owners.{is_confirmed}
 use Rattle.nfs_state.specs.State.{State}
+use Rattle.nfs_forms.specs.Stateid.{is_special}
 use Rattle.nfs_forms.specs.declared.stateid.Stateid.{Stateid}
 use Rattle.nfs_forms.specs.declared.status.Refusal.{Refusal}
 use Rattle.nfs_forms.specs.declared.status.Refusal.TheVariants as refusals
@@ -12,16 +13,6 @@ use Rattle.nfs_owners.specs.Registry.{record_of, was_given}
 use Rattle.nfs_owners.specs.StateOwner.{open_owner}
 use Rattle.nfs_locks.specs.AllLocks.{LockAt, lock_named_in}
 use Rattle.nfs_share.specs.AllOpens.{OpenAt, named_in}
-
--- each of the four words of the stateid is this number
-abbrev pub is_all : ℕ → Stateid → Bool
-is_all word id =
-    (id.seqid == word) && (id.client.epoch == word) && (id.client.number == word)
-    && (id.number == word)
-
--- A special stateid: all bits are zero, or all are one (section 9.1.4.3). It names no state.
-abbrev pub is_special : Stateid → Bool
-is_special id = is_all 0 id || is_all (2 ^ 32 - 1) id
 
 -- Why a stateid can't name a state: it is special; it is of another run of the server; its client number was never given
 -- out; its client has no confirmed record, be it gone or never confirmed.

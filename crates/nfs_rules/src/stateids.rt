@@ -5,7 +5,7 @@ ghost use Rattle.nfs_rules.specs.Refusing.{first_refusal};
 ghost use Rattle.nfs_state.specs.Owners.{is_confirmed};
 ghost use Rattle.nfs_state.specs.Room.{state_of};
 ghost use Rattle.nfs_rules.specs.Stateids as stateids;
-ghost use Rattle.nfs_rules.specs.Stateids.{found_in, has_confirmed_owner, is_all, is_of_kinds, is_special, node_of, of_state, seqid_of, verdict_on};
+ghost use Rattle.nfs_rules.specs.Stateids.{found_in, has_confirmed_owner, is_of_kinds, node_of, of_state, seqid_of, verdict_on};
 
 use crate::demand::{Demand, Kinds};
 use nfs_locks::LockFound;
@@ -29,7 +29,7 @@ pub(crate) fn target_of(
 ) -> Result<Option<Found<'_>>, Refusal>
     ensures { target_seen result ≡ stateids.target_of epoch (state_of tables.now) stateid }
 {
-    if is_special(stateid) {
+    if stateid.is_special() {
         return Err(Refusal::BadStateId);
     }
     if stateid.client.epoch != epoch {
@@ -183,23 +183,4 @@ pub(crate) fn lock_verdict<'a>(
         Ok(Found::ALock(found)) => Ok(found),
         Ok(Found::AnOpen(_)) => Err(Refusal::BadStateId),
     }
-}
-
-// Whether all bits of the stateid are zero, or all are one (RFC 7530, section 9.1.4.3).
-fn is_special(stateid: Stateid) -> bool
-    ensures { result ≡ is_special stateid }
-{
-    is_all(0, stateid) || is_all(u32::MAX, stateid)
-}
-
-// Whether each of the four words of the stateid is this number.
-fn is_all(word: u32, stateid: Stateid) -> bool
-    ensures { result ≡ is_all word stateid }
-{
-    let Stateid {
-        seqid,
-        client,
-        number,
-    } = stateid;
-    seqid == word && client.epoch == word && client.number == word && number == word
 }

@@ -1,5 +1,7 @@
 -- What the arguments of an operation name of the state (RFC 7530, sections 9.1.4, 9.1.5, 9.1.7 and 9.5).
-use Rattle.std.specs.Prelude.{ℕ, Bool, true, false, Option, Some, None, is_some}
+use Rattle.std.specs.Prelude.{ℕ, Bool, true, false, Option, Some, None, is_some, option_and_then, if◌then◌else◌}
+use Rattle.nfs_forms.specs.ClientId.{number_in}
+use Rattle.nfs_forms.specs.Stateid.{is_special}
 use Rattle.nfs_forms.specs.declared.client_id.ClientId.{ClientId}
 use Rattle.nfs_forms.specs.declared.locker.Locker.{Locker}
 use Rattle.nfs_forms.specs.declared.locker.Locker.TheVariants as lockers
@@ -34,6 +36,7 @@ names_of (ops.Lock args) = locker_names args.locker
 names_of (ops.Locku args) = Owned args.stateid args.seqid
 names_of (ops.Lockt args) = Client args.owner.client
 names_of (ops.ReleaseLockowner args) = Client args.owner.client
+names_of (ops.Renew args) = Client args.client
 names_of op = Nothing
 
 -- the sequence id by which the request goes
@@ -49,6 +52,18 @@ seqid_of op = seqid_in (names_of op)
 -- the operation goes by the sequence id of an owner (section 9.1.7)
 abbrev pub is_sequenced : Op → Bool
 is_sequenced op = is_some (seqid_of op)
+
+-- the client that is named: by its clientid, as an owner's client or in a stateid; a special stateid names none
+abbrev pub client_in : Names → Option ClientId
+client_in Nothing = None
+client_in (Client client) = Some client
+client_in (Opener owner seqid) = Some owner.client
+client_in (Owned stateid seqid) = if is_special stateid then None else Some stateid.client
+
+-- The number of the client whose lease the operation renews (section 9.5), in the server's run with this epoch: that of
+-- the client that it names, if that is one of this run.
+abbrev pub renewed_by : ℕ → Op → Option ℕ
+renewed_by epoch op = option_and_then (number_in epoch) (client_in (names_of op))
 
 -- the names that are lent
 abbrev pub names_seen : LentNames → Names

@@ -4,7 +4,7 @@ use Rattle.std.specs.Prelude.{◌≡◌, ℕ, ◌+◌, Bool, true, false, Option
 use Rattle.std.proofs.Common.{refl}
 use Rattle.std.specs.List.{find}
 use Rattle.nfs_xdr.specs.declared.opnum.Class.{Class}
-use Rattle.nfs_xdr.specs.declared.opnum.Class.TheVariants.{OnTree, OnState, OnNothing}
+use Rattle.nfs_xdr.specs.declared.opnum.Class.TheVariants.{OnTree, OnState, OnLeases, OnNothing}
 use Rattle.nfs_xdr.specs.declared.opnum.Opnum.{Opnum}
 use Rattle.nfs_xdr.specs.declared.opnum.Opnum.TheVariants as op
 use Rattle.nfs_xdr.specs.declared.opnum.TheConstants.{OPNUMS}
@@ -27,7 +27,6 @@ number_of_unsupported without.Readdir = 26
 number_of_unsupported without.Readlink = 27
 number_of_unsupported without.Remove = 28
 number_of_unsupported without.Rename = 29
-number_of_unsupported without.Renew = 30
 number_of_unsupported without.Secinfo = 33
 number_of_unsupported without.Setattr = 34
 number_of_unsupported without.Verify = 37
@@ -48,6 +47,7 @@ row_of op.OpenConfirm = (20, OnState)
 row_of op.OpenDowngrade = (21, OnState)
 row_of op.Putfh = (22, OnTree)
 row_of op.Putrootfh = (24, OnTree)
+row_of op.Renew = (30, OnLeases)
 row_of op.Restorefh = (31, OnTree)
 row_of op.Savefh = (32, OnTree)
 row_of op.Setclientid = (35, OnState)
@@ -65,11 +65,13 @@ class_of o = (row_of o).1
 abbrev pub is_on_state : Class → Bool
 is_on_state OnTree = false
 is_on_state OnState = true
+is_on_state OnLeases = false
 is_on_state OnNothing = false
 
 abbrev pub is_of_tree : Class → Bool
 is_of_tree OnTree = true
 is_of_tree OnState = false
+is_of_tree OnLeases = false
 is_of_tree OnNothing = false
 
 -- No result of the operation is longer than this.

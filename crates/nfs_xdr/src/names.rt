@@ -1,7 +1,7 @@
 //! What operations name of the state: clients, owners and states.
 
 ghost use Rattle.std.specs.Prelude.{◌≡◌};
-ghost use Rattle.nfs_xdr.specs.Names.{locker_names, names_of, names_seen};
+ghost use Rattle.nfs_xdr.specs.Names.{client_in, locker_names, names_of, names_seen, renewed_by};
 
 use crate::Op;
 use nfs_forms::{ClientId, Locker, OpenOwner, Stateid};
@@ -19,7 +19,30 @@ pub enum Names<'a> {
     Owned(Stateid, u32),
 }
 
+impl Names<'_> {
+    /// The client that is named: by its clientid, as an owner's client or in a stateid. A special stateid names none.
+    pub fn client(self) -> Option<ClientId>
+        ensures { result ≡ client_in (names_seen self) }
+    {
+        match self {
+            Names::Nothing => None,
+            Names::Client(client) => Some(client),
+            Names::Opener(owner, _) => Some(owner.client),
+            Names::Owned(stateid, _) => (!stateid.is_special()).then_some(stateid.client),
+        }
+    }
+}
+
 impl Op {
+    /// The number of the client whose lease the operation renews, in the server's run with this epoch: that of the client
+    /// that it names, if that is one of this run (RFC 7530, section 9.5).
+    pub fn renewed_client(&self, epoch: u32) -> Option<u32>
+        ensures { result ≡ renewed_by epoch self.now }
+    {
+        let client = self.names().client()?;
+        client.number_in(epoch)
+    }
+
     /// What the operation's arguments name of the state.
     pub fn names(&self) -> Names<'_>
         ensures { names_seen result ≡ names_of self.now }
@@ -33,6 +56,7 @@ impl Op {
             Op::Locku(args) => Names::Owned(args.stateid, args.seqid),
             Op::Lockt(args) => Names::Client(args.owner.client),
             Op::ReleaseLockowner(args) => Names::Client(args.owner.client),
+            Op::Renew(args) => Names::Client(args.client),
             _ => Names::Nothing,
         }
     }

@@ -66,6 +66,7 @@ pub enum Op {
     OpenDowngrade(of::open_downgrade::Arguments),
     Putfh(of::putfh::Arguments),
     Putrootfh,
+    Renew(of::renew::Arguments),
     Restorefh,
     Savefh,
     Setclientid(of::setclientid::Arguments),

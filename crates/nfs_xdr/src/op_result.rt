@@ -118,6 +118,7 @@ pub enum OpResult {
     OpenDowngrade(of::open_downgrade::Outcome),
     Putfh(of::putfh::Outcome),
     Putrootfh(of::putrootfh::Outcome),
+    Renew(of::renew::Outcome),
     Restorefh(of::restorefh::Outcome),
     Savefh(of::savefh::Outcome),
     Setclientid(of::setclientid::Outcome),

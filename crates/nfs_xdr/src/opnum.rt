@@ -25,6 +25,7 @@ macro_rules! each_operation {
                 OpenConfirm = 20 OnState,
                 OpenDowngrade = 21 OnState,
                 Putfh = 22 OnTree,
+                Renew = 30 OnLeases,
                 Setclientid = 35 OnState,
                 SetclientidConfirm = 36 OnState,
                 ReleaseLockowner = 39 OnState,
@@ -59,7 +60,6 @@ pub enum Unsupported {
     Readlink = 27,
     Remove = 28,
     Rename = 29,
-    Renew = 30,
     Secinfo = 33,
     Setattr = 34,
     Verify = 37,
@@ -90,6 +90,7 @@ pub enum Opnum {
     OpenDowngrade,
     Putfh,
     Putrootfh,
+    Renew,
     Restorefh,
     Savefh,
     Setclientid,
@@ -108,6 +109,8 @@ pub enum Class {
     OnTree,
     /// The state: every answer except NFS4ERR_RESOURCE is an entry of the journal.
     OnState,
+    /// Only the leases of the clients: it has no entry in the journal.
+    OnLeases,
     /// Nothing: this server doesn't implement it, and doesn't run it.
     OnNothing,
 }
@@ -165,7 +168,7 @@ pub const OPNUMS: [Opnum; 38] = [
     Opnum::Unsupported(Unsupported::Readlink),
     Opnum::Unsupported(Unsupported::Remove),
     Opnum::Unsupported(Unsupported::Rename),
-    Opnum::Unsupported(Unsupported::Renew),
+    Opnum::Renew,
     Opnum::Restorefh,
     Opnum::Savefh,
     Opnum::Unsupported(Unsupported::Secinfo),

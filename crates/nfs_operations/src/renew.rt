@@ -1,0 +1,32 @@
+ghost use Rattle.nfs_operations.specs.Renew as forms;
+
+use nfs_forms::{Answer, ClientId};
+use std::alloc::Global;
+use xdr::{Wire, WireError};
+
+/// The client whose lease is renewed (RFC 7530, section 16.28).
+pub type Arguments = Renew;
+
+/// The arguments of RENEW.
+#[derive(Clone, Copy, Debug, PartialEq, Eq)]
+pub struct Renew {
+    pub client: ClientId,
+}
+
+/// A status without further data.
+pub type Outcome = Answer<()>;
+
+impl Wire for Renew {
+    ghost form = { forms.arguments };
+
+    #[tactic(auto, unfolding(crate::specs::Renew::arguments))]
+    fn read(alloc: Global, bytes: &[u8]) -> Result<(Renew, &[u8]), WireError> {
+        let (client, rest) = ClientId::read(alloc, bytes)?;
+        Ok((Renew { client }, rest))
+    }
+
+    #[tactic(auto, unfolding(crate::specs::Renew::arguments))]
+    fn write(&self, out: &mut Vec<u8>) -> Result<(), WireError> {
+        self.client.write(out)
+    }
+}
