@@ -1,2 +1,3 @@
 pub mod ClientLists
+pub mod NextLive
 pub mod OwnerLists

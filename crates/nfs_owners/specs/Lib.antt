@@ -9,5 +9,6 @@ pub mod StateOwner
 pub mod Owner
 pub mod Owners
 pub mod OwnerLaws
+pub mod LiveClients
 pub mod Numbers
 pub mod OwnersError

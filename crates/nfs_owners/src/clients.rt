@@ -1,6 +1,7 @@
 ghost use Rattle.std.specs.Prelude.{◌≡◌, ◌<◌, ◌≤◌, IsOk, OnOk};
 ghost use Rattle.std.specs.Vec.{vec_len, vec_capacity};
 ghost use Rattle.nfs_owners.specs.ClientChange.{with_confirmed, with_unconfirmed};
+ghost use Rattle.nfs_owners.specs.LiveClients.{IsNextAmong, nearer_of};
 
 mod client_change;
 mod confirmation;
@@ -49,6 +50,7 @@ impl Clients {
     ghost use Rattle.std.specs.Option.{option_copied};
     ghost use Rattle.nfs_owners.specs.ClientChange.{with_change};
     ghost use Rattle.nfs_owners.specs.ClientRoom.{HasNumbersFor, HasRoomFor, IsOfItsKind};
+    ghost use Rattle.nfs_owners.specs.LiveClients.{IsNextLive, replaced_by, unconfirmed_of_client};
     ghost use Rattle.nfs_owners.specs.Registry.{AreRecords, confirmed_named_by, confirmed_of, is_live, no_clients, record_of, unconfirmed_named_by, was_given, without_client};
 
     /// A registry without clients, taking no memory.
@@ -93,6 +95,32 @@ impl Clients {
         self.records
             .iter()
             .any(|r| r.confirmed && r.is_of_client(number))
+    }
+
+    /// The least number above this one that a live client has, if there is one.
+    pub fn next_live(&self, after: u32) -> Option<u32>
+        ensures { IsNextLive after self.now.registry result }
+    {
+        next_live_among(&self.records, after)
+    }
+
+    /// The number of the live client that the client with this number replaces once it is confirmed: another one, of the
+    /// id that this number's unconfirmed record has.
+    pub fn replaced_by(&self, number: u32) -> Option<u32>
+        ensures { result ≡ replaced_by number self.now.registry }
+    {
+        let record = self.unconfirmed_of_client(number)?;
+        let old = self.confirmed_of(record.id.as_slice())?;
+        (old.client.number != number).then_some(old.client.number)
+    }
+
+    // The unconfirmed record of the client with this number, if there is one.
+    fn unconfirmed_of_client(&self, number: u32) -> Option<&ClientRecord>
+        ensures { option_copied result ≡ unconfirmed_of_client number self.now.registry }
+    {
+        self.records
+            .iter()
+            .find(|r| !r.confirmed && r.is_of_client(number))
     }
 
     /// Whether a client was given this number.
@@ -164,6 +192,30 @@ impl Clients {
             ClientChange::Confirms(record) => put_confirmed(&mut self.records, record),
             ClientChange::Replaces(record, _) => put_confirmed(&mut self.records, record),
         }
+    }
+}
+
+// The least number above this one that a confirmed record has, if there is one.
+fn next_live_among(records: &[ClientRecord], after: u32) -> Option<u32>
+    ensures { IsNextAmong after records.now result }
+{
+    let mut least = None;
+    for record in records {
+        least = nearer(least, record, after);
+    }
+    least
+}
+
+// The record's number instead, if the record is confirmed and the number is above `after` and below the least so far.
+fn nearer(least: Option<u32>, record: &ClientRecord, after: u32) -> Option<u32>
+    ensures { result ≡ nearer_of after least record.now }
+{
+    let number = record.client.number;
+    let is_above = record.confirmed && after < number;
+    match least {
+        None if is_above => Some(number),
+        Some(next) if is_above && number < next => Some(number),
+        _ => least,
     }
 }
 
