@@ -5,3 +5,4 @@ pub mod Server
 pub mod CoreError
 pub mod Following
 pub mod Expiry
+pub mod LiveClients

@@ -1,9 +1,12 @@
 ghost use Rattle.std.specs.Prelude.{◌≡◌, ◌≤◌, ◌<◌, [], IfErr, IfOk, OnErr, OnOk, IsErrOf, IsTrue, length};
 ghost use Rattle.nfs_core.specs.Expiry.{IsNotEndedFor, IsWithoutRoom, expire_of};
 ghost use Rattle.nfs_core.specs.Following.{CanBeAsked, IsStoredBy, MayBeAnswered};
+ghost use Rattle.nfs_core.specs.LiveClients.{AreNumbered, AreOfOneRun};
 ghost use Rattle.nfs_core.specs.Safe.{IsSafe, KeepRequests};
 ghost use Rattle.nfs_core.specs.Server.{Applies, AreAlike, Enters, IsLawful, server_of};
 ghost use Rattle.nfs_core.specs.Step.{HasNoAnswer};
+ghost use Rattle.nfs_owners.specs.LiveClients.{IsNextLive, replaced_by};
+ghost use Rattle.nfs_owners.specs.Registry.{is_live};
 ghost use Rattle.nfs_state.specs.Entries.{IsFilehandle, IsSendable, entry_of, request_of};
 ghost use Rattle.nfs_state.specs.Kept.{Agrees};
 ghost use Rattle.nfs_state.specs.Room.{state_of, stored_of};
@@ -142,6 +145,31 @@ impl Core {
         let tables = &mut self.tables;
         let journal = &mut self.journal;
         enter_expiry(self.alloc, tables, journal, Expire { client, seen, now })
+    }
+
+    /// Whether the client with this number is live: whether it has a confirmed record.
+    pub fn live(&self, client: u32) -> bool
+        ensures { result ≡ is_live client self.now.stored.clients }
+    {
+        self.tables.clients.live(client)
+    }
+
+    /// The least number above this one that a live client has, if there is one.
+    pub fn next_live(&self, after: u32) -> Option<u32>
+        ensures next { IsNextLive after self.now.stored.clients result }
+        ensures numbered { AreNumbered self.now.stored.clients }
+        ensures run { AreOfOneRun self.now.journal (meaning self.now.stored) }
+        ensures lawful { IsLawful self.now }
+    {
+        lawful_is_safe();
+        self.tables.clients.next_live(after)
+    }
+
+    /// The number of the live client that the client with this number replaces once it is confirmed.
+    pub fn replaced_by(&self, client: u32) -> Option<u32>
+        ensures { result ≡ replaced_by client self.now.stored.clients }
+    {
+        self.tables.clients.replaced_by(client)
     }
 
     /// The journal of the changes that led to the state.

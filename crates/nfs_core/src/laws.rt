@@ -1,4 +1,5 @@
 ghost use Rattle.nfs_core.specs.Lawful.{AtMostOneState, Lawful};
+ghost use Rattle.nfs_core.specs.LiveClients.{AreNumbered, AreOfOneRun, CallsFollow, EndsFollow};
 ghost use Rattle.nfs_core.specs.Safe.{IsSafe, KeepRequests};
 ghost use Rattle.nfs_core.specs.Step.{AtMostOneStep};
 ghost use Rattle.nfs_state.specs.State.{State, History};
@@ -28,6 +29,21 @@ pub fn lawful_is_safe()
     ensures safe { (journal : History) (state : State) → Lawful journal state → IsSafe state }
     ensures kept { (journal : History) (state : State) → Lawful journal state →
         KeepRequests journal state }
+    ensures numbered { (journal : History) (state : State) → Lawful journal state →
+        AreNumbered state.clients }
+    ensures run { (journal : History) (state : State) → Lawful journal state →
+        AreOfOneRun journal state }
+{
+    opens_stay_compatible();
+    locks_stay_compatible();
+    first_change_has_place();
+}
+
+/// The law of how entries change which clients are live: one becomes so by its confirmation, and once at most; one that is
+/// live stays so until a confirmation replaces it or it ends.
+pub fn live_clients_follow()
+    ensures calls { CallsFollow }
+    ensures ends { EndsFollow }
 {
     opens_stay_compatible();
     locks_stay_compatible();

@@ -1,0 +1,66 @@
+-- Which clients are live, and how entries of the journal change it (RFC 7530, sections 9.1.1, 9.6 and 16.34.5).
+use Rattle.std.specs.Prelude.{◌≡◌, ℕ, ◌≤◌, Bool, not, ◌&&◌, ◌==◌, IsFalse, IsTrue, Option, Some, None, option_and_then}
+use Rattle.nfs_core.specs.Lawful.{Lawful}
+use Rattle.nfs_core.specs.Step.{Step}
+use Rattle.nfs_owners.specs.LiveClients.{can_become_live, replaced_by}
+use Rattle.nfs_owners.specs.Registry.{Registry, is_live}
+use Rattle.nfs_owners.specs.declared.client_record.TheConstants.{CLIENT_LIMIT}
+use Rattle.nfs_rules.specs.entries.Expire.{is_live as is_live_in}
+use Rattle.nfs_state.specs.Entries.{entry_of}
+use Rattle.nfs_state.specs.State.{State, History}
+use Rattle.nfs_state.specs.declared.entry.Entry.TheVariants as entries
+use Rattle.nfs_state.specs.declared.entry.Expire.{Expire}
+use Rattle.nfs_state.specs.declared.request.Request.{Request}
+use Rattle.nfs_xdr.specs.declared.op.Op.{Op}
+use Rattle.nfs_xdr.specs.declared.op.Op.TheVariants as ops
+use Rattle.nfs_xdr.specs.declared.op_result.OpResult.{OpResult}
+
+-- Each live client has a number that can be given out.
+abbrev pub AreNumbered : Registry → Type 0
+AreNumbered registry =
+    (number : ℕ) → IsTrue (is_live number registry) → (1 ≤ number) × (number ≤ CLIENT_LIMIT)
+
+-- A client is told by its number: all clientids are of the run of the server that the journal is of.
+abbrev pub AreOfOneRun : History → State → Type 0
+AreOfOneRun journal state =
+    (number : ℕ) → is_live_in journal state number ≡ is_live number state.clients
+
+-- the client that the operation confirms, by its number
+abbrev pub confirmed_by : Op → Option ℕ
+confirmed_by (ops.SetclientidConfirm args) = Some args.client.number
+confirmed_by op = None
+
+-- the live client that this one replaces when the operation confirms it
+abbrev pub replaced_in : Registry → Op → Option ℕ
+replaced_in registry op = option_and_then (λ number. replaced_by number registry) (confirmed_by op)
+
+-- How a call changes which clients are live.
+pub record LiveFollow (op : Op) (old new : Registry) : Type 0 where
+  -- only the client that it confirms becomes live, and only if it could
+  pub comes : (number : ℕ) → IsFalse (is_live number old) → IsTrue (is_live number new)
+      → (confirmed_by op ≡ Some number) × IsTrue (can_become_live number old)
+  -- only the client that this one replaces isn't live any more
+  pub goes : (number : ℕ) → IsTrue (is_live number old) → IsFalse (is_live number new)
+      → replaced_in old op ≡ Some number
+  -- who can't become live can't afterwards
+  pub once : (number : ℕ) → IsTrue (can_become_live number new) → IsTrue (can_become_live number old)
+
+-- How the end of a client changes which clients are live.
+pub record LiveEnd (client : ℕ) (old new : Registry) : Type 0 where
+  pub ends : (number : ℕ) → is_live number new ≡ (is_live number old && not (number == client))
+  pub once : (number : ℕ) → IsTrue (can_become_live number new) → IsTrue (can_become_live number old)
+
+-- what each call does to who is live, and what each end of a client does
+abbrev pub CallsFollow : Type 0
+CallsFollow =
+    (journal : History) (old new : State) (request : Request) (answer : OpResult)
+    → Lawful journal old
+    → Step journal old (entry_of request answer) new
+    → LiveFollow request.op old.clients new.clients
+
+abbrev pub EndsFollow : Type 0
+EndsFollow =
+    (journal : History) (old new : State) (expire : Expire)
+    → Lawful journal old
+    → Step journal old (entries.Expire expire) new
+    → LiveEnd expire.client old.clients new.clients
