@@ -161,7 +161,7 @@ not_next c number last given next is =
     omega (arith, leb-true c last both.1, next, eqb-true number c is)
 
 -- nobody comes and nobody goes
-unmoved : (op : Op) (old new : Registry) → ((c : ℕ) → is_live c new ≡ is_live c old) → ((c : ℕ) → can_become_live c new ≡ true → can_become_live c old ≡ true) → LiveFollow op old new
+pub unmoved : (op : Op) (old new : Registry) → ((c : ℕ) → is_live c new ≡ is_live c old) → ((c : ℕ) → can_become_live c new ≡ true → can_become_live c old ≡ true) → LiveFollow op old new
 unmoved op old new same once = record {
   comes = λ c dead live. absurd (never (is_live c old) dead (sym (same c) ∙ live));
   goes = λ c live dead. absurd (never (is_live c new) dead (same c ∙ live));
