@@ -5,7 +5,7 @@ ghost use Rattle.nfs_server.specs.Exchange.{rules};
 ghost use Rattle.nfs_server.specs.Once.{fault_of, status_of};
 ghost use Rattle.nfs_server.specs.declared.clock.Stopped.{Stopped};
 ghost use Rattle.nfs_server.specs.declared.serve_error.ServeError.{ServeError};
-ghost use Rattle.nfs_server.specs.declared.service.Lent.{Lent};
+ghost use Rattle.nfs_server.specs.declared.lent.Lent.{Lent};
 
 use crate::{Clock, Fault, Lent, Service, Sink, Source, Stopped, serve_connection};
 use nfs_core::{Core, Moment};
