@@ -4,7 +4,7 @@
 ghost use Rattle.std.specs.Prelude.{◌≡◌, [], IfOk};
 ghost use Rattle.nfs_options.specs.CommandLine.{IsOnceWithinLimits};
 
-use nfs_core::{Core, CoreError};
+use nfs_core::{Core, CoreError, Moment};
 use nfs_options::{Declined, OnceOptions, Subcommand, options};
 use nfs_server::{Counted, Fault, read_tree, run_once};
 use nfs_tree::{DEFAULT_TREE, Tree};
@@ -44,10 +44,19 @@ fn once(rt: &HostRuntime, options: &OnceOptions<'_>) -> u8
     let Ok(core) = core_of(rt.alloc(), options, &tree) else {
         return report(rt, Fault::NoMemory);
     };
+    let now = Moment::new(options.moment).unwrap();
     let mut source = Counted::new(rt.stdin());
     let mut sink = Counted::new(rt.stdout());
     let mut errors = rt.stderr();
-    run_once(rt.alloc(), core, &tree, &mut source, &mut sink, &mut errors)
+    run_once(
+        rt.alloc(),
+        core,
+        &tree,
+        now,
+        &mut source,
+        &mut sink,
+        &mut errors,
+    )
 }
 
 // A core for the tree, with the tree's policy, and the lease and the epoch of the options.
