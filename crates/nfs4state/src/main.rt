@@ -3,6 +3,7 @@
 
 ghost use Rattle.std.specs.Prelude.{◌≡◌, [], IfOk};
 ghost use Rattle.nfs_options.specs.CommandLine.{IsOnceWithinLimits};
+ghost use Rattle.nfs_owners.specs.Registry.{no_clients};
 
 use nfs_core::{Core, CoreError, Moment};
 use nfs_options::{Declined, OnceOptions, Subcommand, options};
@@ -62,13 +63,14 @@ fn once(rt: &HostRuntime, options: &OnceOptions<'_>) -> u8
 // A core for the tree, with the tree's policy, and the lease and the epoch of the options.
 fn core_of(alloc: Global, options: &OnceOptions<'_>, tree: &Tree) -> Result<Core, CoreError>
     requires limits { IsOnceWithinLimits options.now }
-    ensures { IfOk result (λ core. core.journal ≡ record {
+    ensures journal { IfOk result (λ core. core.journal ≡ record {
       nodes = tree.now.nodes;
       epoch = options.now.epoch;
       lease = options.now.lease;
       policy = tree.now.policy;
       entries = [];
     }) }
+    ensures clients { IfOk result (λ core. core.stored.clients ≡ no_clients) }
 {
     Core::new(alloc, tree, options.lease, options.epoch, tree.policy())
 }

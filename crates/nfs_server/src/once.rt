@@ -1,4 +1,5 @@
-ghost use Rattle.std.specs.Prelude.{◌≡◌, ◌-◌, ◌^◌, ◌<◌, ◌↔◌, ◌⊎◌, ℕ, Result, Err, IsErrOf};
+ghost use Rattle.std.specs.Prelude.{◌≡◌, ◌-◌, ◌^◌, ◌<◌, ◌↔◌, ◌⊎◌, ℕ, Result, Err, IsErrOf, IsFalse};
+ghost use Rattle.nfs_owners.specs.Registry.{is_live};
 ghost use Rattle.nfs_server.specs.Connection.{HasCourse, scene};
 ghost use Rattle.nfs_server.specs.Sides.{device_of, sides};
 ghost use Rattle.nfs_server.specs.Exchange.{rules};
@@ -13,7 +14,7 @@ use nfs_tree::Tree;
 use std::alloc::Global;
 use std::io::Write;
 
-/// Serves one input to its end, with this core, and the tree for which the core was made. All calls come at the moment
+/// Serves one input to its end, with this core, in which no client is live, and the tree for which it was made. All calls come at the moment
 /// `now`. Returns the program's exit status: 0, or 1 after a fault, which is reported by a line on `errors`.
 pub fn run_once<R: Source, W: Sink, E: Write>(
     alloc: Global,
@@ -28,6 +29,7 @@ pub fn run_once<R: Source, W: Sink, E: Write>(
     requires writes { W.failures sink.old < 2 ^ 64 - 1 }
     requires tree { core.journal.nodes ≡ tree.now.nodes }
     requires policy { core.journal.policy ≡ tree.now.policy }
+    requires clients { (number : ℕ) → IsFalse (is_live number core.stored.clients) }
     // The input was served as one connection at this moment, starting from this core, and the
     // status says how it ended; or memory ran out before anything was read.
     ensures served { (outcome : Result ℕ ServeError)
