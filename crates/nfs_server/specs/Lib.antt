@@ -1,5 +1,6 @@
 pub mod Answering
 pub mod Asking
+pub mod Leases
 pub mod Leasing
 pub mod Entries
 pub mod Folding
