@@ -1,7 +1,7 @@
 pub mod Answering
 pub mod Asking
 pub mod Leases
-pub mod Leasing
+pub mod LentAnswers
 pub mod Entries
 pub mod Folding
 pub mod Device

@@ -3,7 +3,7 @@ ghost use Rattle.nfs_core.specs.Server.{AreAlike, Server};
 ghost use Rattle.nfs_owners.specs.Registry.{is_live};
 ghost use Rattle.nfs_server.specs.Entries.{QuestionsAreEntries};
 ghost use Rattle.nfs_server.specs.Leases.{IsLent, has_open_lease, outcome_of, with_renewal};
-ghost use Rattle.nfs_server.specs.Leasing.{IsGiven};
+ghost use Rattle.nfs_server.specs.LentAnswers.{IsGiven};
 ghost use Rattle.nfs_shared.specs.PlainBook.{Happens};
 ghost use Rattle.nfs_shared.specs.Sweeps.{Sweeps};
 ghost use Rattle.nfs_shared.specs.Turn.{Turn};
