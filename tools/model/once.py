@@ -35,10 +35,12 @@ def server_of(given, kind=Server):
 
 def main():
     parser = options(__doc__)
+    parser.add_argument("--now", metavar="SECONDS", type=int, default=0, help="the moment of all calls")
     parser.add_argument("--journal", metavar="FILE", help="where to write the journal at the end, also after a fault")
     parser.add_argument("command", nargs="?", choices=["once"], help="may be left out")
     given = parser.parse_args()
     server = server_of(given, Recorder)
+    server.moment = given.now
     replies, fault = server.converse(sys.stdin.buffer.read())
     sys.stdout.buffer.write(replies)
     sys.stdout.flush()

@@ -3,8 +3,9 @@
 
 ghost use Rattle.std.specs.Prelude.{◌≡◌, [], IfOk};
 ghost use Rattle.nfs_options.specs.CommandLine.{IsOnceWithinLimits};
+ghost use Rattle.nfs_owners.specs.Registry.{no_clients};
 
-use nfs_core::{Core, CoreError};
+use nfs_core::{Core, CoreError, Moment};
 use nfs_options::{Declined, OnceOptions, Subcommand, options};
 use nfs_server::{Counted, Fault, read_tree, run_once};
 use nfs_tree::{DEFAULT_TREE, Tree};
@@ -44,22 +45,32 @@ fn once(rt: &HostRuntime, options: &OnceOptions<'_>) -> u8
     let Ok(core) = core_of(rt.alloc(), options, &tree) else {
         return report(rt, Fault::NoMemory);
     };
+    let now = Moment::new(options.moment).unwrap();
     let mut source = Counted::new(rt.stdin());
     let mut sink = Counted::new(rt.stdout());
     let mut errors = rt.stderr();
-    run_once(rt.alloc(), core, &tree, &mut source, &mut sink, &mut errors)
+    run_once(
+        rt.alloc(),
+        core,
+        &tree,
+        now,
+        &mut source,
+        &mut sink,
+        &mut errors,
+    )
 }
 
 // A core for the tree, with the tree's policy, and the lease and the epoch of the options.
 fn core_of(alloc: Global, options: &OnceOptions<'_>, tree: &Tree) -> Result<Core, CoreError>
     requires limits { IsOnceWithinLimits options.now }
-    ensures { IfOk result (λ core. core.journal ≡ record {
+    ensures journal { IfOk result (λ core. core.journal ≡ record {
       nodes = tree.now.nodes;
       epoch = options.now.epoch;
       lease = options.now.lease;
       policy = tree.now.policy;
       entries = [];
     }) }
+    ensures clients { IfOk result (λ core. core.stored.clients ≡ no_clients) }
 {
     Core::new(alloc, tree, options.lease, options.epoch, tree.policy())
 }

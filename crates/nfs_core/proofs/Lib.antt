@@ -1,5 +1,9 @@
+pub mod ClientChanges
 pub mod Entering
 pub mod Journals
+pub mod LiveClients
+pub mod LiveLaws
+pub mod LiveLists
 pub mod SafeDistinct
 pub mod SafeFiles
 pub mod SafeLists

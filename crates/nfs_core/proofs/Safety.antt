@@ -55,21 +55,21 @@ sound_empty journal =
     }
 
 -- what an entry may do is ready to keep the state sound
-allowed_ready : (journal : History) (old : State) (entry : Entry) (effect : Effect) → IsSound old → HasSingles old.clients → Allows journal old entry effect → IsEffectReady (length journal.entries) old effect
+pub allowed_ready : (journal : History) (old : State) (entry : Entry) (effect : Effect) → IsSound old → HasSingles old.clients → Allows journal old entry effect → IsEffectReady (length journal.entries) old effect
 allowed_ready journal old (entries.Expire expire) effect sound singles allowed =
     subst (IsEffectReady (length journal.entries) old) (sym allowed.removal) (tt, alone (client_of journal expire.client) old.clients.records allowed.live singles.same)
 allowed_ready journal old (entries.Call call) effect sound singles allowed =
     ruled_ready (length journal.entries) journal old call.request.op call.request (record { answer = call.answer; effect = effect }) refl sound allowed.rule
 
 -- What holds of the state after each entry.
-record Holds (state : State) : Type 0 where
-  sound : IsSound state
-  numbered : HasNumbers state
-  ones : HasOnes state
-  singles : HasSingles state.clients
-  within : KeepsLimits state
+pub record Holds (state : State) : Type 0 where
+  pub sound : IsSound state
+  pub numbered : HasNumbers state
+  pub ones : HasOnes state
+  pub singles : HasSingles state.clients
+  pub within : KeepsLimits state
 
-holds_empty : (journal : History) → Holds (empty_server journal.nodes)
+pub holds_empty : (journal : History) → Holds (empty_server journal.nodes)
 holds_empty journal = record {
   sound = sound_empty journal;
   numbered = numbered_empty journal.nodes;
@@ -93,12 +93,12 @@ holds_after laws number effect old ready holds = record {
   within = limits_changed laws.runs effect.change (with_owner_change effect.owner number old) ready.1 (limits_owned effect.owner number old ready.0 holds.within);
 }
 
-holds_step : Laws → (journal : History) (old : State) (entry : Entry) (new : State) → Step journal old entry new → Holds old → Holds new
+pub holds_step : Laws → (journal : History) (old : State) (entry : Entry) (new : State) → Step journal old entry new → Holds old → Holds new
 holds_step laws journal old entry new step holds =
     subst Holds (sym step.state)
     (holds_after laws (length journal.entries) step.effect old (allowed_ready journal old entry step.effect holds.sound holds.singles step.allowed) holds)
 
-holds_leads : Laws → (journal : History) (old new : State) (entries : List Entry) → Leads journal old entries new → Holds old → Holds new
+pub holds_leads : Laws → (journal : History) (old new : State) (entries : List Entry) → Leads journal old entries new → Holds old → Holds new
 holds_leads laws journal old new [] leads holds = subst Holds (sym leads) holds
 holds_leads laws journal old new (entry ∷ entries) leads holds =
     holds_leads laws (with_entry entry journal) leads.0 new entries leads.2 (holds_step laws journal old entry leads.0 leads.1 holds)

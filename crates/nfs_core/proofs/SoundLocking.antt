@@ -107,7 +107,7 @@ changes_ready number old name newcomer status node id change owner has free plac
     subst (IsChangeReady (changes.Locks node id change)) (sym goes.state) (owner, has, free, place)
 
 -- what is given if there is a place
-placed : (has : Bool) (given : Ruling) (r : Ruling) → Some r ≡ (if has then Some given else None) → (has ≡ true) × (r ≡ given)
+pub placed : (has : Bool) (given : Ruling) (r : Ruling) → Some r ≡ (if has then Some given else None) → (has ≡ true) × (r ≡ given)
 placed has given r is = elim (cases_Bool has) [
   | inl place ↦ (place, some_equal r given (is ∙ cond-true has (Some given) None place))
   | inr full ↦
@@ -115,7 +115,7 @@ placed has given r is = elim (cases_Bool has) [
       absurd cc
 ]
 
-unless : (full : Bool) (given : Ruling) (r : Ruling) → Some r ≡ (if full then None else Some given) → (full ≡ false) × (r ≡ given)
+pub unless : (full : Bool) (given : Ruling) (r : Ruling) → Some r ≡ (if full then None else Some given) → (full ≡ false) × (r ≡ given)
 unless full given r is = elim (cases_Bool full) [
   | inl none ↦
       let nothing : Some r ≡ None = is ∙ cond-true full None (Some given) none in

@@ -16,7 +16,7 @@ plus_is_no_digit (b ∷ bs) e n =
 no_plus : (bs : List ℕ) → (slice_index bs 0 == 43) ≡ false → without_leading_plus bs ≡ bs
 no_plus bs e = rw e refl
 
-pub parsed : {E : Type 0} (bs : List ℕ) (r : Result ℕ E) → (slice_index bs 0 == 43) ≡ false → ParsesUnsigned 32 10 bs r
-    → SomeIff (result_ok r) (IsNumeral 10 bs × (digits_value 10 bs < 2 ^ 32)) (digits_value 10 bs)
-parsed bs (Ok n) e h = subst (λ ds. (IsNumeral 10 ds × (digits_value 10 ds < 2 ^ 32)) × (n ≡ digits_value 10 ds)) (no_plus bs e) h
-parsed bs (Err x) e h = subst (λ ds. IsNumeral 10 ds × (digits_value 10 ds < 2 ^ 32) → ⊥) (no_plus bs e) h
+pub parsed : {E : Type 0} (bs : List ℕ) (r : Result ℕ E) → (slice_index bs 0 == 43) ≡ false → ParsesUnsigned 64 10 bs r
+    → SomeIff (result_ok r) (IsNumeral 10 bs × (digits_value 10 bs < 2 ^ 64)) (digits_value 10 bs)
+parsed bs (Ok n) e h = subst (λ ds. (IsNumeral 10 ds × (digits_value 10 ds < 2 ^ 64)) × (n ≡ digits_value 10 ds)) (no_plus bs e) h
+parsed bs (Err x) e h = subst (λ ds. IsNumeral 10 ds × (digits_value 10 ds < 2 ^ 64) → ⊥) (no_plus bs e) h

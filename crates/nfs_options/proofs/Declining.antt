@@ -54,7 +54,8 @@ bare_declined words d name h e = go d (subst (λ ws. IsDeclined ws d) e h)
     go (declined.Help text) h = absurd (among DisplayHelp h)
     go (declined.Usage text) (inl h) = absurd (among h.0 h.1)
     go (declined.Usage text) (inr (e, inl h)) = absurd h
-    go (declined.Usage text) (inr (e, inr h)) = absurd h
+    go (declined.Usage text) (inr (e, inr (inl h))) = absurd h
+    go (declined.Usage text) (inr (e, inr (inr h))) = absurd h
 
 pub bare : (words : List Text) (r : Result Subcommand Declined) (name : Text) → IfOk r (Asks words) → IfErr r (IsDeclined words) → words ≡ name ∷ []
     → MatchResult r (AsksOnce []) (λ d. d ≡ declined.Memory)

@@ -22,8 +22,9 @@ option_rule name = record (new_rule name) { long = Some name; value_names = 1 }
 -- `once`, with its options
 abbrev pub once : App
 once =
-    with_rule (with_rule (with_rule (new_app (codes "once")) (option_rule (codes "tree")))
-    (option_rule (codes "lease"))) (option_rule (codes "epoch"))
+    with_rule (with_rule (with_rule (with_rule (new_app (codes "once"))
+    (option_rule (codes "tree"))) (option_rule (codes "lease"))) (option_rule (codes "epoch")))
+    (option_rule (codes "now"))
 
 -- the program: its subcommands, no options of its own except clap's help, and no subcommand `help`
 abbrev pub program : App
@@ -61,6 +62,12 @@ epoch_default = 1
 abbrev pub epoch_max : ℕ
 epoch_max = 4294967295
 
+abbrev pub moment_default : ℕ
+moment_default = 0
+
+abbrev pub moment_max : ℕ
+moment_max = 1099511627775
+
 -- ---- what the words ask the program to do
 
 -- the options of the subcommand; no subcommand means `once` without options
@@ -77,11 +84,13 @@ IsOnce rows o =
     (text_of o.tree ≡ first_of (codes "tree") rows)
     × IsNumber LEASE_MIN LEASE_MAX lease_default (first_of (codes "lease") rows) o.lease
     × IsNumber 0 epoch_max epoch_default (first_of (codes "epoch") rows) o.epoch
+    × IsNumber 0 moment_max moment_default (first_of (codes "now") rows) o.moment
 
 -- the value of some option is not a number within its limits
 abbrev pub HasNoNumber : List Row → Type 0
 HasNoNumber rows = IsNoNumber LEASE_MIN LEASE_MAX (first_of (codes "lease") rows)
-    ⊎ IsNoNumber 0 epoch_max (first_of (codes "epoch") rows)
+    ⊎ (IsNoNumber 0 epoch_max (first_of (codes "epoch") rows)
+    ⊎ IsNoNumber 0 moment_max (first_of (codes "now") rows))
 
 abbrev pub AsksOnce : List Row → Subcommand → Type 0
 AsksOnce rows (subcommand.Once o) = IsOnce rows o
@@ -92,7 +101,8 @@ Asks words s = (fault_of program words ≡ []) × AsksOnce (once_rows words) s
 
 -- the numbers are within their limits
 abbrev pub IsOnceWithinLimits : OnceOptions → Type 0
-IsOnceWithinLimits o = (LEASE_MIN ≤ o.lease) × (o.lease ≤ LEASE_MAX) × (o.epoch ≤ epoch_max)
+IsOnceWithinLimits o = (LEASE_MIN ≤ o.lease) × (o.lease ≤ LEASE_MAX)
+    × (o.epoch ≤ epoch_max) × (o.moment ≤ moment_max)
 
 abbrev pub IsWithinLimits : Subcommand → Type 0
 IsWithinLimits (subcommand.Once o) = IsOnceWithinLimits o

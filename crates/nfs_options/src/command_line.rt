@@ -17,9 +17,9 @@ pub enum Subcommand<'a> {
 }
 
 /// Reads the words of the command line, the first of which is the program's name: `once`, with `--tree FILE`, `--lease
-/// SECONDS` (1 to 86,400, by default 90) and `--epoch NUMBER` (0 to 2^32 - 1, by default 1), each at most once. Numbers
-/// are decimal digits without a sign. The program's name alone means `once` without options, and `--help` or `-h`,
-/// before or after `once`, asks for help.
+/// SECONDS` (1 to 86,400, by default 90), `--epoch NUMBER` (0 to 2^32 - 1, by default 1) and `--now SECONDS` (0 to
+/// 2^40 - 1, by default 0), each at most once. Numbers are decimal digits without a sign. The program's name alone means
+/// `once` without options, and `--help` or `-h`, before or after `once`, asks for help.
 pub fn options<'a, S: AsStr>(alloc: Global, words: &'a [S]) -> Result<Subcommand<'a>, Declined>
     ensures asked { IfOk result (Asks (map S.text words.now)) }
     ensures limits { IfOk result IsWithinLimits }

@@ -47,10 +47,16 @@ fn once_command<'a>(alloc: Global) -> Result<Command<'a>, AllocError>
         "NUMBER",
         "The run, the upper half of each clientid, 0 to 4294967295 [default: 1]",
     );
+    let now = option(
+        alloc,
+        "now",
+        "SECONDS",
+        "The moment of all calls, 0 to 1099511627775 seconds [default: 0]",
+    );
     let once = Command::new(alloc, "once")
         .about("Answers the records on standard input, to its end, on standard output")
         .after_help(ONCE_NOTE);
-    once.arg(tree)?.arg(lease)?.arg(epoch)
+    once.arg(tree)?.arg(lease)?.arg(epoch)?.arg(now)
 }
 
 fn option<'a>(alloc: Global, name: &'a str, value_name: &'a str, help: &'a str) -> Arg<'a>

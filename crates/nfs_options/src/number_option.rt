@@ -12,15 +12,15 @@ pub(crate) struct NumberOption {
     pub(crate) name: &'static str,
     /// The name of the value in the help text.
     pub(crate) value_name: &'static str,
-    pub(crate) least: u32,
-    pub(crate) most: u32,
+    pub(crate) least: u64,
+    pub(crate) most: u64,
     /// The number if the option is absent.
-    pub(crate) default: u32,
+    pub(crate) default: u64,
 }
 
 impl NumberOption {
     /// The number that the option's value gives, or the default.
-    pub(crate) fn number(&self, alloc: Global, value: Option<&str>) -> Result<u32, Declined>
+    pub(crate) fn number(&self, alloc: Global, value: Option<&str>) -> Result<u64, Declined>
         ensures ok { IfOk result
             (IsNumber self.now.least self.now.most self.now.default (text_of value.entry)) }
         ensures err { IfErr result
@@ -33,6 +33,19 @@ impl NumberOption {
             Some(number) => Ok(number),
             None => Err(self.refusal(alloc, text)),
         }
+    }
+
+    /// The same, where no number that the option may have is above a `u32`.
+    pub(crate) fn short_number(&self, alloc: Global, value: Option<&str>) -> Result<u32, Declined>
+        requires most { self.now.most < 2 ^ 32 }
+        requires default { self.now.default < 2 ^ 32 }
+        ensures ok { IfOk result
+            (IsNumber self.now.least self.now.most self.now.default (text_of value.entry)) }
+        ensures err { IfErr result
+            (IsMemoryOr (IsNoNumber self.now.least self.now.most (text_of value.entry))) }
+    {
+        let number = self.number(alloc, value)?;
+        Ok(number as u32)
     }
 
     // The error for a text that is not a number within the limits.
@@ -59,7 +72,7 @@ impl NumberOption {
 }
 
 // The number that a text gives in decimal digits, with nothing else, if it is from `least` to `most`.
-fn number_within(text: &str, least: u32, most: u32) -> Option<u32>
+fn number_within(text: &str, least: u64, most: u64) -> Option<u64>
     ensures { MatchOption result ((n : ℕ) → SpellsWithin least most text.now n → ⊥)
         (SpellsWithin least most text.now) }
 {
@@ -72,12 +85,12 @@ fn number_within(text: &str, least: u32, most: u32) -> Option<u32>
 }
 
 // The number that a text gives in decimal digits, with nothing else. Unlike `parse`, it accepts no plus sign.
-fn decimal(text: &str) -> Option<u32>
-    ensures { SomeIff result (IsNumeral 10 text.now × (digits_value 10 text.now < 2 ^ 32))
+fn decimal(text: &str) -> Option<u64>
+    ensures { SomeIff result (IsNumeral 10 text.now × (digits_value 10 text.now < 2 ^ 64))
         (digits_value 10 text.now) }
 {
     if text.starts_with('+') {
         return None;
     }
-    text.parse::<u32>().ok()
+    text.parse::<u64>().ok()
 }

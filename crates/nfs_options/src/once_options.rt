@@ -17,7 +17,12 @@ pub struct OnceOptions<'a> {
     pub lease: u32,
     /// The number of the server's run, the upper half of each clientid.
     pub epoch: u32,
+    /// The moment of all calls, in seconds below 2^40.
+    pub moment: u64,
 }
+
+/// The last moment that there is.
+const MOMENT_MAX: u64 = (1 << 40) - 1;
 
 impl<'a> OnceOptions<'a> {
     /// The values of the options that are absent.
@@ -25,6 +30,7 @@ impl<'a> OnceOptions<'a> {
         tree: None,
         lease: 90,
         epoch: 1,
+        moment: 0,
     };
 
     /// The options that clap found, with the defaults for the others.
@@ -36,21 +42,29 @@ impl<'a> OnceOptions<'a> {
         let lease = NumberOption {
             name: "lease",
             value_name: "SECONDS",
-            least: LEASE_MIN,
-            most: LEASE_MAX,
-            default: OnceOptions::DEFAULT.lease,
+            least: LEASE_MIN as u64,
+            most: LEASE_MAX as u64,
+            default: OnceOptions::DEFAULT.lease as u64,
         };
         let epoch = NumberOption {
             name: "epoch",
             value_name: "NUMBER",
             least: 0,
-            most: u32::MAX,
-            default: OnceOptions::DEFAULT.epoch,
+            most: u32::MAX as u64,
+            default: OnceOptions::DEFAULT.epoch as u64,
+        };
+        let moment = NumberOption {
+            name: "now",
+            value_name: "SECONDS",
+            least: 0,
+            most: MOMENT_MAX,
+            default: OnceOptions::DEFAULT.moment,
         };
         Ok(OnceOptions {
             tree: matches.get_str("tree"),
-            lease: lease.number(alloc, matches.get_str(lease.name))?,
-            epoch: epoch.number(alloc, matches.get_str(epoch.name))?,
+            lease: lease.short_number(alloc, matches.get_str(lease.name))?,
+            epoch: epoch.short_number(alloc, matches.get_str(epoch.name))?,
+            moment: moment.number(alloc, matches.get_str(moment.name))?,
         })
     }
 }

@@ -8,7 +8,8 @@ use Rattle.nfs_state.specs.Entries.{entry_of}
 use Rattle.nfs_state.specs.declared.request.Request.{Request}
 use Rattle.nfs_server.specs.Asking.{GivenByCore, Operation, Question, Renewal}
 use Rattle.nfs_server.specs.Entries.{AreEntries, QuestionsAreEntries}
-use Rattle.nfs_server.specs.declared.service.Lent.{Lent}
+use Rattle.nfs_server.specs.Leasing.{IsGiven}
+use Rattle.nfs_server.specs.declared.lent.Lent.{Lent}
 use Rattle.nfs_xdr.specs.declared.op_result.OpResult.{OpResult}
 
 -- what a call of `apply` gives is given by the core
@@ -73,6 +74,11 @@ gains_first old mid new (Operation request) questions answer answers (inr refuse
 gains_first old mid new (Renewal moment client) questions answer answers alike others =
     gains_after old mid new questions answers alike others
 
+-- what is given is given by the core
+core_gives : (old new : Lent) (question : Question) (answer : OpResult) → IsGiven old question answer new → GivenByCore old.core question answer new.core
+core_gives old new (Operation request) answer given = given.0
+core_gives old new (Renewal moment client) answer given = (ap (λ (s : Server). s.journal) given.1, ap (λ (s : Server). s.stored) given.1)
+
 -- where nothing was asked the journal gained nothing
 pub gains_nothing : (old new : Lent) → new ≡ old → Gains [] [] old.core.journal new.core.journal
 gains_nothing old new same = (
@@ -85,6 +91,6 @@ pub questions_are_entries : QuestionsAreEntries
 questions_are_entries old new [] [] asked = gains_nothing old new asked
 questions_are_entries old new (question ∷ questions) (answer ∷ answers) asked =
     let mid = asked.0 in
-    gains_first old.core mid.core new.core question questions answer answers asked.1 (questions_are_entries mid new questions answers asked.2)
+    gains_first old.core mid.core new.core question questions answer answers (core_gives old mid question answer asked.1) (questions_are_entries mid new questions answers asked.2)
 questions_are_entries old new [] (answer ∷ answers) asked = absurd asked
 questions_are_entries old new (question ∷ questions) [] asked = absurd asked

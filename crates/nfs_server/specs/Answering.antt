@@ -19,6 +19,7 @@ use Rattle.nfs_xdr.specs.declared.compound.Compound.{Compound}
 use Rattle.nfs_xdr.specs.declared.compound.CompoundRequest.{CompoundRequest}
 use Rattle.nfs_xdr.specs.declared.compound.CompoundRequest.TheVariants.{MinorVersion, TooMany, Operations}
 use Rattle.nfs_xdr.specs.declared.op.Op.{Op}
+use Rattle.nfs_xdr.specs.declared.op.Op.TheVariants as ops
 use Rattle.nfs_xdr.specs.declared.op_result.OpResult.{OpResult}
 use Rattle.nfs_xdr.specs.declared.opnum.Opnum.TheVariants as opnums
 use Rattle.nfs_forms.specs.declared.client_id.ClientId.{ClientId}
@@ -63,6 +64,11 @@ pub data Dispatch : Type 0 where
   Known : Effect → Dispatch
   Ask : Asked → Dispatch
 
+-- what the service is asked for an operation that needs more than the tree: RENEW asks for a renewal (section 16.28)
+abbrev pub question_for : Op → Option ℕ → Asked
+question_for (ops.Renew args) filehandle = Renewal args.client
+question_for op filehandle = Operation op filehandle
+
 -- An operation that needs only the tree is answered by its effect; for any other the service is asked.
 abbrev pub by_effect : Option Effect → Asked → Dispatch
 by_effect (Some effect) question = Known effect
@@ -79,7 +85,7 @@ dispatch tree handles size (Illegal number) =
 dispatch tree handles size (Run op) =
     if not (nat_le (size + room_of (opnum_of op)) RECORD_LIMIT)
     then Known (stays handles (resource op))
-    else by_effect (effect_of tree handles op) (Operation op handles.current)
+    else by_effect (effect_of tree handles op) (question_for op handles.current)
 
 -- The filehandles after the service's answer: with NFS4_OK they follow the operation.
 abbrev pub handles_after_answer : Files → Filehandles → Asked → OpResult → Filehandles

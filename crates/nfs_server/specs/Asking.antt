@@ -9,7 +9,7 @@ use Rattle.nfs_core.specs.Server.{Server, Applies, AreAlike}
 use Rattle.nfs_state.specs.Entries.{request_of, resource}
 use Rattle.nfs_xdr.specs.declared.op_result.OpResult.{OpResult}
 
--- A question to a service: the request for an operation; or that the lease of a client be renewed at this moment.
+-- A question to a service: the request for an operation; or RENEW, that the lease of a client be renewed at this moment.
 pub data Question : Type 0 where
   Operation : Request → Question
   Renewal : ℕ → ClientId → Question
@@ -31,8 +31,7 @@ Asks gives old [] (answer ∷ answers) new = ⊥
 Asks gives old (question ∷ questions) [] new = ⊥
 
 -- How a core answers a question: an operation with its answer becomes the journal's next entry, or the answer is
--- NFS4ERR_RESOURCE and nothing changes but room. It has no leases: a renewal changes nothing but room, and no operation
--- asks for one.
+-- NFS4ERR_RESOURCE and nothing changes but room. It has no leases: a renewal changes nothing but room.
 abbrev pub GivenByCore : Server → Question → OpResult → Server → Type 0
 GivenByCore old (Operation request) answer new =
     ((number : ℕ) × Applies old new request answer (Some number))

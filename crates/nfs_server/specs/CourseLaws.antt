@@ -8,7 +8,7 @@ use Rattle.nfs_rpc.specs.Records.{Splits}
 use Rattle.nfs_tree.specs.Tree.{Files}
 use Rattle.nfs_server.specs.declared.serve_error.ServeError.{ServeError}
 use Rattle.nfs_server.specs.declared.serve_error.ServeError.TheVariants as errors
-use Rattle.nfs_server.specs.declared.service.Lent.{Lent}
+use Rattle.nfs_server.specs.declared.lent.Lent.{Lent}
 use Rattle.nfs_server.specs.Connection.{Scene, Turn, Course, AreTurns, IsCourse, all_exchanges, exchanges_of, rest_after, text_of}
 use Rattle.nfs_server.specs.Device.{Device}
 use Rattle.nfs_server.specs.Entries.{AreEntries}

@@ -2,8 +2,9 @@
 use Rattle.std.specs.Prelude.{◌≡◌, ◌≢◌, ◌⊎◌, List, [], ◌∷◌, ◌++◌}
 use Rattle.nfs_state.specs.declared.entry.Entry.{Entry}
 use Rattle.nfs_state.specs.Entries.{entry_of, resource}
-use Rattle.nfs_server.specs.Asking.{Asks, GivenByCore, Operation, Question, Renewal}
-use Rattle.nfs_server.specs.declared.service.Lent.{Lent}
+use Rattle.nfs_server.specs.Asking.{Asks, Operation, Question, Renewal}
+use Rattle.nfs_server.specs.Leasing.{IsGiven}
+use Rattle.nfs_server.specs.declared.lent.Lent.{Lent}
 use Rattle.nfs_xdr.specs.declared.op_result.OpResult.{OpResult}
 
 -- The entries are the operations that were asked, with their answers, in order, except those that were answered
@@ -25,8 +26,7 @@ AreEntries (question ∷ questions) [] entries = ⊥
 abbrev pub QuestionsAreEntries : Type 0
 QuestionsAreEntries =
     (old new : Lent) (questions : List Question) (answers : List OpResult)
-    → Asks (λ (before : Lent) question answer (after : Lent).
-    GivenByCore before.core question answer after.core) old questions answers new
+    → Asks IsGiven old questions answers new
     → (entries : List Entry)
     × AreEntries questions answers entries
     × (new.core.journal ≡ record old.core.journal { entries = old.core.journal.entries ++ entries })

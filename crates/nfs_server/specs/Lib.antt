@@ -1,5 +1,6 @@
 pub mod Answering
 pub mod Asking
+pub mod Leasing
 pub mod Entries
 pub mod Folding
 pub mod Device

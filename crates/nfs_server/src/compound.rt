@@ -1,20 +1,23 @@
-ghost use Rattle.std.specs.Prelude.{◌≡◌, ◌+◌, ◌-◌, ◌^◌, ◌<◌, ◌≤◌, true, false, max, List, [], map, length, vec_capacity, IsOk, OnOk};
+ghost use Rattle.std.specs.Prelude.{◌≡◌, ◌+◌, ◌-◌, ◌^◌, ◌<◌, ◌≤◌, true, false, max, List, [], map, length, vec_capacity, IsFalse, IsOk, OnOk};
 ghost use Rattle.std.specs.List.{All, flat_map};
-ghost use Rattle.nfs_server.specs.Answering.{compound_outcome, compound_reply, head_size, is_ok, operations_of, request_status};
+ghost use Rattle.nfs_server.specs.Answering.{compound_outcome, compound_reply, handles_after_answer, head_size, is_ok, operations_of, question_for, request_status};
 ghost use Rattle.nfs_server.specs.Asking.{Asks, question_of};
 ghost use Rattle.nfs_rpc.specs.RpcCall.{HasFewOperations, IsWithinLimits};
 ghost use Rattle.nfs_tree.specs.Filehandles.{AreNodes};
 ghost use Rattle.nfs_server.specs.Folding.{IsAnswered, IsDetermined, asker_of, start};
 ghost use Rattle.nfs_xdr.specs.Compound.{compound_result};
 ghost use Rattle.nfs_xdr.specs.declared.op_result.OpResult.{OpResult};
+ghost use Rattle.nfs_xdr.specs.Op.{is_on_tree, opnum_of};
 ghost use Rattle.nfs_xdr.specs.OpResult.{op_result, status_of};
+ghost use Rattle.nfs_xdr.specs.Opnum.{answer_limit};
 
 use crate::Service;
 use nfs_core::Moment;
 use nfs_rpc::{ACCEPTED_LEN, CompoundReply, RECORD_LIMIT};
 use nfs_tree::{Filehandles, Tree};
 use nfs_xdr::{
-    ArgOp, Compound, CompoundRequest, OPERATION_LIMIT, OpResult, Opnum, Principal, Refusal, Status,
+    ArgOp, Compound, CompoundRequest, OPERATION_LIMIT, Op, OpResult, Opnum, Principal, Refusal,
+    Status,
 };
 use std::alloc::AllocError;
 use xdr::{Bytes, Measure, Sequence, padding_of};
@@ -169,8 +172,7 @@ fn is_ok(answer: &OpResult) -> bool
 }
 
 // Answers an entry of the list, whose result follows the first `size` bytes of the reply's record. An entry that ends
-// the list isn't run, nor is an operation for whose answer the reply may not have enough room. After an OPEN that is
-// answered NFS4_OK its file is the current one.
+// the list isn't run, nor is an operation for whose answer the reply may not have enough room.
 fn answer_one<S: Service>(
     service: &mut S,
     context: &Context<'_>,
@@ -204,6 +206,33 @@ fn answer_one<S: Service>(
     }
     if op.is_on_tree() {
         return handles.run(context.tree, op);
+    }
+    ask(service, context, handles, op)
+}
+
+// Asks the service for an operation that needs more than the tree. After an OPEN that is answered NFS4_OK its file is the
+// current one.
+fn ask<S: Service>(
+    service: &mut S,
+    context: &Context<'_>,
+    handles: &mut Filehandles,
+    op: &Op,
+) -> OpResult
+    requires more { IsFalse (is_on_tree op.now) }
+    requires serves { S.serves service.old ≡ context.now.tree.now.nodes }
+    requires nodes { AreNodes context.now.tree.now handles.old }
+    ensures given { S.gives service.old
+        (question_of context.now.moment context.now.principal
+        (question_for op.now handles.old.current)) result service.new }
+    ensures handles { handles.new ≡ handles_after_answer context.now.tree.now handles.old
+        (question_for op.now handles.old.current) result }
+    ensures serves { S.serves service.new ≡ context.now.tree.now.nodes }
+    ensures nodes { AreNodes context.now.tree.now handles.new }
+    ensures form { op_result.Fits result }
+    ensures fits { length (op_result.encoding result) ≤ answer_limit (opnum_of op.now) }
+{
+    if let Op::Renew(args) = op {
+        return service.renew(context.moment, args.client);
     }
     let answer = service.call(context.moment, context.principal, op, handles.current);
     if is_ok(&answer) {

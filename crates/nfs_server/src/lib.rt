@@ -8,6 +8,7 @@ mod course_laws;
 mod device;
 mod duplex;
 mod fault;
+mod lent;
 mod numbers;
 mod once;
 mod replies;
@@ -22,8 +23,9 @@ pub use course_laws::{bytes_of_a_connection, journal_of_a_connection, turns_are_
 pub use device::{Counted, DeviceFailed, Sink, Source};
 pub use duplex::Duplex;
 pub use fault::Fault;
+pub use lent::{Lent, questions_are_entries};
 pub use numbers::limits_of_connections;
 pub use once::run_once;
 pub use serve_error::ServeError;
-pub use service::{Lent, Service, questions_are_entries};
+pub use service::Service;
 pub use tree_file::read_tree;

@@ -1,24 +1,26 @@
-ghost use Rattle.std.specs.Prelude.{◌≡◌, ◌-◌, ◌^◌, ◌<◌, ◌↔◌, ℕ, Result, IsErrOf};
+ghost use Rattle.std.specs.Prelude.{◌≡◌, ◌-◌, ◌^◌, ◌<◌, ◌↔◌, ◌⊎◌, ℕ, Result, Err, IsErrOf, IsFalse};
+ghost use Rattle.nfs_owners.specs.Registry.{is_live};
 ghost use Rattle.nfs_server.specs.Connection.{HasCourse, scene};
 ghost use Rattle.nfs_server.specs.Sides.{device_of, sides};
 ghost use Rattle.nfs_server.specs.Exchange.{rules};
 ghost use Rattle.nfs_server.specs.Once.{fault_of, status_of};
 ghost use Rattle.nfs_server.specs.declared.clock.Stopped.{Stopped};
 ghost use Rattle.nfs_server.specs.declared.serve_error.ServeError.{ServeError};
-ghost use Rattle.nfs_server.specs.declared.service.Lent.{Lent};
+ghost use Rattle.nfs_server.specs.declared.lent.Lent.{Lent};
 
-use crate::{Clock, Fault, Lent, Service, Sink, Source, Stopped, serve_connection};
+use crate::{Clock, Fault, Lent, ServeError, Service, Sink, Source, Stopped, serve_connection};
 use nfs_core::{Core, Moment};
 use nfs_tree::Tree;
 use std::alloc::Global;
 use std::io::Write;
 
-/// Serves one input to its end at moment 0, with this core, and the tree for which the core was made. Returns the
-/// program's exit status: 0, or 1 after a fault, which is reported by a line on `errors`.
+/// Serves one input to its end, with this core, in which no client is live, and the tree for which it was made. All calls come at the moment
+/// `now`. Returns the program's exit status: 0, or 1 after a fault, which is reported by a line on `errors`.
 pub fn run_once<R: Source, W: Sink, E: Write>(
     alloc: Global,
     core: Core,
     tree: &Tree,
+    now: Moment,
     source: &mut R,
     sink: &mut W,
     errors: &mut E,
@@ -27,23 +29,28 @@ pub fn run_once<R: Source, W: Sink, E: Write>(
     requires writes { W.failures sink.old < 2 ^ 64 - 1 }
     requires tree { core.journal.nodes ≡ tree.now.nodes }
     requires policy { core.journal.policy ≡ tree.now.policy }
-    // The input was served as one connection, starting from this core, and the status says
-    // how it ended.
-    ensures served { (lent : Lent) × (clock : Stopped) × (lent' : Lent) × (clock' : Stopped)
-        × (outcome : Result ℕ ServeError)
-        × (lent.core ≡ core) × (clock.moment ≡ 0)
+    requires clients { (number : ℕ) → IsFalse (is_live number core.stored.clients) }
+    // The input was served as one connection at this moment, starting from this core, and the
+    // status says how it ended; or memory ran out before anything was read.
+    ensures served { (outcome : Result ℕ ServeError)
+        × (((lent : Lent) × (clock : Stopped) × (lent' : Lent) × (clock' : Stopped)
+        × (lent.core ≡ core) × (clock.moment ≡ now)
         × HasCourse (device_of R.gives R.fails W.takes W.fails)
         (rules tree.now ⟦<Lent as Service>⟧.gives ⟦<Lent as Service>⟧.alike
         ⟦<Stopped as Clock>⟧.tells)
         (scene (sides source.old sink.old) lent clock) outcome
-        (scene (sides source.new sink.new) lent' clock')
+        (scene (sides source.new sink.new) lent' clock'))
+        ⊎ ((outcome ≡ Err ServeError.Memory)
+        × (source.new ≡ source.old) × (sink.new ≡ sink.old)))
         × (IsErrOf outcome ServeError.Read ↔ R.failures source.old < R.failures source.new)
         × (IsErrOf outcome ServeError.Write ↔ W.failures sink.old < W.failures sink.new)
         × (result ≡ status_of (fault_of outcome)) }
 {
-    let mut lent = Lent::new(core);
-    let mut clock = Stopped::at(Moment::new(0).unwrap());
-    let outcome = serve_connection(alloc, source, sink, &mut lent, tree, &mut clock);
+    let mut clock = Stopped::at(now);
+    let outcome = match Lent::new(alloc, core) {
+        Ok(mut lent) => serve_connection(alloc, source, sink, &mut lent, tree, &mut clock),
+        Err(_) => Err(ServeError::Memory),
+    };
     match Fault::of(outcome) {
         None => 0,
         Some(fault) => {

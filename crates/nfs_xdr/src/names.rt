@@ -22,7 +22,7 @@ pub enum Names<'a> {
 impl Names<'_> {
     /// The client that is named: by its clientid, as an owner's client or in a stateid. A special stateid names none.
     pub fn client(self) -> Option<ClientId>
-        ensures { result ≡ client_in (names_seen self) }
+        ensures { result ≡ client_in (names_seen self.entry) }
     {
         match self {
             Names::Nothing => None,

@@ -1,7 +1,7 @@
 use Rattle.std.proofs.Common.{◌∙◌, codes, subst, inl, inr}
 use Rattle.clap.specs.Words.{found_of, rows_of}
 use Rattle.clap.proofs.WalkLemmas.{first_value-rows}
-use Rattle.nfs_options.specs.CommandLine.{HasNoNumber, IsMemoryOr, IsNoNumber, IsNumber, epoch_default, epoch_max, lease_default}
+use Rattle.nfs_options.specs.CommandLine.{HasNoNumber, IsMemoryOr, IsNoNumber, IsNumber, epoch_default, epoch_max, lease_default, moment_default, moment_max}
 use Rattle.nfs_state.specs.declared.journal.TheConstants.{LEASE_MAX, LEASE_MIN}
 use Rattle.nfs_options.proofs.Declining.{passed_on, weaker_fault}
 use Rattle.nfs_options.proofs.once_options.OnceOptions.of.Goals as goal
