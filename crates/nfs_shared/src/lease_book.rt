@@ -35,20 +35,20 @@ pub trait LeaseBook {
 
     /// Closes a client's lease that was seen to be open and renewed last at `seen`, where it is still so.
     fn close(&mut self, client: u32, seen: Moment, now: Moment) -> Closing
-        requires number { client ≤ CLIENT_LIMIT }
+        requires number { (1 ≤ client) × (client ≤ CLIENT_LIMIT) }
         requires due { seen + lease self.old < now }
         ensures happens { happens self.old (Close client seen now result) self.new }
         ensures was_open { is_done result ≡ true → is_open self.old client ≡ true };
 
     /// Opens the lease of a client that never had one.
     fn open(&mut self, client: u32, moment: Moment)
-        requires number { client ≤ CLIENT_LIMIT }
+        requires number { (1 ≤ client) × (client ≤ CLIENT_LIMIT) }
         requires fresh { was_opened self.old client ≡ false }
         ensures happens { happens self.old (Open client moment) self.new };
 
     /// Closes a client's lease, however late it was renewed.
     fn retire(&mut self, client: u32)
-        requires number { client ≤ CLIENT_LIMIT }
+        requires number { (1 ≤ client) × (client ≤ CLIENT_LIMIT) }
         requires opened { was_opened self.old client ≡ true }
         ensures happens { happens self.old (Retire client) self.new };
 

@@ -1,0 +1,91 @@
+//! Operations on the core, with the leases of the clients that they make live or replace.
+
+ghost use Rattle.std.specs.Prelude.{◌≤◌, ◌&&◌, not, IsFalse, IsTrue, List, length};
+ghost use Rattle.std.specs.List.{AllByRecursion};
+ghost use Rattle.nfs_core.specs.Server.{Applies, IsLawful};
+ghost use Rattle.nfs_owners.specs.Registry.{is_live};
+ghost use Rattle.nfs_owners.specs.declared.client_record.TheConstants.{CLIENT_LIMIT};
+ghost use Rattle.nfs_shared.specs.BookEvent.{BookEvent, Leads};
+ghost use Rattle.nfs_shared.specs.BookOf.{Follows, IsBookOf, opening, retiring};
+ghost use Rattle.nfs_state.specs.Entries.{IsFilehandle, request_of};
+ghost use Rattle.nfs_xdr.specs.Op.{has_entry, opnum_of};
+ghost use Rattle.nfs_xdr.specs.OpResult.{op_result};
+ghost use Rattle.nfs_xdr.specs.Opnum.{answer_limit};
+
+use crate::LeaseBook;
+use nfs_core::{Core, lawful_is_safe, live_clients_follow};
+use nfs_state::Moment;
+use nfs_xdr::{Op, OpResult, Principal};
+
+/// Has the core answer an operation, as `Core::apply` does. Where a client becomes live by it, its lease is opened at
+/// this moment; where one is replaced, its lease is retired. It renews no lease: the caller does, before.
+pub fn call_held<B: LeaseBook>(
+    core: &mut Core,
+    book: &mut B,
+    moment: Moment,
+    principal: Principal,
+    op: &Op,
+    filehandle: Option<u32>,
+) -> (OpResult, Option<u32>)
+    requires entry { IsTrue (has_entry op.now) }
+    requires node { IsFilehandle core.old.journal filehandle }
+    requires agrees { IsBookOf (B.is_open book.old) (B.was_opened book.old) (B.lease book.old)
+        core.old }
+    ensures applies { Applies core.old core.new (request_of moment principal op.now filehandle)
+        result.0 result.1 }
+    ensures short { length (op_result.encoding result.0) ≤ answer_limit (opnum_of op.now) }
+    ensures form { op_result.Fits result.0 }
+    ensures lawful { IsLawful core.new }
+    ensures leases { (events : List BookEvent)
+        × AllByRecursion (Follows moment core.old core.new) events
+        × Leads B.happens book.old events book.new }
+    ensures agrees { IsBookOf (B.is_open book.new) (B.was_opened book.new) (B.lease book.new)
+        core.new }
+{
+    lawful_is_safe();
+    live_clients_follow();
+    let Op::SetclientidConfirm(args) = op else {
+        return core.apply(moment, principal, op, filehandle);
+    };
+    let client = args.client.number;
+    let was_live = core.live(client);
+    let replaced = core.replaced_by(client);
+    let answer = core.apply(moment, principal, op, filehandle);
+    open_newcomer(core, book, client, was_live, moment);
+    if let Some(other) = replaced {
+        retire_replaced(core, book, other);
+    }
+    answer
+}
+
+// Opens the lease of a client that is live, if it wasn't.
+fn open_newcomer<B: LeaseBook>(
+    core: &Core,
+    book: &mut B,
+    client: u32,
+    was_live: bool,
+    moment: Moment,
+)
+    requires number { IsTrue (is_live client core.now.stored.clients)
+        → (1 ≤ client) × (client ≤ CLIENT_LIMIT) }
+    requires fresh { IsFalse was_live → IsTrue (is_live client core.now.stored.clients)
+        → IsFalse (B.was_opened book.old client) }
+    ensures { Leads B.happens book.old
+        (opening (not was_live && is_live client core.now.stored.clients) client moment) book.new }
+{
+    if !was_live && core.live(client) {
+        book.open(client, moment);
+    }
+}
+
+// Retires the lease of a client that was live, if it isn't any more.
+fn retire_replaced<B: LeaseBook>(core: &Core, book: &mut B, client: u32)
+    requires number { (1 ≤ client) × (client ≤ CLIENT_LIMIT) }
+    requires opened { IsTrue (B.was_opened book.old client) }
+    ensures { Leads B.happens book.old
+        (retiring (not (is_live client core.now.stored.clients)) client) book.new }
+{
+    if !core.live(client) {
+        book.retire(client);
+    }
+}
