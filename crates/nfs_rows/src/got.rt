@@ -23,8 +23,8 @@ impl Got {
         }
     }
 
-    /// What came of a step that was taken twice, the second time with this: the clients that a sweep removed are those of
-    /// both times.
+    /// What came of a step that was taken twice, the second time with this: the clients that a sweep removed are those
+    /// of both times.
     pub fn after(self, first: Got) -> Got {
         match (first, self) {
             (Got::Swept(first), Got::Swept(second)) => Got::Swept(Swept {
