@@ -26,7 +26,7 @@ use Rattle.nfs_state.specs.declared.entry.Entry.{Entry}
 use Rattle.nfs_state.specs.declared.entry.Entry.TheVariants as entries
 use Rattle.nfs_core.specs.Lawful.{AtMostOneState, Leads, Lawful}
 use Rattle.nfs_state.specs.State.{State, History, empty_server}
-use Rattle.nfs_core.specs.Step.{Allows, AtMostOneStep, Step}
+use Rattle.nfs_core.specs.Step.{Allows, AtMostOneStateAfter, AtMostOneStep, Step}
 use Rattle.nfs_state.specs.Entries.{with_entry}
 use Rattle.nfs_state.specs.Kept.{Agrees}
 use Rattle.nfs_state.specs.Journal.{RoomyJournal}
@@ -82,7 +82,7 @@ Allows-once once journal old (entries.Call call) effect effect' a a' =
 Allows-once once journal old (entries.Expire expire) effect effect' a a' = a.removal ∙ sym a'.removal
 
 -- an entry leads to at most one state
-Step-once : AtMostOneDecision → (journal : History) (old : State) (entry : Entry) (new new' : State) → Step journal old entry new → Step journal old entry new' → new ≡ new'
+pub Step-once : AtMostOneDecision → AtMostOneStateAfter
 Step-once once journal old entry new new' s s' =
     s.state ∙ ap (λ (e : Effect). after (length journal.entries) e old) (Allows-once once journal old entry s.effect s'.effect s.allowed s'.allowed) ∙ sym s'.state
 

@@ -25,7 +25,7 @@ abbrev pub AreOfOneRun : History → State → Type 0
 AreOfOneRun journal state =
     (number : ℕ) → is_live_in journal state number ≡ is_live number state.clients
 
--- the client that the operation confirms, by its number
+-- the client that the operation asks to confirm, by its number
 abbrev pub confirmed_by : Op → Option ℕ
 confirmed_by (ops.SetclientidConfirm args) = Some args.client.number
 confirmed_by op = None

@@ -43,6 +43,14 @@ AtMostOneStep =
     → Step journal old (entry_of request answer') new'
     → (answer ≡ answer') × (new ≡ new')
 
+-- For one journal, state and entry, of whatever kind, there is at most one state after it.
+abbrev pub AtMostOneStateAfter : Type 0
+AtMostOneStateAfter =
+    (journal : History) (old : State) (entry : Entry) (new new' : State)
+    → Step journal old entry new
+    → Step journal old entry new'
+    → new ≡ new'
+
 -- The entry may not come next in the journal.
 abbrev pub HasNoStep : History → State → Entry → Type 0
 HasNoStep journal old entry = (new : State) → Step journal old entry new → ⊥

@@ -1,7 +1,7 @@
 ghost use Rattle.nfs_core.specs.Lawful.{AtMostOneState, Lawful};
 ghost use Rattle.nfs_core.specs.LiveClients.{AreNumbered, AreOfOneRun, CallsFollow, EndsFollow};
 ghost use Rattle.nfs_core.specs.Safe.{IsSafe, KeepRequests};
-ghost use Rattle.nfs_core.specs.Step.{AtMostOneStep};
+ghost use Rattle.nfs_core.specs.Step.{AtMostOneStateAfter, AtMostOneStep};
 ghost use Rattle.nfs_state.specs.State.{State, History};
 
 use nfs_locks::locks_stay_compatible;
@@ -9,9 +9,10 @@ use nfs_ranges::first_change_has_place;
 use nfs_rules::at_most_one_decision;
 use nfs_share::opens_stay_compatible;
 
-/// The law that a request has at most one answer in a state, and leads to at most one state.
+/// The law that a request has at most one answer in a state, and that an entry of any kind leads to at most one state.
 pub fn at_most_one_step()
-    ensures { AtMostOneStep }
+    ensures calls { AtMostOneStep }
+    ensures entries { AtMostOneStateAfter }
 {
     at_most_one_decision();
 }

@@ -13,7 +13,7 @@ use Rattle.nfs_server.specs.declared.lent.Lent.{Lent}
 use Rattle.nfs_xdr.specs.declared.op_result.OpResult.{OpResult}
 
 -- what a call of `apply` gives is given by the core
-pub given_by_core : (old new : Server) (request : Request) (answer : OpResult) (number : Option ℕ) → Applies old new request answer number → GivenByCore old (Operation request) answer new
+pub given_by_core : (old new : Server) (request : Request) (answer : OpResult) (number : Option ℕ) → Applies old new request answer number → GivenByCore old request answer new
 given_by_core old new request answer (Some number) applies = inl (number, applies)
 given_by_core old new request answer None applies = inr (applies.0, (search (rules, applies.1), search (rules, applies.1)))
 
@@ -62,22 +62,24 @@ gains_entered old mid new request questions answer answers number applies others
           ∙ ap (λ (es : List Entry). record old.journal { entries = es }) (append_assoc old.journal.entries (entry ∷ []) others.0),
     )
 
--- one question and the following ones
-gains_first : (old mid new : Server) (question : Question) (questions : List Question) (answer : OpResult) (answers : List OpResult)
-    → GivenByCore old question answer mid → Gains questions answers mid.journal new.journal
-    → Gains (question ∷ questions) (answer ∷ answers) old.journal new.journal
-gains_first old mid new (Operation request) questions answer answers (inl applied) others =
+-- an operation and the following questions
+gains_operation : (old mid new : Server) (request : Request) (questions : List Question) (answer : OpResult) (answers : List OpResult)
+    → GivenByCore old request answer mid → Gains questions answers mid.journal new.journal
+    → Gains (Operation request ∷ questions) (answer ∷ answers) old.journal new.journal
+gains_operation old mid new request questions answer answers (inl applied) others =
     gains_entered old mid new request questions answer answers applied.0 applied.1 others
-gains_first old mid new (Operation request) questions answer answers (inr refused) others =
+gains_operation old mid new request questions answer answers (inr refused) others =
     let gained = gains_after old mid new questions answers refused.1 others in
     (gained.0, inl (refused.0, gained.1), gained.2)
-gains_first old mid new (Renewal moment client) questions answer answers alike others =
-    gains_after old mid new questions answers alike others
 
--- what is given is given by the core
-core_gives : (old new : Lent) (question : Question) (answer : OpResult) → IsGiven old question answer new → GivenByCore old.core question answer new.core
-core_gives old new (Operation request) answer given = given.0
-core_gives old new (Renewal moment client) answer given = (ap (λ (s : Server). s.journal) given.1, ap (λ (s : Server). s.stored) given.1)
+-- one question and the following ones
+gains_first : (old mid new : Lent) (question : Question) (questions : List Question) (answer : OpResult) (answers : List OpResult)
+    → IsGiven old question answer mid → Gains questions answers mid.core.journal new.core.journal
+    → Gains (question ∷ questions) (answer ∷ answers) old.core.journal new.core.journal
+gains_first old mid new (Operation request) questions answer answers given others =
+    gains_operation old.core mid.core new.core request questions answer answers given.0 others
+gains_first old mid new (Renewal moment client) questions answer answers given others =
+    gains_after old.core mid.core new.core questions answers (ap (λ (s : Server). s.journal) given.1, ap (λ (s : Server). s.stored) given.1) others
 
 -- where nothing was asked the journal gained nothing
 pub gains_nothing : (old new : Lent) → new ≡ old → Gains [] [] old.core.journal new.core.journal
@@ -91,6 +93,6 @@ pub questions_are_entries : QuestionsAreEntries
 questions_are_entries old new [] [] asked = gains_nothing old new asked
 questions_are_entries old new (question ∷ questions) (answer ∷ answers) asked =
     let mid = asked.0 in
-    gains_first old.core mid.core new.core question questions answer answers (core_gives old mid question answer asked.1) (questions_are_entries mid new questions answers asked.2)
+    gains_first old mid new question questions answer answers asked.1 (questions_are_entries mid new questions answers asked.2)
 questions_are_entries old new [] (answer ∷ answers) asked = absurd asked
 questions_are_entries old new (question ∷ questions) [] asked = absurd asked

@@ -30,10 +30,9 @@ Asks {S = S} gives old (question ∷ questions) (answer ∷ answers) new =
 Asks gives old [] (answer ∷ answers) new = ⊥
 Asks gives old (question ∷ questions) [] new = ⊥
 
--- How a core answers a question: an operation with its answer becomes the journal's next entry, or the answer is
--- NFS4ERR_RESOURCE and nothing changes but room. It has no leases: a renewal changes nothing but room.
-abbrev pub GivenByCore : Server → Question → OpResult → Server → Type 0
-GivenByCore old (Operation request) answer new =
+-- How a core answers the request for an operation: with its answer it becomes the journal's next entry, or the answer is
+-- NFS4ERR_RESOURCE and nothing changes but room.
+abbrev pub GivenByCore : Server → Request → OpResult → Server → Type 0
+GivenByCore old request answer new =
     ((number : ℕ) × Applies old new request answer (Some number))
     ⊎ ((answer ≡ resource request.op) × AreAlike old new)
-GivenByCore old (Renewal moment client) answer new = AreAlike old new

@@ -23,6 +23,6 @@ has_open_lease book None = false
 has_open_lease book (Some client) = is_open_in book client
 
 -- What RENEW is answered, by whether the lease is open.
-abbrev pub outcome_of : Bool → PlainAnswer (Unit {0})
-outcome_of true = Done tt
-outcome_of false = Refused StaleClientId
+abbrev pub renewal_answer : Bool → PlainAnswer (Unit {0})
+renewal_answer true = Done tt
+renewal_answer false = Refused StaleClientId

@@ -2,24 +2,31 @@
 use Rattle.std.specs.Prelude.{◌≡◌, ℕ, Bool, false, List, Option, Some, None}
 use Rattle.std.specs.List.{AllByRecursion}
 use Rattle.nfs_core.specs.Server.{Server}
-use Rattle.nfs_forms.specs.ClientId.{number_in}
+use Rattle.nfs_forms.specs.declared.client_id.ClientId.{ClientId}
 use Rattle.nfs_owners.specs.Registry.{Registry, is_live}
 use Rattle.nfs_server.specs.Asking.{GivenByCore, Operation, Question, Renewal}
 use Rattle.nfs_server.specs.declared.lent.Lent.{Lent}
 use Rattle.nfs_shared.specs.BookEvent.{BookEvent, Leads}
 use Rattle.nfs_shared.specs.BookOf.{Follows}
-use Rattle.nfs_server.specs.Leases.{outcome_of, with_renewal}
+use Rattle.nfs_server.specs.Leases.{renewal_answer, with_renewal}
 use Rattle.nfs_shared.specs.PlainBook.{Happens, PlainBook}
 use Rattle.nfs_xdr.specs.Names.{renewed_by}
+use Rattle.nfs_xdr.specs.declared.op.Op.{Op}
+use Rattle.nfs_xdr.specs.declared.op.Op.TheVariants as ops
 use Rattle.nfs_xdr.specs.declared.op_result.OpResult.{OpResult}
 use Rattle.nfs_xdr.specs.declared.op_result.OpResult.TheVariants as results
+
+-- RENEW of this client
+abbrev pub renewal_of : ClientId → Op
+renewal_of client = ops.Renew (record { client = client })
 
 -- the client with this number, if there is one, is live
 abbrev pub names_live : Registry → Option ℕ → Bool
 names_live clients None = false
 names_live clients (Some number) = is_live number clients
 
--- The leases follow a call: some are opened or retired, as clients become live by it or are replaced.
+-- The leases follow a call: that of a client which becomes live by it is opened, and that of one which is replaced is
+-- retired. (Which of them are, follows from the type: the open leases of a lent core are those of its live clients.)
 abbrev pub LeasesFollow : ℕ → Server → Server → PlainBook → PlainBook → Type 0
 LeasesFollow moment core new_core old new =
     (events : List BookEvent)
@@ -31,11 +38,11 @@ LeasesFollow moment core new_core old new =
 abbrev pub IsGiven : Lent → Question → OpResult → Lent → Type 0
 IsGiven old (Operation request) answer new =
     let client = renewed_by old.core.journal.epoch request.op in
-    GivenByCore old.core (Operation request) answer new.core
+    GivenByCore old.core request answer new.core
     × LeasesFollow request.moment old.core new.core
     (with_renewal client request.moment old.book) new.book
 IsGiven old (Renewal moment client) answer new =
-    let number = number_in old.core.journal.epoch client in
-    (answer ≡ results.Renew (outcome_of (names_live old.core.stored.clients number)))
+    let number = renewed_by old.core.journal.epoch (renewal_of client) in
+    (answer ≡ results.Renew (renewal_answer (names_live old.core.stored.clients number)))
     × (new.core ≡ old.core)
     × (new.book ≡ with_renewal number moment old.book)

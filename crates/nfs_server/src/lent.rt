@@ -2,7 +2,7 @@ ghost use Rattle.std.specs.Prelude.{◌≡◌, IfOk, IsFalse, List, ℕ, refl};
 ghost use Rattle.nfs_core.specs.Server.{AreAlike, Server};
 ghost use Rattle.nfs_owners.specs.Registry.{is_live};
 ghost use Rattle.nfs_server.specs.Entries.{QuestionsAreEntries};
-ghost use Rattle.nfs_server.specs.Leases.{IsLent, has_open_lease, outcome_of, with_renewal};
+ghost use Rattle.nfs_server.specs.Leases.{IsLent, has_open_lease, renewal_answer, with_renewal};
 ghost use Rattle.nfs_server.specs.LentAnswers.{IsGiven};
 ghost use Rattle.nfs_shared.specs.PlainBook.{Happens};
 ghost use Rattle.nfs_shared.specs.Sweeps.{Sweeps};
@@ -102,7 +102,7 @@ fn renew_lease(book: &mut PlainLeases, client: Option<u32>, moment: Moment) -> b
 
 // What RENEW is answered, by whether the lease is open.
 fn answer_of(is_open: bool) -> Answer<()>
-    ensures { result ≡ outcome_of is_open }
+    ensures { result ≡ renewal_answer is_open }
 {
     if is_open {
         Answer::Done(())
