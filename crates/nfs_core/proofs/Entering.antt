@@ -147,6 +147,7 @@ ruled_entry ops.Getfh journal old request decision ruled = absurd cc
 ruled_entry (ops.Lookup args) journal old request decision ruled = absurd cc
 ruled_entry (ops.Putfh args) journal old request decision ruled = absurd cc
 ruled_entry ops.Putrootfh journal old request decision ruled = absurd cc
+ruled_entry (ops.Renew args) journal old request decision ruled = absurd cc
 ruled_entry ops.Restorefh journal old request decision ruled = absurd cc
 ruled_entry ops.Savefh journal old request decision ruled = absurd cc
 ruled_entry op journal old request decision ruled = refl

@@ -266,7 +266,7 @@ live_changed epoch (ops.SetclientidConfirm args) (client_changes.Arrives r) old 
 live_changed epoch (ops.SetclientidConfirm args) (client_changes.Updates r) old singles ready is = absurd is
 live_changed epoch (ops.SetclientidConfirm args) (client_changes.Confirms r) old singles ready is = confirmed args r old ready is
 live_changed epoch (ops.SetclientidConfirm args) (client_changes.Replaces r client) old singles ready is = replaced args r client old singles ready is
-live_changed epoch op change old singles ready is = absurd cc
+live_changed epoch op change old singles ready is = absurd is
 
 -- A client ends.
 
@@ -339,7 +339,7 @@ epoch_changed epoch (ops.Setclientid args) (client_changes.Arrives r) old ready 
 epoch_changed epoch op (client_changes.Updates r) old ready is h = epoch_after epoch (λ s. not (is_unconfirmed_of r.id s)) old.records r (epoch_of_record epoch r old.records ready.1 h) h
 epoch_changed epoch op (client_changes.Confirms r) old ready is h = epoch_after epoch (λ s. not (is_of r.id s)) old.records r (epoch_of_record epoch r old.records ready.2 h) h
 epoch_changed epoch op (client_changes.Replaces r client) old ready is h = epoch_after epoch (λ s. not (is_of r.id s)) old.records r (epoch_of_record epoch r old.records ready.1 h) h
-epoch_changed epoch op change old ready is h = absurd cc
+epoch_changed epoch op change old ready is h = absurd is
 
 -- so a client is told by its number
 pub told_by_number : (epoch number : ℕ) (records : List ClientRecord) → AllByRecursion (HasEpoch epoch) records
