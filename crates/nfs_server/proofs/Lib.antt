@@ -7,4 +7,5 @@ pub mod Serving
 pub mod Courses
 pub mod Sides
 pub mod JournalGains
+pub mod LentLeases
 pub mod CourseLaws
