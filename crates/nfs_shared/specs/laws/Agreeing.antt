@@ -1,6 +1,6 @@
 -- Books that have the leases of a core's clients.
 use Rattle.std.specs.Prelude.{◌≡◌, ℕ, Bool, false, IsFalse, IsTrue}
-use Rattle.std.proofs.Common.{sym, ◌∙◌, cc}
+use Rattle.std.proofs.Common.{sym, ◌∙◌}
 use Rattle.nfs_core.specs.Server.{Server}
 use Rattle.nfs_owners.specs.Registry.{is_live}
 use Rattle.nfs_shared.specs.BookEvent.{Renew}
