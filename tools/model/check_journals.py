@@ -35,7 +35,7 @@ def journal_of(row):
         tree = Tree(DEFAULT if row.document is None else row.document)
     except Refused:
         return None
-    server = Recorder(tree, row.lease, row.epoch, has_leases=True)
+    server = Recorder(tree, row.lease, row.epoch)
     for connection in row.connections:
         converse(server, connection)
     return server.journal()

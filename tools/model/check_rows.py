@@ -1,10 +1,8 @@
 #!/usr/bin/env python3
-"""check_rows.py [--leases] FOLDER|FILE.rows..: runs rows through the model, and compares its replies with those that
-the rows want.
+"""check_rows.py FOLDER|FILE.rows..: runs rows through the model, and compares its replies with those that the rows want.
 
-Rows are left out where the model can't judge them: those that use an operation that gets a rule later, or that sweep
-leases. With --leases RENEW has a rule, and leases can be swept. The status is 1 where a row differs or a file can't be
-read."""
+Rows are left out where the model can't judge them: those that use an operation that gets a rule later. The status is 1
+where a row differs or a file can't be read."""
 import sys
 
 sys.dont_write_bytecode = True
@@ -25,14 +23,14 @@ def expect_numbers():
         sys.exit(f"check_rows: other numbers than in {rows.NAMES_FILE}: {', '.join(wrong)}")
 
 
-def run(row, has_leases):
+def run(row):
     """For each connection what it gets: bytes, the fault that ends it, and how many clients each sweep removes and
     keeps. And what has no rule yet."""
     try:
         tree = Tree(DEFAULT if row.document is None else row.document)
     except Refused as refused:
         return [(b"", f"tree refused ({refused.args[0]})", [])], set()
-    server = Server(tree, row.lease, row.epoch, has_leases=has_leases)
+    server = Server(tree, row.lease, row.epoch)
     return [converse(server, connection) for connection in row.connections], server.unknown
 
 
@@ -68,7 +66,7 @@ def report(row, connection, got):
     rows.show_difference(connection.wanted, replies, "model")
 
 
-def main(files, has_leases=False):
+def main(files):
     expect_numbers()
     agreed = differ = left_out = unread = 0
     for file in (file for path in files for file in rows.files_of(path)):
@@ -79,7 +77,7 @@ def main(files, has_leases=False):
             unread += 1
             continue
         for row in found:
-            got, unknown = run(row, has_leases)
+            got, unknown = run(row)
             if unknown:
                 print(f"{row.file}:{row.line}: left out, as the model has no {', '.join(sorted(unknown))}: {row.name}")
                 left_out += 1
@@ -97,5 +95,4 @@ def main(files, has_leases=False):
 if __name__ == "__main__":
     if len(sys.argv) < 2:
         sys.exit(__doc__)
-    paths = [word for word in sys.argv[1:] if word != "--leases"]
-    sys.exit(main(paths, has_leases="--leases" in sys.argv))
+    sys.exit(main(sys.argv[1:]))

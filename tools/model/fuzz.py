@@ -67,7 +67,7 @@ class Caller:
         self.makers = {
             self.lock: 36, self.locku: 18, self.lockt: 24, self.repeat: 6, self.open: 5, self.release_lockowner: 3,
             self.close: 2, self.open_downgrade: 2, self.open_confirm: 1, self.on_tree: 1, self.getattr: 1,
-            self.setclientid: 0.3, self.setclientid_confirm: 0.3}
+            self.setclientid: 0.3, self.setclientid_confirm: 0.3, self.renew: 0.3}
 
     def is_rare(self, share):
         return self.chance.random() < share
@@ -137,6 +137,9 @@ class Caller:
         record = self.pick(self.server.records[-2:])
         number, confirm = (record.number, record.confirm) if record else (1, 1)
         return [u32(Opnum.SETCLIENTID_CONFIRM, 1, self.near(number)) + u64(self.near(confirm))]
+
+    def renew(self):
+        return [u32(Opnum.RENEW, self.near(1), self.near(self.a_client()))]
 
     def on_tree(self):
         name, node = self.chance.choice(NAMES), self.chance.randint(0, 5)

@@ -4,8 +4,8 @@
 memory was refused: these are answered RESOURCE and change nothing but a lease. `Server.follows` judges a reply of a
 server that may have been refused memory. Sections are those of RFC 7530.
 
-Each operation renews the lease that it has to. That RENEW is answered, and that leases end, is for a server with
-`has_leases`: the program has neither yet. There are no delegations yet, and no READ and WRITE.
+Each operation renews the lease that it has to, and `Server.sweep` ends those that are over. There are no delegations
+yet, and no READ and WRITE.
 """
 import copy
 from dataclasses import dataclass, field
@@ -46,7 +46,7 @@ RENEWING_BY_STATEID = {Opnum.OPEN_CONFIRM, Opnum.OPEN_DOWNGRADE, Opnum.CLOSE, Op
 SEQUENCED = {Opnum.OPEN, Opnum.OPEN_CONFIRM, Opnum.OPEN_DOWNGRADE, Opnum.CLOSE, Opnum.LOCK, Opnum.LOCKU}
 
 # Operations of NFSv4.0 that get a rule later: rows that use them are not for this model yet.
-TO_COME = {8: "DELEGRETURN", 25: "READ", 30: "RENEW", 38: "WRITE"}
+TO_COME = {8: "DELEGRETURN", 25: "READ", 38: "WRITE"}
 
 
 class Refusal(Exception):
@@ -187,7 +187,6 @@ class Server:
     lease: int = 90
     epoch: int = 1
     journal_limit: int = JOURNAL_LIMIT
-    has_leases: bool = False
     # The time of the calls that come, in seconds.
     moment: int = 0
     records: list = field(default_factory=list)
@@ -256,7 +255,7 @@ class Server:
             number = call.operations.u32()
         except wire.Unreadable:
             return Opnum.ILLEGAL, Result(Status.BADXDR)
-        if number not in wire.ARGUMENTS or number == Opnum.RENEW and not self.has_leases:
+        if number not in wire.ARGUMENTS:
             return self.without_rule(number)
         opnum = Opnum(number)
         try:
@@ -481,9 +480,6 @@ class Server:
     def sweep(self, now):
         """Removes the clients whose leases are over, in the order of their numbers: more seconds than the lease have
         passed since the last renewal. Each is an entry of the journal."""
-        if not self.has_leases:
-            self.unknown.add("sweep")
-            return Swept()
         due = sorted(number for number, moment in self.renewals.items() if moment + self.lease < now)
         kept = len(self.renewals) - len(due)
         expired = due[:max(0, self.journal_limit - self.entries)]

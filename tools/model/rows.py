@@ -1,5 +1,4 @@
-"""Row files: crates/rows/README.md has the format, and README.md beside this file two words that the program of rows
-doesn't know yet. They are read here without that program."""
+"""Row files, which are read here without the program of rows: crates/rows/README.md has the format."""
 import os
 import re
 from dataclasses import dataclass, field

@@ -279,8 +279,7 @@ live_ended client old live =
       ends = same;
       once = λ c. once_by c old new (λ given. given)
           (λ given dead there.
-          let kept = any_of_kept (is_of_client c) q old.records there in
-          (
+          let kept = any_of_kept (is_of_client c) q old.records there in (
             false_from_ne_true (is_live c old)
                 (λ is. elim (cases_Bool (c == client)) [
                   | inl own ↦ nobody c own kept

@@ -77,7 +77,7 @@ any_kept p q (x ∷ xs) any = elim (cases_Bool (q x)) [
 
 -- with one more element
 pub any_pushed : {X : Type 0} (p : X → Bool) (xs : List X) (y : X) → list_any p (xs ++ y ∷ []) ≡ true → (list_any p xs ≡ true) ⊎ (p y ≡ true)
-any_pushed p [] y any = elim (or_cases (p y) false any) [ | inl last ↦ inr last | inr none ↦ absurd cc ]
+any_pushed p [] y any = elim (or_cases (p y) false any) [ inl last ↦ inr last | inr none ↦ absurd cc ]
 any_pushed p (x ∷ xs) y any = elim (or_cases (p x) (list_any p (xs ++ y ∷ [])) any) [
   | inl first ↦ inl (or_left (p x) (list_any p xs) first)
   | inr beyond ↦ elim (any_pushed p xs y beyond) [

@@ -3,8 +3,8 @@
 ghost use Rattle.std.specs.Prelude.{◌≤◌, IfOk};
 
 use crate::message::{Direction, Message};
-use crate::word::split_word;
-use crate::{Connection, Reason, Refused, Row};
+use crate::word::{expect_end, split_word};
+use crate::{Connection, Reason, Refused, Row, Step, Sweep};
 use nfs_core::{LEASE_MAX, LEASE_MIN, Moment};
 use nfs_server::Fault;
 use std::alloc::{AllocError, Global};
@@ -29,11 +29,12 @@ pub fn read_rows(alloc: Global, text: &str) -> Result<Vec<Row>, Refused> {
     Ok(reader.rows)
 }
 
-// The rows so far, of which the last may still be read, and the message whose words are read.
+// The rows so far, of which the last may still be read, the moment of its clock, and the message whose words are read.
 #[derive(Debug, Drop)]
 struct Reader {
     alloc: Global,
     rows: Vec<Row>,
+    clock: Moment,
     message: Option<Message>,
 }
 
@@ -42,6 +43,7 @@ impl Reader {
         Reader {
             alloc,
             rows: Vec::new(alloc),
+            clock: Moment::new(0).unwrap(),
             message: None,
         }
     }
@@ -58,15 +60,18 @@ impl Reader {
             "send" => self.begin_message(Direction::Sent, rest),
             "want" => self.begin_message(Direction::Wanted, rest),
             "+" => self.go_on(rest),
-            "rule" | "tree" | "lease" | "epoch" | "moment" | "fault" => { self.set(keyword, rest) }
+            "rule" | "tree" | "lease" | "epoch" | "fault" => self.set(keyword, rest),
+            "moment" | "at" => self.set_clock(rest),
+            "sweep" => self.add_sweep(rest),
             _ => self.add_line(line),
         }
     }
 
     fn begin_row(&mut self, line: usize, name: &str) -> Result<(), Reason> {
         self.end_row()?;
-        let mut connections = Vec::new(self.alloc);
-        connections.push(connection(self.alloc, Moment::new(0).unwrap()))?;
+        self.clock = Moment::new(0).unwrap();
+        let mut steps = Vec::new(self.alloc);
+        steps.push(connection(self.alloc, self.clock))?;
         let row = Row {
             name: String::from_str(self.alloc, name)?,
             line,
@@ -74,7 +79,7 @@ impl Reader {
             document: None,
             lease: 90,
             epoch: 1,
-            connections,
+            steps,
             is_whole: false,
         };
         self.rows.push(row)?;
@@ -106,11 +111,22 @@ impl Reader {
         let Some(message) = self.message.take() else {
             return Ok(());
         };
-        let row = self.rows.last_mut().ok_or(Reason::NoRow)?;
-        let connection = row.connections.last_mut().ok_or(Reason::NoRow)?;
+        let connection = self.connection()?;
         match message.direction {
             Direction::Sent => message.put(&mut connection.sent),
             Direction::Wanted => message.put(&mut connection.wanted),
+        }
+    }
+
+    // The connection that goes on: behind a sweep, another one at the same moment.
+    fn connection(&mut self) -> Result<&mut Connection, Reason> {
+        let row = self.rows.last_mut().ok_or(Reason::NoRow)?;
+        if let Some(Step::Sweep(_)) = row.steps.last() {
+            row.steps.push(connection(self.alloc, self.clock))?;
+        }
+        match row.steps.last_mut() {
+            Some(Step::Connection(connection)) => Ok(connection),
+            _ => Err(Reason::NoRow),
         }
     }
 
@@ -136,37 +152,40 @@ impl Reader {
             }
             "lease" => row.lease = lease(text)?,
             "epoch" => row.epoch = text.parse::<u32>().map_err(|_| Reason::NoNumber)?,
-            "moment" => begin_connection(self.alloc, &mut row.connections, moment(text)?)?,
-            _ => {
-                let connection = row.connections.last_mut().ok_or(Reason::NoRow)?;
-                connection.fault = Some(fault(text).ok_or(Reason::NoFault)?);
-            }
+            _ => self.connection()?.fault = Some(fault(text).ok_or(Reason::NoFault)?),
         }
+        Ok(())
+    }
+
+    // What follows comes at this moment. A connection that goes on is cut in two, of which each is served to its end: to
+    // its client that is the same.
+    fn set_clock(&mut self, text: &str) -> Result<(), Reason> {
+        self.end_message()?;
+        let row = self.rows.last_mut().ok_or(Reason::NoRow)?;
+        self.clock = moment(text)?;
+        match row.steps.last_mut() {
+            Some(Step::Connection(last)) if last.sent.is_empty() => last.moment = self.clock,
+            _ => row.steps.push(connection(self.alloc, self.clock))?,
+        }
+        Ok(())
+    }
+
+    fn add_sweep(&mut self, text: &str) -> Result<(), Reason> {
+        self.end_message()?;
+        let row = self.rows.last_mut().ok_or(Reason::NoRow)?;
+        row.steps.push(Step::Sweep(sweep(text)?))?;
         Ok(())
     }
 }
 
 // A connection on which nothing was sent yet.
-fn connection(alloc: Global, moment: Moment) -> Connection {
-    Connection {
+fn connection(alloc: Global, moment: Moment) -> Step {
+    Step::Connection(Connection {
         moment,
         sent: Vec::new(alloc),
         wanted: Vec::new(alloc),
         fault: None,
-    }
-}
-
-// Begins a connection at the moment, where the last one has been used.
-fn begin_connection(
-    alloc: Global,
-    connections: &mut Vec<Connection>,
-    moment: Moment,
-) -> Result<(), AllocError> {
-    match connections.last_mut() {
-        Some(last) if last.sent.is_empty() => last.moment = moment,
-        _ => connections.push(connection(alloc, moment))?,
-    }
-    Ok(())
+    })
 }
 
 fn add_text(text: &mut String, line: &str) -> Result<(), AllocError> {
@@ -187,6 +206,29 @@ fn lease(text: &str) -> Result<u32, Reason>
 fn moment(text: &str) -> Result<Moment, Reason> {
     let seconds = text.parse::<u64>().map_err(|_| Reason::NoNumber)?;
     Moment::new(seconds).ok_or(Reason::NoNumber)
+}
+
+// A sweep, from its moment on.
+fn sweep(text: &str) -> Result<Sweep, Reason> {
+    let (seconds, rest) = split_word(text);
+    let (expired, rest) = count("expired", rest)?;
+    let (kept, rest) = count("kept", rest)?;
+    expect_end(rest)?;
+    Ok(Sweep {
+        moment: moment(seconds)?,
+        expired,
+        kept,
+    })
+}
+
+// The number after this word, and what follows it.
+fn count<'a>(word: &str, text: &'a str) -> Result<(u32, &'a str), Reason> {
+    let (found, rest) = split_word(text.trim_start());
+    let (number, rest) = split_word(rest.trim_start());
+    match number.parse::<u32>() {
+        Ok(number) if found == word => Ok((number, rest)),
+        _ => Err(Reason::NoSweep),
+    }
 }
 
 // The fault that the program reports by this text.

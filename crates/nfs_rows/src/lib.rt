@@ -20,5 +20,5 @@ pub use pieces::Pieces;
 pub use reason::{Reason, Refused};
 pub use report::{Sending, Summary, show_text, try_text};
 pub use retry::retry_row;
-pub use row::{Connection, Row};
+pub use row::{Connection, Row, Step, Sweep};
 pub use run::run_row;

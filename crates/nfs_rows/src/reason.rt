@@ -28,6 +28,8 @@ pub enum Reason {
     NoEnd,
     #[error("a lease is 1 to 86,400 seconds, an epoch below 2^32, a moment below 2^40")]
     NoNumber,
+    #[error("no sweep: `sweep SECONDS expired COUNT kept COUNT`")]
+    NoSweep,
     #[error("no fault of a connection")]
     NoFault,
 }

@@ -1,7 +1,8 @@
 //! What the program reports of a file of rows.
 
-use crate::{Connection, Got, Reason, Refused, Row, read_rows, retry_row, run_row};
+use crate::{Connection, Got, Reason, Refused, Row, Step, Sweep, read_rows, retry_row, run_row};
 use nfs_server::Fault;
+use nfs_shared::Swept;
 use std::alloc::{AllocError, Global};
 
 /// The lengths of the pieces that a row's input comes in: first the whole, and then cut in several ways.
@@ -74,7 +75,10 @@ pub fn show_text(alloc: Global, name: &str, text: &str) -> Result<Summary, Alloc
 }
 
 fn show_row(alloc: Global, row: &Row, out: &mut String) -> Result<(), AllocError> {
-    for connection in &row.connections {
+    for step in &row.steps {
+        let Step::Connection(connection) = step else {
+            continue;
+        };
         let sent = hex::encode(alloc, connection.sent.as_slice())?;
         let wanted = hex::encode(alloc, connection.wanted.as_slice())?;
         writeln!(out, "send {sent}")?;
@@ -118,14 +122,14 @@ fn report_row(
     for line in row.rule.as_str().lines() {
         writeln!(out, "    {line}")?;
     }
-    if let Some(connection) = row.connections.get(failure.place) {
-        report_difference(alloc, connection, &failure.got, failure.piece_len, out)?;
+    if let Some(step) = row.steps.get(failure.place) {
+        report_step(alloc, step, &failure, out)?;
     }
     Ok(false)
 }
 
-// A connection of a row, counted from 0, that doesn't get what is wanted: what it gets, and the most bytes that a piece
-// of its input had.
+// A step of a row, counted from 0, that doesn't get what is wanted: what it gets, and the most bytes that a piece of its
+// input had.
 #[derive(Debug, Drop)]
 struct Failure {
     place: usize,
@@ -145,7 +149,7 @@ fn first_failure(
 }
 
 fn first_failure_in_pieces(alloc: Global, row: &Row) -> Result<Option<Failure>, AllocError> {
-    let is_short = row.connections.iter().all(|it| it.sent.len() <= SHORT);
+    let is_short = row.steps.iter().all(|it| it.sent_len() <= SHORT);
     for piece_len in PIECES {
         if piece_len < 1000 && !is_short {
             continue;
@@ -167,10 +171,26 @@ fn failure_of(wrong: Option<(usize, Got)>, piece_len: usize) -> Option<Failure> 
     })
 }
 
-fn report_difference(
+fn report_step(
     alloc: Global,
+    step: &Step,
+    failure: &Failure,
+    out: &mut String,
+) -> Result<(), AllocError> {
+    match (step, &failure.got) {
+        (Step::Connection(connection), Got::Replies(bytes, fault)) => {
+            report_pieces(connection, failure.piece_len, out)?;
+            report_fault(out, "wanted", connection.fault)?;
+            report_fault(out, "got", *fault)?;
+            report_words(alloc, connection.wanted.as_slice(), bytes.as_slice(), out)
+        }
+        (Step::Sweep(sweep), Got::Swept(swept)) => report_sweep(*sweep, *swept, out),
+        _ => Ok(()),
+    }
+}
+
+fn report_pieces(
     connection: &Connection,
-    got: &Got,
     piece_len: usize,
     out: &mut String,
 ) -> Result<(), AllocError> {
@@ -180,13 +200,20 @@ fn report_difference(
             "    where the input comes in pieces of {piece_len} bytes:"
         )?;
     }
-    report_fault(out, "wanted", connection.fault)?;
-    report_fault(out, "got", got.fault)?;
-    report_words(
-        alloc,
-        connection.wanted.as_slice(),
-        got.bytes.as_slice(),
+    Ok(())
+}
+
+fn report_sweep(sweep: Sweep, swept: Swept, out: &mut String) -> Result<(), AllocError> {
+    let seconds = sweep.moment.seconds();
+    writeln!(
         out,
+        "    sweep {seconds}: wanted expired {} kept {}",
+        sweep.expired, sweep.kept
+    )?;
+    writeln!(
+        out,
+        "    got expired {} kept {} changed {} refused {}",
+        swept.expired, swept.kept, swept.changed, swept.refused
     )
 }
 

@@ -3,13 +3,13 @@
 ghost use Rattle.std.specs.Prelude.{◌≡◌, ◌<◌, ◌≤◌};
 ghost use Rattle.nfs_state.specs.declared.journal.TheConstants.{LEASE_MAX, LEASE_MIN};
 
-use crate::{Connection, Got, Pieces};
+use crate::{Connection, Got, Pieces, Step};
 use nfs_core::Core;
 use nfs_server::{Counted, Fault, Lent, Stopped, serve_connection};
 use nfs_tree::{Tree, TreeError};
 use std::alloc::Global;
 
-/// A server that serves one connection after another, each to its end.
+/// A server that takes one step after another, and serves each connection to its end.
 #[derive(Debug, Drop)]
 pub struct Server {
     tree: Tree,
@@ -23,18 +23,27 @@ impl Server {
         requires { (LEASE_MIN ≤ lease) × (lease ≤ LEASE_MAX) }
     {
         let tree = Tree::from_toml(alloc, document)?;
-        match Core::new(alloc, &tree, lease, epoch, tree.policy()) {
-            Ok(core) => Ok(Server {
-                lent: Lent::new(core),
-                tree,
-            }),
+        let core = Core::new(alloc, &tree, lease, epoch, tree.policy());
+        let Ok(core) = core else {
+            return Err(TreeError::Memory);
+        };
+        match Lent::new(alloc, core) {
+            Ok(lent) => Ok(Server { lent, tree }),
             Err(_) => Err(TreeError::Memory),
         }
     }
 
-    /// Serves what the connection sends, which comes in pieces of at most `piece_len` bytes. The replies are appended to
-    /// `out`.
-    pub fn converse(
+    /// Takes a step. What is sent comes in pieces of at most `piece_len` bytes, and the replies are appended to `out`.
+    pub fn take(&mut self, alloc: Global, step: &Step, piece_len: usize, out: Vec<u8>) -> Got
+        requires { 0 < piece_len }
+    {
+        match step {
+            Step::Connection(connection) => self.converse(alloc, connection, piece_len, out),
+            Step::Sweep(sweep) => Got::Swept(self.lent.sweep(sweep.moment)),
+        }
+    }
+
+    fn converse(
         &mut self,
         alloc: Global,
         connection: &Connection,
@@ -54,9 +63,6 @@ impl Server {
             &self.tree,
             &mut clock,
         );
-        Got {
-            bytes: sink.into_device(),
-            fault: Fault::of(outcome),
-        }
+        Got::Replies(sink.into_device(), Fault::of(outcome))
     }
 }

@@ -10,7 +10,7 @@ use Rattle.nfs_tree.specs.Tree.{Files}
 use Rattle.nfs_server.specs.declared.serve_error.ServeError.{ServeError}
 use Rattle.nfs_server.specs.declared.serve_error.ServeError.TheVariants as errors
 use Rattle.nfs_server.specs.Asking.{Question}
-use Rattle.nfs_server.specs.Leasing.{IsGiven}
+use Rattle.nfs_server.specs.LentAnswers.{IsGiven}
 use Rattle.nfs_server.specs.declared.lent.Lent.{Lent}
 use Rattle.nfs_core.specs.Server.{AreAlike}
 use Rattle.nfs_rpc.specs.declared.rpc_call.RpcCall.{RpcCall}

@@ -8,7 +8,7 @@ use Rattle.nfs_state.specs.Entries.{entry_of}
 use Rattle.nfs_state.specs.declared.request.Request.{Request}
 use Rattle.nfs_server.specs.Asking.{GivenByCore, Operation, Question, Renewal}
 use Rattle.nfs_server.specs.Entries.{AreEntries, QuestionsAreEntries}
-use Rattle.nfs_server.specs.Leasing.{IsGiven}
+use Rattle.nfs_server.specs.LentAnswers.{IsGiven}
 use Rattle.nfs_server.specs.declared.lent.Lent.{Lent}
 use Rattle.nfs_xdr.specs.declared.op_result.OpResult.{OpResult}
 

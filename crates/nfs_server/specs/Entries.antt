@@ -3,7 +3,7 @@ use Rattle.std.specs.Prelude.{◌≡◌, ◌≢◌, ◌⊎◌, List, [], ◌∷�
 use Rattle.nfs_state.specs.declared.entry.Entry.{Entry}
 use Rattle.nfs_state.specs.Entries.{entry_of, resource}
 use Rattle.nfs_server.specs.Asking.{Asks, Operation, Question, Renewal}
-use Rattle.nfs_server.specs.Leasing.{IsGiven}
+use Rattle.nfs_server.specs.LentAnswers.{IsGiven}
 use Rattle.nfs_server.specs.declared.lent.Lent.{Lent}
 use Rattle.nfs_xdr.specs.declared.op_result.OpResult.{OpResult}
 

@@ -1,6 +1,7 @@
 pub mod Answering
 pub mod Asking
-pub mod Leasing
+pub mod Leases
+pub mod LentAnswers
 pub mod Entries
 pub mod Folding
 pub mod Device

@@ -1,14 +1,12 @@
 ghost use Rattle.std.specs.Prelude.{◌≡◌, IfOk, IsFalse, List, ℕ, refl};
-ghost use Rattle.nfs_core.specs.Server.{AreAlike};
+ghost use Rattle.nfs_core.specs.Server.{AreAlike, Server};
 ghost use Rattle.nfs_owners.specs.Registry.{is_live};
 ghost use Rattle.nfs_server.specs.Entries.{QuestionsAreEntries};
-ghost use Rattle.nfs_server.specs.Leasing.{IsGiven, outcome_of, with_renewal};
-ghost use Rattle.nfs_shared.specs.BookEvent.{is_renewed};
-ghost use Rattle.nfs_shared.specs.BookOf.{IsBookOf};
-ghost use Rattle.nfs_shared.specs.PlainBook.{Happens, is_open_in, was_opened_in};
+ghost use Rattle.nfs_server.specs.Leases.{IsLent, has_open_lease, outcome_of, with_renewal};
+ghost use Rattle.nfs_server.specs.LentAnswers.{IsGiven};
+ghost use Rattle.nfs_shared.specs.PlainBook.{Happens};
 ghost use Rattle.nfs_shared.specs.Sweeps.{Sweeps};
 ghost use Rattle.nfs_shared.specs.Turn.{Turn};
-ghost use Rattle.nfs_xdr.specs.Names.{renewed_by};
 
 use crate::Service;
 use nfs_core::{Core, Moment};
@@ -21,7 +19,7 @@ use std::alloc::{AllocError, Global};
 pub struct Lent {
     core: Core,
     book: PlainLeases,
-    ghost leases: { IsBookOf (is_open_in book) (was_opened_in book) book.lease core },
+    ghost leases: { IsLent core book },
 }
 
 impl Lent {
@@ -51,17 +49,6 @@ impl Lent {
     {
         sweep_held(&mut self.core, &mut self.book, now)
     }
-
-    // Renews the lease of the client that the operation names, if it names one of this run of the server.
-    fn renew_by(&mut self, op: &Op, moment: Moment)
-        ensures core { self.new.core ≡ self.old.core }
-        ensures book { self.new.book ≡ with_renewal
-            (renewed_by self.old.core.journal.epoch op.now) moment self.old.book }
-    {
-        if let Some(client) = op.renewed_client(self.core.journal().epoch()) {
-            self.book.renew(client, moment);
-        }
-    }
 }
 
 impl Service for Lent {
@@ -85,29 +72,42 @@ impl Service for Lent {
         op: &Op,
         filehandle: Option<u32>,
     ) -> OpResult {
-        self.renew_by(op, moment);
         let (core, book) = (&mut self.core, &mut self.book);
+        let client = op.renewed_client(core.journal().epoch());
+        renew_lease(book, client, moment);
         let (answer, _) = call_held(core, book, moment, principal, op, filehandle);
         answer
     }
 
     fn renew(&mut self, moment: Moment, client: ClientId) -> OpResult {
-        let answer = OpResult::Renew(match client.number_in(self.core.journal().epoch()) {
-            Some(number) => answer_of(self.book.renew(number, moment)),
-            None => Answer::Refused(Refusal::StaleClientId),
-        });
+        let client = client.number_in(self.core.journal().epoch());
+        let is_open = renew_lease(&mut self.book, client, moment);
+        let answer = OpResult::Renew(answer_of(is_open));
         answer.fits();
         answer
     }
 }
 
-// What RENEW is answered.
-fn answer_of(renewal: Renewal) -> Answer<()>
-    ensures { result ≡ outcome_of (is_renewed renewal) }
+// Renews the lease of the client with this number, if there is one. Returns whether the lease is open.
+fn renew_lease(book: &mut PlainLeases, client: Option<u32>, moment: Moment) -> bool
+    ensures book { book.new ≡ with_renewal client moment book.old }
+    ensures open { result ≡ has_open_lease book.old client }
+    ensures kept { (core : Server) → IsLent core book.old → IsLent core book.new }
 {
-    match renewal {
-        Renewal::Renewed => Answer::Done(()),
-        Renewal::Closed | Renewal::Unknown => Answer::Refused(Refusal::StaleClientId),
+    match client {
+        Some(client) => matches!(book.renew(client, moment), Renewal::Renewed),
+        None => false,
+    }
+}
+
+// What RENEW is answered, by whether the lease is open.
+fn answer_of(is_open: bool) -> Answer<()>
+    ensures { result ≡ outcome_of is_open }
+{
+    if is_open {
+        Answer::Done(())
+    } else {
+        Answer::Refused(Refusal::StaleClientId)
     }
 }
 

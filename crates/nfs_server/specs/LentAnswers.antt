@@ -1,31 +1,18 @@
 -- How a core with the leases of its clients answers as a service (RFC 7530, sections 9.5 and 16.28).
-use Rattle.std.specs.Prelude.{◌≡◌, ℕ, Bool, true, false, List, Option, Some, None}
+use Rattle.std.specs.Prelude.{◌≡◌, ℕ, Bool, false, List, Option, Some, None}
 use Rattle.std.specs.List.{AllByRecursion}
 use Rattle.nfs_core.specs.Server.{Server}
-use Rattle.nfs_forms.specs.Answer.{PlainAnswer}
 use Rattle.nfs_forms.specs.ClientId.{number_in}
-use Rattle.nfs_forms.specs.declared.answer.Answer.TheVariants.{Done, Refused}
-use Rattle.nfs_forms.specs.declared.status.Refusal.TheVariants.{StaleClientId}
 use Rattle.nfs_owners.specs.Registry.{Registry, is_live}
 use Rattle.nfs_server.specs.Asking.{GivenByCore, Operation, Question, Renewal}
 use Rattle.nfs_server.specs.declared.lent.Lent.{Lent}
 use Rattle.nfs_shared.specs.BookEvent.{BookEvent, Leads}
 use Rattle.nfs_shared.specs.BookOf.{Follows}
-use Rattle.nfs_shared.specs.PlainBook.{Happens, PlainBook, lease_of, renewed, with_lease}
+use Rattle.nfs_server.specs.Leases.{outcome_of, with_renewal}
+use Rattle.nfs_shared.specs.PlainBook.{Happens, PlainBook}
 use Rattle.nfs_xdr.specs.Names.{renewed_by}
 use Rattle.nfs_xdr.specs.declared.op_result.OpResult.{OpResult}
 use Rattle.nfs_xdr.specs.declared.op_result.OpResult.TheVariants as results
-
--- the leases after a renewal, at this moment, of the client with this number, if there is one
-abbrev pub with_renewal : Option ℕ → ℕ → PlainBook → PlainBook
-with_renewal None moment old = old
-with_renewal (Some client) moment old =
-    with_lease old client (renewed (lease_of old client) moment)
-
--- What RENEW is answered, by whether there was a lease to renew.
-abbrev pub outcome_of : Bool → PlainAnswer (Unit {0})
-outcome_of true = Done tt
-outcome_of false = Refused StaleClientId
 
 -- the client with this number, if there is one, is live
 abbrev pub names_live : Registry → Option ℕ → Bool
