@@ -1,5 +1,5 @@
 -- A book has the leases of a core's clients.
-use Rattle.std.specs.Prelude.{◌≡◌, ℕ, Bool, IsFalse, IsTrue, List, [], ◌∷◌}
+use Rattle.std.specs.Prelude.{◌≡◌, ℕ, Bool, true, false, IsFalse, IsTrue, List, [], ◌∷◌}
 use Rattle.nfs_core.specs.Server.{Server}
 use Rattle.nfs_owners.specs.LiveClients.{can_become_live}
 use Rattle.nfs_owners.specs.Registry.{is_live}

@@ -44,6 +44,7 @@ pub fn call_held<B: LeaseBook>(
 {
     lawful_is_safe();
     live_clients_follow();
+    cores_are_lawful(core);
     let Op::SetclientidConfirm(args) = op else {
         return core.apply(moment, principal, op, filehandle);
     };
@@ -88,4 +89,11 @@ fn retire_replaced<B: LeaseBook>(core: &Core, book: &mut B, client: u32)
     if !core.live(client) {
         book.retire(client);
     }
+}
+
+// The law that the journal of a core leads to what it stores.
+fn cores_are_lawful(core: &Core)
+    ensures { IsLawful core.now }
+{
+    let _ = core.journal();
 }

@@ -13,3 +13,7 @@ mod opens;
 mod owners;
 #[cfg(test)]
 mod ranges;
+#[cfg(test)]
+mod renewing;
+#[cfg(test)]
+mod sweeps;

@@ -1,0 +1,88 @@
+-- The loop goes one turn further.
+use Rattle.std.proofs.Common.{ℕ, [], ◌∷◌, ◌++◌, Option, ap, sym, subst, ◌∙◌, arith}
+use Rattle.nfs_shared.specs.Sweeps.{IsTurn, none_swept}
+use Rattle.nfs_shared.specs.Turn.{Turn, events_of}
+use Rattle.nfs_shared.specs.declared.swept.Swept.{Swept}
+use Rattle.nfs_shared.proofs.Comes.{AreLaws, Comes, Stays, book_further, comes_first, comes_further, comes_last, is_gone, stays, total_before}
+use Rattle.nfs_shared.proofs.Lists.{none_revoked}
+use Rattle.nfs_shared.proofs.sweeping.sweep_held.Goals as goal
+
+pub loop-next-init : goal.loop-next-init
+loop-next-init g c =
+    let first =
+    comes_first g.B.LeaseBook.happens c.args.now c.args.core.now c.args.book.now c.next_live-next.result
+    c.next_live-next.ensures.numbered c.next_live-next.ensures.next in
+    (0, [], first, c.requires.agrees, c.next_live-next.ensures.run, c.next_live-next.ensures.lawful)
+
+pub and-swept-requires : goal.and-swept-requires
+and-swept-requires g c =
+    let i = c.loop-next.invariant in
+    let at =
+    subst
+    (λ (next : Option ℕ).
+    Comes g.B.LeaseBook.happens c.args.now i.0 c.args.core.now c.args.book.now c.loop-next.swept i.1
+    c.loop-next.core c.loop-next.book next)
+    c.in-Some.is i.2 in
+    omega (arith, total_before _ _ _ _ _ _ _ _ _ _ at)
+
+pub loop-next-preserved : goal.loop-next-preserved
+loop-next-preserved g c =
+    let i = c.loop-next.invariant in
+    let told = c.turn_of.ensures.turn in
+    let happens = g.B.LeaseBook.happens in
+    let t : Turn = record { client = c.in-Some.client; seen = told.0; case = c.turn_of.result } in
+    let at =
+    subst
+    (λ (next : Option ℕ).
+    Comes happens c.args.now i.0 c.args.core.now c.args.book.now c.loop-next.swept i.1 c.loop-next.core
+    c.loop-next.book next)
+    c.in-Some.is i.2 in
+    let turn : IsTurn c.args.now t c.loop-next.core c.turn_of.new.core = record { right = told.1; gains = told.3 } in
+    let stay : Stays (is_gone t.case) t.client c.loop-next.core.stored.clients c.turn_of.new.core.stored.clients =
+    stays c.live_clients_follow.ensures.ends t.case t.client t.seen c.args.now c.loop-next.core
+    c.turn_of.new.core i.5 told.3 in
+    let laws : AreLaws happens g.B.LeaseBook.lease g.B.LeaseBook.is_open g.B.LeaseBook.was_opened = record {
+      keeps_lease = g.met.B.LeaseBook.keeps_lease;
+      open_follows = g.met.B.LeaseBook.open_follows;
+      opened_follows = g.met.B.LeaseBook.opened_follows;
+    } in
+    let further =
+    comes_further happens c.args.now i.0 c.args.core.now c.args.book.now c.loop-next.swept i.1 c.loop-next.core
+    c.loop-next.book t c.turn_of.new.core c.turn_of.new.book c.next_live-next-in-Some.result at stay turn told.2
+    c.next_live-next-in-Some.ensures.numbered c.next_live-next-in-Some.ensures.next in
+    let counted =
+    subst
+    (λ (s : Swept).
+    Comes happens c.args.now t.client c.args.core.now c.args.book.now s (i.1 ++ t ∷ []) c.turn_of.new.core
+    c.turn_of.new.book c.next_live-next-in-Some.result)
+    (sym c.and-swept.ensures) further in (
+      t.client,
+      i.1 ++ t ∷ [],
+      counted,
+      book_further happens g.B.LeaseBook.lease g.B.LeaseBook.is_open g.B.LeaseBook.was_opened laws t.case t.client
+          t.seen c.args.now c.loop-next.core c.turn_of.new.core c.loop-next.book c.turn_of.new.book told.2 told.3 stay
+          i.3,
+      c.next_live-next-in-Some.ensures.run,
+      c.next_live-next-in-Some.ensures.lawful,
+    )
+
+pub returns-clause-sweeps : goal.returns-clause-sweeps
+returns-clause-sweeps g c =
+    let i = c.loop-next.invariant in
+    let at =
+    subst
+    (λ (next : Option ℕ).
+    Comes g.B.LeaseBook.happens c.args.now i.0 c.args.core.now c.args.book.now c.loop-next.swept i.1
+    c.loop-next.core c.loop-next.book next)
+    c.in_default.is i.2 in
+    (i.1, comes_last _ _ _ _ _ _ _ _ _ at)
+
+pub returns-clause-revoked : goal.returns-clause-revoked
+returns-clause-revoked g c =
+    let i = c.loop-next.invariant in
+    ap (λ (s : Swept). s.revoked) i.2.counts ∙ (none_revoked none_swept i.1).0
+
+pub returns-clause-stopped : goal.returns-clause-stopped
+returns-clause-stopped g c =
+    let i = c.loop-next.invariant in
+    ap (λ (s : Swept). s.stopped) i.2.counts ∙ (none_revoked none_swept i.1).1
