@@ -3,10 +3,9 @@ use Rattle.std.specs.Prelude.{◌≡◌, ℕ, Bool, false, List, Option, Some, N
 use Rattle.nfs_forms.specs.declared.client_id.ClientId.{ClientId}
 use Rattle.nfs_owners.specs.Registry.{Registry, is_live}
 use Rattle.nfs_server.specs.Asking.{GivenByCore, Operation, Question, Renewal}
-use Rattle.nfs_server.specs.declared.lent.Lent.{Lent}
 use Rattle.nfs_shared.specs.BookEvent.{Leads}
 use Rattle.nfs_shared.specs.BookOf.{events_of_call}
-use Rattle.nfs_server.specs.Leases.{renewal_answer, with_renewal}
+use Rattle.nfs_server.specs.Leases.{LentCore, renewal_answer, with_renewal}
 use Rattle.nfs_shared.specs.PlainBook.{Happens}
 use Rattle.nfs_xdr.specs.Names.{renewed_by}
 use Rattle.nfs_xdr.specs.declared.op.Op.{Op}
@@ -26,7 +25,7 @@ names_live clients (Some number) = is_live number clients
 -- How a core with the leases of its clients answers a question. Before an operation is judged it renews the lease of the
 -- client that it names, whatever is answered; after it, the lease of a client that became live by it is opened, and that
 -- of one that was replaced is retired. A renewal is answered NFS4_OK where the client is live.
-abbrev pub IsGiven : Lent → Question → OpResult → Lent → Type 0
+abbrev pub IsGiven : LentCore → Question → OpResult → LentCore → Type 0
 IsGiven old (Operation request) answer new =
     let client = renewed_by old.core.journal.epoch request.op in
     GivenByCore old.core request answer new.core
