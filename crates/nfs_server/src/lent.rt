@@ -1,4 +1,4 @@
-ghost use Rattle.std.specs.Prelude.{◌≡◌, IfOk, IsFalse, List, ℕ, refl};
+ghost use Rattle.std.specs.Prelude.{◌≡◌, IfOk, IsFalse, List, ℕ, false, refl};
 ghost use Rattle.nfs_core.specs.Server.{AreAlike, Server};
 ghost use Rattle.nfs_owners.specs.Registry.{is_live};
 ghost use Rattle.nfs_server.specs.Leases.{IsLent, has_open_lease, renewal_answer, with_renewal};
