@@ -145,7 +145,7 @@ pub gains_entries : {D C : Type 0} (device : Device D) (tree : Files) (tells : C
 gains_entries device tree tells before after course result is =
     let led = course_exchanged device (of_core tree tells) (λ (s : LentCore). ((refl, refl), refl)) before course result after is in
     let gained = exchanges_gain tree tells before.service led.0 before.clock after.clock (all_exchanges course) led.1 in
-    (gained.0, gained.1, led.2.0 ∙ gained.2)
+    (gained.0, gained.1, led.2.0.0 ∙ gained.2)
 
 -- which bytes are in the device after writes took these parts
 taken_bytes : {D : Type 0} (device : Device D) (remaining contents : D → Option (List ℕ)) (tells : TellsBytes device remaining contents) (a b : D) (parts : List (List ℕ)) → AreTaken device a parts b

@@ -46,12 +46,7 @@ pub fn run_once<R: Source, W: Sink, E: Write>(
         × (IsErrOf outcome ServeError.Write ↔ W.failures sink.old < W.failures sink.new)
         × (result ≡ status_of (fault_of outcome)) }
 {
-    let mut clock = Stopped::at(now);
-    let outcome = match Lent::new(alloc, core) {
-        Ok(mut lent) => serve_connection(alloc, source, sink, &mut lent, tree, &mut clock),
-        Err(_) => Err(ServeError::Memory),
-    };
-    match Fault::of(outcome) {
+    match Fault::of(serve(alloc, core, tree, now, source, sink)) {
         None => 0,
         Some(fault) => {
             // If this line can't be written, there is no other place to report it.
@@ -59,4 +54,40 @@ pub fn run_once<R: Source, W: Sink, E: Write>(
             1
         }
     }
+}
+
+// Serves the input at this moment as one connection of a core with leases. It fails with Memory also where memory is
+// refused for the leases, and then nothing is read.
+fn serve<R: Source, W: Sink>(
+    alloc: Global,
+    core: Core,
+    tree: &Tree,
+    now: Moment,
+    source: &mut R,
+    sink: &mut W,
+) -> Result<usize, ServeError>
+    requires reads { R.failures source.old < 2 ^ 64 - 1 }
+    requires writes { W.failures sink.old < 2 ^ 64 - 1 }
+    requires tree { core.journal.nodes ≡ tree.now.nodes }
+    requires clients { (number : ℕ) → IsFalse (is_live number core.stored.clients) }
+    ensures served { ((lent : LentCore) × (clock : Stopped) × (lent' : LentCore)
+        × (clock' : Stopped)
+        × (lent.core ≡ core) × IsLent core lent.book × (clock.moment ≡ now)
+        × HasCourse (device_of R.gives R.fails W.takes W.fails)
+        (rules tree.now ⟦<Lent as Service>⟧.gives ⟦<Lent as Service>⟧.alike
+        ⟦<Stopped as Clock>⟧.tells)
+        (scene (sides source.old sink.old) lent clock) result
+        (scene (sides source.new sink.new) lent' clock'))
+        ⊎ ((result ≡ Err ServeError.Memory)
+        × (source.new ≡ source.old) × (sink.new ≡ sink.old)) }
+    ensures read_failed { IsErrOf result ServeError.Read
+        ↔ R.failures source.old < R.failures source.new }
+    ensures write_failed { IsErrOf result ServeError.Write
+        ↔ W.failures sink.old < W.failures sink.new }
+{
+    let Ok(mut lent) = Lent::new(alloc, core) else {
+        return Err(ServeError::Memory);
+    };
+    let mut clock = Stopped::at(now);
+    serve_connection(alloc, source, sink, &mut lent, tree, &mut clock)
 }
