@@ -60,7 +60,8 @@ impl Reader {
             "send" => self.begin_message(Direction::Sent, rest),
             "want" => self.begin_message(Direction::Wanted, rest),
             "+" => self.go_on(rest),
-            "rule" | "tree" | "lease" | "epoch" | "fault" => self.set(keyword, rest),
+            "rule" | "tree" | "lease" | "epoch" => self.set(keyword, rest),
+            "fault" => self.set_fault(rest),
             "moment" | "at" => self.set_clock(rest),
             "sweep" => self.add_sweep(rest),
             _ => self.add_line(line),
@@ -111,23 +112,22 @@ impl Reader {
         let Some(message) = self.message.take() else {
             return Ok(());
         };
-        let connection = self.connection()?;
-        match message.direction {
-            Direction::Sent => message.put(&mut connection.sent),
-            Direction::Wanted => message.put(&mut connection.wanted),
+        self.begin_behind_sweep()?;
+        let row = self.rows.last_mut().ok_or(Reason::NoRow)?;
+        match row.steps.last_mut() {
+            Some(Step::Connection(connection)) => put(&message, connection),
+            _ => Err(Reason::NoRow),
         }
     }
 
-    // The connection that goes on: behind a sweep, another one at the same moment.
-    fn connection(&mut self) -> Result<&mut Connection, Reason> {
+    // What is sent or wanted behind a sweep is on another connection, at the same moment.
+    fn begin_behind_sweep(&mut self) -> Result<(), Reason> {
         let row = self.rows.last_mut().ok_or(Reason::NoRow)?;
-        if let Some(Step::Sweep(_)) = row.steps.last() {
+        let is_behind = matches!(row.steps.last(), Some(Step::Sweep(_)));
+        if is_behind {
             row.steps.push(connection(self.alloc, self.clock))?;
         }
-        match row.steps.last_mut() {
-            Some(Step::Connection(connection)) => Ok(connection),
-            _ => Err(Reason::NoRow),
-        }
+        Ok(())
     }
 
     fn add_line(&mut self, words: &str) -> Result<(), Reason> {
@@ -140,7 +140,7 @@ impl Reader {
         message.go_on(self.alloc, words)
     }
 
-    // Sets something of the row or of its last connection.
+    // Sets something of the row.
     fn set(&mut self, keyword: &str, text: &str) -> Result<(), Reason> {
         self.end_message()?;
         let row = self.rows.last_mut().ok_or(Reason::NoRow)?;
@@ -151,8 +151,18 @@ impl Reader {
                 add_text(document, text)?;
             }
             "lease" => row.lease = lease(text)?,
-            "epoch" => row.epoch = text.parse::<u32>().map_err(|_| Reason::NoNumber)?,
-            _ => self.connection()?.fault = Some(fault(text).ok_or(Reason::NoFault)?),
+            _ => row.epoch = text.parse::<u32>().map_err(|_| Reason::NoNumber)?,
+        }
+        Ok(())
+    }
+
+    fn set_fault(&mut self, text: &str) -> Result<(), Reason> {
+        self.end_message()?;
+        self.begin_behind_sweep()?;
+        let row = self.rows.last_mut().ok_or(Reason::NoRow)?;
+        match row.steps.last_mut() {
+            Some(Step::Connection(last)) => last.fault = Some(fault(text).ok_or(Reason::NoFault)?),
+            _ => return Err(Reason::NoRow),
         }
         Ok(())
     }
@@ -186,6 +196,14 @@ fn connection(alloc: Global, moment: Moment) -> Step {
         wanted: Vec::new(alloc),
         fault: None,
     })
+}
+
+// Adds the message to what the connection has of its direction.
+fn put(message: &Message, connection: &mut Connection) -> Result<(), Reason> {
+    match message.direction {
+        Direction::Sent => message.put(&mut connection.sent),
+        Direction::Wanted => message.put(&mut connection.wanted),
+    }
 }
 
 fn add_text(text: &mut String, line: &str) -> Result<(), AllocError> {

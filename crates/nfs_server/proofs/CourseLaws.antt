@@ -11,7 +11,7 @@ use Rattle.nfs_server.specs.declared.serve_error.ServeError.{ServeError}
 use Rattle.nfs_server.specs.declared.serve_error.ServeError.TheVariants as errors
 use Rattle.nfs_server.specs.Asking.{Question}
 use Rattle.nfs_server.specs.LentAnswers.{IsGiven}
-use Rattle.nfs_server.specs.declared.lent.Lent.{Lent}
+use Rattle.nfs_server.specs.Leases.{LentCore}
 use Rattle.nfs_core.specs.Server.{AreAlike}
 use Rattle.nfs_rpc.specs.declared.rpc_call.RpcCall.{RpcCall}
 use Rattle.nfs_rpc.specs.declared.rpc_call.RpcCall.TheVariants as calls
@@ -114,19 +114,19 @@ course_exchanged device rules same before course result after is =
     )
 
 -- the rules of a connection whose service is a core
-abbrev of_core : {C : Type 0} → Files → (C → ℕ → C → Type 0) → Rules Lent C
+abbrev of_core : {C : Type 0} → Files → (C → ℕ → C → Type 0) → Rules LentCore C
 of_core tree tells =
-    rules tree IsGiven (λ (old new : Lent). AreAlike old.core new.core × (new.book ≡ old.book)) tells
+    rules tree IsGiven (λ (old new : LentCore). AreAlike old.core new.core × (new.book ≡ old.book)) tells
 
 -- before the first question of a call the core is alike
-ready_alike : (old ready : Lent) (call : RpcCall) → MakesRoom (λ (old new : Lent). AreAlike old.core new.core × (new.book ≡ old.book)) old call ready → AreAlike old.core ready.core
+ready_alike : (old ready : LentCore) (call : RpcCall) → MakesRoom (λ (old new : LentCore). AreAlike old.core new.core × (new.book ≡ old.book)) old call ready → AreAlike old.core ready.core
 ready_alike old ready (calls.Compound xid principal compound) made = made.0
 ready_alike old ready calls.Silent made = rw made (refl, refl)
 ready_alike old ready (calls.Null xid) made = rw made (refl, refl)
 ready_alike old ready (calls.Answer xid reply) made = rw made (refl, refl)
 
 -- by exchanges that follow one another the journal of a core gains the entries of their questions
-exchanges_gain : {C : Type 0} (tree : Files) (tells : C → ℕ → C → Type 0) (s new : Lent) (c after : C) (es : List Exchange) → AreExchanged (of_core tree tells) s c es new after
+exchanges_gain : {C : Type 0} (tree : Files) (tells : C → ℕ → C → Type 0) (s new : LentCore) (c after : C) (es : List Exchange) → AreExchanged (of_core tree tells) s c es new after
     → Gains (flat_map (questions_of tree) es) (flat_map (λ (e : Exchange). e.answers) es) s.core.journal new.core.journal
 exchanges_gain tree tells s new c after [] are = gains_nothing s new are.0
 exchanges_gain tree tells s new c after (e ∷ es) are =
@@ -143,7 +143,7 @@ exchanges_gain tree tells s new c after (e ∷ es) are =
 
 pub gains_entries : {D C : Type 0} (device : Device D) (tree : Files) (tells : C → ℕ → C → Type 0) → GainsEntries device (of_core tree tells)
 gains_entries device tree tells before after course result is =
-    let led = course_exchanged device (of_core tree tells) (λ (s : Lent). ((refl, refl), refl)) before course result after is in
+    let led = course_exchanged device (of_core tree tells) (λ (s : LentCore). ((refl, refl), refl)) before course result after is in
     let gained = exchanges_gain tree tells before.service led.0 before.clock after.clock (all_exchanges course) led.1 in
     (gained.0, gained.1, led.2.0 ∙ gained.2)
 

@@ -9,7 +9,7 @@ use Rattle.nfs_state.specs.declared.request.Request.{Request}
 use Rattle.nfs_server.specs.Asking.{GivenByCore, Operation, Question, Renewal}
 use Rattle.nfs_server.specs.Entries.{AreEntries, QuestionsAreEntries}
 use Rattle.nfs_server.specs.LentAnswers.{IsGiven}
-use Rattle.nfs_server.specs.declared.lent.Lent.{Lent}
+use Rattle.nfs_server.specs.Leases.{LentCore}
 use Rattle.nfs_xdr.specs.declared.op_result.OpResult.{OpResult}
 
 -- what a call of `apply` gives is given by the core
@@ -73,7 +73,7 @@ gains_operation old mid new request questions answer answers (inr refused) other
     (gained.0, inl (refused.0, gained.1), gained.2)
 
 -- one question and the following ones
-gains_first : (old mid new : Lent) (question : Question) (questions : List Question) (answer : OpResult) (answers : List OpResult)
+gains_first : (old mid new : LentCore) (question : Question) (questions : List Question) (answer : OpResult) (answers : List OpResult)
     → IsGiven old question answer mid → Gains questions answers mid.core.journal new.core.journal
     → Gains (question ∷ questions) (answer ∷ answers) old.core.journal new.core.journal
 gains_first old mid new (Operation request) questions answer answers given others =
@@ -82,11 +82,11 @@ gains_first old mid new (Renewal moment client) questions answer answers given o
     gains_after old.core mid.core new.core questions answers (ap (λ (s : Server). s.journal) given.1, ap (λ (s : Server). s.stored) given.1) others
 
 -- where nothing was asked the journal gained nothing
-pub gains_nothing : (old new : Lent) → new ≡ old → Gains [] [] old.core.journal new.core.journal
+pub gains_nothing : (old new : LentCore) → new ≡ old → Gains [] [] old.core.journal new.core.journal
 gains_nothing old new same = (
   [],
   refl,
-  ap (λ (s : Lent). s.core.journal) same ∙ ap (λ (es : List Entry). record old.core.journal { entries = es }) (sym (append-nil old.core.journal.entries)),
+  ap (λ (s : LentCore). s.core.journal) same ∙ ap (λ (es : List Entry). record old.core.journal { entries = es }) (sym (append-nil old.core.journal.entries)),
 )
 
 pub questions_are_entries : QuestionsAreEntries

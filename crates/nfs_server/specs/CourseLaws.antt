@@ -8,7 +8,7 @@ use Rattle.nfs_rpc.specs.Records.{Splits}
 use Rattle.nfs_tree.specs.Tree.{Files}
 use Rattle.nfs_server.specs.declared.serve_error.ServeError.{ServeError}
 use Rattle.nfs_server.specs.declared.serve_error.ServeError.TheVariants as errors
-use Rattle.nfs_server.specs.declared.lent.Lent.{Lent}
+use Rattle.nfs_server.specs.Leases.{LentCore}
 use Rattle.nfs_server.specs.Connection.{Scene, Turn, Course, AreTurns, IsCourse, all_exchanges, exchanges_of, rest_after, text_of}
 use Rattle.nfs_server.specs.Device.{Device}
 use Rattle.nfs_server.specs.Entries.{AreEntries}
@@ -62,9 +62,9 @@ HasBytes {D = D} {S = S} {C = C} device rules remaining contents =
 
 -- If the service is a core, its journal gains an entry for each operation that it was asked in a course and that wasn't
 -- answered NFS4ERR_RESOURCE, in order, and no others.
-abbrev pub GainsEntries : {D C : Type 0} → Device D → Rules Lent C → Type 0
+abbrev pub GainsEntries : {D C : Type 0} → Device D → Rules LentCore C → Type 0
 GainsEntries {D = D} {C = C} device rules =
-    (before after : Scene D Lent C) (course : Course) (result : Result ℕ ServeError)
+    (before after : Scene D LentCore C) (course : Course) (result : Result ℕ ServeError)
     → IsCourse device rules before course result after
     → (entries : List Entry)
     × AreEntries (flat_map (questions_of rules.tree) (all_exchanges course))

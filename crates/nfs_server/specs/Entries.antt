@@ -4,7 +4,7 @@ use Rattle.nfs_state.specs.declared.entry.Entry.{Entry}
 use Rattle.nfs_state.specs.Entries.{entry_of, resource}
 use Rattle.nfs_server.specs.Asking.{Asks, Operation, Question, Renewal}
 use Rattle.nfs_server.specs.LentAnswers.{IsGiven}
-use Rattle.nfs_server.specs.declared.lent.Lent.{Lent}
+use Rattle.nfs_server.specs.Leases.{LentCore}
 use Rattle.nfs_xdr.specs.declared.op_result.OpResult.{OpResult}
 
 -- The entries are the operations that were asked, with their answers, in order, except those that were answered
@@ -25,7 +25,7 @@ AreEntries (question ∷ questions) [] entries = ⊥
 -- By answering questions a core's journal gains their entries, and doesn't change otherwise.
 abbrev pub QuestionsAreEntries : Type 0
 QuestionsAreEntries =
-    (old new : Lent) (questions : List Question) (answers : List OpResult)
+    (old new : LentCore) (questions : List Question) (answers : List OpResult)
     → Asks IsGiven old questions answers new
     → (entries : List Entry)
     × AreEntries questions answers entries

@@ -7,6 +7,11 @@ use Rattle.nfs_forms.specs.declared.status.Refusal.TheVariants.{StaleClientId}
 use Rattle.nfs_shared.specs.BookOf.{IsBookOf}
 use Rattle.nfs_shared.specs.PlainBook.{PlainBook, is_open_in, lease_of, renewed, was_opened_in, with_lease}
 
+-- a lent core, and the book of its clients' leases
+pub record LentCore : Type 0 where
+  pub core : Server
+  pub book : PlainBook
+
 -- the book has the leases of the core's clients
 abbrev pub IsLent : Server → PlainBook → Type 0
 IsLent core book = IsBookOf (is_open_in book) (was_opened_in book) book.lease core

@@ -1,15 +1,12 @@
 -- How a core with the leases of its clients answers as a service (RFC 7530, sections 9.5 and 16.28).
 use Rattle.std.specs.Prelude.{◌≡◌, ℕ, Bool, false, List, Option, Some, None}
-use Rattle.std.specs.List.{AllByRecursion}
-use Rattle.nfs_core.specs.Server.{Server}
 use Rattle.nfs_forms.specs.declared.client_id.ClientId.{ClientId}
 use Rattle.nfs_owners.specs.Registry.{Registry, is_live}
 use Rattle.nfs_server.specs.Asking.{GivenByCore, Operation, Question, Renewal}
-use Rattle.nfs_server.specs.declared.lent.Lent.{Lent}
-use Rattle.nfs_shared.specs.BookEvent.{BookEvent, Leads}
-use Rattle.nfs_shared.specs.BookOf.{Follows}
-use Rattle.nfs_server.specs.Leases.{renewal_answer, with_renewal}
-use Rattle.nfs_shared.specs.PlainBook.{Happens, PlainBook}
+use Rattle.nfs_shared.specs.BookEvent.{Leads}
+use Rattle.nfs_shared.specs.BookOf.{events_of_call}
+use Rattle.nfs_server.specs.Leases.{LentCore, renewal_answer, with_renewal}
+use Rattle.nfs_shared.specs.PlainBook.{Happens}
 use Rattle.nfs_xdr.specs.Names.{renewed_by}
 use Rattle.nfs_xdr.specs.declared.op.Op.{Op}
 use Rattle.nfs_xdr.specs.declared.op.Op.TheVariants as ops
@@ -25,22 +22,15 @@ abbrev pub names_live : Registry → Option ℕ → Bool
 names_live clients None = false
 names_live clients (Some number) = is_live number clients
 
--- The leases follow a call: that of a client which becomes live by it is opened, and that of one which is replaced is
--- retired. (Which of them are, follows from the type: the open leases of a lent core are those of its live clients.)
-abbrev pub LeasesFollow : ℕ → Server → Server → PlainBook → PlainBook → Type 0
-LeasesFollow moment core new_core old new =
-    (events : List BookEvent)
-    × AllByRecursion (Follows moment core new_core) events
-    × Leads Happens old events new
-
 -- How a core with the leases of its clients answers a question. Before an operation is judged it renews the lease of the
--- client that it names, whatever is answered. A renewal is answered NFS4_OK where the client is live.
-abbrev pub IsGiven : Lent → Question → OpResult → Lent → Type 0
+-- client that it names, whatever is answered; after it, the lease of a client that became live by it is opened, and that
+-- of one that was replaced is retired. A renewal is answered NFS4_OK where the client is live.
+abbrev pub IsGiven : LentCore → Question → OpResult → LentCore → Type 0
 IsGiven old (Operation request) answer new =
     let client = renewed_by old.core.journal.epoch request.op in
     GivenByCore old.core request answer new.core
-    × LeasesFollow request.moment old.core new.core
-    (with_renewal client request.moment old.book) new.book
+    × Leads Happens (with_renewal client request.moment old.book)
+    (events_of_call request.op request.moment old.core new.core) new.book
 IsGiven old (Renewal moment client) answer new =
     let number = renewed_by old.core.journal.epoch (renewal_of client) in
     (answer ≡ results.Renew (renewal_answer (names_live old.core.stored.clients number)))

@@ -1,6 +1,7 @@
-//! Laws that hold for every course of a connection.
+//! Laws that hold for every course of a connection, and for the questions of a service.
 ghost use Rattle.std.specs.Prelude.{◌≡◌, ℕ, List, Option};
 ghost use Rattle.nfs_server.specs.CourseLaws.{GainsEntries, HasBytes, IsOneText, TellsBytes};
+ghost use Rattle.nfs_server.specs.Entries.{QuestionsAreEntries};
 ghost use Rattle.nfs_server.specs.Sides.{device_of};
 ghost use Rattle.nfs_server.specs.Exchange.{rules};
 ghost use Rattle.nfs_tree.specs.Tree.{Files};
@@ -40,4 +41,10 @@ pub fn journal_of_a_connection<D: Duplex, R: Source, W: Sink, C: Clock>()
         (rules tree ⟦<Lent as Service>⟧.gives ⟦<Lent as Service>⟧.alike C.tells) }
     ensures apart { (tree : Files) → GainsEntries (device_of R.gives R.fails W.takes W.fails)
         (rules tree ⟦<Lent as Service>⟧.gives ⟦<Lent as Service>⟧.alike C.tells) }
+{}
+
+/// The law that the entries that a core's journal gains are the operations that it was asked, with their answers and in
+/// order, except those that were answered `NFS4ERR_RESOURCE`.
+pub fn questions_are_entries()
+    ensures { QuestionsAreEntries }
 {}

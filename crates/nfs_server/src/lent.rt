@@ -1,9 +1,7 @@
-ghost use Rattle.std.specs.Prelude.{◌≡◌, IfOk, IsFalse, List, ℕ, refl};
+ghost use Rattle.std.specs.Prelude.{◌≡◌, IfOk, IsFalse, List, ℕ, false, refl};
 ghost use Rattle.nfs_core.specs.Server.{AreAlike, Server};
 ghost use Rattle.nfs_owners.specs.Registry.{is_live};
-ghost use Rattle.nfs_server.specs.Entries.{QuestionsAreEntries};
 ghost use Rattle.nfs_server.specs.Leases.{IsLent, has_open_lease, renewal_answer, with_renewal};
-ghost use Rattle.nfs_server.specs.LentAnswers.{IsGiven};
 ghost use Rattle.nfs_shared.specs.PlainBook.{Happens};
 ghost use Rattle.nfs_shared.specs.Sweeps.{Sweeps};
 ghost use Rattle.nfs_shared.specs.Turn.{Turn};
@@ -13,13 +11,23 @@ use nfs_core::{Core, Moment};
 use nfs_shared::{LeaseBook, PlainLeases, Renewal, Swept, call_held, sweep_held};
 use nfs_xdr::{Answer, ClientId, Op, OpResult, Principal, Refusal};
 use std::alloc::{AllocError, Global};
+use std::marker::Model;
 
 /// A core that serves one connection after another, with the leases of its clients.
 #[derive(Debug, Drop)]
 pub struct Lent {
     core: Core,
     book: PlainLeases,
-    ghost leases: { IsLent core book },
+}
+
+impl Model for Lent {
+    ghost use Rattle.nfs_server.specs.Leases.{IsLent, LentCore};
+
+    ghost Value = { LentCore };
+
+    ghost view = { λ l. record { core = l.core; book = l.book } };
+
+    ghost invariant = { λ l. IsLent l.core l.book };
 }
 
 impl Lent {
@@ -27,6 +35,7 @@ impl Lent {
     pub fn new(alloc: Global, core: Core) -> Result<Lent, AllocError>
         requires { (number : ℕ) → IsFalse (is_live number core.stored.clients) }
         ensures core { IfOk result (λ lent. lent.core ≡ core) }
+        ensures leases { IfOk result (λ lent. IsLent core lent.book) }
     {
         let book = PlainLeases::new(alloc, core.journal().lease())?;
         Ok(Lent { core, book })
@@ -52,6 +61,8 @@ impl Lent {
 }
 
 impl Service for Lent {
+    ghost use Rattle.nfs_server.specs.LentAnswers.{IsGiven};
+
     ghost gives = { IsGiven };
 
     ghost alike = { λ old new. AreAlike old.core new.core × (new.book ≡ old.book) };
@@ -110,9 +121,3 @@ fn answer_of(is_open: bool) -> Answer<()>
         Answer::Refused(Refusal::StaleClientId)
     }
 }
-
-/// The law that the entries that a core's journal gains are the operations that it was asked, with their answers and in
-/// order, except those that were answered `NFS4ERR_RESOURCE`.
-pub fn questions_are_entries()
-    ensures { QuestionsAreEntries }
-{}

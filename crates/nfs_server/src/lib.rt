@@ -19,11 +19,13 @@ mod tree_file;
 pub use clock::{Clock, Stopped};
 pub use compound::run_compound;
 pub use connection::{STREAM_LIMIT, serve_connection, serve_duplex};
-pub use course_laws::{bytes_of_a_connection, journal_of_a_connection, turns_are_of_one_text};
+pub use course_laws::{
+    bytes_of_a_connection, journal_of_a_connection, questions_are_entries, turns_are_of_one_text,
+};
 pub use device::{Counted, DeviceFailed, Sink, Source};
 pub use duplex::Duplex;
 pub use fault::Fault;
-pub use lent::{Lent, questions_are_entries};
+pub use lent::Lent;
 pub use numbers::limits_of_connections;
 pub use once::run_once;
 pub use serve_error::ServeError;

@@ -6,7 +6,7 @@ ghost use Rattle.nfs_server.specs.Exchange.{rules};
 ghost use Rattle.nfs_server.specs.Once.{fault_of, status_of};
 ghost use Rattle.nfs_server.specs.declared.clock.Stopped.{Stopped};
 ghost use Rattle.nfs_server.specs.declared.serve_error.ServeError.{ServeError};
-ghost use Rattle.nfs_server.specs.declared.lent.Lent.{Lent};
+ghost use Rattle.nfs_server.specs.Leases.{IsLent, LentCore};
 
 use crate::{Clock, Fault, Lent, ServeError, Service, Sink, Source, Stopped, serve_connection};
 use nfs_core::{Core, Moment};
@@ -14,8 +14,8 @@ use nfs_tree::Tree;
 use std::alloc::Global;
 use std::io::Write;
 
-/// Serves one input to its end, with this core, in which no client is live, and the tree for which it was made. All calls come at the moment
-/// `now`. Returns the program's exit status: 0, or 1 after a fault, which is reported by a line on `errors`.
+/// Serves one input to its end, with this core, in which no client is live, and the tree for which the core was made. All
+/// calls come at the moment `now`. Returns the program's exit status: 0, or 1 after a fault, which is reported by a line on `errors`.
 pub fn run_once<R: Source, W: Sink, E: Write>(
     alloc: Global,
     core: Core,
@@ -33,8 +33,8 @@ pub fn run_once<R: Source, W: Sink, E: Write>(
     // The input was served as one connection at this moment, starting from this core, and the
     // status says how it ended; or memory ran out before anything was read.
     ensures served { (outcome : Result ℕ ServeError)
-        × (((lent : Lent) × (clock : Stopped) × (lent' : Lent) × (clock' : Stopped)
-        × (lent.core ≡ core) × (clock.moment ≡ now)
+        × (((lent : LentCore) × (clock : Stopped) × (lent' : LentCore) × (clock' : Stopped)
+        × (lent.core ≡ core) × IsLent core lent.book × (clock.moment ≡ now)
         × HasCourse (device_of R.gives R.fails W.takes W.fails)
         (rules tree.now ⟦<Lent as Service>⟧.gives ⟦<Lent as Service>⟧.alike
         ⟦<Stopped as Clock>⟧.tells)

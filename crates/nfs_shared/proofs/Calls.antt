@@ -11,7 +11,7 @@ use Rattle.nfs_owners.specs.LiveClients.{can_become_live, other_number, replaced
 use Rattle.nfs_owners.specs.Registry.{Registry, is_confirmed_of, is_live, is_of_client}
 use Rattle.nfs_owners.specs.declared.client_record.ClientRecord.{ClientRecord}
 use Rattle.nfs_shared.specs.BookEvent.{BookEvent, Leads, Open, Retire, is_open_after, was_opened_after}
-use Rattle.nfs_shared.specs.BookOf.{Follows, IsBookOf, opening, retiring}
+use Rattle.nfs_shared.specs.BookOf.{IsBookOf, events_of_call, opening, opening_of, retiring, retiring_of}
 use Rattle.nfs_shared.proofs.Comes.{AreLaws, contrary, lease_after}
 use Rattle.nfs_shared.proofs.Lists.{leads_more}
 use Rattle.nfs_state.specs.State.{History, State}
@@ -91,15 +91,25 @@ pub lease_kept : (old new : Server) (request : Request) (answer : OpResult) (num
 lease_kept old new request answer None h = ap (λ (j : History). j.lease) h.1.0
 lease_kept old new request answer (Some number) h = ap (λ (j : History). j.lease) h.1
 
--- the calls on the book are right
-pub all_follow : (moment : ℕ) (old new : Server) (come gone : Bool) (client other : ℕ)
-    → (come ≡ true → IsFalse (is_live client old.stored.clients) × IsTrue (is_live client new.stored.clients))
-    → (gone ≡ true → IsTrue (is_live other old.stored.clients) × IsFalse (is_live other new.stored.clients))
-    → AllByRecursion (Follows moment old new) (opening come client moment ++ retiring gone other)
-all_follow moment old new true true client other h k = ((refl, (h refl).0, (h refl).1), (k refl, tt))
-all_follow moment old new true false client other h k = ((refl, (h refl).0, (h refl).1), tt)
-all_follow moment old new false true client other h k = (k refl, tt)
-all_follow moment old new false false client other h k = tt
+-- what is asked of the book, where the operation confirms nobody
+pub no_events : (op : Op) (moment : ℕ) (old new : Server) → confirmed_by op ≡ None → events_of_call op moment old new ≡ []
+no_events op moment old new none =
+    ap (λ (c : Option ℕ).
+    opening_of c moment old.stored.clients new.stored.clients
+    ++ retiring_of (option_and_then (λ number. replaced_by number old.stored.clients) c) new.stored.clients) none
+
+-- and where it asks to confirm a client, which replaces this one if there is one
+pub some_events : (op : Op) (moment : ℕ) (old new : Server) (client : ℕ) (other : Option ℕ) → confirmed_by op ≡ Some client
+    → replaced_by client old.stored.clients ≡ other
+    → events_of_call op moment old new
+    ≡ opening (not (is_live client old.stored.clients) && is_live client new.stored.clients) client moment
+    ++ retiring_of other new.stored.clients
+some_events op moment old new client other by replaced =
+    ap (λ (c : Option ℕ).
+    opening_of c moment old.stored.clients new.stored.clients
+    ++ retiring_of (option_and_then (λ number. replaced_by number old.stored.clients) c) new.stored.clients) by
+    ∙ ap (λ (o : Option ℕ).
+    opening_of (Some client) moment old.stored.clients new.stored.clients ++ retiring_of o new.stored.clients) replaced
 
 or_false : (b : Bool) → (b || false) ≡ b
 or_false true = refl
@@ -270,10 +280,6 @@ pub opened_still : {Book : Type 0} (happens : Book → BookEvent → Book → Ty
 opened_still happens lease is_open was_opened laws come client moment old new h q k =
     opened_opening happens lease is_open was_opened laws come client moment old new h q
     ∙ ap (λ b. b || (come && (q == client))) k
-
-pub come_means : (was is : Bool) → (not was && is) ≡ true → (was ≡ false) × (is ≡ true)
-come_means true is h = cc
-come_means false is h = (refl, h)
 
 pub gone_means : (is : Bool) → not is ≡ true → is ≡ false
 gone_means true h = cc

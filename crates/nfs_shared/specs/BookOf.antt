@@ -1,9 +1,11 @@
 -- A book has the leases of a core's clients.
-use Rattle.std.specs.Prelude.{◌≡◌, ℕ, Bool, true, false, IsFalse, IsTrue, List, [], ◌∷◌}
+use Rattle.std.specs.Prelude.{◌≡◌, ℕ, Bool, true, false, not, ◌&&◌, IsFalse, IsTrue, List, [], ◌∷◌, ◌++◌, Option, Some, None}
+use Rattle.nfs_core.specs.LiveClients.{confirmed_by, replaced_in}
 use Rattle.nfs_core.specs.Server.{Server}
 use Rattle.nfs_owners.specs.LiveClients.{can_become_live}
-use Rattle.nfs_owners.specs.Registry.{is_live}
+use Rattle.nfs_owners.specs.Registry.{Registry, is_live}
 use Rattle.nfs_shared.specs.BookEvent.{BookEvent, Open, Retire}
+use Rattle.nfs_xdr.specs.declared.op.Op.{Op}
 
 -- A book with these open leases, these that were opened, and this lease in seconds is the book of this core's clients.
 pub record IsBookOf (is_open was_opened : ℕ → Bool) (lease : ℕ) (server : Server) : Type 0 where
@@ -14,18 +16,6 @@ pub record IsBookOf (is_open was_opened : ℕ → Bool) (lease : ℕ) (server : 
   pub past : (client : ℕ) → IsTrue (was_opened client)
       → IsFalse (can_become_live client server.stored.clients)
 
--- The call on the book follows what became of a client between the two servers: the lease is opened at this moment, of a
--- client that wasn't live and is; or it is retired, of one that was and isn't.
-abbrev pub Follows : ℕ → Server → Server → BookEvent → Type 0
-Follows moment old new (Open client opened) =
-    (opened ≡ moment)
-    × IsFalse (is_live client old.stored.clients)
-    × IsTrue (is_live client new.stored.clients)
-Follows moment old new (Retire client) =
-    IsTrue (is_live client old.stored.clients)
-    × IsFalse (is_live client new.stored.clients)
-Follows moment old new event = ⊥
-
 -- the lease of the client is opened at the moment, or nothing is done
 abbrev pub opening : Bool → ℕ → ℕ → List BookEvent
 opening true client moment = Open client moment ∷ []
@@ -35,3 +25,20 @@ opening false client moment = []
 abbrev pub retiring : Bool → ℕ → List BookEvent
 retiring true client = Retire client ∷ []
 retiring false client = []
+
+-- The lease of a client that a call asks to confirm, if it does: it is opened where the client wasn't live and is.
+abbrev pub opening_of : Option ℕ → ℕ → Registry → Registry → List BookEvent
+opening_of None moment old new = []
+opening_of (Some client) moment old new =
+    opening (not (is_live client old) && is_live client new) client moment
+
+-- The lease of the client that this one replaces, if it does: it is retired where the client isn't live any more.
+abbrev pub retiring_of : Option ℕ → Registry → List BookEvent
+retiring_of None new = []
+retiring_of (Some client) new = retiring (not (is_live client new)) client
+
+-- what is asked of the book after a call at this moment, by who was live before the call and is so now
+abbrev pub events_of_call : Op → ℕ → Server → Server → List BookEvent
+events_of_call op moment old new =
+    opening_of (confirmed_by op) moment old.stored.clients new.stored.clients
+    ++ retiring_of (replaced_in old.stored.clients op) new.stored.clients

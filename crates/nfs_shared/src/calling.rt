@@ -1,12 +1,11 @@
 //! Operations on the core, with the leases of the clients that they make live or replace.
 
-ghost use Rattle.std.specs.Prelude.{◌≤◌, ◌&&◌, not, IsFalse, IsTrue, List, length};
-ghost use Rattle.std.specs.List.{AllByRecursion};
+ghost use Rattle.std.specs.Prelude.{◌≤◌, ◌&&◌, not, IsFalse, IsTrue, length};
 ghost use Rattle.nfs_core.specs.Server.{Applies, IsLawful};
 ghost use Rattle.nfs_owners.specs.Registry.{is_live};
 ghost use Rattle.nfs_owners.specs.declared.client_record.TheConstants.{CLIENT_LIMIT};
-ghost use Rattle.nfs_shared.specs.BookEvent.{BookEvent, Leads};
-ghost use Rattle.nfs_shared.specs.BookOf.{Follows, IsBookOf, opening, retiring};
+ghost use Rattle.nfs_shared.specs.BookEvent.{Leads};
+ghost use Rattle.nfs_shared.specs.BookOf.{IsBookOf, events_of_call, opening, retiring};
 ghost use Rattle.nfs_state.specs.Entries.{IsFilehandle, request_of};
 ghost use Rattle.nfs_xdr.specs.Op.{has_entry, opnum_of};
 ghost use Rattle.nfs_xdr.specs.OpResult.{op_result};
@@ -36,9 +35,8 @@ pub fn call_held<B: LeaseBook>(
     ensures short { length (op_result.encoding result.0) ≤ answer_limit (opnum_of op.now) }
     ensures form { op_result.Fits result.0 }
     ensures lawful { IsLawful core.new }
-    ensures leases { (events : List BookEvent)
-        × AllByRecursion (Follows moment core.old core.new) events
-        × Leads B.happens book.old events book.new }
+    ensures leases { Leads B.happens book.old
+        (events_of_call op.now moment core.old core.new) book.new }
     ensures agrees { IsBookOf (B.is_open book.new) (B.was_opened book.new) (B.lease book.new)
         core.new }
 {

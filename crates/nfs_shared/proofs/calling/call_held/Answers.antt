@@ -1,10 +1,10 @@
 -- The book follows the call.
-use Rattle.std.proofs.Common.{ℕ, Bool, false, not, ◌&&◌, ◌++◌, ◌≡◌, [], Option, Some, None, refl, sym, ap, subst, ◌∙◌}
+use Rattle.std.proofs.Common.{ℕ, Bool, List, false, not, ◌&&◌, ◌++◌, ◌≡◌, [], Option, Some, None, refl, sym, ap, subst, ◌∙◌}
 use Rattle.nfs_core.specs.LiveClients.{LiveFollow, confirmed_by}
 use Rattle.nfs_owners.specs.Registry.{is_live}
-use Rattle.nfs_shared.specs.BookEvent.{Leads}
+use Rattle.nfs_shared.specs.BookEvent.{BookEvent, Leads}
 use Rattle.nfs_shared.specs.BookOf.{opening, retiring}
-use Rattle.nfs_shared.proofs.Calls.{all_follow, book_after, book_same, come_means, confirms_none, follow_of, goes_none, goes_to, gone_means, lease_kept, newcomer_is_fresh, opened_still, replaced_is_live}
+use Rattle.nfs_shared.proofs.Calls.{book_after, book_same, confirms_none, follow_of, goes_none, goes_to, gone_means, lease_kept, newcomer_is_fresh, no_events, opened_still, replaced_is_live, some_events}
 use Rattle.nfs_shared.proofs.Comes.{AreLaws}
 use Rattle.nfs_shared.proofs.Lists.{leads_more}
 use Rattle.nfs_shared.proofs.calling.call_held.Goals as goal
@@ -21,7 +21,10 @@ returns-in_default g c =
       short = c.apply.ensures.short;
       form = c.apply.ensures.form;
       lawful = c.apply.ensures.lawful;
-      leases = ([], tt, refl);
+      leases =
+          subst (λ (events : List BookEvent). Leads g.B.LeaseBook.happens book events book)
+          (sym (no_events c.args.op.now c.args.moment old new (confirms_none c.args.op.now c.in_default.not-SetclientidConfirm)))
+          refl;
       agrees =
           book_same c.args.op.now old new (g.B.LeaseBook.is_open book) (g.B.LeaseBook.was_opened book)
           (g.B.LeaseBook.lease book)
@@ -76,18 +79,19 @@ returns-in-Some-clause-leases g c =
     let new = c.apply-answer.new.self in
     let client = c.in-SetclientidConfirm.args.client.number in
     let other = c.in-Some.other in
-    let come = not c.live-was_live.result && is_live client new.stored.clients in
-    let gone = not (is_live other new.stored.clients) in
-    let live = replaced_is_live old.stored.clients client other (sym c.replaced_by-replaced.ensures ∙ c.in-Some.is) in (
-      opening come client c.args.moment ++ retiring gone other,
-      all_follow c.args.moment old new come gone client other
-          (λ k.
-          let both = come_means c.live-was_live.result (is_live client new.stored.clients) k in
-          (sym c.live-was_live.ensures ∙ both.0, both.1))
-          (λ k. (live, gone_means (is_live other new.stored.clients) k)),
-      leads_more g.B.LeaseBook.happens c.args.book.now c.open_newcomer.new.book c.retire_replaced.new.book
-          (opening come client c.args.moment) (retiring gone other) c.open_newcomer.ensures c.retire_replaced.ensures,
-    )
+    let come = not (is_live client old.stored.clients) && is_live client new.stored.clients in
+    let first =
+    subst
+    (λ (b : Bool).
+    Leads g.B.LeaseBook.happens c.args.book.now
+    (opening (not b && is_live client new.stored.clients) client c.args.moment) c.open_newcomer.new.book)
+    c.live-was_live.ensures c.open_newcomer.ensures in
+    subst (λ (events : List BookEvent). Leads g.B.LeaseBook.happens c.args.book.now events c.retire_replaced.new.book)
+    (sym (some_events c.args.op.now c.args.moment old new client (Some other) (ap confirmed_by c.in-SetclientidConfirm.is)
+    (sym c.replaced_by-replaced.ensures ∙ c.in-Some.is)))
+    (leads_more g.B.LeaseBook.happens c.args.book.now c.open_newcomer.new.book c.retire_replaced.new.book
+    (opening come client c.args.moment) (retiring (not (is_live other new.stored.clients)) other) first
+    c.retire_replaced.ensures)
 
 pub returns-in-Some-clause-agrees : goal.returns-in-Some-clause-agrees
 returns-in-Some-clause-agrees g c =
@@ -126,16 +130,18 @@ returns-in_default-replaced-clause-leases g c =
     let old = c.args.core.now in
     let new = c.apply-answer.new.self in
     let client = c.in-SetclientidConfirm.args.client.number in
-    let come = not c.live-was_live.result && is_live client new.stored.clients in (
-      opening come client c.args.moment ++ retiring false 0,
-      all_follow c.args.moment old new come false client 0
-          (λ k.
-          let both = come_means c.live-was_live.result (is_live client new.stored.clients) k in
-          (sym c.live-was_live.ensures ∙ both.0, both.1))
-          (λ k. cc),
-      leads_more g.B.LeaseBook.happens c.args.book.now c.open_newcomer.new.book c.open_newcomer.new.book
-          (opening come client c.args.moment) [] c.open_newcomer.ensures refl,
-    )
+    let come = not (is_live client old.stored.clients) && is_live client new.stored.clients in
+    let first =
+    subst
+    (λ (b : Bool).
+    Leads g.B.LeaseBook.happens c.args.book.now
+    (opening (not b && is_live client new.stored.clients) client c.args.moment) c.open_newcomer.new.book)
+    c.live-was_live.ensures c.open_newcomer.ensures in
+    subst (λ (events : List BookEvent). Leads g.B.LeaseBook.happens c.args.book.now events c.open_newcomer.new.book)
+    (sym (some_events c.args.op.now c.args.moment old new client None (ap confirmed_by c.in-SetclientidConfirm.is)
+    (sym c.replaced_by-replaced.ensures ∙ c.in_default-replaced.is)))
+    (leads_more g.B.LeaseBook.happens c.args.book.now c.open_newcomer.new.book c.open_newcomer.new.book
+    (opening come client c.args.moment) [] first refl)
 
 pub returns-in_default-replaced-clause-agrees : goal.returns-in_default-replaced-clause-agrees
 returns-in_default-replaced-clause-agrees g c =
