@@ -1,5 +1,5 @@
 -- A book of leases in which somebody else renews a lease after each call.
-use Rattle.std.specs.Prelude.{◌≡◌, ℕ, Bool, true}
+use Rattle.std.specs.Prelude.{◌≡◌, ℕ, true}
 use Rattle.std.proofs.Common.{◌∙◌}
 use Rattle.nfs_shared.specs.BookEvent.{BookEvent, Renew, is_open_after, was_opened_after}
 use Rattle.nfs_shared.specs.PlainBook.{Happens, PlainBook, is_open_in, was_opened_in}

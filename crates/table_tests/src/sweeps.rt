@@ -96,24 +96,30 @@ fn come<B: LeaseBook>(rt: &impl Abort, core: &mut Core, book: &mut B, introducti
     assert!(rt; confirmation == OpResult::SetclientidConfirm(Answer::Done(())));
 }
 
-/// The leases end at 190. A client without room for its end stays until the next sweep.
-#[test]
-fn two_clients_are_kept_and_removed(rt: HostRuntime) -> Result<(), Fail> {
-    let (mut core, mut book) = started(rt.alloc()).ok_or("a core")?;
-    let first = introduction(rt.alloc(), b"a").ok_or("a client")?;
-    let second = introduction(rt.alloc(), b"b").ok_or("a client")?;
-    come(&rt, &mut core, &mut book, &first);
-    come(&rt, &mut core, &mut book, &second);
-    let edge = Moment::new(190).ok_or("a moment")?;
-    let kept = sweep_held(&mut core, &mut book, edge);
+/// What a sweep at this moment comes to.
+fn sweep_at<B: LeaseBook>(core: &mut Core, book: &mut B, now: Moment) -> Swept
+    requires agrees { IsBookOf (B.is_open book.old) (B.was_opened book.old) (B.lease book.old)
+        core.old }
+    ensures agrees { IsBookOf (B.is_open book.new) (B.was_opened book.new) (B.lease book.new)
+        core.new }
+{
+    sweep_held(core, book, now)
+}
+
+/// The two clients' leases end at 190. A client without room for its end stays until the next sweep.
+fn keep_and_remove(rt: &impl Abort, core: &mut Core, book: &mut PlainLeases)
+    requires agrees { IsBookOf (is_open_in book.old) (was_opened_in book.old) book.old.lease core.old }
+{
+    let edge = Moment::new(190).unwrap();
+    let after = Moment::new(191).unwrap();
+    let kept = sweep_at(core, book, edge);
     assert!(rt;
         kept == Swept {
             kept: 2,
             ..Swept::NONE
         }
     );
-    let after = Moment::new(191).ok_or("a moment")?;
-    let swept = sweep_held(&mut core, &mut book, after);
+    let swept = sweep_at(core, book, after);
     if swept.refused == 0 {
         assert!(rt;
             swept
@@ -132,7 +138,7 @@ fn two_clients_are_kept_and_removed(rt: HostRuntime) -> Result<(), Fail> {
                 }
         );
         assert!(rt; core.live(1));
-        let again = sweep_held(&mut core, &mut book, after);
+        let again = sweep_at(core, book, after);
         assert!(rt;
             again
                 == Swept {
@@ -142,23 +148,31 @@ fn two_clients_are_kept_and_removed(rt: HostRuntime) -> Result<(), Fail> {
         );
     }
     assert!(rt; core.next_live(0).is_none());
+}
+
+#[test]
+fn two_clients_are_kept_and_removed(rt: HostRuntime) -> Result<(), Fail> {
+    let (mut core, mut book) = started(rt.alloc()).ok_or("a core")?;
+    let first = introduction(rt.alloc(), b"a").ok_or("a client")?;
+    let second = introduction(rt.alloc(), b"b").ok_or("a client")?;
+    come(&rt, &mut core, &mut book, &first);
+    come(&rt, &mut core, &mut book, &second);
+    keep_and_remove(&rt, &mut core, &mut book);
     Ok(())
 }
 
-/// A client whose lease is renewed after the look stays.
-#[test]
-fn a_renewal_between_look_and_close(rt: HostRuntime) -> Result<(), Fail> {
-    let (mut core, leases) = started(rt.alloc()).ok_or("a core")?;
-    let first = introduction(rt.alloc(), b"a").ok_or("a client")?;
-    let moment = Moment::new(100).ok_or("a moment")?;
-    let mut book = Renewing { leases, moment };
-    come(&rt, &mut core, &mut book, &first);
-    if core.prepare().is_err() {
-        assert!(rt; core.prepare().is_ok());
+/// The client's lease is renewed after the look, and so the client stays. Without room for its end it isn't asked to
+/// close, and the next sweep comes when the lease is over again.
+fn change(rt: &impl Abort, core: &mut Core, book: &mut Renewing)
+    requires agrees { IsBookOf (is_open_in book.old.leases) (was_opened_in book.old.leases)
+        book.old.leases.lease core.old }
+{
+    book.moment = Moment::new(150).unwrap();
+    let mut swept = sweep_at(core, book, Moment::new(191).unwrap());
+    if swept.refused == 1 {
+        book.moment = Moment::new(250).unwrap();
+        swept = sweep_at(core, book, Moment::new(300).unwrap());
     }
-    book.moment = Moment::new(150).ok_or("a moment")?;
-    let now = Moment::new(191).ok_or("a moment")?;
-    let swept = sweep_held(&mut core, &mut book, now);
     assert!(rt;
         swept
             == Swept {
@@ -167,5 +181,15 @@ fn a_renewal_between_look_and_close(rt: HostRuntime) -> Result<(), Fail> {
             }
     );
     assert!(rt; core.live(1));
+}
+
+#[test]
+fn a_renewal_between_look_and_close(rt: HostRuntime) -> Result<(), Fail> {
+    let (mut core, leases) = started(rt.alloc()).ok_or("a core")?;
+    let first = introduction(rt.alloc(), b"a").ok_or("a client")?;
+    let moment = Moment::new(100).unwrap();
+    let mut book = Renewing { leases, moment };
+    come(&rt, &mut core, &mut book, &first);
+    change(&rt, &mut core, &mut book);
     Ok(())
 }
