@@ -1,5 +1,5 @@
--- The leases of a lent core: a renewal opens and ends none, and a core that nobody came to has none.
-use Rattle.std.proofs.Common.{◌≡◌, ℕ, Bool, true, false, Option, Some, None, refl, sym, ap, ◌∙◌}
+-- The leases of a lent core: a renewal opens and ends none, and a core in which nobody is live has none.
+use Rattle.std.proofs.Common.{◌≡◌, ℕ, false, Option, Some, None, refl}
 use Rattle.std.specs.Prelude.{IsFalse}
 use Rattle.nfs_core.specs.Server.{Server}
 use Rattle.nfs_owners.specs.Registry.{is_live}
@@ -8,27 +8,13 @@ use Rattle.nfs_server.specs.LentAnswers.{names_live}
 use Rattle.nfs_shared.specs.BookEvent.{Renew}
 use Rattle.nfs_shared.specs.PlainBook.{Happens, PlainBook, is_open_in, was_opened_in}
 use Rattle.nfs_shared.specs.declared.renewal.Renewal.{Renewal}
-use Rattle.nfs_shared.specs.laws.Following.{keeps_lease, open_follows, opened_follows}
+use Rattle.nfs_shared.specs.laws.Agreeing.{fresh_book_agrees, renewed_book_agrees}
 
 pub renewed_lent : (old new : PlainBook) (client moment : ℕ) (answer : Renewal) (core : Server) → Happens old (Renew client moment answer) new → IsLent core old → IsLent core new
-renewed_lent old new client moment answer core happens lent =
-    let event = Renew client moment answer in
-    record {
-      lasts = keeps_lease old event new happens ∙ lent.lasts;
-      live = λ c. open_follows old event new happens c ∙ lent.live c;
-      past = λ c opened. lent.past c (sym (opened_follows old event new happens c) ∙ opened);
-    }
+renewed_lent old new client moment answer core happens lent = renewed_book_agrees old new client moment answer core happens lent
 
-opened_never : (b : Bool) → b ≡ false → b ≡ true → ⊥
-opened_never b unset is_set = cc
-
--- a book without leases is that of a core in which nobody is live
 pub fresh_lent : (core : Server) (book : PlainBook) → book.lease ≡ core.journal.lease → ((c : ℕ) → is_open_in book c ≡ false) → ((c : ℕ) → was_opened_in book c ≡ false) → ((c : ℕ) → IsFalse (is_live c core.stored.clients)) → IsLent core book
-fresh_lent core book lasts closed fresh nobody = record {
-  lasts = lasts;
-  live = λ c. closed c ∙ sym (nobody c);
-  past = λ c opened. absurd (opened_never (was_opened_in book c) (fresh c) opened);
-}
+fresh_lent core book lasts closed fresh nobody = fresh_book_agrees (is_open_in book) (was_opened_in book) book.lease core lasts closed fresh nobody
 
 -- the lease of the client is open where the client is live
 pub open_is_live : (core : Server) (book : PlainBook) (client : Option ℕ) → IsLent core book → has_open_lease book client ≡ names_live core.stored.clients client
