@@ -1,4 +1,4 @@
-//! A sweep of two clients' leases, by each of its answers.
+//! A sweep between whose look and closing the lease is renewed. Its other answers are in rows.
 
 ghost use Rattle.std.specs.Prelude.{IfSome, IsTrue};
 ghost use Rattle.nfs_shared.specs.BookOf.{IsBookOf};
@@ -104,61 +104,6 @@ fn sweep_at<B: LeaseBook>(core: &mut Core, book: &mut B, now: Moment) -> Swept
         core.new }
 {
     sweep_held(core, book, now)
-}
-
-/// The two clients' leases end at 190. A client without room for its end stays until the next sweep.
-fn keep_and_remove(rt: &impl Abort, core: &mut Core, book: &mut PlainLeases)
-    requires agrees { IsBookOf (is_open_in book.old) (was_opened_in book.old) book.old.lease core.old }
-{
-    let edge = Moment::new(190).unwrap();
-    let after = Moment::new(191).unwrap();
-    let kept = sweep_at(core, book, edge);
-    assert!(rt;
-        kept == Swept {
-            kept: 2,
-            ..Swept::NONE
-        }
-    );
-    let swept = sweep_at(core, book, after);
-    if swept.refused == 0 {
-        assert!(rt;
-            swept
-                == Swept {
-                    expired: 2,
-                    ..Swept::NONE
-                }
-        );
-    } else {
-        assert!(rt;
-            swept
-                == Swept {
-                    expired: 1,
-                    refused: 1,
-                    ..Swept::NONE
-                }
-        );
-        assert!(rt; core.live(1));
-        let again = sweep_at(core, book, after);
-        assert!(rt;
-            again
-                == Swept {
-                    expired: 1,
-                    ..Swept::NONE
-                }
-        );
-    }
-    assert!(rt; core.next_live(0).is_none());
-}
-
-#[test]
-fn two_clients_are_kept_and_removed(rt: HostRuntime) -> Result<(), Fail> {
-    let (mut core, mut book) = started(rt.alloc()).ok_or("a core")?;
-    let first = introduction(rt.alloc(), b"a").ok_or("a client")?;
-    let second = introduction(rt.alloc(), b"b").ok_or("a client")?;
-    come(&rt, &mut core, &mut book, &first);
-    come(&rt, &mut core, &mut book, &second);
-    keep_and_remove(&rt, &mut core, &mut book);
-    Ok(())
 }
 
 /// The client's lease is renewed after the look, and so the client stays. Without room for its end it isn't asked to
