@@ -3,6 +3,7 @@ pub mod Attributes
 pub mod Document
 pub mod Building
 pub mod Leads
+pub mod DocumentNodes
 pub mod Effect
 pub mod operations
 pub mod Filehandles
