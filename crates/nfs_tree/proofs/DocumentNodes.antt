@@ -11,8 +11,8 @@ use Rattle.nfs_tree.specs.declared.node.NodeKind.{NodeKind}
 use Rattle.nfs_tree.specs.declared.node.NodeKind.TheVariants.{Directory, File}
 use Rattle.nfs_tree.specs.declared.path.TheConstants.{PATH_LIMIT}
 use Rattle.nfs_tree.specs.declared.tree.TheConstants.{FILE_LIMIT, DIRECTORY_LIMIT, TEXT_LIMIT}
-use Rattle.nfs_tree.specs.DocumentNodes.{steps_up, parent_or_root, is_document_kind, is_on_way, can_follow, each_can_follow, are_of_a_document}
-use Rattle.nfs_tree.specs.Tree.{Fits, EachFits, HasTextWithin, IsTree, child, node_at, directories, files, is_name}
+use Rattle.nfs_tree.specs.DocumentNodes.{steps_up, parent_or_root, has_place, is_document_kind, is_document_name, is_on_way, can_follow, each_can_follow, are_of_a_document}
+use Rattle.nfs_tree.specs.Tree.{Fits, EachFits, HasTextWithin, IsTree, child, is_directory, node_at, directories, files, is_name}
 use Rattle.nfs_tree.proofs.Nodes.{decided, and_parts}
 
 -- one more node was taken
@@ -56,8 +56,8 @@ utf8_yes bs h = is_utf8-from_IsUtf8 bs h
 pub utf8_no : (bs : List ℕ) → (IsUtf8 bs → ⊥) → is_utf8 bs ≡ false
 utf8_no bs none =
     elim (decided (is_utf8 bs)) [
-      | inl yes ↦ absurd (none (IsUtf8-from_is_utf8 bs yes))
-      | inr no ↦ no
+      | inl valid ↦ absurd (none (IsUtf8-from_is_utf8 bs valid))
+      | inr other ↦ other
     ]
 
 no_child_of : (o : Option ℕ) → is_none o ≡ true → o ≡ None
@@ -72,16 +72,16 @@ short_text (File text) h =
 
 follower_fits : (before : List Node) (node : Node) → can_follow before node ≡ true → Fits before node
 follower_fits before node h =
-    let parts = and_parts _ _ h in
-    let place = and_parts _ _ parts.0 in
-    let unnamed = and_parts _ _ place.1 in
-    let named = and_parts _ _ parts.1 in
-    let kinded = and_parts _ _ named.1 in
+    let all = and_parts (has_place before node && is_document_name node.name && is_document_kind node.kind) _ h in
+    let kinded = and_parts (has_place before node && is_document_name node.name) (is_document_kind node.kind) all.0 in
+    let named = and_parts (has_place before node) (is_document_name node.name) kinded.0 in
+    let near = and_parts (is_directory before node.parent && is_none (child before node.parent node.name)) _ named.0 in
+    let place = and_parts (is_directory before node.parent) (is_none (child before node.parent node.name)) near.0 in
     record {
       parent = place.0;
-      fresh = no_child_of (child before node.parent node.name) unnamed.0;
-      name = (and_parts (is_name node.name) _ named.0).0;
-      text = short_text node.kind kinded.0;
+      fresh = no_child_of (child before node.parent node.name) place.1;
+      name = (and_parts (is_name node.name) _ named.1).0;
+      text = short_text node.kind kinded.1;
     }
 
 each_fits : (before nodes : List Node) → each_can_follow before nodes ≡ true → EachFits before nodes
@@ -92,10 +92,10 @@ each_fits before (node ∷ nodes) h =
 
 pub nodes_are_tree : (nodes : List Node) → are_of_a_document nodes ≡ true → IsTree nodes
 nodes_are_tree nodes h =
-    let first = and_parts (nat_le (directories nodes) DIRECTORY_LIMIT) _ h in
-    let second = and_parts (nat_le (files nodes) FILE_LIMIT) _ first.1 in
+    let all = and_parts (nat_le (directories nodes) DIRECTORY_LIMIT && nat_le (files nodes) FILE_LIMIT) (each_can_follow [] nodes) h in
+    let few = and_parts (nat_le (directories nodes) DIRECTORY_LIMIT) (nat_le (files nodes) FILE_LIMIT) all.0 in
     record {
-      each_fits = each_fits [] nodes second.1;
+      each_fits = each_fits [] nodes all.1;
       few_directories = grind (arith, nat_tests);
       few_files = grind (arith, nat_tests);
     }

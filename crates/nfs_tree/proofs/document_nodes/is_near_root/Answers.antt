@@ -6,7 +6,7 @@ use Rattle.nfs_tree.proofs.document_nodes.is_near_root.Goals as goal
 
 pub loop-preserved : goal.loop-preserved
 loop-preserved c =
-    rw c.parent_of.ensures
+    rw c.parent_of-at.ensures
     (step_up c.args.nodes.now PATH_LIMIT c.loop.counter c.loop.at c.loop-test.true ∙ c.loop.invariant)
 
 pub returns : goal.returns
