@@ -3,6 +3,9 @@ pub mod Attributes
 pub mod Document
 pub mod Building
 pub mod Leads
+pub mod DocumentNodes
+pub mod PolicyForm
+pub mod NodeForm
 pub mod Effect
 pub mod operations
 pub mod Filehandles

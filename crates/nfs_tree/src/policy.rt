@@ -1,3 +1,9 @@
+ghost use Rattle.nfs_tree.specs.PolicyForm as forms;
+ghost use Rattle.xdr.specs.Reading.{Answers};
+
+use std::alloc::Global;
+use xdr::{Wire, WireError, read_u32, write_two, write_u32};
+
 /// Which delegations the server gives.
 #[derive(Clone, Copy, Debug, PartialEq, Eq)]
 pub enum Delegations {
@@ -28,3 +34,68 @@ pub const DEFAULT_POLICY: Policy = Policy {
     delegations: Delegations::All,
     callbacks: Callbacks::Probe,
 };
+
+impl Wire for Delegations {
+    ghost form = { forms.delegations };
+
+    #[tactic(auto, unfolding(crate::specs::PolicyForm::delegations, xdr::specs::Reading::value_at))]
+    fn read(alloc: Global, bytes: &[u8]) -> Result<(Delegations, &[u8]), WireError>
+        ensures { Answers (λ x. (x.0, x.1.now)) result (forms.delegations.at bytes.now) }
+    {
+        let (number, rest) = read_u32(bytes)?;
+        match number {
+            0 => Ok((Delegations::None, rest)),
+            1 => Ok((Delegations::Read, rest)),
+            2 => Ok((Delegations::All, rest)),
+            _ => Err(WireError::Short),
+        }
+    }
+
+    #[tactic(auto, unfolding(crate::specs::PolicyForm::delegations))]
+    fn write(&self, out: &mut Vec<u8>) -> Result<(), WireError> {
+        write_u32(out, *self as u32)
+    }
+}
+
+impl Wire for Callbacks {
+    ghost form = { forms.callbacks };
+
+    #[tactic(auto, unfolding(crate::specs::PolicyForm::callbacks, xdr::specs::Reading::value_at))]
+    fn read(alloc: Global, bytes: &[u8]) -> Result<(Callbacks, &[u8]), WireError>
+        ensures { Answers (λ x. (x.0, x.1.now)) result (forms.callbacks.at bytes.now) }
+    {
+        let (number, rest) = read_u32(bytes)?;
+        match number {
+            0 => Ok((Callbacks::Probe, rest)),
+            1 => Ok((Callbacks::Assume, rest)),
+            _ => Err(WireError::Short),
+        }
+    }
+
+    #[tactic(auto, unfolding(crate::specs::PolicyForm::callbacks))]
+    fn write(&self, out: &mut Vec<u8>) -> Result<(), WireError> {
+        write_u32(out, *self as u32)
+    }
+}
+
+impl Wire for Policy {
+    ghost form = { forms.policy };
+
+    #[tactic(auto, unfolding(crate::specs::PolicyForm::policy))]
+    fn read(alloc: Global, bytes: &[u8]) -> Result<(Policy, &[u8]), WireError>
+        ensures { Answers (λ x. (x.0, x.1.now)) result (forms.policy.at bytes.now) }
+    {
+        let (delegations, rest) = Delegations::read(alloc, bytes)?;
+        let (callbacks, rest) = Callbacks::read(alloc, rest)?;
+        let policy = Policy {
+            delegations,
+            callbacks,
+        };
+        Ok((policy, rest))
+    }
+
+    #[tactic(auto, unfolding(crate::specs::PolicyForm::policy))]
+    fn write(&self, out: &mut Vec<u8>) -> Result<(), WireError> {
+        write_two(out, &self.delegations, &self.callbacks)
+    }
+}
