@@ -8,3 +8,6 @@ pub mod Changes
 pub mod Places
 pub mod Room
 pub mod Shortage
+pub mod MadeOf
+pub mod MomentForm
+pub mod EntryForm

@@ -66,6 +66,32 @@ impl Journal {
         }
     }
 
+    /// A journal with these entries, taking no memory.
+    pub fn with_entries(
+        tree: Tree,
+        lease: u32,
+        epoch: u32,
+        policy: Policy,
+        entries: Vec<Entry>,
+    ) -> Journal
+        requires { (LEASE_MIN ≤ lease) × (lease ≤ LEASE_MAX) }
+        ensures { result.history ≡ record {
+          nodes = tree.nodes;
+          epoch = epoch;
+          lease = lease;
+          policy = policy;
+          entries = entries.items;
+        } }
+    {
+        Journal {
+            tree,
+            epoch,
+            lease,
+            policy,
+            entries,
+        }
+    }
+
     /// A tree with the nodes of the one that the server was started with.
     pub fn tree(&self) -> &Tree
         ensures { result.now.nodes ≡ self.now.history.nodes }

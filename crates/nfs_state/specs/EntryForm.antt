@@ -1,0 +1,141 @@
+-- The entries of a journal, in its file.
+use Rattle.std.specs.Prelude.{◌≡◌, ℕ, Bool, true, false, ◌==◌, List, [], ◌∷◌, Option, Some, None, if◌then◌else◌}
+use Rattle.std.proofs.Common.{refl, ap, sym, ◌∙◌, inl, inr}
+use Rattle.std.proofs.lemmas.Bool.{eqb-true}
+use Rattle.std.specs.List.{find}
+use Rattle.nfs_forms.specs.declared.principal.Principal.{Principal}
+use Rattle.nfs_forms.specs.declared.principal.Principal.TheVariants.{AuthNone, AuthSys}
+use Rattle.nfs_state.specs.MadeOf.{made_of}
+use Rattle.nfs_state.specs.MomentForm.{moment}
+use Rattle.nfs_state.specs.declared.entry.Call.{Call}
+use Rattle.nfs_state.specs.declared.entry.Entry.{Entry}
+use Rattle.nfs_state.specs.declared.entry.Entry.TheVariants as entries
+use Rattle.nfs_state.specs.declared.entry.Expire.{Expire}
+use Rattle.nfs_state.specs.declared.request.Request.{Request}
+use Rattle.nfs_state.specs.declared.entry_kind.EntryKind.{EntryKind}
+use Rattle.nfs_state.specs.declared.entry_kind.EntryKind.TheVariants as kinds
+use Rattle.nfs_xdr.specs.Op.{op}
+use Rattle.nfs_xdr.specs.OpResult.{op_result}
+use Rattle.xdr.specs.Form.{Form, ◌and◌, of, enumeration, u32, flag}
+use Rattle.xdr.specs.Switch.{Case, case, Arm, arm, Agrees, IsRead}
+use Rattle.xdr.specs.Union.{switch}
+
+-- the words of what is there or not: whether it is there, and its number, or 0
+abbrev zero_only : {A : Type 0} → Bool → A → Option A
+zero_only is_zero value = if is_zero then Some value else None
+
+zero_by : {A : Type 0} (n : ℕ) (b : Bool) (value other : A) → (n == 0) ≡ b → zero_only b value ≡ Some other → (other ≡ value) × (0 ≡ n)
+zero_by n true value other is h = (cc, sym (eqb-true n 0 is))
+zero_by n false value other is h = absurd cc
+
+zero_is : {A : Type 0} (n : ℕ) (value other : A) → zero_only (n == 0) value ≡ Some other → (other ≡ value) × (0 ≡ n)
+zero_is {A = A} n value other h = zero_by n (n == 0) value other refl h
+
+-- who a flavor and a uid stand for: AUTH_NONE is 0, with uid 0, and AUTH_SYS is 1
+abbrev pub principal_of : Bool × ℕ → Option Principal
+principal_of w = if w.0 then Some (AuthSys w.1) else zero_only (w.1 == 0) AuthNone
+
+abbrev pub words_of_principal : Principal → Bool × ℕ
+words_of_principal AuthNone = (false, 0)
+words_of_principal (AuthSys uid) = (true, uid)
+
+principal_from : (has_uid : Bool) (uid : ℕ) (p : Principal) → principal_of (has_uid, uid) ≡ Some p → words_of_principal p ≡ (has_uid, uid)
+principal_from true uid p h =
+    let is : AuthSys uid ≡ p = cc in
+    ap words_of_principal (sym is)
+principal_from false uid p h =
+    let is = zero_is uid AuthNone p h in
+    ap words_of_principal is.0 ∙ ap (λ (n : ℕ). (false, n)) is.1
+
+pub principal_back : (w : Bool × ℕ) (p : Principal) → principal_of w ≡ Some p → words_of_principal p ≡ w
+principal_back w p h = principal_from w.0 w.1 p h
+
+pub principal_again : (p : Principal) → principal_of (words_of_principal p) ≡ Some p
+principal_again AuthNone = refl
+principal_again (AuthSys uid) = refl
+
+-- u32 flavor; u32 uid
+unfoldable pub principal : Form Principal
+principal = made_of principal_of words_of_principal principal_back (flag and u32)
+
+-- the node of the current filehandle, if there is one; without one the number is 0
+abbrev pub filehandle_of : Bool × ℕ → Option (Option ℕ)
+filehandle_of w = if w.0 then Some (Some w.1) else zero_only (w.1 == 0) None
+
+abbrev pub words_of_filehandle : Option ℕ → Bool × ℕ
+words_of_filehandle None = (false, 0)
+words_of_filehandle (Some node) = (true, node)
+
+filehandle_from : (is_present : Bool) (node : ℕ) (h : Option ℕ) → filehandle_of (is_present, node) ≡ Some h → words_of_filehandle h ≡ (is_present, node)
+filehandle_from true node h e =
+    let is : Some node ≡ h = cc in
+    ap words_of_filehandle (sym is)
+filehandle_from false node h e =
+    let is = zero_is node None h e in
+    ap words_of_filehandle is.0 ∙ ap (λ (n : ℕ). (false, n)) is.1
+
+pub filehandle_back : (w : Bool × ℕ) (h : Option ℕ) → filehandle_of w ≡ Some h → words_of_filehandle h ≡ w
+filehandle_back w h e = filehandle_from w.0 w.1 h e
+
+pub filehandle_again : (h : Option ℕ) → filehandle_of (words_of_filehandle h) ≡ Some h
+filehandle_again None = refl
+filehandle_again (Some node) = refl
+
+-- bool present; u32 node
+unfoldable pub filehandle : Form (Option ℕ)
+filehandle = made_of filehandle_of words_of_filehandle filehandle_back (flag and u32)
+
+-- struct { moment; principal; filehandle; op; }
+unfoldable pub request : Form Request
+request = of (λ p. record { moment = p.0; principal = p.1.0; filehandle = p.1.1.0; op = p.1.1.1 })
+    (λ r. (r.moment, (r.principal, (r.filehandle, r.op)))) (λ p. refl) (λ r. refl)
+    (moment and principal and filehandle and op)
+
+-- struct { request; answer; }
+unfoldable pub call : Form Call
+call = of (λ p. record { request = p.0; answer = p.1 }) (λ c. (c.request, c.answer)) (λ p. refl) (λ c. refl)
+    (request and op_result)
+
+-- struct { u32 client; seen; now; }
+unfoldable pub expire : Form Expire
+expire = of (λ p. record { client = p.0; seen = p.1.0; now = p.1.1 }) (λ e. (e.client, (e.seen, e.now)))
+    (λ p. refl) (λ e. refl) (u32 and moment and moment)
+
+-- enum { Call = 1, Expire = 2 }
+abbrev pub number_of : EntryKind → ℕ
+number_of kinds.Call = 1
+number_of kinds.Expire = 2
+
+abbrev pub entry_kinds : List EntryKind
+entry_kinds = kinds.Call ∷ kinds.Expire ∷ []
+
+pub known : (k : EntryKind) → find (λ v. number_of v == number_of k) entry_kinds ≡ Some k
+known kinds.Call = refl
+known k = refl
+
+unfoldable pub kind : Form EntryKind
+kind = enumeration number_of entry_kinds known
+
+abbrev pub kind_of : Entry → EntryKind
+kind_of (entries.Call c) = kinds.Call
+kind_of (entries.Expire e) = kinds.Expire
+
+-- union switch (kind)
+abbrev pub entry_case : EntryKind → Case Entry
+entry_case kinds.Call = case call entries.Call
+entry_case kinds.Expire = case expire entries.Expire
+
+abbrev pub entry_arm : Entry → Arm Entry
+entry_arm (entries.Call c) = arm call entries.Call c
+entry_arm (entries.Expire e) = arm expire entries.Expire e
+
+pub entry_agrees : (k : EntryKind) → Agrees kind_of entry_arm k (entry_case k)
+entry_agrees kinds.Call = λ v. (refl, refl)
+entry_agrees k = λ v. (refl, refl)
+
+pub entry_is_read : (e : Entry) → IsRead entry_case kind_of entry_arm e
+entry_is_read (entries.Call c) = record { is = refl; reads = λ bytes. refl }
+entry_is_read e = record { is = refl; reads = λ bytes. refl }
+
+unfoldable pub entry : Form Entry
+entry = switch kind entry_case kind_of entry_arm entry_agrees entry_is_read
