@@ -1,0 +1,86 @@
+-- Which bytes are the file of which journal.
+use Rattle.std.specs.Prelude.{◌≡◌, ℕ, ◌<◌, ◌++◌, nat_le, nat_lt, Bool, true, false, ◌&&◌, List, length, Option, Some, None, Result, Ok, Err, OnOk, OnErr, vec_len, vec_capacity, IsErrOf}
+use Rattle.std.specs.Global.{Vec}
+use Rattle.std.specs.List.{list_all}
+use Rattle.nfs_journal.specs.declared.audit_error.AuditError.{AuditError}
+use Rattle.nfs_journal.specs.declared.audit_error.AuditError.TheVariants as errors
+use Rattle.nfs_journal.specs.declared.file.File.{File}
+use Rattle.nfs_journal.specs.Exact.{IsEncoded}
+use Rattle.nfs_journal.specs.File.{file}
+use Rattle.nfs_state.specs.declared.entry.Entry.{Entry}
+use Rattle.nfs_state.specs.declared.entry.Entry.TheVariants as entries
+use Rattle.nfs_state.specs.declared.journal.TheConstants.{LEASE_MIN, LEASE_MAX}
+use Rattle.nfs_state.specs.Journal.{RoomyJournal}
+use Rattle.nfs_state.specs.State.{History}
+use Rattle.nfs_tree.specs.DocumentNodes.{are_of_a_document}
+use Rattle.nfs_tree.specs.Tree.{node_count}
+use Rattle.nfs_xdr.specs.Op.{has_entry}
+
+abbrev pub number_of : AuditError → ℕ
+number_of errors.Format = 1
+number_of (errors.WrongAnswer number) = 2
+number_of errors.Memory = 3
+
+-- the node of a filehandle, if there is one, is one of so many
+abbrev pub is_filehandle : ℕ → Option ℕ → Bool
+is_filehandle nodes None = true
+is_filehandle nodes (Some node) = nat_lt node nodes
+
+-- an entry that a journal can have whose tree has so many nodes
+abbrev pub is_entry : ℕ → Entry → Bool
+is_entry nodes (entries.Call call) =
+    has_entry call.request.op && is_filehandle nodes call.request.filehandle
+is_entry nodes (entries.Expire expire) = true
+
+-- The lease is within its limits, some document gives the nodes, and each entry is one that the journal can have.
+abbrev pub is_journal : History → Bool
+is_journal h = (nat_le LEASE_MIN h.lease && nat_le h.lease LEASE_MAX)
+    && are_of_a_document h.nodes
+    && list_all (is_entry (node_count h.nodes)) h.entries
+
+-- the journal that has what a file has
+abbrev pub history_of : File → History
+history_of f = record {
+  nodes = f.nodes;
+  epoch = f.opening.epoch;
+  lease = f.opening.lease;
+  policy = f.opening.policy;
+  entries = f.entries;
+}
+
+-- what the file of a journal has
+abbrev pub file_of : History → File
+file_of h = record {
+  opening = record { epoch = h.epoch; lease = h.lease; policy = h.policy };
+  nodes = h.nodes;
+  entries = h.entries;
+}
+
+-- The bytes are the file of this journal: its one encoding, with zero padding.
+abbrev pub IsFileOf : History → List ℕ → Type 0
+IsFileOf h bytes = (is_journal h ≡ true) × IsEncoded file (file_of h) bytes
+
+-- What a function returned is the journal whose file the bytes are. Format if they are the file of none.
+abbrev pub Reads : Result RoomyJournal AuditError → List ℕ → Type 0
+Reads (Ok journal) bytes = IsFileOf journal.history bytes
+Reads (Err errors.Format) bytes = (h : History) → IsFileOf h bytes → ⊥
+Reads (Err (errors.WrongAnswer number)) bytes = ⊥
+Reads (Err errors.Memory) bytes = Unit {0}
+
+-- What a function returned is the journal with what the file has, or Format if that is no journal.
+abbrev pub Accepts : Result RoomyJournal AuditError → File → Type 0
+Accepts (Ok journal) f = (is_journal (history_of f) ≡ true) × (journal.history ≡ history_of f)
+Accepts (Err errors.Format) f = is_journal (history_of f) ≡ false
+Accepts (Err e) f = ⊥
+
+-- What a writer did to the bytes written so far. At Ok the encoding of the journal follows them. Format is returned
+-- only if the journal doesn't fit its form, and Memory only if there was no room for the encoding. After an error the
+-- bytes are as before.
+abbrev pub WritesFile : Vec ℕ → Vec ℕ → Result (Unit {0}) AuditError → History → Type 0
+WritesFile old new result h =
+    OnOk result ((new.items ≡ old.items ++ file.encoding (file_of h)) × file.Fits (file_of h))
+    × OnErr result (new.items ≡ old.items)
+    × (IsErrOf result errors.Format → ¬ (file.Fits (file_of h)))
+    × (IsErrOf result errors.Memory
+    → vec_capacity old < vec_len old + length (file.encoding (file_of h)))
+    × ((number : ℕ) → IsErrOf result (errors.WrongAnswer number) → ⊥)

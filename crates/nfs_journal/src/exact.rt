@@ -1,0 +1,28 @@
+ghost use Rattle.nfs_journal.specs.Exact.{IsExactly};
+
+use std::alloc::Global;
+use xdr::{Wire, WireError};
+
+/// The value of which all of these bytes are the encoding. If there is none, as where some padding isn't zero, the
+/// error is Short or TooLong.
+#[tactic(auto, using(crate::proofs::ExactForms::none_if_unread, crate::proofs::ExactForms::none_if_unfit, crate::proofs::ExactForms::none_if_other))]
+pub(crate) fn read_exact<T: Wire>(alloc: Global, bytes: &[u8]) -> Result<T, WireError>
+    ensures { IsExactly T.form result bytes.now }
+{
+    let (value, _) = match T::read(alloc, bytes) {
+        Ok(read) => read,
+        Err(error) => return Err(error),
+    };
+    let Ok(mut again) = Vec::with_capacity(alloc, bytes.len()) else {
+        return Err(WireError::Memory);
+    };
+    match value.write(&mut again) {
+        Ok(()) => {}
+        Err(error) => return Err(error),
+    }
+    if again.as_slice() == bytes {
+        Ok(value)
+    } else {
+        Err(WireError::Short)
+    }
+}

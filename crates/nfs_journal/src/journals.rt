@@ -1,0 +1,94 @@
+ghost use Rattle.std.specs.Prelude.{◌≡◌};
+ghost use Rattle.std.specs.List.{list_all};
+ghost use Rattle.nfs_journal.specs.Journals.{Accepts, Reads, WritesFile, is_entry, is_filehandle};
+
+use crate::exact::read_exact;
+use crate::file::write_parts;
+use crate::{AuditError, File, Opening};
+use nfs_state::{Entry, Journal, LEASE_MAX, LEASE_MIN};
+use nfs_tree::Tree;
+use std::alloc::Global;
+use xdr::WireError;
+
+/// Writes the file of the journal at the end, or nothing. Format if the journal has no form as bytes: an operation has
+/// a list of 2^32 or more.
+pub fn write_journal(out: &mut Vec<u8>, journal: &Journal) -> Result<(), AuditError>
+    ensures { WritesFile out.old out.new result journal.now.history }
+{
+    let opening = Opening {
+        epoch: journal.epoch(),
+        lease: journal.lease(),
+        policy: journal.policy(),
+    };
+    match write_parts(out, &opening, journal.tree().nodes(), journal.entries()) {
+        Ok(()) => Ok(()),
+        Err(WireError::Memory) => Err(AuditError::Memory),
+        Err(_) => Err(AuditError::Format),
+    }
+}
+
+/// The journal whose file these bytes are. Format if they are the file of none.
+pub fn read_journal(alloc: Global, bytes: &[u8]) -> Result<Journal, AuditError>
+    ensures { Reads result bytes.now }
+{
+    match read_exact::<File>(alloc, bytes) {
+        Ok(file) => journal_of(file),
+        Err(WireError::Memory) => Err(AuditError::Memory),
+        Err(_) => Err(AuditError::Format),
+    }
+}
+
+// The journal that has what the file has; Format if that is none.
+fn journal_of(file: File) -> Result<Journal, AuditError>
+    ensures { Accepts result file }
+{
+    let File {
+        opening,
+        nodes,
+        entries,
+    } = file;
+    if opening.lease < LEASE_MIN || opening.lease > LEASE_MAX {
+        return Err(AuditError::Format);
+    }
+    let Ok(tree) = Tree::from_nodes(nodes.into_vec(), opening.policy) else {
+        return Err(AuditError::Format);
+    };
+    if !are_entries(tree.len(), entries.as_slice()) {
+        return Err(AuditError::Format);
+    }
+    Ok(Journal::with_entries(
+        tree,
+        opening.lease,
+        opening.epoch,
+        opening.policy,
+        entries.into_vec(),
+    ))
+}
+
+// Whether these are entries that a journal can have whose tree has so many nodes.
+fn are_entries(nodes: u32, entries: &[Entry]) -> bool
+    ensures { result ≡ list_all (is_entry nodes) entries.now }
+{
+    entries.iter().all(|e| is_entry(nodes, e))
+}
+
+fn is_entry(nodes: u32, entry: &Entry) -> bool
+    ensures { result ≡ is_entry nodes entry.now }
+{
+    match entry {
+        Entry::Call(call) => {
+            call.request.op.has_entry() && is_filehandle(nodes, call.request.filehandle)
+        }
+        Entry::Expire(_) => true,
+    }
+}
+
+// Whether the node of a filehandle, if there is one, is one of so many.
+fn is_filehandle(nodes: u32, filehandle: Option<u32>) -> bool
+    ensures { result ≡ is_filehandle nodes filehandle }
+{
+    match filehandle {
+        None => true,
+        Some(node) => node < nodes,
+    }
+}
