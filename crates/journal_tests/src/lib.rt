@@ -1,0 +1,5 @@
+//! The tests of `nfs_journal`.
+#![tactic(auto)]
+
+#[cfg(test)]
+mod files;
