@@ -1,5 +1,7 @@
-//! The tests of `nfs_journal`.
+//! The tests of `nfs_journal`, and of trees from their nodes.
 #![tactic(auto)]
 
 #[cfg(test)]
 mod files;
+#[cfg(test)]
+mod trees;
