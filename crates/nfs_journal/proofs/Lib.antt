@@ -1,1 +1,2 @@
 pub mod ExactForms
+pub mod JournalFiles

@@ -5,7 +5,6 @@ use xdr::{Wire, WireError};
 
 /// The value of which all of these bytes are the encoding. If there is none, as where some padding isn't zero, the
 /// error is Short or TooLong.
-#[tactic(auto, using(crate::proofs::ExactForms::none_if_unread, crate::proofs::ExactForms::none_if_unfit, crate::proofs::ExactForms::none_if_other))]
 pub(crate) fn read_exact<T: Wire>(alloc: Global, bytes: &[u8]) -> Result<T, WireError>
     ensures { IsExactly T.form result bytes.now }
 {

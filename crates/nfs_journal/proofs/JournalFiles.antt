@@ -1,0 +1,37 @@
+-- The bytes of a file are those of at most one journal.
+use Rattle.std.proofs.Common.{◌≡◌, ℕ, Bool, true, false, List, [], ◌++◌, Result, Ok, Err, sym, ap, subst, ◌∙◌}
+use Rattle.std.proofs.lemmas.List.{append-nil}
+use Rattle.nfs_journal.specs.declared.audit_error.AuditError.{AuditError}
+use Rattle.nfs_journal.specs.declared.audit_error.AuditError.TheVariants as errors
+use Rattle.nfs_journal.specs.declared.file.File.{File}
+use Rattle.nfs_journal.specs.Exact.{IsEncoded, EncodesNothing}
+use Rattle.nfs_journal.specs.File.{file}
+use Rattle.nfs_journal.specs.Journals.{is_journal, history_of, file_of, IsFileOf, Reads, Accepts}
+use Rattle.nfs_journal.proofs.ExactForms.{one_encoded}
+use Rattle.nfs_state.specs.Journal.{RoomyJournal}
+use Rattle.nfs_state.specs.State.{History}
+
+not_both : (b : Bool) → b ≡ false → b ≡ true → ⊥
+not_both true f t = cc
+not_both false f t = cc
+
+-- bytes that encode nothing are the file of no journal
+pub no_file : (bytes : List ℕ) → EncodesNothing file bytes → (h : History) → IsFileOf h bytes → ⊥
+no_file bytes none h is = none (file_of h) is.1
+
+-- bytes that encode what is no journal are the file of no journal
+no_journal : (f : File) (bytes : List ℕ) → IsEncoded file f bytes → is_journal (history_of f) ≡ false
+    → (h : History) → IsFileOf h bytes → ⊥
+no_journal f bytes encoded none h is =
+    let same : f ≡ file_of h = one_encoded file bytes f (file_of h) encoded is.1 in
+    let of_h : is_journal (history_of f) ≡ is_journal h = ap (λ (x : File). is_journal (history_of x)) same in
+    not_both (is_journal h) (sym of_h ∙ none) is.0
+
+-- what is accepted of the bytes is what they are read as
+pub accepted : (r : Result RoomyJournal AuditError) (f : File) (bytes : List ℕ) → IsEncoded file f bytes
+    → Accepts r f → Reads r bytes
+accepted (Ok journal) f bytes encoded h =
+    subst (λ (x : History). IsFileOf x bytes) (sym h.1) (h.0, encoded)
+accepted (Err errors.Format) f bytes encoded h = no_journal f bytes encoded h
+accepted (Err (errors.WrongAnswer number)) f bytes encoded h = absurd h
+accepted (Err errors.Memory) f bytes encoded h = absurd h
