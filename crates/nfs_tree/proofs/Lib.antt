@@ -1,4 +1,5 @@
 pub mod Builds
+pub mod DocumentNodes
 pub mod Documents
 pub mod Entries
 pub mod Growing

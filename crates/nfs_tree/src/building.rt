@@ -102,13 +102,13 @@ impl Tree {
     }
 }
 
-fn directories_among(nodes: &[Node]) -> usize
+pub(crate) fn directories_among(nodes: &[Node]) -> usize
     ensures { result ≡ directories nodes.now }
 {
     nodes.iter().filter(|n| n.kind.is_directory()).count()
 }
 
-fn files_among(nodes: &[Node]) -> usize
+pub(crate) fn files_among(nodes: &[Node]) -> usize
     ensures { result ≡ files nodes.now }
 {
     nodes.iter().filter(|n| !n.kind.is_directory()).count()

@@ -5,6 +5,7 @@
 mod attribute;
 mod building;
 mod document;
+mod document_nodes;
 mod filehandles;
 mod limits;
 mod node;

@@ -50,7 +50,7 @@ fn are_names(pieces: &[Bytes]) -> bool
 }
 
 // Whether these bytes are a valid name.
-fn is_name(name: &[u8]) -> bool
+pub(crate) fn is_name(name: &[u8]) -> bool
     ensures { result ≡ is_name name.now }
 {
     if name.is_empty() || name.len() > NAME_LIMIT || !has_name_bytes(name) {

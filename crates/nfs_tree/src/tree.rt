@@ -75,19 +75,18 @@ impl Tree {
         self.policy
     }
 
-    // The node with this number, if there is one other than the root.
-    fn node(&self, node: u32) -> Option<&Node>
+    /// The node with this number, if there is one other than the root.
+    pub fn node(&self, node: u32) -> Option<&Node>
         ensures { option_copied result ≡ node_at self.now.nodes node }
     {
-        let place = node.checked_sub(1)?;
-        self.nodes.get(place as usize)
+        node_among(self.nodes.as_slice(), node)
     }
 
     /// Whether the node is a directory, as the root is.
     pub fn is_directory(&self, node: u32) -> bool
         ensures { result ≡ is_directory self.now.nodes node }
     {
-        node == 0 || self.node(node).is_some_and(|n| n.kind.is_directory())
+        is_directory_among(self.nodes.as_slice(), node)
     }
 
     /// The text that a file has when the server starts; `None` for a directory or if there is no such node.
@@ -156,8 +155,23 @@ impl Tree {
     }
 }
 
+// The node with this number among these, if there is one other than the root.
+pub(crate) fn node_among(nodes: &[Node], node: u32) -> Option<&Node>
+    ensures { option_copied result ≡ node_at nodes.now node }
+{
+    let place = node.checked_sub(1)?;
+    nodes.get(place as usize)
+}
+
+// Whether the number is that of a directory among these nodes, or of the root.
+pub(crate) fn is_directory_among(nodes: &[Node], node: u32) -> bool
+    ensures { result ≡ is_directory nodes.now node }
+{
+    node == 0 || node_among(nodes, node).is_some_and(|n| n.kind.is_directory())
+}
+
 // The position of the first node with this parent and name.
-fn place_of(nodes: &[Node], parent: u32, name: &[u8]) -> Option<usize>
+pub(crate) fn place_of(nodes: &[Node], parent: u32, name: &[u8]) -> Option<usize>
     ensures { result ≡ position (is_child parent name.now) nodes.now }
 {
     nodes
