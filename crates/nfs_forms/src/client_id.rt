@@ -16,7 +16,7 @@ pub struct ClientId {
 }
 
 impl ClientId {
-    /// The client's number, if it was given in the run with this number.
+    /// The client's number, if the clientid is one of the run with this number.
     pub fn number_in(self, epoch: u32) -> Option<u32>
         ensures { result ≡ number_in epoch self }
     {

@@ -5,7 +5,6 @@ use Rattle.std.proofs.lemmas.Bool.{eqb-true}
 use Rattle.std.specs.List.{find}
 use Rattle.nfs_forms.specs.declared.principal.Principal.{Principal}
 use Rattle.nfs_forms.specs.declared.principal.Principal.TheVariants.{AuthNone, AuthSys}
-use Rattle.nfs_state.specs.MadeOf.{made_of}
 use Rattle.nfs_state.specs.MomentForm.{moment}
 use Rattle.nfs_state.specs.declared.entry.Call.{Call}
 use Rattle.nfs_state.specs.declared.entry.Entry.{Entry}
@@ -16,7 +15,7 @@ use Rattle.nfs_state.specs.declared.entry_kind.EntryKind.{EntryKind}
 use Rattle.nfs_state.specs.declared.entry_kind.EntryKind.TheVariants as kinds
 use Rattle.nfs_xdr.specs.Op.{op}
 use Rattle.nfs_xdr.specs.OpResult.{op_result}
-use Rattle.xdr.specs.Form.{Form, ◌and◌, of, enumeration, u32, flag}
+use Rattle.xdr.specs.Form.{Form, ◌and◌, of, some_of, enumeration, u32, flag}
 use Rattle.xdr.specs.Switch.{Case, case, Arm, arm, Agrees, IsRead}
 use Rattle.xdr.specs.Union.{switch}
 
@@ -56,7 +55,7 @@ principal_again (AuthSys uid) = refl
 
 -- u32 flavor; u32 uid
 unfoldable pub principal : Form Principal
-principal = made_of principal_of words_of_principal principal_back (flag and u32)
+principal = some_of principal_of words_of_principal principal_back (flag and u32)
 
 -- the node of the current filehandle, if there is one; without one the number is 0
 abbrev pub filehandle_of : Bool × ℕ → Option (Option ℕ)
@@ -83,7 +82,7 @@ filehandle_again (Some node) = refl
 
 -- bool present; u32 node
 unfoldable pub filehandle : Form (Option ℕ)
-filehandle = made_of filehandle_of words_of_filehandle filehandle_back (flag and u32)
+filehandle = some_of filehandle_of words_of_filehandle filehandle_back (flag and u32)
 
 -- struct { moment; principal; filehandle; op; }
 unfoldable pub request : Form Request

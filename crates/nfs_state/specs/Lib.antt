@@ -8,6 +8,5 @@ pub mod Changes
 pub mod Places
 pub mod Room
 pub mod Shortage
-pub mod MadeOf
 pub mod MomentForm
 pub mod EntryForm

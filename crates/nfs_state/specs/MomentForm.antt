@@ -1,8 +1,7 @@
 -- A moment in a journal's file: a number of seconds below 2^40.
 use Rattle.std.specs.Prelude.{◌≡◌, ℕ, ◌^◌, nat_lt, Bool, true, false, Option, Some, None, if◌then◌else◌}
 use Rattle.std.proofs.Common.{sym}
-use Rattle.nfs_state.specs.MadeOf.{made_of}
-use Rattle.xdr.specs.Form.{Form, u64}
+use Rattle.xdr.specs.Form.{Form, some_of, u64}
 
 -- the moment with this number of seconds, if it is below 2^40
 abbrev pub moment_of : ℕ → Option ℕ
@@ -20,4 +19,4 @@ moment_back n m h = some_is (nat_lt n (2 ^ 40)) n m h
 
 -- u64 seconds
 unfoldable pub moment : Form ℕ
-moment = made_of moment_of (λ m. m) moment_back u64
+moment = some_of moment_of (λ m. m) moment_back u64

@@ -13,7 +13,8 @@ use Rattle.nfs_xdr.specs.declared.op.Op.{Op}
 use Rattle.nfs_xdr.specs.declared.op.Op.TheVariants as ops
 
 pub data Names : Type 0 where
-  -- no owner and no state, and no client that is known: SETCLIENTID and SETCLIENTID_CONFIRM introduce one
+  -- no owner, no state, and no client whose lease is renewed: SETCLIENTID and SETCLIENTID_CONFIRM renew none
+  -- (section 9.5)
   Nothing : Names
   Client : ClientId → Names
   -- an open owner, with the sequence id of its request

@@ -10,7 +10,8 @@ use nfs_forms::{ClientId, Locker, OpenOwner, Stateid};
 /// request comes from, and by whose sequence id it goes.
 #[derive(Clone, Copy, Debug)]
 pub enum Names<'a> {
-    /// No owner and no state, and no client that is known: SETCLIENTID and SETCLIENTID_CONFIRM introduce one.
+    /// No owner, no state, and no client whose lease is renewed: SETCLIENTID and SETCLIENTID_CONFIRM renew none (RFC
+    /// 7530, section 9.5).
     Nothing,
     Client(ClientId),
     /// An open owner, with the sequence id of its request.

@@ -1,12 +1,13 @@
 -- The form of a type on the wire (RFC 4506): everything there is to say about its bytes, in one record. Larger forms
 -- are built from the ones below, so that the form of a record reads like its declaration in XDR.
-use Rattle.std.specs.Prelude.{◌≡◌, ℕ, ◌^◌, ◌<◌, ◌≤◌, ◌==◌, Bool, Some, List, [], ◌++◌, length, Ok}
+use Rattle.std.specs.Prelude.{◌≡◌, ℕ, ◌^◌, ◌<◌, ◌≤◌, ◌==◌, Bool, Option, Some, List, [], ◌++◌, length, Ok}
 use Rattle.std.specs.List.{All, find}
 use Rattle.xdr.specs.Layout.{◌⨾◌, Nothing, Number, U32, Flag, Fixed, Opaque, Many, NO_LIMIT}
-use Rattle.xdr.specs.Reading.{Read, Reads, ◌then◌, as_value, number_at, flag_at, fixed_at, opaque_at, many_at, value_at, constant_at}
+use Rattle.xdr.specs.Reading.{Read, Reads, ◌then◌, as_value, some_at, number_at, flag_at, fixed_at, opaque_at, many_at, value_at, constant_at}
 use Rattle.xdr.specs.Writing.{written_number, written_u32, written_flag, written_opaque, written_many}
 use Rattle.xdr.specs.laws.Reads.{reads_nothing, reads_number, reads_constant, reads_flag, reads_fixed, reads_opaque, reads_then, reads_as}
 use Rattle.xdr.specs.laws.Spells.{nothing_is_encoded, number_is_encoded, flag_is_encoded, fixed_is_encoded, opaque_is_encoded, both_are_encoded}
+use Rattle.xdr.specs.laws.Subsets.{reads_some}
 use Rattle.xdr.specs.laws.Enumerations.{reads_value}
 use Rattle.xdr.specs.laws.Lists.{reads_many, many_are_encoded}
 
@@ -126,6 +127,18 @@ of make fields back again f = record {
   Fits = λ b. f.Fits (fields b);
   reads = reads_as f.layout f.at make fields back again f.reads;
   encodes = λ b fits. f.encodes (fields b) fits;
+}
+
+-- values made from some values of this form: `make` gives none for the others, and `fields` undoes it
+abbrev pub some_of : {A B : Type 0} → (make : A → Option B) (fields : B → A)
+    → ((a : A) (b : B) → make a ≡ Some b → fields b ≡ a) → Form A → Form B
+some_of make fields back f = record {
+  layout = λ b bytes. (make (fields b) ≡ Some b) × f.layout (fields b) bytes;
+  at = some_at make f.at;
+  encoding = λ b. f.encoding (fields b);
+  Fits = λ b. (make (fields b) ≡ Some b) × f.Fits (fields b);
+  reads = reads_some f.layout f.at make fields back f.reads;
+  encodes = λ b fits. (fits.0, f.encodes (fields b) fits.1);
 }
 
 -- enum: these values, each of which is found by its number

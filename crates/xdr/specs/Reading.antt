@@ -71,6 +71,10 @@ abbrev pub or_short : {A : Type 0} → Option A → List ℕ → Read A
 or_short None rest = Err errors.Short
 or_short (Some value) rest = Ok (value, rest)
 
+-- a value made from what is read, or Short if none is made from it
+abbrev pub some_at : {A B : Type 0} → (A → Option B) → (List ℕ → Read A) → List ℕ → Read B
+some_at make f bytes = f bytes >>= λ a. or_short (make a.0) a.1
+
 -- the value in the list whose number is at the front
 unfoldable pub value_at : {A : Type 0} → (A → ℕ) → List A → List ℕ → Read A
 value_at number_of values bytes =

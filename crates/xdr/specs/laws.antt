@@ -1,5 +1,6 @@
 pub mod Reads
 pub mod Spells
 pub mod Lists
+pub mod Subsets
 pub mod Enumerations
 pub mod Switches
