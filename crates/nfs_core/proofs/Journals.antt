@@ -33,7 +33,6 @@ use Rattle.nfs_state.specs.Journal.{RoomyJournal}
 use Rattle.nfs_state.specs.Room.{state_of, stored_of}
 use Rattle.nfs_state.specs.declared.tables.Tables.{Tables}
 use Rattle.nfs_core.specs.Server.{AreAlike, Enters, server_of}
-use Rattle.nfs_core.specs.declared.core_error.CoreError.{CoreError}
 
 -- entries that lead to a state, and one more entry that leads on from there
 Leads-append : (journal : History) (old mid new : State) (entries : List Entry) (entry : Entry) → Leads journal old entries mid → Step (record journal { entries = journal.entries ++ entries }) mid entry new → Leads journal old (entries ++ entry ∷ []) new
@@ -111,7 +110,7 @@ pub Lawful-same : (journal journal' : History) (stored stored' : Stored) → jou
 Lawful-same journal journal' stored stored' same_journal same_stored lawful = rw (same_journal, same_stored) lawful
 
 -- a core that tried to add an entry
-pub Lawful-tried : (old new : RoomyJournal) (tables tables' : Tables) (entry : Entry) (result : Result ℕ CoreError) → Lawful old.history (state_of tables)
+pub Lawful-tried : {E : Type 0} (old new : RoomyJournal) (tables tables' : Tables) (entry : Entry) (result : Result ℕ E) → Lawful old.history (state_of tables)
     → IfOk result (λ number. Enters (server_of old tables) (server_of new tables') entry number) → OnErr result (AreAlike (server_of old tables) (server_of new tables'))
     → Lawful new.history (state_of tables')
 Lawful-tried old new tables tables' entry (Ok number) lawful entered same =

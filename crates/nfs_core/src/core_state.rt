@@ -4,7 +4,7 @@ ghost use Rattle.nfs_core.specs.Following.{CanBeAsked, IsStoredBy, MayBeAnswered
 ghost use Rattle.nfs_core.specs.LiveClients.{AreNumbered, AreOfOneRun};
 ghost use Rattle.nfs_core.specs.Safe.{IsSafe, KeepRequests};
 ghost use Rattle.nfs_core.specs.Server.{Applies, AreAlike, Enters, IsLawful, server_of};
-ghost use Rattle.nfs_core.specs.Step.{HasNoAnswer};
+ghost use Rattle.nfs_core.specs.Step.{HasNoAnswer, HasNoStep};
 ghost use Rattle.nfs_owners.specs.LiveClients.{IsNextLive, replaced_by};
 ghost use Rattle.nfs_owners.specs.Registry.{is_live};
 ghost use Rattle.nfs_state.specs.Entries.{IsFilehandle, IsSendable, entry_of, request_of};
@@ -16,9 +16,9 @@ ghost use Rattle.nfs_xdr.specs.Op.{has_entry, opnum_of};
 ghost use Rattle.nfs_xdr.specs.OpResult.{op_result};
 ghost use Rattle.nfs_xdr.specs.Opnum.{answer_limit};
 
-use crate::CoreError;
+use crate::{CoreError, FollowError};
 use crate::expiry::enter_expiry;
-use crate::following::decide_next;
+use crate::following::{decide_next, follow};
 use crate::laws::lawful_is_safe;
 use nfs_rules::at_most_one_decision;
 use nfs_state::{
@@ -145,6 +145,22 @@ impl Core {
         let tables = &mut self.tables;
         let journal = &mut self.journal;
         enter_expiry(self.alloc, tables, journal, Expire { client, seen, now })
+    }
+
+    /// Enters an entry that is handed in, such as one of another server's journal, if it may come next: it is judged as
+    /// `apply` and `expire` would make it. Returns the entry's number. Fails with NotNext only if the entry may not come
+    /// next, and otherwise with Memory. What fails changes nothing but room.
+    pub fn follow(&mut self, entry: Entry) -> Result<u32, FollowError>
+        ensures entered { IfOk result (Enters self.old self.new entry) }
+        ensures not_next { IsErrOf result FollowError.NotNext
+            → HasNoStep self.old.journal (meaning self.old.stored) entry }
+        ensures same { OnErr result (AreAlike self.old self.new) }
+        ensures lawful { IsLawful self.new }
+    {
+        lawful_is_safe();
+        let tables = &mut self.tables;
+        let journal = &mut self.journal;
+        follow(self.alloc, tables, journal, entry)
     }
 
     /// Whether the client with this number is live: whether it has a confirmed record.

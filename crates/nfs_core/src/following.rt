@@ -14,9 +14,9 @@ use nfs_rules::{Decision, at_most_one_decision, decide};
 use nfs_state::{Call, Effect, Entry, Expire, Journal, Request, Shortage, Tables, commit_entry};
 use std::alloc::Global;
 
-/// Why an entry that is handed in wasn't entered.
+/// Why an entry that was handed in wasn't entered.
 #[derive(Clone, Copy, Debug, PartialEq, Eq)]
-pub(crate) enum FollowError {
+pub enum FollowError {
     /// The entry may not come next.
     NotNext,
     /// Memory ran out.

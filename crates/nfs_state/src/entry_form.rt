@@ -17,9 +17,14 @@ impl Wire for Expire {
     #[tactic(auto, unfolding(crate::specs::EntryForm::expire))]
     fn read(alloc: Global, bytes: &[u8]) -> Result<(Expire, &[u8]), WireError> {
         let (client, rest) = u32::read(alloc, bytes)?;
-        let (seen, rest) = Moment::read(alloc, rest)?;
-        let (now, rest) = Moment::read(alloc, rest)?;
-        Ok((Expire { client, seen, now }, rest))
+        let (seen, rest) = match Moment::read(alloc, rest) {
+            Ok(read) => read,
+            Err(error) => return Err(error),
+        };
+        match Moment::read(alloc, rest) {
+            Ok((now, rest)) => Ok((Expire { client, seen, now }, rest)),
+            Err(error) => Err(error),
+        }
     }
 
     #[tactic(auto, unfolding(crate::specs::EntryForm::expire))]
@@ -33,7 +38,10 @@ impl Wire for Request {
 
     #[tactic(auto, unfolding(crate::specs::EntryForm::request, crate::specs::EntryForm::principal, crate::specs::EntryForm::filehandle))]
     fn read(alloc: Global, bytes: &[u8]) -> Result<(Request, &[u8]), WireError> {
-        let (moment, rest) = Moment::read(alloc, bytes)?;
+        let (moment, rest) = match Moment::read(alloc, bytes) {
+            Ok(read) => read,
+            Err(error) => return Err(error),
+        };
         let (principal, rest) = read_principal(alloc, rest)?;
         let (filehandle, rest) = read_filehandle(alloc, rest)?;
         let (op, rest) = Op::read(alloc, rest)?;
@@ -143,8 +151,14 @@ fn read_of_kind(alloc: Global, kind: EntryKind, bytes: &[u8]) -> Result<(Entry, 
     ensures { Gives (λ x. (x.0, x.1.now)) result (case_at (entry_case kind) bytes.now) }
 {
     match kind {
-        EntryKind::Call => Call::read(alloc, bytes).map(|(call, rest)| (Entry::Call(call), rest)),
-        EntryKind::Expire => Expire::read(alloc, bytes).map(|(e, rest)| (Entry::Expire(e), rest)),
+        EntryKind::Call => match Call::read(alloc, bytes) {
+            Ok((call, rest)) => Ok((Entry::Call(call), rest)),
+            Err(error) => Err(error),
+        },
+        EntryKind::Expire => match Expire::read(alloc, bytes) {
+            Ok((expire, rest)) => Ok((Entry::Expire(expire), rest)),
+            Err(error) => Err(error),
+        },
     }
 }
 

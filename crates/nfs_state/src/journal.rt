@@ -57,13 +57,7 @@ impl Journal {
           entries = [];
         } }
     {
-        Journal {
-            tree,
-            epoch,
-            lease,
-            policy,
-            entries: Vec::new(alloc),
-        }
+        Journal::with_entries(tree, lease, epoch, policy, Vec::new(alloc))
     }
 
     /// A journal with these entries, taking no memory.
@@ -126,6 +120,13 @@ impl Journal {
         ensures { result.now ≡ self.now.history.entries }
     {
         self.entries.as_slice()
+    }
+
+    /// The entries in order, without what the server was started with.
+    pub fn into_entries(self) -> Vec<Entry>
+        ensures { result.items ≡ self.history.entries }
+    {
+        self.entries
     }
 
     /// Makes room for one more entry.
