@@ -1,9 +1,8 @@
 -- What the rule of an operation may change in the clients' records: SETCLIENTID and SETCLIENTID_CONFIRM alone change them.
-use Rattle.std.proofs.Common.{◌≡◌, inl, inr, ℕ, Bool, true, false, Option, Some, None, List, Result, Ok, Err, refl, sym, ap, ◌∙◌, subst}
+use Rattle.std.proofs.Common.{◌≡◌, inl, inr, ℕ, Bool, true, false, Option, Some, None, Result, Ok, Err, refl, sym, ap, ◌∙◌, subst}
 use Rattle.std.specs.Prelude.{⊤, ◌&&◌, ◌==◌, find, is_some, not, IfSome, option_and_then, option_map, if◌then◌else◌}
 use Rattle.std.specs.List.{AllByRecursion}
-use Rattle.std.specs.Str.{bytes_eq}
-use Rattle.std.proofs.lemmas.Bool.{and_from, and_parts, cases_Bool, cond-false, cond-true, cond_both, eq-eqb, eqb-true, false_from_ne_true}
+use Rattle.std.proofs.lemmas.Bool.{and_from, and_parts, cond-false, cond_both, eq-eqb, eqb-true, false_from_ne_true}
 use Rattle.nfs_core.proofs.SafeLists.{all_always, all_find, found_some}
 use Rattle.nfs_core.proofs.Sound.{equal_clients, same_client_self}
 use Rattle.nfs_core.proofs.SoundClients.{HasSameId, HasSingles}
@@ -11,7 +10,6 @@ use Rattle.nfs_core.proofs.SoundLocking.{lock_sequenced, placed, stateid_of, unl
 use Rattle.nfs_core.proofs.SoundSequences.{never, some_equal}
 use Rattle.nfs_forms.specs.ClientId.{is_same_client}
 use Rattle.nfs_forms.specs.Principal.{is_same_principal}
-use Rattle.nfs_forms.specs.declared.answer.Answer.TheVariants.{Done}
 use Rattle.nfs_forms.specs.declared.client_id.ClientId.{ClientId}
 use Rattle.nfs_forms.specs.declared.principal.Principal.{Principal}
 use Rattle.nfs_forms.specs.declared.status.Refusal.{Refusal}
@@ -30,10 +28,10 @@ use Rattle.nfs_operations.specs.declared.setclientid_confirm.SetclientidConfirm.
 use Rattle.nfs_owners.specs.Addresses.{is_within_limit}
 use Rattle.nfs_owners.specs.Confirmation as confirmations
 use Rattle.nfs_owners.specs.Confirmation.{Confirmation, InPlaceOf, InUse, Retransmission, Update, confirmation_before, confirmation_beside, confirmation_by}
-use Rattle.nfs_owners.specs.LiveClients.{other_number, replaced_by, unconfirmed_of_client}
+use Rattle.nfs_owners.specs.LiveClients.{other_number, replaced_by}
 use Rattle.nfs_owners.specs.Registration as registrations
 use Rattle.nfs_owners.specs.Registration.{has_number_left, registration_by}
-use Rattle.nfs_owners.specs.Registry.{Registry, confirmed_named_by, confirmed_of, is_confirmed_of, is_named_by, is_of, is_of_client, record_of, unconfirmed_named_by}
+use Rattle.nfs_owners.specs.Registry.{Registry, confirmed_named_by, confirmed_of, is_confirmed_of, is_named_by, is_of_client, record_of, unconfirmed_named_by}
 use Rattle.nfs_owners.specs.StateOwner.{lock_owner, open_owner}
 use Rattle.nfs_owners.specs.declared.client_record.ClientRecord.{ClientRecord}
 use Rattle.nfs_owners.specs.declared.client_record.PathMark.{PathMark}

@@ -10,7 +10,7 @@ use Rattle.nfs_core.specs.declared.core_error.CoreError.{CoreError}
 use Rattle.nfs_core.specs.declared.core_error.CoreError.TheVariants as core_errors
 use Rattle.nfs_core.specs.Following.{CanBeAsked, IsNext, MayBeAnswered, error_of}
 use Rattle.nfs_core.specs.declared.following.FollowError.TheVariants as errors
-use Rattle.nfs_core.specs.Step.{Allows, HasNoAnswer, HasNoStep, Step}
+use Rattle.nfs_core.specs.Step.{HasNoAnswer, HasNoStep, Step}
 use Rattle.nfs_rules.specs.Deciding.{Decides}
 use Rattle.nfs_rules.specs.declared.decision.Decision.{Decision}
 use Rattle.nfs_rules.specs.entries.Expire.{IsExpiry}

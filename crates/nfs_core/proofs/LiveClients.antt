@@ -1,25 +1,24 @@
 -- How a change of the clients' records changes which clients are live, and which epoch their clientids are of.
-use Rattle.std.proofs.Common.{◌≡◌, ◌⊎◌, inl, inr, ℕ, Bool, true, false, Some, None, List, [], ◌∷◌, ◌++◌, filter, refl, sym, ap, ◌∙◌, subst, arith}
+use Rattle.std.proofs.Common.{◌≡◌, ◌⊎◌, inl, inr, ℕ, Bool, true, false, Some, List, [], ◌∷◌, ◌++◌, filter, refl, sym, ap, ◌∙◌, subst, arith}
 use Rattle.std.specs.Prelude.{⊤, ◌+◌, ◌≤◌, ◌&&◌, ◌||◌, ◌==◌, nat_le, find, is_some, not}
 use Rattle.std.specs.List.{AllByRecursion, list_any}
 use Rattle.std.specs.Str.{bytes_eq}
-use Rattle.std.proofs.lemmas.Bool.{and_from, and_parts, cases_Bool, eq-eqb, eqb-true, false_from_ne_true, le-leb, leb-true, not-true, not_from_false, or_cases, or_left, or_right}
-use Rattle.std.proofs.lemmas.Slice.Eq.{bytes_eq-Decides}
-use Rattle.nfs_core.proofs.ClientChanges.{IsArrival, IsClientsFor, IsConfirmation, IsFor}
+use Rattle.std.proofs.lemmas.Bool.{and_from, and_parts, cases_Bool, eq-eqb, eqb-true, false_from_ne_true, le-leb, leb-true, not-true, not_from_false}
+use Rattle.nfs_core.proofs.ClientChanges.{IsClientsFor, IsConfirmation}
 use Rattle.nfs_core.proofs.LiveLists.{any_after, any_before, any_found_with, any_holds, any_kept, any_last, any_of_kept, any_split, any_weaken, bool_equal, found_any}
-use Rattle.nfs_core.proofs.SafeLists.{all_always, all_filter, all_push, all_weaken, found_holds}
-use Rattle.nfs_core.proofs.Sound.{IsAloneOf, IsOfRecord, IsOnlyOf, equal_clients}
+use Rattle.nfs_core.proofs.SafeLists.{all_always, all_filter, all_push, found_holds}
+use Rattle.nfs_core.proofs.Sound.{IsOfRecord, IsOnlyOf, equal_clients}
 use Rattle.nfs_core.proofs.SoundClients.{HasSameId, HasSingles}
 use Rattle.nfs_core.proofs.SoundSequences.{never}
-use Rattle.nfs_core.proofs.SoundSteps.{IsChangeReady, IsClientReady}
-use Rattle.nfs_core.specs.LiveClients.{LiveEnd, LiveFollow, confirmed_by, replaced_in}
+use Rattle.nfs_core.proofs.SoundSteps.{IsClientReady}
+use Rattle.nfs_core.specs.LiveClients.{LiveEnd, LiveFollow}
 use Rattle.nfs_core.specs.Safe.{HasGivenNumber}
 use Rattle.nfs_forms.specs.ClientId.{is_same_client}
 use Rattle.nfs_forms.specs.declared.client_id.ClientId.{ClientId}
 use Rattle.nfs_operations.specs.declared.setclientid.Setclientid.{Setclientid}
 use Rattle.nfs_operations.specs.declared.setclientid_confirm.SetclientidConfirm.{SetclientidConfirm}
 use Rattle.nfs_owners.specs.ClientChange.{with_change, with_confirmed, with_unconfirmed}
-use Rattle.nfs_owners.specs.LiveClients.{can_become_live, replaced_by}
+use Rattle.nfs_owners.specs.LiveClients.{can_become_live}
 use Rattle.nfs_owners.specs.Registry.{Registry, is_live, is_of, is_of_client, is_unconfirmed_of, was_given, without_client}
 use Rattle.nfs_owners.specs.declared.client_record.ClientRecord.{ClientRecord}
 use Rattle.nfs_owners.specs.declared.clients.client_change.ClientChange.{ClientChange}

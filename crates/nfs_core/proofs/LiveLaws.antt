@@ -1,7 +1,6 @@
 -- Who is live along a lawful journal.
-use Rattle.std.proofs.Common.{◌≡◌, ℕ, Bool, true, List, [], ◌∷◌, length, refl, sym, ap, ◌∙◌, subst, arith}
-use Rattle.std.specs.Prelude.{◌≤◌, not}
-use Rattle.std.specs.List.{AllByRecursion}
+use Rattle.std.proofs.Common.{◌≡◌, ℕ, Bool, true, List, [], ◌∷◌, length, refl, sym, ◌∙◌, subst, arith}
+use Rattle.std.specs.Prelude.{not}
 use Rattle.nfs_core.proofs.ClientChanges.{IsFor, ruled_for}
 use Rattle.nfs_core.proofs.LiveClients.{HasEpoch, HaveEpoch, epoch_changed, live_changed, live_ended, numbered, told_by_number, unmoved}
 use Rattle.nfs_core.proofs.SafeLists.{all_filter}
@@ -13,7 +12,6 @@ use Rattle.nfs_core.specs.LiveClients.{AreNumbered, AreOfOneRun, CallsFollow, En
 use Rattle.nfs_core.specs.Step.{IsAnswered, Step}
 use Rattle.nfs_owners.specs.Registry.{Registry, is_live, is_of_client}
 use Rattle.nfs_owners.specs.declared.client_record.ClientRecord.{ClientRecord}
-use Rattle.nfs_rules.specs.entries.Expire.{IsExpiry, client_of}
 use Rattle.nfs_state.specs.Changes.{after, with_owner_change, with_state_change}
 use Rattle.nfs_state.specs.Entries.{with_entry}
 use Rattle.nfs_state.specs.State.{History, State, empty_server}

@@ -51,7 +51,7 @@ use Rattle.nfs_forms.specs.declared.principal.Principal.{Principal}
 use Rattle.nfs_locks.specs.AllLocks.{holds}
 use Rattle.nfs_owners.specs.Addresses.{is_within_limit}
 use Rattle.nfs_owners.specs.Confirmation as confirmations
-use Rattle.nfs_owners.specs.Confirmation.{Confirmation, Stale, InUse, Retransmission, First, Update, InPlaceOf, confirmation_before, confirmation_beside, confirmation_by, confirmed_record, updated_record}
+use Rattle.nfs_owners.specs.Confirmation.{Confirmation, Stale, InUse, Retransmission, First, Update, InPlaceOf, confirmation_before, confirmation_beside, confirmation_by}
 use Rattle.nfs_owners.specs.Registration as registrations
 use Rattle.nfs_owners.specs.Registration.{has_number_left, registration_by}
 use Rattle.nfs_owners.specs.Registry.{Registry, confirmed_named_by, confirmed_of, is_confirmed_of, is_named_by, is_of, record_of, unconfirmed_named_by}

@@ -1,5 +1,5 @@
 -- What may come next in a journal, as it is judged before it is entered.
-use Rattle.std.specs.Prelude.{ℕ, ◌<◌, ◌≤◌, IsTrue, length, Some}
+use Rattle.std.specs.Prelude.{◌<◌, ◌≤◌, IsTrue, length, Some}
 use Rattle.nfs_core.specs.Step.{Allows}
 use Rattle.nfs_core.specs.declared.following.FollowError.{FollowError}
 use Rattle.nfs_core.specs.declared.following.FollowError.TheVariants as errors

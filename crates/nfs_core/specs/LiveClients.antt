@@ -1,5 +1,5 @@
 -- Which clients are live, and how entries of the journal change it (RFC 7530, sections 9.1.1, 9.6 and 16.34.5).
-use Rattle.std.specs.Prelude.{◌≡◌, ℕ, ◌≤◌, Bool, not, ◌&&◌, ◌==◌, IsFalse, IsTrue, Option, Some, None, option_and_then}
+use Rattle.std.specs.Prelude.{◌≡◌, ℕ, ◌≤◌, not, ◌&&◌, ◌==◌, IsFalse, IsTrue, Option, Some, None, option_and_then}
 use Rattle.nfs_core.specs.Lawful.{Lawful}
 use Rattle.nfs_core.specs.Step.{Step}
 use Rattle.nfs_owners.specs.LiveClients.{can_become_live, replaced_by}

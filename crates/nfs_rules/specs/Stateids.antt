@@ -1,5 +1,5 @@
 -- What a stateid names, and the verdict on it (RFC 7530, sections 9.1.4.3 and 9.1.4.4).
-use Rattle.std.specs.Prelude.{ℕ, ◌==◌, nat_lt, Bool, true, false, not, ◌&&◌, ◌||◌, List, [], ◌∷◌, Option, Some, None, is_some, Result, Ok, Err}
+use Rattle.std.specs.Prelude.{ℕ, ◌==◌, nat_lt, Bool, true, false, not, ◌||◌, List, [], ◌∷◌, Option, Some, None, is_some, Result, Ok, Err}
 use Rattle.nfs_rules.specs.Refusing.{◌>>=◌, first_refusal}
 use Rattle.nfs_rules.specs.declared.demand.Demand.{Demand}
 use Rattle.nfs_rules.specs.declared.demand.Kinds.{Kinds}

@@ -1,5 +1,5 @@
 -- How a core with the leases of its clients answers as a service (RFC 7530, sections 9.5 and 16.28).
-use Rattle.std.specs.Prelude.{◌≡◌, ℕ, Bool, false, List, Option, Some, None}
+use Rattle.std.specs.Prelude.{◌≡◌, ℕ, Bool, false, Option, Some, None}
 use Rattle.nfs_forms.specs.declared.client_id.ClientId.{ClientId}
 use Rattle.nfs_owners.specs.Registry.{Registry, is_live}
 use Rattle.nfs_server.specs.Asking.{GivenByCore, Operation, Question, Renewal}

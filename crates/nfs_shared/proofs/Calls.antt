@@ -1,5 +1,5 @@
 -- Who is live after a call, and the book after it.
-use Rattle.std.proofs.Common.{◌≡◌, ℕ, ◌+◌, ◌<◌, ◌≤◌, Bool, true, false, not, ◌==◌, ◌&&◌, ◌||◌, nat_le, List, [], ◌∷◌, ◌++◌, Option, Some, None, refl, sym, ap, subst, ◌∙◌, arith, inl, inr}
+use Rattle.std.proofs.Common.{◌≡◌, ℕ, ◌+◌, ◌≤◌, Bool, true, false, not, ◌==◌, ◌&&◌, ◌||◌, nat_le, List, [], ◌∷◌, ◌++◌, Option, Some, None, refl, sym, ap, subst, ◌∙◌, arith}
 use Rattle.std.proofs.lemmas.Bool.{eqb-true}
 use Rattle.std.proofs.lemmas.Grind.{common_steps}
 use Rattle.std.specs.Prelude.{IsFalse, IsTrue, find, option_and_then}
@@ -10,10 +10,9 @@ use Rattle.nfs_core.specs.Server.{Applies, IsLawful, Server}
 use Rattle.nfs_owners.specs.LiveClients.{can_become_live, other_number, replaced_by}
 use Rattle.nfs_owners.specs.Registry.{Registry, is_confirmed_of, is_live, is_of_client}
 use Rattle.nfs_owners.specs.declared.client_record.ClientRecord.{ClientRecord}
-use Rattle.nfs_shared.specs.BookEvent.{BookEvent, Leads, Open, Retire, is_open_after, was_opened_after}
+use Rattle.nfs_shared.specs.BookEvent.{BookEvent, Leads}
 use Rattle.nfs_shared.specs.BookOf.{IsBookOf, events_of_call, opening, opening_of, retiring, retiring_of}
 use Rattle.nfs_shared.proofs.Comes.{AreLaws, contrary, lease_after}
-use Rattle.nfs_shared.proofs.Lists.{leads_more}
 use Rattle.nfs_state.specs.State.{History, State}
 use Rattle.nfs_state.specs.Stored.{Stored, meaning}
 use Rattle.nfs_state.specs.declared.request.Request.{Request}

@@ -1,5 +1,5 @@
 -- A sweep that has come to a client's number.
-use Rattle.std.proofs.Common.{◌≡◌, ℕ, ◌+◌, ◌<◌, ◌≤◌, Bool, true, false, not, ◌==◌, ◌&&◌, nat_le, List, [], ◌∷◌, ◌++◌, length, Option, Some, None, refl, sym, ap, subst, ◌∙◌, arith}
+use Rattle.std.proofs.Common.{◌≡◌, ℕ, ◌+◌, ◌<◌, ◌≤◌, Bool, true, false, not, ◌==◌, ◌&&◌, nat_le, List, [], ◌∷◌, ◌++◌, Option, Some, None, refl, sym, ap, subst, ◌∙◌, arith}
 use Rattle.std.proofs.lemmas.Grind.{common_steps}
 use Rattle.std.specs.Prelude.{IsFalse, IsTrue}
 use Rattle.std.specs.List.{list_any}
@@ -12,11 +12,11 @@ use Rattle.nfs_owners.specs.Registry.{Registry, is_live}
 use Rattle.nfs_shared.specs.BookEvent.{BookEvent, Leads, is_open_after, was_opened_after}
 use Rattle.nfs_shared.specs.BookOf.{IsBookOf}
 use Rattle.nfs_shared.specs.Sweeps.{AreTurns, IsTurn, Sweeps, events_of_all, is_of, none_swept, tally}
-use Rattle.nfs_shared.specs.Turn.{Gains, IsRightBy, Turn, events_by, events_of, expiries, total, with_case}
+use Rattle.nfs_shared.specs.Turn.{Gains, Turn, events_by, events_of, expiries, total, with_case}
 use Rattle.nfs_shared.specs.declared.case.Case.{Case}
 use Rattle.nfs_shared.specs.declared.case.Case.TheVariants as cases
 use Rattle.nfs_shared.specs.declared.swept.Swept.{Swept}
-use Rattle.nfs_shared.proofs.Lists.{Reaches, ascend_from_reaches, events_more, gains_of_all, leads_more, none_revoked, reaches_length, reaches_more, right_more, tally_more, total_tally, turns_more}
+use Rattle.nfs_shared.proofs.Lists.{Reaches, ascend_from_reaches, events_more, gains_of_all, leads_more, reaches_length, reaches_more, right_more, tally_more, total_tally, turns_more}
 use Rattle.nfs_state.specs.State.{History, State}
 use Rattle.nfs_state.specs.Stored.{meaning}
 use Rattle.nfs_state.specs.declared.entry.Entry.TheVariants as entries

@@ -4,7 +4,6 @@ use Rattle.std.specs.Prelude.{filter, is_some, not, if◌then◌else◌}
 use Rattle.std.proofs.lemmas.List.{length-map, map-append}
 use Rattle.nfs_locks.specs.AllLocks.{with_locks}
 use Rattle.nfs_locks.specs.Locks as locks
-use Rattle.nfs_locks.specs.Locks.{ByteLocks}
 use Rattle.nfs_locks.specs.StoredLocks.{StoredLock, byte_locks}
 use Rattle.nfs_state.specs.Kept.{Agrees, IsKeptIn, kept_by, update_of}
 use Rattle.nfs_state.specs.declared.owner_update.Keeping.{Keeping}

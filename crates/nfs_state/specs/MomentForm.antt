@@ -1,6 +1,5 @@
 -- A moment in a journal's file: a number of seconds below 2^40.
 use Rattle.std.specs.Prelude.{◌≡◌, ℕ, ◌^◌, nat_lt, Bool, true, false, Option, Some, None, if◌then◌else◌}
-use Rattle.std.proofs.Common.{sym}
 use Rattle.xdr.specs.Form.{Form, some_of, u64}
 
 -- the moment with this number of seconds, if it is below 2^40

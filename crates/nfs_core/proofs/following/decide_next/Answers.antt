@@ -1,7 +1,6 @@
 use Rattle.std.proofs.Common.{rules}
-use Rattle.nfs_core.proofs.Entering.{decided_next, decided_sendable, full_follows, no_answer, within_limits}
+use Rattle.nfs_core.proofs.Entering.{decided_next, decided_sendable, no_answer, within_limits}
 use Rattle.nfs_core.proofs.following.decide_next.Goals as goal
-use Rattle.nfs_state.specs.Entries.{entry_of}
 use Rattle.nfs_state.specs.Room.{state_of}
 
 pub returns-clause-next : goal.returns-clause-next

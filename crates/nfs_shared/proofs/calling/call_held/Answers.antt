@@ -1,5 +1,5 @@
 -- The book follows the call.
-use Rattle.std.proofs.Common.{ℕ, Bool, List, false, not, ◌&&◌, ◌++◌, ◌≡◌, [], Option, Some, None, refl, sym, ap, subst, ◌∙◌}
+use Rattle.std.proofs.Common.{Bool, List, false, not, ◌&&◌, ◌≡◌, [], Some, None, refl, sym, ap, subst, ◌∙◌}
 use Rattle.nfs_core.specs.LiveClients.{LiveFollow, confirmed_by}
 use Rattle.nfs_owners.specs.Registry.{is_live}
 use Rattle.nfs_shared.specs.BookEvent.{BookEvent, Leads}

@@ -1,7 +1,7 @@
 -- The loop goes one turn further.
 use Rattle.std.proofs.Common.{ℕ, [], ◌∷◌, ◌++◌, Option, ap, sym, subst, ◌∙◌, arith}
 use Rattle.nfs_shared.specs.Sweeps.{IsTurn, none_swept}
-use Rattle.nfs_shared.specs.Turn.{Turn, events_of}
+use Rattle.nfs_shared.specs.Turn.{Turn}
 use Rattle.nfs_shared.specs.declared.swept.Swept.{Swept}
 use Rattle.nfs_shared.proofs.Comes.{AreLaws, Comes, Stays, book_further, comes_first, comes_further, comes_last, is_gone, stays, total_before}
 use Rattle.nfs_shared.proofs.Lists.{none_revoked}

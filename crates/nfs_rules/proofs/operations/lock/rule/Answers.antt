@@ -1,7 +1,6 @@
-use Rattle.std.proofs.Common.{◌≡◌, ◌∙◌, Bool, Option, Some, None, Ok, Err, ap, refl, subst, sym, true}
+use Rattle.std.proofs.Common.{◌≡◌, ◌∙◌, Bool, Option, Some, Ok, Err, ap, refl, subst, sym, true}
 use Rattle.std.specs.Prelude.{Result}
 use Rattle.nfs_forms.specs.declared.status.Refusal.{Refusal}
-use Rattle.nfs_ranges.specs.declared.range.Range.{Range}
 use Rattle.nfs_rules.specs.Finding.{locking_seen}
 use Rattle.nfs_rules.specs.declared.ruling.Ruling.{Ruling}
 use Rattle.nfs_rules.specs.operations.Lock as lock

@@ -1,4 +1,4 @@
-use Rattle.std.proofs.Common.{◌≡◌, ℕ, Some, Result, Ok, subst}
+use Rattle.std.proofs.Common.{ℕ, Some, Result, subst}
 use Rattle.nfs_forms.specs.declared.status.Refusal.{Refusal}
 use Rattle.nfs_rules.specs.operations.Lockt.{IsRuled, IsTest}
 use Rattle.nfs_rules.proofs.Sequenced.{fails_as}

@@ -1,4 +1,4 @@
-use Rattle.std.proofs.Common.{Option, Some, refl, subst}
+use Rattle.std.proofs.Common.{Some, refl, subst}
 use Rattle.nfs_forms.specs.declared.answer.Answer.TheVariants.{Denied}
 use Rattle.nfs_locks.specs.AllLocks.{locks_of}
 use Rattle.nfs_locks.specs.Report.{IsReport}
