@@ -46,7 +46,7 @@ impl NodeKind {
 impl Wire for Node {
     ghost form = { forms.node };
 
-    #[tactic(auto, unfolding(crate::specs::NodeForm::node))]
+    #[tactic(auto, unfolding(crate::specs::NodeForm::node, crate::specs::NodeForm::named))]
     fn read(alloc: Global, bytes: &[u8]) -> Result<(Node, &[u8]), WireError> {
         let (parent, rest) = u32::read(alloc, bytes)?;
         let (is_file, rest) = bool::read(alloc, rest)?;
@@ -54,7 +54,7 @@ impl Wire for Node {
         Ok((Node { parent, name, kind }, rest))
     }
 
-    #[tactic(auto, unfolding(crate::specs::NodeForm::node))]
+    #[tactic(auto, unfolding(crate::specs::NodeForm::node, crate::specs::NodeForm::named))]
     fn write(&self, out: &mut Vec<u8>) -> Result<(), WireError> {
         let start = out.len();
         write_two(out, &self.parent, &!self.kind.is_directory())?;
