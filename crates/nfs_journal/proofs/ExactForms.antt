@@ -1,7 +1,9 @@
 -- At most one value is encoded by some bytes, and it is the one that is read.
-use Rattle.std.proofs.Common.{◌≡◌, ℕ, List, [], ◌++◌, Result, Ok, Err, refl, sym, ap, subst, ◌∙◌}
+use Rattle.std.proofs.Common.{◌≡◌, ℕ, Bool, true, false, List, [], ◌++◌, Result, Ok, Err, refl, sym, ap, subst, ◌∙◌}
 use Rattle.std.specs.Prelude.{IsErrOf}
+use Rattle.std.specs.Str.{bytes_eq}
 use Rattle.std.proofs.lemmas.List.{append-nil}
+use Rattle.std.proofs.lemmas.Slice.Eq.{bytes_eq-Decides}
 use Rattle.xdr.specs.declared.wire_error.WireError.{WireError}
 use Rattle.xdr.specs.declared.wire_error.WireError.TheVariants as errors
 use Rattle.xdr.specs.Form.{Form}
@@ -47,8 +49,14 @@ unwritten f bytes value rest errors.Short read unfit never = absurd (never refl)
 unwritten f bytes value rest errors.TooLong read unfit never =
     λ other is. unfit refl (subst f.Fits (sym (only_one f bytes value other rest read is)) is.0)
 
+differ : (written bytes : List ℕ) → false ≡ bytes_eq written bytes → bytes ≡ written → ⊥
+differ written bytes tested same =
+    let equal : bytes_eq written bytes ≡ true = (bytes_eq-Decides written bytes).1 (sym same) in
+    let clash : false ≡ true = tested ∙ equal in
+    cc
+
 -- the value that is read is written by other bytes
-pub unlike : {A : Type 0} (f : Form A) (bytes : List ℕ) (value : A) (rest : List ℕ) → f.at bytes ≡ Ok (value, rest)
-    → (bytes ≡ f.encoding value → ⊥) → EncodesNothing f bytes
-unlike f bytes value rest read differs other is =
-    differs (is.1 ∙ ap f.encoding (sym (only_one f bytes value other rest read is)))
+pub unlike : {A : Type 0} (f : Form A) (bytes : List ℕ) (value : A) (rest written : List ℕ) → f.at bytes ≡ Ok (value, rest)
+    → written ≡ f.encoding value → false ≡ bytes_eq written bytes → EncodesNothing f bytes
+unlike f bytes value rest written read is tested other encoded =
+    differ written bytes tested (encoded.1 ∙ ap f.encoding (sym (only_one f bytes value other rest read encoded)) ∙ sym is)
