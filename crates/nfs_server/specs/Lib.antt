@@ -12,4 +12,5 @@ pub mod Connection
 pub mod Serving
 pub mod CourseLaws
 pub mod Once
+pub mod Audit
 pub mod ServeError

@@ -2,6 +2,7 @@ ghost use Rattle.std.specs.Prelude.{◌≡◌};
 ghost use Rattle.nfs_server.specs.Once.{fault_of};
 
 use crate::ServeError;
+use nfs_journal::AuditError;
 use nfs_tree::TreeError;
 use thiserror::Error;
 
@@ -11,9 +12,12 @@ pub enum Fault {
     /// The tree's file doesn't describe a tree, with the number of the error.
     #[error("fault: tree refused ({0})")]
     TreeRefused(u32),
-    /// The tree's file can't be read.
+    /// A file can't be read: the tree's, or the journal's that is audited.
     #[error("fault: file not read")]
     FileNotRead,
+    /// The journal's file can't be written whole.
+    #[error("fault: file not written")]
+    FileNotWritten,
     #[error("fault: input not read")]
     InputNotRead,
     #[error("fault: output not written")]
@@ -26,6 +30,12 @@ pub enum Fault {
     EndsInsideRecord,
     #[error("fault: no memory")]
     NoMemory,
+    /// The bytes are no journal.
+    #[error("fault: not a journal")]
+    NotJournal,
+    /// The entries of the journal before the one with this number are lawful, and it can't follow them.
+    #[error("fault: wrong answer at entry {0}")]
+    WrongAnswer(u32),
 }
 
 impl From<TreeError> for Fault {
@@ -35,6 +45,20 @@ impl From<TreeError> for Fault {
 
     fn from(refused: TreeError) -> Fault {
         Fault::TreeRefused(refused.number())
+    }
+}
+
+impl From<AuditError> for Fault {
+    ghost use Rattle.nfs_server.specs.Audit.{fault_of_audit};
+
+    ghost from_gives = { λ e f. f ≡ fault_of_audit e };
+
+    fn from(error: AuditError) -> Fault {
+        match error {
+            AuditError::Format => Fault::NotJournal,
+            AuditError::WrongAnswer(number) => Fault::WrongAnswer(number),
+            AuditError::Memory => Fault::NoMemory,
+        }
     }
 }
 

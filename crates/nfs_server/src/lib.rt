@@ -1,6 +1,7 @@
 //! From the bytes of calls to the bytes of their replies: COMPOUND, connections, and the run of the program.
 #![tactic(auto)]
 
+mod audit;
 mod clock;
 mod compound;
 mod connection;
@@ -16,6 +17,7 @@ mod serve_error;
 mod service;
 mod tree_file;
 
+pub use audit::run_audit;
 pub use clock::{Clock, Stopped};
 pub use compound::run_compound;
 pub use connection::{STREAM_LIMIT, serve_connection, serve_duplex};

@@ -1,22 +1,26 @@
-ghost use Rattle.std.specs.Prelude.{◌≡◌, ◌-◌, ◌^◌, ◌<◌, ◌↔◌, ◌⊎◌, ℕ, Result, Err, IsErrOf, IsFalse};
+ghost use Rattle.std.specs.Prelude.{◌≡◌, ◌-◌, ◌^◌, ◌<◌, ◌↔◌, ◌⊎◌, ℕ, Option, None, Result, Err, IsErrOf, IsFalse};
 ghost use Rattle.nfs_owners.specs.Registry.{is_live};
 ghost use Rattle.nfs_server.specs.Connection.{HasCourse, scene};
 ghost use Rattle.nfs_server.specs.Sides.{device_of, sides};
 ghost use Rattle.nfs_server.specs.Exchange.{rules};
-ghost use Rattle.nfs_server.specs.Once.{fault_of, status_of};
+ghost use Rattle.nfs_server.specs.Once.{IsFiled, IsFiledBy, fault_of, first_fault, status_of};
 ghost use Rattle.nfs_server.specs.declared.clock.Stopped.{Stopped};
+ghost use Rattle.nfs_server.specs.declared.fault.Fault.{Fault};
 ghost use Rattle.nfs_server.specs.declared.serve_error.ServeError.{ServeError};
 ghost use Rattle.nfs_server.specs.Leases.{IsLent, LentCore};
 
 use crate::{Clock, Fault, Lent, ServeError, Service, Sink, Source, Stopped, serve_connection};
-use nfs_core::{Core, Moment};
+use nfs_core::{Core, Journal, Moment};
+use nfs_journal::{AuditError, write_journal};
 use nfs_tree::Tree;
 use std::alloc::Global;
 use std::io::Write;
 
 /// Serves one input to its end, with this core, in which no client is live, and the tree for which the core was made. All
-/// calls come at the moment `now`. Returns the program's exit status: 0, or 1 after a fault, which is reported by a line on `errors`.
-pub fn run_once<R: Source, W: Sink, E: Write>(
+/// calls come at the moment `now`. At the end, also after a fault, the file of the core's journal is written, if there is
+/// a writer for it. Returns the program's exit status: 0, or 1 after a fault, the first of which is reported by a line on
+/// `errors`.
+pub fn run_once<R: Source, W: Sink, E: Write, J: Write>(
     alloc: Global,
     core: Core,
     tree: &Tree,
@@ -24,29 +28,41 @@ pub fn run_once<R: Source, W: Sink, E: Write>(
     source: &mut R,
     sink: &mut W,
     errors: &mut E,
+    journal: &mut Option<J>,
 ) -> u8
     requires reads { R.failures source.old < 2 ^ 64 - 1 }
     requires writes { W.failures sink.old < 2 ^ 64 - 1 }
     requires tree { core.journal.nodes ≡ tree.now.nodes }
     requires policy { core.journal.policy ≡ tree.now.policy }
     requires clients { (number : ℕ) → IsFalse (is_live number core.stored.clients) }
-    // The input was served as one connection at this moment, starting from this core, and the
-    // status says how it ended; or memory ran out before anything was read.
-    ensures served { (outcome : Result ℕ ServeError)
+    // The input was served as one connection at this moment, starting from this core, the file of the journal that the
+    // core has at the end was written, and the status says how both ended; or memory ran out before anything was read.
+    ensures served { (outcome : Result ℕ ServeError) × (filed : Option Fault)
         × (((lent : LentCore) × (clock : Stopped) × (lent' : LentCore) × (clock' : Stopped)
         × (lent.core ≡ core) × IsLent core lent.book × (clock.moment ≡ now)
         × HasCourse (device_of R.gives R.fails W.takes W.fails)
         (rules tree.now ⟦<Lent as Service>⟧.gives ⟦<Lent as Service>⟧.alike
         ⟦<Stopped as Clock>⟧.tells)
         (scene (sides source.old sink.old) lent clock) outcome
-        (scene (sides source.new sink.new) lent' clock'))
-        ⊎ ((outcome ≡ Err ServeError.Memory)
-        × (source.new ≡ source.old) × (sink.new ≡ sink.old)))
+        (scene (sides source.new sink.new) lent' clock')
+        × IsFiled J.contents journal.old journal.new lent'.core.journal filed)
+        ⊎ ((outcome ≡ Err ServeError.Memory) × (filed ≡ None)
+        × (source.new ≡ source.old) × (sink.new ≡ sink.old) × (journal.new ≡ journal.old)))
         × (IsErrOf outcome ServeError.Read ↔ R.failures source.old < R.failures source.new)
         × (IsErrOf outcome ServeError.Write ↔ W.failures sink.old < W.failures sink.new)
-        × (result ≡ status_of (fault_of outcome)) }
+        × (result ≡ status_of (first_fault (fault_of outcome) filed)) }
 {
-    match Fault::of(serve(alloc, core, tree, now, source, sink)) {
+    let fault = match Lent::new(alloc, core) {
+        Err(_) => Some(Fault::NoMemory),
+        Ok(mut lent) => {
+            let mut clock = Stopped::at(now);
+            let outcome = serve_connection(alloc, source, sink, &mut lent, tree, &mut clock);
+            let core = lent.into_core();
+            let filed = file_journal(alloc, core.journal(), journal);
+            Fault::of(outcome).or(filed)
+        }
+    };
+    match fault {
         None => 0,
         Some(fault) => {
             // If this line can't be written, there is no other place to report it.
@@ -56,38 +72,31 @@ pub fn run_once<R: Source, W: Sink, E: Write>(
     }
 }
 
-// Serves the input at this moment as one connection of a core with leases. It fails with Memory also where memory is
-// refused for the leases, and then nothing is read.
-fn serve<R: Source, W: Sink>(
+// Writes the file of the journal, if there is a writer for it. Returns why it wasn't written, if it should have been.
+fn file_journal<J: Write>(
     alloc: Global,
-    core: Core,
-    tree: &Tree,
-    now: Moment,
-    source: &mut R,
-    sink: &mut W,
-) -> Result<usize, ServeError>
-    requires reads { R.failures source.old < 2 ^ 64 - 1 }
-    requires writes { W.failures sink.old < 2 ^ 64 - 1 }
-    requires tree { core.journal.nodes ≡ tree.now.nodes }
-    requires clients { (number : ℕ) → IsFalse (is_live number core.stored.clients) }
-    ensures served { ((lent : LentCore) × (clock : Stopped) × (lent' : LentCore)
-        × (clock' : Stopped)
-        × (lent.core ≡ core) × IsLent core lent.book × (clock.moment ≡ now)
-        × HasCourse (device_of R.gives R.fails W.takes W.fails)
-        (rules tree.now ⟦<Lent as Service>⟧.gives ⟦<Lent as Service>⟧.alike
-        ⟦<Stopped as Clock>⟧.tells)
-        (scene (sides source.old sink.old) lent clock) result
-        (scene (sides source.new sink.new) lent' clock'))
-        ⊎ ((result ≡ Err ServeError.Memory)
-        × (source.new ≡ source.old) × (sink.new ≡ sink.old)) }
-    ensures read_failed { IsErrOf result ServeError.Read
-        ↔ R.failures source.old < R.failures source.new }
-    ensures write_failed { IsErrOf result ServeError.Write
-        ↔ W.failures sink.old < W.failures sink.new }
+    journal: &Journal,
+    file: &mut Option<J>,
+) -> Option<Fault>
+    ensures { IsFiled J.contents file.old file.new journal.now.history result }
 {
-    let Ok(mut lent) = Lent::new(alloc, core) else {
-        return Err(ServeError::Memory);
-    };
-    let mut clock = Stopped::at(now);
-    serve_connection(alloc, source, sink, &mut lent, tree, &mut clock)
+    match file {
+        None => None,
+        Some(file) => write_file(alloc, journal, file),
+    }
+}
+
+fn write_file<J: Write>(alloc: Global, journal: &Journal, file: &mut J) -> Option<Fault>
+    ensures { IsFiledBy J.contents file.old file.new journal.now.history result }
+{
+    let mut bytes = Vec::new(alloc);
+    match write_journal(&mut bytes, journal) {
+        Err(AuditError::Memory) => return Some(Fault::NoMemory),
+        Err(_) => return Some(Fault::FileNotWritten),
+        Ok(()) => {}
+    }
+    match file.write_all(bytes.as_slice()) {
+        Err(_) => Some(Fault::FileNotWritten),
+        Ok(()) => None,
+    }
 }

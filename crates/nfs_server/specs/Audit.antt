@@ -1,0 +1,40 @@
+-- What the program tells of the bytes of a file that may be a journal.
+use Rattle.std.specs.Prelude.{◌≡◌, ◌⊎◌, ℕ, List, ◌++◌, length, codes, Option, Result, Ok, Err}
+use Rattle.std.specs.Fmt.{decimal}
+use Rattle.std.specs.Io.KnownBytes.{Appends}
+use Rattle.nfs_journal.specs.Audits.{IsLawfulJournal, IsWrongAt}
+use Rattle.nfs_journal.specs.Journals.{IsFileOf}
+use Rattle.nfs_journal.specs.declared.audit_error.AuditError.{AuditError}
+use Rattle.nfs_journal.specs.declared.audit_error.AuditError.TheVariants as errors
+use Rattle.nfs_server.specs.declared.fault.Fault.{Fault}
+use Rattle.nfs_server.specs.declared.fault.Fault.TheVariants.{NotJournal, WrongAnswer, NoMemory}
+use Rattle.nfs_state.specs.State.{History}
+
+-- The bytes are the file of a lawful journal with so many entries; or of none; or of one whose entries before this
+-- number are lawful, and that entry can't follow them. Where memory ran out nothing is told.
+abbrev pub IsVerdict : List ℕ → Result ℕ AuditError → Type 0
+IsVerdict bytes (Ok count) =
+    (journal : History) × IsFileOf journal bytes × IsLawfulJournal journal
+    × (count ≡ length journal.entries)
+IsVerdict bytes (Err errors.Format) = (journal : History) → IsFileOf journal bytes → ⊥
+IsVerdict bytes (Err (errors.WrongAnswer number)) =
+    (journal : History) × IsFileOf journal bytes × IsWrongAt number journal
+    × (IsLawfulJournal journal → ⊥)
+IsVerdict bytes (Err errors.Memory) = Unit {0}
+
+-- the fault of a file of which this is told
+abbrev pub fault_of_audit : AuditError → Fault
+fault_of_audit errors.Format = NotJournal
+fault_of_audit (errors.WrongAnswer number) = WrongAnswer number
+fault_of_audit errors.Memory = NoMemory
+
+-- the line that tells that a journal is lawful
+abbrev pub lawful_line : ℕ → List ℕ
+lawful_line count = codes "lawful: " ++ decimal count ++ codes " entries\n"
+
+-- How the verdict is told, on a writer that is told by the bytes that it holds, with the program's exit status: a lawful
+-- journal by its line, with 0, or with 1 where it couldn't be written; any other by 1, without a byte.
+abbrev pub IsTold : {W : Type 0} → (W → Option (List ℕ)) → W → W → Result ℕ AuditError → ℕ → Type 0
+IsTold contents old new (Ok count) status =
+    ((status ≡ 0) × Appends (contents old) (contents new) (lawful_line count)) ⊎ (status ≡ 1)
+IsTold contents old new (Err error) status = (status ≡ 1) × (new ≡ old)
