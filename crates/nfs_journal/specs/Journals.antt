@@ -1,5 +1,5 @@
 -- Which bytes are the file of which journal.
-use Rattle.std.specs.Prelude.{◌≡◌, ℕ, ◌<◌, ◌++◌, nat_le, nat_lt, Bool, true, false, ◌&&◌, List, length, Option, Some, None, Result, Ok, Err, OnOk, OnErr, vec_len, vec_capacity, IsErrOf}
+use Rattle.std.specs.Prelude.{◌≡◌, ℕ, ◌<◌, ◌+◌, ◌++◌, nat_le, nat_lt, Bool, true, false, ◌&&◌, List, length, Option, Some, None, Result, Ok, Err, OnOk, OnErr, vec_len, vec_capacity, IsErrOf}
 use Rattle.std.specs.Global.{Vec}
 use Rattle.std.specs.List.{list_all}
 use Rattle.nfs_journal.specs.declared.audit_error.AuditError.{AuditError}
