@@ -16,10 +16,10 @@ ghost use Rattle.nfs_xdr.specs.Op.{has_entry, opnum_of};
 ghost use Rattle.nfs_xdr.specs.OpResult.{op_result};
 ghost use Rattle.nfs_xdr.specs.Opnum.{answer_limit};
 
-use crate::{CoreError, FollowError};
 use crate::expiry::enter_expiry;
 use crate::following::{decide_next, follow};
 use crate::laws::lawful_is_safe;
+use crate::{CoreError, FollowError};
 use nfs_rules::at_most_one_decision;
 use nfs_state::{
     Call, Entry, Expire, JOURNAL_LIMIT, Journal, LEASE_MAX, LEASE_MIN, Moment, Request, Shortage,

@@ -73,11 +73,7 @@ pub fn run_once<R: Source, W: Sink, E: Write, J: Write>(
 }
 
 // Writes the file of the journal, if there is a writer for it. Returns why it wasn't written, if it should have been.
-fn file_journal<J: Write>(
-    alloc: Global,
-    journal: &Journal,
-    file: &mut Option<J>,
-) -> Option<Fault>
+fn file_journal<J: Write>(alloc: Global, journal: &Journal, file: &mut Option<J>) -> Option<Fault>
     ensures { IsFiled J.contents file.old file.new journal.now.history result }
 {
     match file {
