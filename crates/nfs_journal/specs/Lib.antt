@@ -1,3 +1,4 @@
 pub mod File
 pub mod Exact
 pub mod Journals
+pub mod Audits

@@ -1,17 +1,17 @@
 -- How an error of clap becomes one of the program.
 use Rattle.std.proofs.Common.{◌≡◌, ◌∙◌, Bool, List, [], ◌∷◌, refl, true, false, true≢false, sym, ap, subst, inl, inr}
 use Rattle.std.specs.Prelude.{◌⊎◌, Err, IfErr, IfOk, IsErrAnd, MatchResult, Ok, Result}
-use Rattle.clap.specs.Words.{IsAmong, Text, fault_of}
+use Rattle.clap.specs.Words.{IsAmong, Text, fault_of, subcommand_of}
 use Rattle.clap.specs.declared.error.kind.ErrorKind.{ErrorKind}
 use Rattle.clap.specs.declared.error.kind.ErrorKind.TheVariants.{DisplayHelp, OutOfMemory}
-use Rattle.nfs_options.specs.CommandLine.{Asks, AsksOnce, HasNoNumber, IsDeclined, IsDeclinedFor, IsMemoryOr, once_rows, program}
+use Rattle.nfs_options.specs.CommandLine.{Asks, AsksOnce, IsDeclined, IsDeclinedFor, IsMemoryOr, Lacks, program}
 use Rattle.clap.proofs.OnLiterals.{clap_on_literals}
 use Rattle.nfs_options.specs.declared.command_line.Subcommand.{Subcommand}
 use Rattle.nfs_options.specs.declared.declined.Declined.{Declined}
 use Rattle.nfs_options.specs.declared.declined.Declined.TheVariants as declined
 
--- the words are declined if clap accepts them, but a value is not a number within its limits
-pub value_declined : (words : List Text) (d : Declined) → fault_of program words ≡ [] → IsMemoryOr (HasNoNumber (once_rows words)) d → IsDeclined words d
+-- the words are declined if clap accepts them, but a value that is given isn't enough
+pub value_declined : (words : List Text) (d : Declined) → fault_of program words ≡ [] → IsMemoryOr (Lacks (subcommand_of program words)) d → IsDeclined words d
 value_declined words declined.Memory e h = tt
 value_declined words (declined.Help text) e h = absurd h
 value_declined words (declined.Usage text) e h = inr (e, h)
@@ -53,9 +53,7 @@ bare_declined words d name h e = go d (subst (λ ws. IsDeclined ws d) e h)
     go declined.Memory h = refl
     go (declined.Help text) h = absurd (among DisplayHelp h)
     go (declined.Usage text) (inl h) = absurd (among h.0 h.1)
-    go (declined.Usage text) (inr (e, inl h)) = absurd h
-    go (declined.Usage text) (inr (e, inr (inl h))) = absurd h
-    go (declined.Usage text) (inr (e, inr (inr h))) = absurd h
+    go (declined.Usage text) (inr (e, h)) = absurd h
 
 pub bare : (words : List Text) (r : Result Subcommand Declined) (name : Text) → IfOk r (Asks words) → IfErr r (IsDeclined words) → words ≡ name ∷ []
     → MatchResult r (AsksOnce []) (λ d. d ≡ declined.Memory)

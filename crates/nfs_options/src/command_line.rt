@@ -1,7 +1,7 @@
 ghost use Rattle.std.specs.Prelude.{◌≡◌, ◌∷◌, [], IfErr, IfOk, List, MatchResult, codes, map, ℕ};
-ghost use Rattle.clap.specs.Words.{subcommand_rows_of};
+ghost use Rattle.clap.specs.Words.{found_of, rows_of, subcommand_rows_of};
 ghost use Rattle.nfs_options.specs.declared.declined.Declined.{Declined};
-ghost use Rattle.nfs_options.specs.CommandLine.{Asks, AsksOnce, HasNoNumber, IsDeclined, IsMemoryOr, IsWithinLimits, given_rows};
+ghost use Rattle.nfs_options.specs.CommandLine.{Asks, AsksBy, AsksNamed, AsksOnce, IsDeclined, IsMemoryOr, IsWithinLimits, Lacks, LacksNamed};
 
 use crate::commands::program_command;
 use crate::{Declined, OnceOptions};
@@ -14,12 +14,14 @@ use std::convert::AsStr;
 pub enum Subcommand<'a> {
     /// Serve standard input to its end.
     Once(OnceOptions<'a>),
+    /// Audit the journal in this file.
+    Audit(&'a str),
 }
 
 /// Reads the words of the command line, the first of which is the program's name: `once`, with `--tree FILE`, `--lease
-/// SECONDS` (1 to 86,400, by default 90), `--epoch NUMBER` (0 to 2^32 - 1, by default 1) and `--now SECONDS` (0 to
-/// 2^40 - 1, by default 0), each at most once. Numbers are decimal digits without a sign. The program's name alone means
-/// `once` without options, and `--help` or `-h`, before or after `once`, asks for help.
+/// SECONDS` (1 to 86,400, by default 90), `--epoch NUMBER` (0 to 2^32 - 1, by default 1), `--now SECONDS` (0 to 2^40 - 1,
+/// by default 0) and `--journal FILE`, each at most once; or `audit FILE`. Numbers are decimal digits without a sign. The
+/// program's name alone means `once` without options, and `--help` or `-h`, before or after the subcommand, asks for help.
 pub fn options<'a, S: AsStr>(alloc: Global, words: &'a [S]) -> Result<Subcommand<'a>, Declined>
     ensures asked { IfOk result (Asks (map S.text words.now)) }
     ensures limits { IfOk result IsWithinLimits }
@@ -38,13 +40,32 @@ impl<'a> Subcommand<'a> {
     // No subcommand means `once` without options.
     fn of(alloc: Global, matches: &ArgMatches<'a>) -> Result<Subcommand<'a>, Declined>
         ensures ok { IfOk result
-            (λ s. AsksOnce (given_rows (subcommand_rows_of matches.now)) s × IsWithinLimits s) }
-        ensures err { IfErr result
-            (IsMemoryOr (HasNoNumber (given_rows (subcommand_rows_of matches.now)))) }
+            (λ s. AsksBy (subcommand_rows_of matches.now) s × IsWithinLimits s) }
+        ensures err { IfErr result (IsMemoryOr (Lacks (subcommand_rows_of matches.now))) }
     {
         match matches.subcommand() {
-            Some((_, matches)) => Ok(Subcommand::Once(OnceOptions::of(alloc, matches)?)),
+            Some((name, matches)) => Subcommand::named(alloc, name == "audit", matches),
             None => Ok(Subcommand::Once(OnceOptions::DEFAULT)),
+        }
+    }
+
+    // The subcommand that was found, `audit` or `once`.
+    fn named(
+        alloc: Global,
+        is_audit: bool,
+        matches: &ArgMatches<'a>,
+    ) -> Result<Subcommand<'a>, Declined>
+        ensures ok { IfOk result
+            (λ s. AsksNamed is_audit (rows_of (found_of matches.now)) s × IsWithinLimits s) }
+        ensures err { IfErr result
+            (IsMemoryOr (LacksNamed is_audit (rows_of (found_of matches.now)))) }
+    {
+        if !is_audit {
+            return Ok(Subcommand::Once(OnceOptions::of(alloc, matches)?));
+        }
+        match matches.get_str("file") {
+            Some(file) => Ok(Subcommand::Audit(file)),
+            None => Err(Declined::without_file(alloc)),
         }
     }
 }

@@ -1,7 +1,8 @@
-ghost use Rattle.std.specs.Prelude.{◌≡◌};
+ghost use Rattle.std.specs.Prelude.{◌≡◌, ⊤};
 ghost use Rattle.clap.specs.Words.{kind_of};
-ghost use Rattle.nfs_options.specs.CommandLine.{IsDeclinedFor};
+ghost use Rattle.nfs_options.specs.CommandLine.{IsDeclinedFor, IsMemoryOr};
 
+use crate::commands::file_error;
 use clap::Error;
 use clap::error::ErrorKind;
 use std::alloc::{AllocError, Global};
@@ -30,6 +31,19 @@ impl Declined {
                 ErrorKind::DisplayHelp => Declined::Help(text),
                 _ => Declined::Usage(text),
             },
+        }
+    }
+
+    /// For an `audit` to which no file is given.
+    pub(crate) fn without_file(alloc: Global) -> Declined
+        ensures { IsMemoryOr ⊤ result }
+    {
+        match file_error(alloc) {
+            Ok(error) => match format!(in alloc; "{error}") {
+                Ok(text) => Declined::Usage(text),
+                Err(_) => Declined::Memory,
+            },
+            Err(_) => Declined::Memory,
         }
     }
 }

@@ -19,6 +19,8 @@ pub struct OnceOptions<'a> {
     pub epoch: u32,
     /// The moment of all calls, in seconds below 2^40.
     pub moment: u64,
+    /// The file to which the journal is written at the end, if there is one.
+    pub journal: Option<&'a str>,
 }
 
 /// The last moment that there is.
@@ -31,6 +33,7 @@ impl<'a> OnceOptions<'a> {
         lease: 90,
         epoch: 1,
         moment: 0,
+        journal: None,
     };
 
     /// The options that clap found, with the defaults for the others.
@@ -65,6 +68,7 @@ impl<'a> OnceOptions<'a> {
             lease: lease.short_number(alloc, matches.get_str(lease.name))?,
             epoch: epoch.short_number(alloc, matches.get_str(epoch.name))?,
             moment: moment.number(alloc, matches.get_str(moment.name))?,
+            journal: matches.get_str("journal"),
         })
     }
 }

@@ -33,4 +33,4 @@ returns-clause-ok c =
     let lease = subst (λ o. IsNumber LEASE_MIN LEASE_MAX lease_default o c.in_ok-short_number.field-0) (c.get_str-2.ensures ∙ given (codes "lease")) c.in_ok-short_number.ensures.ok in
     let epoch = subst (λ o. IsNumber 0 epoch_max epoch_default o c.in_ok-short_number-2.field-0) (c.get_str-3.ensures ∙ given (codes "epoch")) c.in_ok-short_number-2.ensures.ok in
     let moment = subst (λ o. IsNumber 0 moment_max moment_default o c.in_ok-number.field-0) (c.get_str-4.ensures ∙ given (codes "now")) c.in_ok-number.ensures.ok in
-    (c.get_str.ensures ∙ given (codes "tree"), lease, epoch, moment)
+    (c.get_str.ensures ∙ given (codes "tree"), lease, epoch, moment, c.get_str-5.ensures ∙ given (codes "journal"))
