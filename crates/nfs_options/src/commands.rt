@@ -70,7 +70,11 @@ fn once_command<'a>(alloc: Global) -> Result<Command<'a>, AllocError>
         "FILE",
         "Where to write the journal at the end [default: nowhere]",
     );
-    once.arg(tree)?.arg(lease)?.arg(epoch)?.arg(now)?.arg(journal)
+    once.arg(tree)?
+        .arg(lease)?
+        .arg(epoch)?
+        .arg(now)?
+        .arg(journal)
 }
 
 /// The subcommand `audit`.
