@@ -5,9 +5,12 @@ ghost use Rattle.std.specs.Prelude.{◌≡◌, [], IfOk};
 ghost use Rattle.nfs_options.specs.CommandLine.{IsOnceWithinLimits};
 ghost use Rattle.nfs_owners.specs.Registry.{no_clients};
 
+mod new_file;
+
+use crate::new_file::NewFile;
 use nfs_core::{Core, CoreError, Moment};
 use nfs_options::{Declined, OnceOptions, Subcommand, options};
-use nfs_server::{Counted, Fault, read_tree, run_once};
+use nfs_server::{Counted, Fault, read_tree, run_audit, run_once};
 use nfs_tree::{DEFAULT_TREE, Tree};
 use std::alloc::Global;
 use std::process::ExitCode;
@@ -24,6 +27,7 @@ fn main(rt: HostRuntime) -> ExitCode {
     };
     match options(rt.alloc(), words.as_slice()) {
         Ok(Subcommand::Once(options)) => ExitCode::from(once(&rt, &options)),
+        Ok(Subcommand::Audit(path)) => ExitCode::from(audit(&rt, path)),
         Err(Declined::Help(text)) => print_help(&rt, text.as_str()),
         Err(Declined::Usage(text)) => print_usage(&rt, text.as_str()),
         Err(Declined::Memory) => ExitCode::from(report(&rt, Fault::NoMemory)),
@@ -34,7 +38,8 @@ fn words(rt: &HostRuntime) -> io::Result<Vec<String>> {
     Ok(env::args(rt)?.collect(rt.alloc())?)
 }
 
-// `nfs4state once`: records from standard input, replies to standard output. Neither is touched before there is a core.
+// `nfs4state once`: records from standard input, replies to standard output, and the journal to its file at the end. None
+// is touched before there is a core.
 fn once(rt: &HostRuntime, options: &OnceOptions<'_>) -> u8
     requires { IsOnceWithinLimits options.now }
 {
@@ -49,6 +54,7 @@ fn once(rt: &HostRuntime, options: &OnceOptions<'_>) -> u8
     let mut source = Counted::new(rt.stdin());
     let mut sink = Counted::new(rt.stdout());
     let mut errors = rt.stderr();
+    let mut journal = options.journal.map(|path| NewFile::new(rt, path));
     run_once(
         rt.alloc(),
         core,
@@ -57,7 +63,19 @@ fn once(rt: &HostRuntime, options: &OnceOptions<'_>) -> u8
         &mut source,
         &mut sink,
         &mut errors,
+        &mut journal,
     )
+}
+
+// `nfs4state audit`: whether the file is a lawful journal.
+fn audit(rt: &HostRuntime, path: &str) -> u8 {
+    let bytes = match file(rt, path) {
+        Ok(bytes) => bytes,
+        Err(fault) => return report(rt, fault),
+    };
+    let mut sink = rt.stdout();
+    let mut errors = rt.stderr();
+    run_audit(rt.alloc(), bytes.as_slice(), &mut sink, &mut errors)
 }
 
 // A core for the tree, with the tree's policy, and the lease and the epoch of the options.
@@ -80,8 +98,14 @@ fn tree(rt: &HostRuntime, path: Option<&str>) -> Result<Tree, Fault> {
     let Some(path) = path else {
         return Tree::from_toml(rt.alloc(), DEFAULT_TREE).map_err(Fault::from);
     };
+    let bytes = file(rt, path)?;
+    read_tree(rt.alloc(), bytes.as_slice()).map_err(Fault::from)
+}
+
+// The bytes of a file.
+fn file(rt: &HostRuntime, path: &str) -> Result<Vec<u8>, Fault> {
     match fs::read(rt, path) {
-        Ok(bytes) => read_tree(rt.alloc(), bytes.as_slice()).map_err(Fault::from),
+        Ok(bytes) => Ok(bytes),
         Err(error) if error.kind() == io::ErrorKind::OutOfMemory => Err(Fault::NoMemory),
         Err(_) => Err(Fault::FileNotRead),
     }
