@@ -1,2 +1,3 @@
 pub mod ExactForms
 pub mod JournalFiles
+pub mod WrongEntries

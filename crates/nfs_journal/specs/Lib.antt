@@ -1,3 +1,4 @@
+pub mod Audits
 pub mod File
 pub mod Exact
 pub mod Journals
