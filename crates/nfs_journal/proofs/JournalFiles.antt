@@ -4,7 +4,7 @@ use Rattle.std.proofs.lemmas.List.{append-nil}
 use Rattle.nfs_journal.specs.declared.audit_error.AuditError.{AuditError}
 use Rattle.nfs_journal.specs.declared.audit_error.AuditError.TheVariants as errors
 use Rattle.nfs_journal.specs.declared.file.File.{File}
-use Rattle.nfs_journal.specs.Exact.{IsEncoded, EncodesNothing}
+use Rattle.nfs_journal.specs.Exact.{IsEncoded}
 use Rattle.nfs_journal.specs.File.{file}
 use Rattle.nfs_journal.specs.Journals.{is_journal, history_of, file_of, IsFileOf, Reads, Accepts}
 use Rattle.nfs_journal.proofs.ExactForms.{one_encoded}
@@ -14,10 +14,6 @@ use Rattle.nfs_state.specs.State.{History}
 not_both : (b : Bool) → b ≡ false → b ≡ true → ⊥
 not_both true f t = cc
 not_both false f t = cc
-
--- bytes that encode nothing are the file of no journal
-pub no_file : (bytes : List ℕ) → EncodesNothing file bytes → (h : History) → IsFileOf h bytes → ⊥
-no_file bytes none h is = none (file_of h) is.1
 
 -- bytes that encode what is no journal are the file of no journal
 no_journal : (f : File) (bytes : List ℕ) → IsEncoded file f bytes → is_journal (history_of f) ≡ false

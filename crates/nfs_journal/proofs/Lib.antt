@@ -1,3 +1,3 @@
 pub mod ExactForms
 pub mod JournalFiles
-pub mod Audits
+pub mod WrongEntries

@@ -1,0 +1,32 @@
+ghost use Rattle.nfs_journal.specs.Audits.{Audits};
+
+use crate::AuditError;
+use nfs_core::{Core, FollowError, at_most_one_state};
+use nfs_state::Journal;
+use std::alloc::Global;
+
+/// A core to which the journal leads. WrongAnswer with the number of the first entry that can't follow those before it,
+/// if the journal isn't lawful; never Format.
+pub fn audit(alloc: Global, journal: Journal) -> Result<Core, AuditError>
+    ensures { Audits result journal.history }
+{
+    at_most_one_state();
+    let Ok(mut core) = Core::new(
+        alloc,
+        journal.tree(),
+        journal.lease(),
+        journal.epoch(),
+        journal.policy(),
+    ) else {
+        return Err(AuditError::Memory);
+    };
+    let mut number = 0;
+    for entry in journal.into_entries() {
+        match core.follow(entry) {
+            Ok(entered) => number = entered + 1,
+            Err(FollowError::NotNext) => return Err(AuditError::WrongAnswer(number)),
+            Err(FollowError::Memory) => return Err(AuditError::Memory),
+        }
+    }
+    Ok(core)
+}
