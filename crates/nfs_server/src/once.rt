@@ -3,15 +3,15 @@ ghost use Rattle.nfs_owners.specs.Registry.{is_live};
 ghost use Rattle.nfs_server.specs.Connection.{HasCourse, scene};
 ghost use Rattle.nfs_server.specs.Sides.{device_of, sides};
 ghost use Rattle.nfs_server.specs.Exchange.{rules};
-ghost use Rattle.nfs_server.specs.Once.{IsFiled, IsFiledBy, fault_of, first_fault, status_of};
+ghost use Rattle.nfs_server.specs.Once.{IsFiled, fault_of, first_fault, status_of};
 ghost use Rattle.nfs_server.specs.declared.clock.Stopped.{Stopped};
 ghost use Rattle.nfs_server.specs.declared.fault.Fault.{Fault};
 ghost use Rattle.nfs_server.specs.declared.serve_error.ServeError.{ServeError};
 ghost use Rattle.nfs_server.specs.Leases.{IsLent, LentCore};
 
+use crate::journal_file::file_journal;
 use crate::{Clock, Fault, Lent, ServeError, Service, Sink, Source, Stopped, serve_connection};
-use nfs_core::{Core, Journal, Moment};
-use nfs_journal::{AuditError, write_journal};
+use nfs_core::{Core, Moment};
 use nfs_tree::Tree;
 use std::alloc::Global;
 use std::io::Write;
@@ -69,30 +69,5 @@ pub fn run_once<R: Source, W: Sink, E: Write, J: Write>(
             let _ = writeln!(errors, "{fault}");
             1
         }
-    }
-}
-
-// Writes the file of the journal, if there is a writer for it. Returns why it wasn't written, if it should have been.
-fn file_journal<J: Write>(alloc: Global, journal: &Journal, file: &mut Option<J>) -> Option<Fault>
-    ensures { IsFiled J.contents file.old file.new journal.now.history result }
-{
-    match file {
-        None => None,
-        Some(file) => write_file(alloc, journal, file),
-    }
-}
-
-fn write_file<J: Write>(alloc: Global, journal: &Journal, file: &mut J) -> Option<Fault>
-    ensures { IsFiledBy J.contents file.old file.new journal.now.history result }
-{
-    let mut bytes = Vec::new(alloc);
-    match write_journal(&mut bytes, journal) {
-        Err(AuditError::Memory) => return Some(Fault::NoMemory),
-        Err(_) => return Some(Fault::FileNotWritten),
-        Ok(()) => {}
-    }
-    match file.write_all(bytes.as_slice()) {
-        Err(_) => Some(Fault::FileNotWritten),
-        Ok(()) => None,
     }
 }
