@@ -1,5 +1,5 @@
 -- At most one value is encoded by some bytes, and it is the one that is read.
-use Rattle.std.proofs.Common.{◌≡◌, ℕ, Bool, true, false, List, [], ◌++◌, Result, Ok, Err, refl, sym, ap, subst, ◌∙◌}
+use Rattle.std.proofs.Common.{◌≡◌, ℕ, true, false, List, [], Ok, Err, refl, sym, ap, subst, ◌∙◌}
 use Rattle.std.specs.Prelude.{IsErrOf}
 use Rattle.std.specs.Str.{bytes_eq}
 use Rattle.std.proofs.lemmas.List.{append-nil}
@@ -7,7 +7,7 @@ use Rattle.std.proofs.lemmas.Slice.Eq.{bytes_eq-Decides}
 use Rattle.xdr.specs.declared.wire_error.WireError.{WireError}
 use Rattle.xdr.specs.declared.wire_error.WireError.TheVariants as errors
 use Rattle.xdr.specs.Form.{Form}
-use Rattle.xdr.specs.Reading.{Read, Begins, Fails}
+use Rattle.xdr.specs.Reading.{Begins, Fails}
 use Rattle.xdr.specs.laws.Reads.{lacks, ok_is}
 use Rattle.nfs_journal.specs.Exact.{IsEncoded, EncodesNothing, IsExactly}
 

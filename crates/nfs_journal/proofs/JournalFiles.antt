@@ -1,6 +1,5 @@
 -- The bytes of a file are those of at most one journal.
-use Rattle.std.proofs.Common.{◌≡◌, ℕ, Bool, true, false, List, [], ◌++◌, Result, Ok, Err, sym, ap, subst, ◌∙◌}
-use Rattle.std.proofs.lemmas.List.{append-nil}
+use Rattle.std.proofs.Common.{◌≡◌, ℕ, Bool, true, false, List, Result, Ok, Err, sym, ap, subst, ◌∙◌}
 use Rattle.nfs_journal.specs.declared.audit_error.AuditError.{AuditError}
 use Rattle.nfs_journal.specs.declared.audit_error.AuditError.TheVariants as errors
 use Rattle.nfs_journal.specs.declared.file.File.{File}

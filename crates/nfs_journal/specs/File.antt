@@ -1,5 +1,4 @@
 -- The file of a journal.
-use Rattle.std.specs.Prelude.{ℕ, List}
 use Rattle.std.proofs.Common.{refl}
 use Rattle.nfs_state.specs.EntryForm.{entry}
 use Rattle.nfs_tree.specs.NodeForm.{node}
