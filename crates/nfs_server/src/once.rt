@@ -1,4 +1,5 @@
-ghost use Rattle.std.specs.Prelude.{◌≡◌, ◌-◌, ◌^◌, ◌<◌, ◌↔◌, ◌⊎◌, ℕ, Option, None, Result, Err, IsErrOf, IsFalse, option_or};
+ghost use Rattle.std.specs.Prelude.{◌≡◌, ◌-◌, ◌^◌, ◌<◌, ◌↔◌, ◌⊎◌, ℕ, Option, None, Result, Err, IsErrOf, IsFalse};
+ghost use Rattle.std.specs.Option.{option_or};
 ghost use Rattle.nfs_owners.specs.Registry.{is_live};
 ghost use Rattle.nfs_server.specs.Connection.{HasCourse, scene};
 ghost use Rattle.nfs_server.specs.Sides.{device_of, sides};
