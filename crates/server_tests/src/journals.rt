@@ -20,162 +20,107 @@ const OPENING: &str = "\
     00000000000000000000000164000000\
     0000000300000001000000016300000000000000";
 
-/// How a Call begins: at the moment 0, under AUTH_NONE and without a filehandle.
-const CALL: &str = "00000001000000000000000000000000000000000000000000000000";
-
-/// SETCLIENTID of the id `c1`, and its answer: OK, client number 1, confirm value 1.
-const SETCLIENTID: &str = "\
-    00000023010203040506070800000002633100004000000000000003746370000000000d\
-    3132372e302e302e312e382e3100000000000001";
-
-const CLIENT: &str = "000000230000000000000001000000010000000000000001";
-
-/// A Call of SETCLIENTID_CONFIRM of that client, and the answer OK.
-const CONFIRM: &str = "\
+/// SETCLIENTID of the id `c1`: a Call at the moment 0, under AUTH_NONE and without a filehandle; the operation; and its
+/// answer OK, with client number 1 and confirm value 1.
+const CLIENT: &str = "\
     00000001000000000000000000000000000000000000000000000000\
-    0000002400000001000000010000000000000001";
+    00000023010203040506070800000002633100004000000000000003746370000000000d\
+    3132372e302e302e312e382e3100000000000001\
+    000000230000000000000001000000010000000000000001";
 
-const CONFIRMED: &str = "0000002400000000";
+/// The same with the confirm value 2.
+const OTHER_VALUE: &str = "\
+    00000001000000000000000000000000000000000000000000000000\
+    00000023010203040506070800000002633100004000000000000003746370000000000d\
+    3132372e302e302e312e382e3100000000000001\
+    000000230000000000000001000000010000000000000002";
 
-/// The answer CLIENT with the confirm value 2.
-const OTHER_CLIENT: &str = "000000230000000000000001000000010000000000000002";
+/// The same with the answer RESOURCE.
+const RESOURCE: &str = "\
+    00000001000000000000000000000000000000000000000000000000\
+    00000023010203040506070800000002633100004000000000000003746370000000000d\
+    3132372e302e302e312e382e3100000000000001\
+    0000002300002722";
 
-/// SETCLIENTID with padding other than zero behind the id.
+/// The same with padding other than zero behind the id.
 const PADDED: &str = "\
+    00000001000000000000000000000000000000000000000000000000\
     00000023010203040506070800000002633100014000000000000003746370000000000d\
-    3132372e302e302e312e382e3100000000000001";
+    3132372e302e302e312e382e3100000000000001\
+    000000230000000000000001000000010000000000000001";
 
-/// The end of client 1, whose lease was renewed at 100: at 190, and at 191.
-const EXPIRE_EARLY: &str = "0000000200000001000000000000006400000000000000be";
+/// SETCLIENTID_CONFIRM of that client, and its answer OK.
+const CONFIRMED: &str = "\
+    00000001000000000000000000000000000000000000000000000000\
+    0000002400000001000000010000000000000001\
+    0000002400000000";
 
-const EXPIRE: &str = "0000000200000001000000000000006400000000000000bf";
+/// The same without its last four bytes.
+const CUT: &str = "\
+    00000001000000000000000000000000000000000000000000000000\
+    0000002400000001000000010000000000000001\
+    00000024";
+
+/// The same with the answer STALE_CLIENTID.
+const STALE: &str = "\
+    00000001000000000000000000000000000000000000000000000000\
+    0000002400000001000000010000000000000001\
+    0000002400002726";
+
+/// RENEW of that client, and its answer OK: an operation that makes no entry.
+const RENEWED: &str = "\
+    00000001000000000000000000000000000000000000000000000000\
+    0000001e00000001000000010000001e00000000";
+
+/// The end of client 1, whose lease was renewed at 100: at 190, where it isn't over, and at 191.
+const ENDED_AT_190: &str = "0000000200000001000000000000006400000000000000be";
+
+const ENDED_AT_191: &str = "0000000200000001000000000000006400000000000000bf";
 
 /// The line of a run or an audit that ends for want of memory.
 const NO_MEMORY: &str = "fault: no memory\n";
 
-/// What follows the opening in a file, in parts, and the line that an audit has for it.
+/// What follows the opening in a file, from the number of its entries on, and the line that an audit has for it.
 const AUDITS: [(&[&str], &str); 12] = [
     (&["00000000"], "lawful: 0 entries\n"),
     (
-        &[
-            "00000003",
-            CALL,
-            SETCLIENTID,
-            CLIENT,
-            CONFIRM,
-            CONFIRMED,
-            CONFIRM,
-            CONFIRMED,
-        ],
+        &["00000003", CLIENT, CONFIRMED, CONFIRMED],
         "lawful: 3 entries\n",
     ),
     (
-        &[
-            "00000003",
-            CALL,
-            SETCLIENTID,
-            OTHER_CLIENT,
-            CONFIRM,
-            CONFIRMED,
-            CONFIRM,
-            CONFIRMED,
-        ],
+        &["00000003", OTHER_VALUE, CONFIRMED, CONFIRMED],
         "fault: wrong answer at entry 0\n",
     ),
-    // STALE_CLIENTID to the last confirmation.
     (
-        &[
-            "00000003",
-            CALL,
-            SETCLIENTID,
-            CLIENT,
-            CONFIRM,
-            CONFIRMED,
-            CONFIRM,
-            "0000002400002726",
-        ],
+        &["00000003", CLIENT, CONFIRMED, STALE],
         "fault: wrong answer at entry 2\n",
     ),
-    // Four bytes fewer, and four more, also behind a wrong answer.
     (
-        &[
-            "00000003",
-            CALL,
-            SETCLIENTID,
-            CLIENT,
-            CONFIRM,
-            CONFIRMED,
-            CONFIRM,
-            "00000024",
-        ],
+        &["00000003", CLIENT, CONFIRMED, CUT],
         "fault: not a journal\n",
     ),
     (
-        &[
-            "00000003",
-            CALL,
-            SETCLIENTID,
-            CLIENT,
-            CONFIRM,
-            CONFIRMED,
-            CONFIRM,
-            CONFIRMED,
-            "00000000",
-        ],
+        &["00000003", CLIENT, CONFIRMED, CONFIRMED, "00000000"],
         "fault: not a journal\n",
     ),
     (
-        &["00000001", CALL, SETCLIENTID, OTHER_CLIENT, "00000000"],
+        &["00000001", OTHER_VALUE, "00000000"],
         "fault: not a journal\n",
     ),
     (
-        &[
-            "00000003", CALL, PADDED, CLIENT, CONFIRM, CONFIRMED, CONFIRM, CONFIRMED,
-        ],
+        &["00000003", PADDED, CONFIRMED, CONFIRMED],
         "fault: not a journal\n",
     ),
     (
-        &[
-            "00000004",
-            CALL,
-            SETCLIENTID,
-            CLIENT,
-            CONFIRM,
-            CONFIRMED,
-            CONFIRM,
-            CONFIRMED,
-            EXPIRE_EARLY,
-        ],
+        &["00000004", CLIENT, CONFIRMED, CONFIRMED, ENDED_AT_190],
         "fault: wrong answer at entry 3\n",
     ),
     (
-        &[
-            "00000004",
-            CALL,
-            SETCLIENTID,
-            CLIENT,
-            CONFIRM,
-            CONFIRMED,
-            CONFIRM,
-            CONFIRMED,
-            EXPIRE,
-        ],
+        &["00000004", CLIENT, CONFIRMED, CONFIRMED, ENDED_AT_191],
         "lawful: 4 entries\n",
     ),
-    // The answer RESOURCE, which makes no entry; and RENEW, which has none.
-    (
-        &["00000001", CALL, SETCLIENTID, "0000002300002722"],
-        "fault: wrong answer at entry 0\n",
-    ),
-    (
-        &[
-            "00000001",
-            CALL,
-            "0000001e0000000100000001",
-            "0000001e00000000",
-        ],
-        "fault: not a journal\n",
-    ),
+    (&["00000001", RESOURCE], "fault: wrong answer at entry 0\n"),
+    (&["00000001", RENEWED], "fault: not a journal\n"),
 ];
 
 /// The bytes of these parts, one after the other; none where memory was refused, here and below.
@@ -284,17 +229,7 @@ const RUNS: [Run; 3] = [
         sent: &[CALL_1, CALL_2, CALL_3],
         replies: &[REPLY_1, REPLY_2, REPLY_3],
         line: "",
-        file: &[
-            OPENING,
-            "00000003",
-            CALL,
-            SETCLIENTID,
-            CLIENT,
-            CONFIRM,
-            CONFIRMED,
-            CONFIRM,
-            CONFIRMED,
-        ],
+        file: &[OPENING, "00000003", CLIENT, CONFIRMED, CONFIRMED],
     },
     // The second call ends too early.
     Run {
@@ -302,7 +237,7 @@ const RUNS: [Run; 3] = [
         sent: &[CALL_1, "8000004800000002"],
         replies: &[REPLY_1],
         line: "fault: input ends inside a record\n",
-        file: &[OPENING, "00000001", CALL, SETCLIENTID, CLIENT],
+        file: &[OPENING, "00000001", CLIENT],
     },
 ];
 
