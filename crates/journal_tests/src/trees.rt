@@ -28,7 +28,7 @@ const GIVEN: &str = "\
 /// one for its kind.
 fn nodes_of(alloc: Global, number: u32) -> Result<Vec<Node>, AllocError> {
     let mut nodes = Vec::new(alloc);
-    for place in 0..3 {
+    for place in 0..3u32 {
         let bits = number >> (4 * place) & 15;
         let name = if bits & 4 == 0 { b"a" } else { b"b" };
         let kind = if bits & 8 == 0 {
