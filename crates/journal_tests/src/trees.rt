@@ -72,15 +72,20 @@ fn lists_of_nodes_are_those_of_documents(rt: HostRuntime) -> Result<(), Fail> {
     Ok(())
 }
 
-/// A file with a name of so many letters.
-fn file_of(alloc: Global, parent: u32, letter: u8, letters: usize) -> Result<Node, AllocError> {
-    let mut name = Vec::new(alloc);
-    for _ in 0..letters {
-        name.push(letter)?;
+/// So many times this letter.
+fn letters_of(alloc: Global, letter: u8, count: usize) -> Result<Bytes, AllocError> {
+    let mut letters = Vec::new(alloc);
+    for _ in 0..count {
+        letters.push(letter)?;
     }
+    Ok(Bytes::new(letters))
+}
+
+/// An empty file with a name of so many letters.
+fn file_of(alloc: Global, parent: u32, letter: u8, letters: usize) -> Result<Node, AllocError> {
     Ok(Node {
         parent,
-        name: Bytes::new(name),
+        name: letters_of(alloc, letter, letters)?,
         kind: NodeKind::File(Bytes::copy_of(alloc, b"")?),
     })
 }
@@ -108,6 +113,30 @@ fn are_many_given(alloc: Global, files: usize) -> Result<bool, AllocError> {
     Ok(Tree::from_nodes(nodes, DEFAULT_POLICY).is_ok())
 }
 
+/// Whether a document gives so many directories in the root.
+fn are_directories_given(alloc: Global, directories: usize) -> Result<bool, AllocError> {
+    let mut nodes = Vec::new(alloc);
+    for place in 0..directories {
+        nodes.push(Node {
+            parent: 0,
+            name: letters_of(alloc, b'd', place + 1)?,
+            kind: NodeKind::Directory,
+        })?;
+    }
+    Ok(Tree::from_nodes(nodes, DEFAULT_POLICY).is_ok())
+}
+
+/// Whether a document gives a file alone with a text of so many letters.
+fn is_text_given(alloc: Global, letter: u8, letters: usize) -> Result<bool, AllocError> {
+    let mut nodes = Vec::new(alloc);
+    nodes.push(Node {
+        parent: 0,
+        name: Bytes::copy_of(alloc, b"a")?,
+        kind: NodeKind::File(letters_of(alloc, letter, letters)?),
+    })?;
+    Ok(Tree::from_nodes(nodes, DEFAULT_POLICY).is_ok())
+}
+
 /// Whether a document gives a file alone with a name of so many letters.
 fn is_alone_given(alloc: Global, letter: u8, letters: usize) -> Result<bool, AllocError> {
     let mut nodes = Vec::new(alloc);
@@ -128,5 +157,10 @@ fn lists_of_nodes_have_limits(rt: HostRuntime) -> Result<(), Fail> {
     assert!(rt; is_alone_given(rt.alloc(), b'.', 3)?);
     assert!(rt; !is_alone_given(rt.alloc(), b'/', 1)?);
     assert!(rt; !is_alone_given(rt.alloc(), 255, 1)?);
+    assert!(rt; are_directories_given(rt.alloc(), 64)?);
+    assert!(rt; !are_directories_given(rt.alloc(), 65)?);
+    assert!(rt; is_text_given(rt.alloc(), b'a', 65_536)?);
+    assert!(rt; !is_text_given(rt.alloc(), b'a', 65_537)?);
+    assert!(rt; !is_text_given(rt.alloc(), 255, 1)?);
     Ok(())
 }

@@ -25,11 +25,6 @@ fault_of (Err errors.TooMuch) = Some InputTooLong
 abbrev pub fault_of_tree : TreeError → Fault
 fault_of_tree refused = TreeRefused (number_of refused)
 
--- the first fault of a run: that of the connection, or that of the journal's file
-abbrev pub first_fault : Option Fault → Option Fault → Option Fault
-first_fault None filed = filed
-first_fault (Some fault) filed = Some fault
-
 -- What a function did to the writer of a file, which is told by the bytes that it holds: it appended the file of this
 -- journal; or memory ran out, and nothing was written; or it wasn't written whole.
 abbrev pub IsFiledBy : {J : Type 0} → (J → Option (List ℕ)) → J → J → History → Option Fault → Type 0

@@ -9,6 +9,7 @@ mod course_laws;
 mod device;
 mod duplex;
 mod fault;
+mod journal_file;
 mod lent;
 mod numbers;
 mod once;

@@ -1,17 +1,18 @@
 ghost use Rattle.std.specs.Prelude.{◌≡◌, ◌-◌, ◌^◌, ◌<◌, ◌↔◌, ◌⊎◌, ℕ, Option, None, Result, Err, IsErrOf, IsFalse};
+ghost use Rattle.std.specs.Option.{option_or};
 ghost use Rattle.nfs_owners.specs.Registry.{is_live};
 ghost use Rattle.nfs_server.specs.Connection.{HasCourse, scene};
 ghost use Rattle.nfs_server.specs.Sides.{device_of, sides};
 ghost use Rattle.nfs_server.specs.Exchange.{rules};
-ghost use Rattle.nfs_server.specs.Once.{IsFiled, IsFiledBy, fault_of, first_fault, status_of};
+ghost use Rattle.nfs_server.specs.Once.{IsFiled, fault_of, status_of};
 ghost use Rattle.nfs_server.specs.declared.clock.Stopped.{Stopped};
 ghost use Rattle.nfs_server.specs.declared.fault.Fault.{Fault};
 ghost use Rattle.nfs_server.specs.declared.serve_error.ServeError.{ServeError};
 ghost use Rattle.nfs_server.specs.Leases.{IsLent, LentCore};
 
+use crate::journal_file::file_journal;
 use crate::{Clock, Fault, Lent, ServeError, Service, Sink, Source, Stopped, serve_connection};
-use nfs_core::{Core, Journal, Moment};
-use nfs_journal::{AuditError, write_journal};
+use nfs_core::{Core, Moment};
 use nfs_tree::Tree;
 use std::alloc::Global;
 use std::io::Write;
@@ -50,18 +51,22 @@ pub fn run_once<R: Source, W: Sink, E: Write, J: Write>(
         × (source.new ≡ source.old) × (sink.new ≡ sink.old) × (journal.new ≡ journal.old)))
         × (IsErrOf outcome ServeError.Read ↔ R.failures source.old < R.failures source.new)
         × (IsErrOf outcome ServeError.Write ↔ W.failures sink.old < W.failures sink.new)
-        × (result ≡ status_of (first_fault (fault_of outcome) filed)) }
+        × (result ≡ status_of (option_or (fault_of outcome) filed)) }
 {
-    let fault = match Lent::new(alloc, core) {
-        Err(_) => Some(Fault::NoMemory),
-        Ok(mut lent) => {
-            let mut clock = Stopped::at(now);
-            let outcome = serve_connection(alloc, source, sink, &mut lent, tree, &mut clock);
-            let core = lent.into_core();
-            let filed = file_journal(alloc, core.journal(), journal);
-            Fault::of(outcome).or(filed)
-        }
+    let Ok(mut lent) = Lent::new(alloc, core) else {
+        return status(errors, Some(Fault::NoMemory));
     };
+    let mut clock = Stopped::at(now);
+    let outcome = serve_connection(alloc, source, sink, &mut lent, tree, &mut clock);
+    let core = lent.into_core();
+    let filed = file_journal(alloc, core.journal(), journal);
+    status(errors, Fault::of(outcome).or(filed))
+}
+
+// Reports the fault by a line, if there is one. Returns the exit status.
+fn status<E: Write>(errors: &mut E, fault: Option<Fault>) -> u8
+    ensures { result ≡ status_of fault }
+{
     match fault {
         None => 0,
         Some(fault) => {
@@ -69,30 +74,5 @@ pub fn run_once<R: Source, W: Sink, E: Write, J: Write>(
             let _ = writeln!(errors, "{fault}");
             1
         }
-    }
-}
-
-// Writes the file of the journal, if there is a writer for it. Returns why it wasn't written, if it should have been.
-fn file_journal<J: Write>(alloc: Global, journal: &Journal, file: &mut Option<J>) -> Option<Fault>
-    ensures { IsFiled J.contents file.old file.new journal.now.history result }
-{
-    match file {
-        None => None,
-        Some(file) => write_file(alloc, journal, file),
-    }
-}
-
-fn write_file<J: Write>(alloc: Global, journal: &Journal, file: &mut J) -> Option<Fault>
-    ensures { IsFiledBy J.contents file.old file.new journal.now.history result }
-{
-    let mut bytes = Vec::new(alloc);
-    match write_journal(&mut bytes, journal) {
-        Err(AuditError::Memory) => return Some(Fault::NoMemory),
-        Err(_) => return Some(Fault::FileNotWritten),
-        Ok(()) => {}
-    }
-    match file.write_all(bytes.as_slice()) {
-        Err(_) => Some(Fault::FileNotWritten),
-        Ok(()) => None,
     }
 }
