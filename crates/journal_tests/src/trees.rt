@@ -53,7 +53,7 @@ fn are_given(alloc: Global, first: u32, digit: u8) -> Result<bool, AllocError> {
         digit % 16 + 9
     });
     for place in 0..4 {
-        let tree = Tree::from_nodes(nodes_of(alloc, first + place)?, DEFAULT_POLICY);
+        let tree = Tree::from_nodes(nodes_of(alloc, first.saturating_add(place))?, DEFAULT_POLICY);
         if tree.is_ok() != (bits >> place & 1 == 1) {
             return Ok(false);
         }
@@ -66,7 +66,7 @@ fn lists_of_nodes_are_those_of_documents(rt: HostRuntime) -> Result<(), Fail> {
     let mut first = 0;
     for digit in GIVEN.as_bytes() {
         assert!(rt; are_given(rt.alloc(), first, *digit)?);
-        first += 4;
+        first = first.saturating_add(4);
     }
     assert_eq!(rt; first, 4096);
     Ok(())
