@@ -53,7 +53,10 @@ fn are_given(alloc: Global, first: u32, digit: u8) -> Result<bool, AllocError> {
         digit % 16 + 9
     });
     for place in 0..4 {
-        let tree = Tree::from_nodes(nodes_of(alloc, first.saturating_add(place))?, DEFAULT_POLICY);
+        let tree = Tree::from_nodes(
+            nodes_of(alloc, first.saturating_add(place))?,
+            DEFAULT_POLICY,
+        );
         if tree.is_ok() != (bits >> place & 1 == 1) {
             return Ok(false);
         }

@@ -54,7 +54,10 @@ fn once(rt: &HostRuntime, options: &OnceOptions<'_>) -> u8
     let mut source = Counted::new(rt.stdin());
     let mut sink = Counted::new(rt.stdout());
     let mut errors = rt.stderr();
-    let mut journal = options.journal.map(|path| NewFile::new(rt, path));
+    let mut journal = match options.journal {
+        Some(path) => Some(NewFile::new(rt, path)),
+        None => None,
+    };
     run_once(
         rt.alloc(),
         core,

@@ -3,14 +3,14 @@ use std::io::{self, Write};
 
 /// A file that is made, in place of one that is there, once bytes are written to it.
 #[derive(Drop)]
-pub(crate) struct NewFile<'a> {
-    rt: &'a HostRuntime,
-    path: &'a str,
+pub(crate) struct NewFile<'r, 'p> {
+    rt: &'r HostRuntime,
+    path: &'p str,
     file: Option<File>,
 }
 
-impl<'a> NewFile<'a> {
-    pub(crate) fn new(rt: &'a HostRuntime, path: &'a str) -> NewFile<'a> {
+impl<'r, 'p> NewFile<'r, 'p> {
+    pub(crate) fn new(rt: &'r HostRuntime, path: &'p str) -> NewFile<'r, 'p> {
         NewFile {
             rt,
             path,
@@ -19,7 +19,7 @@ impl<'a> NewFile<'a> {
     }
 }
 
-impl Write for NewFile<'_> {
+impl Write for NewFile<'_, '_> {
     fn write(&mut self, bytes: &[u8]) -> io::Result<usize> {
         if self.file.is_none() {
             self.file = Some(File::create(self.rt, self.path)?);
