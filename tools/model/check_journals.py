@@ -1,10 +1,14 @@
 #!/usr/bin/env python3
-"""check_journals.py FOLDER|FILE.rows..: the model's journals beside their rules.
+"""The model's journals beside their rules; and, if it is given, a built program beside the model.
 
 For each row it makes the journal, which has to be lawful, to be read as it was written, and to be shown in words that
 spell it. With one word of one answer changed it has to be wrong at just that entry, or no journal: each word of the
 journals whose answers are short, and some words of the others, drawn with a fixed seed. Before these come files that
-are no journals, each with the reason, lists of nodes, and entries that can't follow."""
+are no journals, each with the reason, lists of nodes, and entries that can't follow.
+
+A program has to say of each of these files what the model says, and to write the model's file where `once` can carry
+the row."""
+import argparse
 import itertools
 import random
 import sys
@@ -14,17 +18,18 @@ sys.dont_write_bytecode = True
 import rows
 from check_rows import converse
 from entries import ARGUMENT_BYTES, Call, Expire, NotJournal, RESTS, answer_bytes, entry_bytes
-from journal import Recorder, audit, head_bytes, journal_bytes, read_journal, verdict
-from journal_cases import (NOT_JOURNAL, broken_answers, broken_entries, broken_heads, broken_lengths, broken_nodes,
-                           broken_operations, broken_padding, file_of, sample, small, verdicts, whole_files,
-                           written_out)
+from journal import Recorder, STEPS, audit, head_bytes, journal_bytes, read_journal, verdict
+from journal_cases import (NOT_JOURNAL, all_answers, broken_answers, broken_entries, broken_heads, broken_lengths,
+                           broken_nodes, broken_operations, broken_padding, file_of, other_lengths, sample,
+                           small, verdicts, whole_files, written_out)
 from model import STATEFUL
+from program import Program, can_run_once
 from tree import DEFAULT, Node, Refused, Tree, tree_of
 from wire import u32
 from words import answer_words, line_of, operation_words
 
 # Of a journal whose answers have at most so many words, each is changed; of any other, so many.
-SHORT, DRAWN = 30, 2
+SHORT, DRAWN = 30, 3
 
 
 # The journals of rows.
@@ -87,26 +92,32 @@ def changed(journal, draw):
         yield number, with_other_word(data, place, draw)
 
 
-def check_rows(files):
+def check_rows(files, program):
     """How many things are wrong."""
-    draw, wrong = random.Random(1), 0
+    draw, wrong, judged, written = random.Random(1), 0, [], []
     counts = {"journals": 0, "entries": 0, "wrong answers": 0, "no journals": 0}
     for row in (row for path in files for file in rows.files_of(path) for row in rows.File(file).rows):
-        journal = journal_of(row)
+        journal, name = journal_of(row), f"{row.file}:{row.line}: {row.name}"
+        if can_run_once(row):
+            written.append((row, journal and journal_bytes(journal)))
         if journal is None:
             continue
         counts["journals"] += 1
         counts["entries"] += len(journal.entries)
         found = list(wrong_with(journal))
+        judged.append((name, journal_bytes(journal), (True, f"lawful: {len(journal.entries)} entries")))
         for number, data in changed(journal, draw):
-            line = verdict(data)[1]
-            counts["no journals" if line == NOT_JOURNAL else "wrong answers"] += 1
-            if line not in (NOT_JOURNAL, f"fault: wrong answer at entry {number}"):
-                found.append(f"a word changed in entry {number}: {line}")
+            said = verdict(data)
+            judged.append((f"{name}: a word changed in entry {number}", data, said))
+            counts["no journals" if said[1] == NOT_JOURNAL else "wrong answers"] += 1
+            if said not in ((False, NOT_JOURNAL), (False, f"fault: wrong answer at entry {number}")):
+                found.append(f"a word changed in entry {number}: {said[1]}")
         for what in found:
-            print(f"{row.file}:{row.line}: {row.name}: {what}")
+            print(f"{name}: {what}")
         wrong += len(found)
     print("check_journals: " + ", ".join(f"{count} {name}" for name, count in counts.items()))
+    if program is not None:
+        wrong += check_program(program, judged, written)
     return wrong + (counts["journals"] == 0)
 
 
@@ -121,10 +132,12 @@ def reason_of(data):
     return None
 
 
+BROKEN = (broken_padding, broken_lengths, broken_heads, broken_entries, broken_operations, broken_answers, broken_nodes)
+
+
 def check_broken_files():
     wrong = []
-    for broken in (broken_padding, broken_lengths, broken_heads, broken_entries, broken_operations, broken_answers,
-                   broken_nodes):
+    for broken in BROKEN:
         wrong += [f"{name}: {reason_of(data)}, not {reason}" for name, data, reason in broken()
                   if reason_of(data) != reason]
     return wrong
@@ -143,15 +156,19 @@ def check_whole_files():
     return wrong
 
 
-def check_node_lists():
-    """Of all lists of at most three nodes by two names, those are taken that some document gives."""
+def node_lists():
+    """All lists of at most three nodes by two names, and whether some document gives them."""
     paths = ["/".join(names) for depth in (1, 2, 3) for names in itertools.product("ab", repeat=depth)]
     documents = ((chosen[:first_file], chosen[first_file:]) for chosen in at_most_three(paths)
                  for first_file in range(len(chosen) + 1))
     given = {nodes_given(*document) for document in documents}
     nodes = [Node(parent, name, is_file, b"")
              for parent in range(4) for name in (b"a", b"b") for is_file in (False, True)]
-    return [f"the nodes {found}" for found in at_most_three(nodes) if is_taken(found) != (found in given)]
+    return [(found, found in given) for found in at_most_three(nodes)]
+
+
+def check_node_lists():
+    return [f"the nodes {found}" for found, is_given in node_lists() if is_taken(found) != is_given]
 
 
 def at_most_three(choices):
@@ -186,11 +203,7 @@ def check_verdicts():
                         (2, "fault: wrong answer at entry 2")):
         if verdict(data, limit)[1] != line:
             wrong.append(f"a limit of {limit} entries: {verdict(data, limit)[1]}")
-    for place in range(0, len(data), 4):
-        for other in (data[:place] + data[place + 4:], data[:place] + bytes(4) + data[place:]):
-            if verdict(other)[0]:
-                wrong.append(f"a word too few or too many at {place}")
-    return wrong
+    return wrong + [name for name, other in other_lengths() if verdict(other)[0]]
 
 
 def check_sample():
@@ -206,17 +219,60 @@ def check_sample():
     return wrong
 
 
-def main(files):
+# What a program says.
+
+def verdict_of_program(data):
+    """What a program has to say of the file: the model's verdict, but that the program has no form for kinds of entries
+    without a rule, which the model reads."""
+    try:
+        if any(type(entry) not in STEPS for entry in read_journal(data).entries):
+            return False, NOT_JOURNAL
+    except NotJournal:
+        pass
+    return verdict(data)
+
+
+def files_of_cases():
+    """The files that are no row's, with their names."""
+    for broken in BROKEN:
+        yield from ((name, data) for name, data, _ in broken())
+    yield from (("a file written out", data) for data, _ in written_out())
+    yield from whole_files()
+    yield from ((name, data) for name, data, _ in verdicts())
+    yield from other_lengths()
+    yield from all_answers()
+    data, draw = journal_bytes(sample()), random.Random(2)
+    yield from ((f"another word at {place}", with_other_word(data, place, draw)) for place in range(0, len(data), 4))
+
+
+def check_program(program, judged, written):
+    """How many things are wrong with the program: with what it says of files, and with the files that it writes."""
+    cases = [(name, data, verdict_of_program(data)) for name, data in files_of_cases()]
+    for nodes, is_given in node_lists():
+        cases.append((f"the nodes {nodes}", file_of([], nodes), (True, "lawful: 0 entries") if is_given else
+                      (False, NOT_JOURNAL)))
+    wrong = program.misjudged(judged) + program.misjudged(cases) + program.miswritten(written)
+    for what in wrong:
+        print(f"check_journals: {what}")
+    print(f"check_journals: the program judged {len(judged)} files of rows and {len(cases)} others, and wrote the "
+          f"journals of {len(written)} rows: {len(wrong)} differ")
+    return len(wrong)
+
+
+def main():
+    parser = argparse.ArgumentParser(description=__doc__, formatter_class=argparse.RawDescriptionHelpFormatter)
+    parser.add_argument("--program", help="a built nfs4state")
+    parser.add_argument("files", nargs="+", metavar="FOLDER|FILE.rows")
+    given = parser.parse_args()
     wrong = check_broken_files() + check_whole_files() + check_node_lists() + check_verdicts() + check_sample()
     for what in wrong:
         print(f"check_journals: {what}")
     try:
-        return 1 if check_rows(files) + len(wrong) else 0
+        program = None if given.program is None else Program(given.program)
+        return 1 if check_rows(given.files, program) + len(wrong) else 0
     except (OSError, UnicodeDecodeError, rows.Bad) as error:
         sys.exit(f"check_journals: {error}")
 
 
 if __name__ == "__main__":
-    if len(sys.argv) < 2:
-        sys.exit(__doc__)
-    sys.exit(main(sys.argv[1:]))
+    sys.exit(main())

@@ -1,7 +1,7 @@
 """Journals for check_journals.py: one with each operation, files written out, files that are no journals, each with the
 reason, and files with what is said of them."""
 import wire
-from entries import Answer, Call, Expire, MOMENT_LIMIT, Path, Revoke, StrictReader
+from entries import Answer, Call, Expire, MOMENT_LIMIT, Path, Revoke, STATUSES, StrictReader
 from journal import Journal, Recorder, head_bytes, journal_bytes, read_whole
 from tree import Node, ROOT, Tree
 from wire import (Callback, Claim, KnownLocker, LockOwner, NewLocker, OpenOwner, Openhow, Opnum, Stateid, Status,
@@ -9,6 +9,9 @@ from wire import (Callback, Claim, KnownLocker, LockOwner, NewLocker, OpenOwner,
 
 NOT_JOURNAL = "fault: not a journal"
 OTHER_WORDS = "other words than the layout has"
+
+
+LAST = 2**32 - 1
 
 
 # A journal with each operation, and with each form of its arguments and answers that the model gives.
@@ -143,16 +146,32 @@ def broken_lengths():
         yield f"{len(more)} bytes more", data + more, "bytes after the last entry"
 
 
+def other_lengths():
+    """A lawful file with a word too few or too many, at each place: a name and the file."""
+    data = file_of(small().entries + [Expire(1, 100, 191)])
+    for place in range(0, len(data), 4):
+        yield f"a word too few at {place}", data[:place] + data[place + 4:]
+        yield f"a word too many at {place}", data[:place] + bytes(4) + data[place:]
+
+
 def broken_heads():
     data = journal_bytes(small())
-    begins, lease = "it begins with other bytes", "a lease outside its limits"
+    begins, lease, early = "it begins with other bytes", "a lease outside its limits", "it ends too early"
     yield "another version", b"NFSJRN02" + data[8:], begins
-    yield "lease 0", with_words(data, 12, 0), lease
-    yield "lease 86,401", with_words(data, 12, 86401), lease
+    for seconds in (0, 86401, LAST):
+        yield f"lease {seconds}", with_words(data, 12, seconds), lease
     yield "delegations 3", with_words(data, 16, 3), "a number that isn't 0 to 2"
     yield "callbacks 2", with_words(data, 20, 2), "a number that isn't 0 to 1"
     yield "one node fewer", with_words(data, 24, 3), "nodes that no document gives"
     yield "a node's kind", with_words(data, 32, 2), "a number that isn't 0 to 1"
+    place = len(head_bytes(small()))
+    yield "one entry fewer", with_words(data, place, 2), "bytes after the last entry"
+    yield "one entry more", with_words(data, place, 4), early
+    # Numbers for which there would be no memory.
+    yield "2^32 - 1 nodes", with_words(data[:28], 24, LAST), early
+    yield "2^32 - 1 entries", with_words(data, place, LAST), early
+    name = "a name of 2^32 - 1 bytes"
+    yield name, with_words(data, 36, LAST), "more than 255 bytes"
 
 
 def broken_entries():
@@ -197,7 +216,11 @@ def broken_operations():
         yield f"OPEN with {claim}", asked(*opening(1, NO_CREATE, claim)[:2]), "a number that isn't " + wrong
     long = wire.ReleaseLockowner(LockOwner(1, 1, bytes(1025)))
     yield "an owner of 1,025 bytes", asked(Opnum.RELEASE_LOCKOWNER, long), "more than 1024 bytes"
-    yield "a bitmap without its words", asked(Opnum.GETATTR, wire.Getattr(range(2**16)))[:-2**18], "it ends too early"
+    for count in (1, 2**31, LAST):
+        words = asked(Opnum.GETATTR, wire.Getattr(()))[:-12] + u32(count)
+        yield f"a bitmap of {count} words, without them", words, "it ends too early"
+    words = asked(Opnum.GETATTR, wire.Getattr(range(2**16)))[:-2**18]
+    yield "a bitmap without its last words", words, "it ends too early"
 
 
 def broken_answers():
@@ -284,9 +307,13 @@ def broken_nodes():
         "65 files": many(65, file),
         "65 directories": many(65, directory),
         "65 directories, the last after a file": [*many(64, directory), file(0), directory(0), file(66)],
-        "a text that isn't UTF-8": [file(0, text=b"\xff")],
     }
-    for name in (b"", b".", b"..", b"a/b", b"/", b"a\0", b"\xff"):
+    # No UTF-8: a byte that never comes, a character that is cut, one that is spelled too long, half of a pair, and one
+    # above the last.
+    texts = (b"\xff", b"\xe2\x82", b"\xc0\xaf", b"\xed\xa0\x80", b"\xf4\x90\x80\x80")
+    for text in texts:
+        lists[f"the text {text}"] = [file(0, text=text)]
+    for name in (b"", b".", b"..", b"a/b", b"/", b"a\0", *texts):
         lists[f"the name {name}"] = [file(0, name)]
         lists[f"the name {name} of a directory"] = [directory(0, name)]
     for name, nodes in lists.items():
@@ -301,6 +328,7 @@ def whole_files():
     yield "all operations", journal_bytes(journal)
     yield "all kinds", file_of(journal.entries + [Expire(1, 2, 3), Revoke(4, 5), Path(6, 1), Path(7, 0)])
     yield "the last moment", file_of([Expire(1, MOMENT_LIMIT - 1, MOMENT_LIMIT - 1), Revoke(1, MOMENT_LIMIT - 1)])
+    yield "the last number of everything", file_of([Expire(LAST, 0, 0), Revoke(LAST, 0), Path(LAST, 0)])
     for lease in (1, 86400):
         yield f"lease {lease}", with_words(file_of([]), 12, lease)
     lists = {
@@ -310,6 +338,9 @@ def whole_files():
         "a directory without a child before a file": [directory(0), file(0)],
         "directories after a file, each followed by a child": [file(0), directory(0), directory(2, b"e"), file(3)],
         "a name of 255 bytes, and a text of 65,536": [file(0, b"n" * 255, bytes(65536))],
+        "names and texts that a document can only escape": [
+            directory(0, b"\n"), directory(0, b'"\\'), file(1, b"\x7f", b"\0\r"), file(2, b"\xef\xbb\xbf")],
+        "characters of two, three and four bytes": [file(0, b"\xc3\xa9\xe2\x82\xac", b"\xf4\x8f\xbf\xbf")],
     }
     for name, nodes in lists.items():
         yield name, file_of([], nodes)
@@ -342,19 +373,37 @@ def verdicts():
     yield "a confirmation after the expiry", file_of([*entries, Expire(1, 100, 191), entries[2]]), wrong(4)
     stale = entries[2]._replace(answer=Answer(Opnum.SETCLIENTID_CONFIRM, Status.STALE_CLIENTID, b""))
     yield "its refusal", file_of([*entries, Expire(1, 100, 191), stale]), "lawful: 5 entries"
+    late = [*entries, Expire(1, MOMENT_LIMIT - 92, MOMENT_LIMIT - 1)]
+    yield "an expiry at the last moment", file_of(late), "lawful: 4 entries"
+    late[-1] = Expire(1, MOMENT_LIMIT - 91, MOMENT_LIMIT - 1)
+    yield "an expiry at the last moment, at the edge", file_of(late), wrong(3)
+    yield "an expiry before it was seen", file_of([*entries, Expire(1, 200, 100)]), wrong(3)
     yield "a revocation", file_of([*entries, Revoke(1, 100)]), "fault: no rule yet at entry 3: Revoke"
     yield "a path", file_of([*entries, Path(1, 1)]), "fault: no rule yet at entry 3: Path"
     yield "a path after a wrong answer", file_of([entries[1], Path(1, 1)]), wrong(0)
     yield "moments that go down", file_of([entries[0]._replace(moment=5), *entries[1:]]), "lawful: 3 entries"
+    yield "the last moment of a call", file_of([entries[0]._replace(moment=MOMENT_LIMIT - 1)]), "lawful: 1 entries"
     yield "another principal", file_of([entries[0], entries[1]._replace(principal=SOMEBODY)]), wrong(1)
+    yield "uid 0 under AUTH_SYS", file_of([entries[0], entries[1]._replace(principal=(1, 0))]), wrong(1)
+    yield "a filehandle that isn't asked", file_of([entries[0]._replace(filehandle=4)]), "lawful: 1 entries"
     refused = entries[0]._replace(answer=Answer(Opnum.SETCLIENTID, Status.RESOURCE, b""))
     yield "RESOURCE", file_of([refused]), wrong(0)
     far = wire.Setclientid(bytes(8), b"c1", CALLBACK._replace(netid=bytes(129)))
     yield "RESOURCE that the rules give", file_of([refused._replace(arguments=far)]), wrong(0)
     other = with_number(entries[1], Opnum.RELEASE_LOCKOWNER)
     yield "an answer to another operation", file_of([entries[0], other]), wrong(1)
-    late = file_of([with_rest(entries[0], u32(1, 1) + u64(2)), *entries[1:]]) + b"\0"
-    yield "a wrong answer, and a byte after the last entry", late, NOT_JOURNAL
+    wrong_first = [with_rest(entries[0], u32(1, 1) + u64(2)), *entries[1:]]
+    yield "a wrong answer, and a byte after the last entry", file_of(wrong_first) + b"\0", NOT_JOURNAL
+    outside = [*wrong_first, entries[2]._replace(filehandle=5)]
+    yield "a wrong answer, and a node that isn't there later", file_of(outside), NOT_JOURNAL
+
+
+def all_answers():
+    """A name and a file for each number of an operation and each status, and for some that aren't there. Nothing comes
+    after the status."""
+    for number in (*range(42), 10043, Opnum.ILLEGAL, 10045, LAST):
+        for status in sorted(STATUSES | {1, 5, 28, 62, 10000, 10002, 10006, 10009, 10045, LAST}):
+            yield f"an answer to {number} of status {status}", answered(Answer(number, status, b""))
 
 
 def with_rest(call, rest):

@@ -1,7 +1,6 @@
 #!/usr/bin/env python3
 """The model in place of `nfs4state once`, with its options: records from standard input to its end, replies to standard
-output. So the other scripts can be tried without a built program. And it can write its journal, which `nfs4state` can't
-yet."""
+output, and its journal to a file. So the other scripts can be tried without a built program."""
 import argparse
 import sys
 
