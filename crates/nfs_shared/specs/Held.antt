@@ -43,6 +43,6 @@ pub record IsHeld (held : HeldView) : Type 0 where
 -- receipts.
 pub record IsTied (table kept : TableId) (token : tokens.Seat Receipt View) (count : ℕ) : Type 0
   where
-  pub roll : kept ≡ table
-  pub writer : IsOf table token × IsWriter token
-  pub total : count ≡ length (list_of token)
+    pub roll : kept ≡ table
+    pub writer : IsOf table token × IsWriter token
+    pub total : count ≡ length (list_of token)

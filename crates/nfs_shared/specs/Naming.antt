@@ -2,6 +2,7 @@
 use Rattle.std.specs.Prelude.{ℕ, []}
 use Rattle.atomic_table.specs.Seated.{TableId}
 use Rattle.nfs_state.specs.State.{History}
+use Rattle.nfs_tree.specs.declared.policy.TheConstants.{DEFAULT_POLICY}
 
 -- the roll of receipts, the name of the ledger, and the number of its parts, one for each worker
 pub record OpenedView : Type 0 where
@@ -24,3 +25,7 @@ no_table = record {
   offset = 0;
   slot_names = [];
 }
+
+-- the start that stands where none is named
+abbrev pub no_start : History
+no_start = record { nodes = []; epoch = 0; lease = 0; policy = DEFAULT_POLICY; entries = [] }
