@@ -19,8 +19,8 @@ use Rattle.nfs_state.specs.State.{History}
 use Rattle.nfs_state.specs.declared.entry.Call.{Call}
 use Rattle.nfs_state.specs.declared.entry.Entry.TheVariants as entries
 
-pub call_copied-entered-requires-clause-node : goal.call_copied-entered-requires-clause-node
-call_copied-entered-requires-clause-node g c =
+pub call_copied-answer-requires-clause-node : goal.call_copied-answer-requires-clause-node
+call_copied-answer-requires-clause-node g c =
     subst (λ (j : History). IsFilehandle j c.args.filehandle) (sym c.held.invariant.2) c.requires.node
 
 pub give-receipt-requires-clause-count : goal.give-receipt-requires-clause-count
@@ -31,11 +31,11 @@ give-receipt-requires-clause-count g c =
     let es = held.core.journal.entries in
     let places : c.reserve.new.self.items ≡ held.register.places.items = c.reserve.ensures.items in
     let few = calls_in_length es in
-    let enters : Enters held.core c.call_copied-entered.new.core (entry_of request c.call_copied-entered.result.0) c.in-Some.entered.number =
+    let enters : Enters held.core c.call_copied-answer.new.core (entry_of request c.call_copied-answer.result.0) c.in-Some.entered.number =
     subst
     (λ (o : Option Entered).
-    Applies held.core c.call_copied-entered.new.core request c.call_copied-entered.result.0 (number_entered o)) c.in-Some.is
-    c.call_copied-entered.ensures.applies in
+    Applies held.core c.call_copied-answer.new.core request c.call_copied-answer.result.0 (number_entered o)) c.in-Some.is
+    c.call_copied-answer.ensures.applies in
     let same : length (list_of held.register.writer) ≡ length held.register.places.items =
     counted es held.register.places.items (list_of held.register.writer) h.receipts h.places in
     (subst (λ (xs : List ℕ). length (list_of held.register.writer) ≡ length xs) (sym {A = List ℕ} places) same, omega (arith, ap length places, h.places, few, enters.2.below))
@@ -44,17 +44,17 @@ pub give-receipt-requires-clause-above : goal.give-receipt-requires-clause-above
 give-receipt-requires-clause-above g c =
     let held = c.held.inside in
     let request = request_of c.args.moment c.args.principal c.args.op.now c.args.filehandle in
-    let enters : Enters held.core c.call_copied-entered.new.core (entry_of request c.call_copied-entered.result.0) c.in-Some.entered.number =
+    let enters : Enters held.core c.call_copied-answer.new.core (entry_of request c.call_copied-answer.result.0) c.in-Some.entered.number =
     subst
     (λ (o : Option Entered).
-    Applies held.core c.call_copied-entered.new.core request c.call_copied-entered.result.0 (number_entered o)) c.in-Some.is
-    c.call_copied-entered.ensures.applies in
+    Applies held.core c.call_copied-answer.new.core request c.call_copied-answer.result.0 (number_entered o)) c.in-Some.is
+    c.call_copied-answer.ensures.applies in
     above_all held.core.journal.entries held.register.places.items (list_of held.register.writer) c.in-Some.entered.number c.held.invariant.0.receipts enters.0
 
 pub invariant_of-held-in-Some : goal.invariant_of-held-in-Some
 invariant_of-held-in-Some g c =
     let held = c.held.inside in
-    let called = c.call_copied-entered in
+    let called = c.call_copied-answer in
     let given = c.give-receipt.ensures in
     let receipt = c.give-receipt.result in
     let request = request_of c.args.moment c.args.principal c.args.op.now c.args.filehandle in
