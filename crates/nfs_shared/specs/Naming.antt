@@ -2,7 +2,8 @@
 use Rattle.std.specs.Prelude.{ℕ, []}
 use Rattle.atomic_table.specs.Seated.{TableId}
 use Rattle.nfs_state.specs.State.{History}
-use Rattle.nfs_tree.specs.declared.policy.TheConstants.{DEFAULT_POLICY}
+use Rattle.nfs_tree.specs.declared.policy.Callbacks.TheVariants.{Probe}
+use Rattle.nfs_tree.specs.declared.policy.Delegations.TheVariants.{All}
 
 -- the roll of receipts, the name of the ledger, and the number of its parts, one for each worker
 pub record OpenedView : Type 0 where
@@ -28,4 +29,10 @@ no_table = record {
 
 -- the start that stands where none is named
 abbrev pub no_start : History
-no_start = record { nodes = []; epoch = 0; lease = 0; policy = DEFAULT_POLICY; entries = [] }
+no_start = record {
+  nodes = [];
+  epoch = 0;
+  lease = 0;
+  policy = record { delegations = All; callbacks = Probe };
+  entries = [];
+}
