@@ -1,5 +1,5 @@
 -- The receipts that a journal has.
-use Rattle.std.proofs.Common.{◌≡◌, ℕ, zero, suc, ◌+◌, ◌<◌, ◌≤◌, List, [], ◌∷◌, ◌++◌, length, Some, slice_get, refl, ap, ◌∙◌, arith}
+use Rattle.std.proofs.Common.{◌≡◌, ℕ, zero, suc, ◌+◌, ◌<◌, ◌≤◌, List, [], ◌∷◌, ◌++◌, length, Some, slice_get, refl, ap, arith}
 use Rattle.nfs_shared.specs.BookEvent.{BookEvent, Look, Renew, Close, Open, Retire}
 use Rattle.nfs_shared.specs.Receipts.{calls_in, receipts_of}
 use Rattle.nfs_shared.specs.Turn.{expiries}

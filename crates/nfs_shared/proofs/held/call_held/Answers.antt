@@ -1,5 +1,5 @@
 -- The receipt is for the entry that the call made, and the register has it.
-use Rattle.std.proofs.Common.{◌≡◌, ◌∙◌, ◌++◌, ◌∷◌, [], length, List, ℕ, Option, Some, IfSome, refl, ap, sym, subst, arith, length-append}
+use Rattle.std.proofs.Common.{◌≡◌, ◌∙◌, ◌++◌, ◌∷◌, [], length, List, ℕ, Option, IfSome, refl, ap, sym, subst, arith, length-append}
 use Rattle.nfs_core.specs.Entered.{number_entered}
 use Rattle.nfs_core.specs.Server.{Applies, Enters}
 use Rattle.nfs_core.specs.declared.entered.Entered.{Entered}

@@ -1,4 +1,4 @@
-use Rattle.std.proofs.Common.{◌≡◌, ◌∙◌, List, Some, refl, subst, arith}
+use Rattle.std.proofs.Common.{◌∙◌, Some, refl, subst}
 use Rattle.nfs_shared.proofs.Giving.{above_last, goes_on, last_added}
 use Rattle.nfs_shared.proofs.register.give.Goals as goal
 use Rattle.nfs_shared.specs.Roll.{list_of}
