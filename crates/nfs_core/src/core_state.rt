@@ -1,4 +1,5 @@
-ghost use Rattle.std.specs.Prelude.{◌≡◌, ◌≤◌, ◌<◌, [], IfErr, IfOk, OnErr, OnOk, IsErrOf, IsTrue, length};
+ghost use Rattle.std.specs.Prelude.{◌≡◌, ◌≤◌, ◌<◌, [], IfErr, IfOk, IfSome, OnErr, OnOk, IsErrOf, IsTrue, length};
+ghost use Rattle.nfs_core.specs.Entered.{number_entered};
 ghost use Rattle.nfs_core.specs.Expiry.{IsNotEndedFor, IsWithoutRoom, expire_of};
 ghost use Rattle.nfs_core.specs.Following.{CanBeAsked, IsStoredBy, MayBeAnswered};
 ghost use Rattle.nfs_core.specs.LiveClients.{AreNumbered, AreOfOneRun};
@@ -16,6 +17,7 @@ ghost use Rattle.nfs_xdr.specs.Op.{has_entry, opnum_of};
 ghost use Rattle.nfs_xdr.specs.OpResult.{op_result};
 ghost use Rattle.nfs_xdr.specs.Opnum.{answer_limit};
 
+use crate::entered::{Entered, number_entered};
 use crate::expiry::enter_expiry;
 use crate::following::{decide_next, follow};
 use crate::laws::lawful_is_safe;
@@ -27,7 +29,7 @@ use nfs_state::{
 };
 use nfs_tree::{Policy, Tree};
 use nfs_xdr::{Op, OpResult, Principal, Refusal};
-use std::alloc::Global;
+use std::alloc::{AllocError, Global};
 use std::marker::Model;
 
 /// The state of a server (RFC 7530, section 9), and the journal of the changes that led to it.
@@ -102,6 +104,31 @@ impl Core {
         ensures form { op_result.Fits result.0 }
         ensures lawful { IsLawful self.new }
     {
+        let (answer, entered) = self.apply_copied(moment, principal, op, filehandle);
+        (answer, number_entered(entered))
+    }
+
+    /// The same as `apply`, and returns a copy of the entry with its number. The copy is made before anything changes:
+    /// where memory runs out for it, the answer is NFS4ERR_RESOURCE.
+    pub fn apply_copied(
+        &mut self,
+        moment: Moment,
+        principal: Principal,
+        op: &Op,
+        filehandle: Option<u32>,
+    ) -> (OpResult, Option<Entered>)
+        requires entry { IsTrue (has_entry op.now) }
+        requires node { IsFilehandle self.old.journal filehandle }
+        ensures applies { Applies self.old self.new (request_of moment principal op.now filehandle)
+            result.0 (number_entered result.1) }
+        ensures copy { IfSome result.1 (λ e. e.call ≡ record {
+          request = request_of moment principal op.now filehandle;
+          answer = result.0;
+        }) }
+        ensures short { length (op_result.encoding result.0) ≤ answer_limit (opnum_of op.now) }
+        ensures form { op_result.Fits result.0 }
+        ensures lawful { IsLawful self.new }
+    {
         lawful_is_safe();
         let tables = &mut self.tables;
         let journal = &mut self.journal;
@@ -109,9 +136,9 @@ impl Core {
             return (op.opnum().refusal(Refusal::Resource), None);
         };
         match enter(self.alloc, tables, journal, request) {
-            Ok((answer, number)) => {
+            Ok((answer, entered)) => {
                 answer.fits();
-                (answer, Some(number))
+                (answer, Some(entered))
             }
             Err(_) => (op.opnum().refusal(Refusal::Resource), None),
         }
@@ -201,18 +228,19 @@ impl Core {
     }
 }
 
-// Answers the request and enters it in the journal. Returns the answer and the entry's number. Fails with Limit only if
-// no answer may come next, and with Memory only if no limit would be exceeded.
+// Answers the request and enters it in the journal. Returns the answer, and the entry's number with a copy of the entry.
+// Fails with Limit only if no answer may come next, and with Memory only if no limit would be exceeded.
 fn enter(
     alloc: Global,
     tables: &mut Tables,
     journal: &mut Journal,
     request: Request,
-) -> Result<(OpResult, u32), Shortage>
+) -> Result<(OpResult, Entered), Shortage>
     requires asked { CanBeAsked journal.old.history request }
     requires stored { IsStoredBy journal.old.history (stored_of tables.old) }
     ensures entered { IfOk result (λ r. Enters (server_of journal.old tables.old)
-        (server_of journal.new tables.new) (entry_of request r.0) r.1) }
+        (server_of journal.new tables.new) (entry_of request r.0) r.1.number) }
+    ensures copy { IfOk result (λ r. r.1.call ≡ record { request = request; answer = r.0 }) }
     ensures kept { Agrees journal.new.history tables.new.owners.owners }
     ensures sendable { IfOk result (λ r. IsSendable request.op r.0) }
     ensures limit { IsErrOf result Shortage.Limit
@@ -224,8 +252,24 @@ fn enter(
 {
     at_most_one_decision();
     let decision = decide_next(alloc, tables, journal, &request)?;
+    let call = copied_call(&request, &decision.answer)?;
     let answer = copy_of_answer(&decision.answer)?;
     let entry = Entry::Call(Call { request, answer });
     let number = commit_entry(alloc, tables, journal, entry, decision.effect)?;
-    Ok((decision.answer, number))
+    Ok((decision.answer, Entered { number, call }))
+}
+
+// A call of copies of the request and the answer.
+fn copied_call(request: &Request, answer: &OpResult) -> Result<Call, AllocError>
+    ensures { IfOk result (λ c. c ≡ record { request = request.now; answer = answer.now }) }
+{
+    Ok(Call {
+        request: Request::of_copy(
+            request.moment,
+            request.principal,
+            &request.op,
+            request.filehandle,
+        )?,
+        answer: copy_of_answer(answer)?,
+    })
 }

@@ -8,7 +8,7 @@ ghost use Rattle.nfs_shared.specs.Turn.{Turn};
 
 use crate::Service;
 use nfs_core::{Core, Moment};
-use nfs_shared::{LeaseBook, PlainLeases, Renewal, Swept, call_held, sweep_held};
+use nfs_shared::{LeaseBook, PlainLeases, Renewal, Swept, call_core, sweep_core};
 use nfs_xdr::{Answer, ClientId, Op, OpResult, Principal, Refusal};
 use std::alloc::{AllocError, Global};
 use std::marker::Model;
@@ -56,7 +56,7 @@ impl Lent {
         ensures revoked { result.revoked ≡ 0 }
         ensures stopped { result.stopped ≡ false }
     {
-        sweep_held(&mut self.core, &mut self.book, now)
+        sweep_core(&mut self.core, &mut self.book, now)
     }
 }
 
@@ -86,7 +86,7 @@ impl Service for Lent {
         let (core, book) = (&mut self.core, &mut self.book);
         let client = op.renewed_client(core.journal().epoch());
         renew_lease(book, client, moment);
-        let (answer, _) = call_held(core, book, moment, principal, op, filehandle);
+        let (answer, _) = call_core(core, book, moment, principal, op, filehandle);
         answer
     }
 

@@ -301,3 +301,23 @@ pub goes_none : (op : Op) (old new : Registry) (client : ℕ) → LiveFollow op 
     → (q : ℕ) → IsTrue (is_live q old) → IsFalse (is_live q new) → (false ≡ true) × (q ≡ 0)
 goes_none op old new client follow by replaced q here away =
     absurd (never_some q (sym replaced ∙ sym (replaced_of op old client by) ∙ follow.goes q here away))
+
+-- nobody comes or goes where the same clients are live before and after
+none_opened : (b : Bool) (client moment : ℕ) → opening (not b && b) client moment ≡ []
+none_opened true client moment = refl
+none_opened false client moment = refl
+
+none_retired : (registry : Registry) (client : ℕ) (other : Option ℕ) → replaced_by client registry ≡ other
+    → retiring_of other registry ≡ []
+none_retired registry client None h = refl
+none_retired registry client (Some other) h = ap (λ b. retiring (not b) other) (replaced_is_live registry client other h)
+
+none_asked : (by : Option ℕ) (moment : ℕ) (registry : Registry)
+    → opening_of by moment registry registry ++ retiring_of (option_and_then (λ number. replaced_by number registry) by) registry ≡ []
+none_asked None moment registry = refl
+none_asked (Some client) moment registry =
+    ap (λ events. events ++ retiring_of (replaced_by client registry) registry) (none_opened (is_live client registry) client moment)
+    ∙ none_retired registry client (replaced_by client registry) refl
+
+pub nothing_asked : (op : Op) (moment : ℕ) (server : Server) → events_of_call op moment server server ≡ []
+nothing_asked op moment server = none_asked (confirmed_by op) moment server.stored.clients

@@ -1,3 +1,9 @@
 pub mod Lists
 pub mod Comes
 pub mod Calls
+pub mod Prefixes
+pub mod Moves
+pub mod Receipts
+pub mod Giving
+pub mod Holding
+pub mod Ends

@@ -1,7 +1,13 @@
 pub mod BookEvent
 pub mod BookOf
+pub mod Ends
+pub mod Held
+pub mod Naming
 pub mod PlainBook
 pub mod PlainLaws
+pub mod Receipts
+pub mod Roll
+pub mod Seats
 pub mod Sweeps
 pub mod Turn
 pub mod laws

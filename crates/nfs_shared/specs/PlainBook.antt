@@ -1,5 +1,5 @@
 -- A book of leases that is a plain list.
-use Rattle.std.specs.Prelude.{◌≡◌, ◌≢◌, ℕ, ◌+◌, ◌<◌, Bool, true, nat_lt, if◌then◌else◌, List, length, slice_index_or, slice_set}
+use Rattle.std.specs.Prelude.{◌≡◌, ◌≢◌, ℕ, ◌+◌, ◌<◌, Bool, true, nat_lt, if◌then◌else◌, List, length, slice_index_or, slice_set, Option, Some, None}
 use Rattle.nfs_shared.specs.declared.lease_state.LeaseState.{LeaseState}
 use Rattle.nfs_shared.specs.declared.lease_state.LeaseState.TheVariants as lease_state
 use Rattle.nfs_shared.specs.declared.renewal.Renewal.{Renewal}
@@ -38,6 +38,12 @@ abbrev pub renewed : LeaseState → ℕ → LeaseState
 renewed lease_state.Vacant moment = lease_state.Vacant
 renewed (lease_state.Open last) moment = lease_state.Open (if nat_lt last moment then moment else last)
 renewed lease_state.Closed moment = lease_state.Closed
+
+-- the leases after a renewal, at this moment, of the client with this number, if there is one
+abbrev pub with_renewal : Option ℕ → ℕ → PlainBook → PlainBook
+with_renewal None moment old = old
+with_renewal (Some client) moment old =
+    with_lease old client (renewed (lease_of old client) moment)
 
 -- the call, with its answer, leads from the one book to the other
 abbrev pub Happens : PlainBook → BookEvent → PlainBook → Type 0

@@ -1,6 +1,7 @@
 //! Operations on the core, with the leases of the clients that they make live or replace.
 
-ghost use Rattle.std.specs.Prelude.{◌≤◌, ◌&&◌, not, IsFalse, IsTrue, length};
+ghost use Rattle.std.specs.Prelude.{◌≡◌, ◌≤◌, ◌&&◌, not, IfSome, IsFalse, IsTrue, length};
+ghost use Rattle.nfs_core.specs.Entered.{number_entered};
 ghost use Rattle.nfs_core.specs.Server.{Applies, IsLawful};
 ghost use Rattle.nfs_owners.specs.Registry.{is_live};
 ghost use Rattle.nfs_owners.specs.declared.client_record.TheConstants.{CLIENT_LIMIT};
@@ -12,13 +13,13 @@ ghost use Rattle.nfs_xdr.specs.OpResult.{op_result};
 ghost use Rattle.nfs_xdr.specs.Opnum.{answer_limit};
 
 use crate::LeaseBook;
-use nfs_core::{Core, lawful_is_safe, live_clients_follow};
+use nfs_core::{Core, Entered, lawful_is_safe, live_clients_follow, number_entered};
 use nfs_state::Moment;
 use nfs_xdr::{Op, OpResult, Principal};
 
 /// Has the core answer an operation, as `Core::apply` does. Where a client becomes live by it, its lease is opened at
 /// this moment; where one is replaced, its lease is retired. It renews no lease: the caller does, before.
-pub fn call_held<B: LeaseBook>(
+pub fn call_core<B: LeaseBook>(
     core: &mut Core,
     book: &mut B,
     moment: Moment,
@@ -40,16 +41,47 @@ pub fn call_held<B: LeaseBook>(
     ensures agrees { IsBookOf (B.is_open book.new) (B.was_opened book.new) (B.lease book.new)
         core.new }
 {
+    let (answer, entered) = call_copied(core, book, moment, principal, op, filehandle);
+    (answer, number_entered(entered))
+}
+
+/// The same as `call_core`, and returns a copy of the entry with its number, as `Core::apply_copied` does.
+pub(crate) fn call_copied<B: LeaseBook>(
+    core: &mut Core,
+    book: &mut B,
+    moment: Moment,
+    principal: Principal,
+    op: &Op,
+    filehandle: Option<u32>,
+) -> (OpResult, Option<Entered>)
+    requires entry { IsTrue (has_entry op.now) }
+    requires node { IsFilehandle core.old.journal filehandle }
+    requires agrees { IsBookOf (B.is_open book.old) (B.was_opened book.old) (B.lease book.old)
+        core.old }
+    ensures applies { Applies core.old core.new (request_of moment principal op.now filehandle)
+        result.0 (number_entered result.1) }
+    ensures copy { IfSome result.1 (λ e. e.call ≡ record {
+      request = request_of moment principal op.now filehandle;
+      answer = result.0;
+    }) }
+    ensures short { length (op_result.encoding result.0) ≤ answer_limit (opnum_of op.now) }
+    ensures form { op_result.Fits result.0 }
+    ensures lawful { IsLawful core.new }
+    ensures leases { Leads B.happens book.old
+        (events_of_call op.now moment core.old core.new) book.new }
+    ensures agrees { IsBookOf (B.is_open book.new) (B.was_opened book.new) (B.lease book.new)
+        core.new }
+{
     lawful_is_safe();
     live_clients_follow();
     cores_are_lawful(core);
     let Op::SetclientidConfirm(args) = op else {
-        return core.apply(moment, principal, op, filehandle);
+        return core.apply_copied(moment, principal, op, filehandle);
     };
     let client = args.client.number;
     let was_live = core.live(client);
     let replaced = core.replaced_by(client);
-    let answer = core.apply(moment, principal, op, filehandle);
+    let answer = core.apply_copied(moment, principal, op, filehandle);
     open_newcomer(core, book, client, was_live, moment);
     if let Some(other) = replaced {
         retire_replaced(core, book, other);

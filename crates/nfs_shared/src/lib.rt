@@ -1,24 +1,39 @@
 //! The leases of clients: what a book of them promises, a book that is a plain list, and a core with the book of its
-//! clients' leases.
+//! clients' leases. And the state that threads share: core and leases under one lock, with receipts for the entries that
+//! calls made.
 #![tactic(auto)]
 
 mod calling;
 mod case;
 mod closing;
+mod held;
 mod laws;
 mod lease_book;
 mod lease_state;
+mod naming;
+mod opened;
 mod plain_leases;
+mod receipt;
+mod register;
 mod renewal;
+mod roll;
+mod seat;
+mod shared;
 mod sweeping;
 mod swept;
 
-pub use calling::call_held;
+pub use calling::call_core;
 pub use closing::Closing;
+pub use held::{Held, call_held, sweep_held};
 pub use laws::seen_leases_close;
 pub use lease_book::LeaseBook;
 pub use lease_state::LeaseState;
+pub use naming::Naming;
+pub use opened::Opened;
 pub use plain_leases::PlainLeases;
+pub use receipt::Receipt;
 pub use renewal::Renewal;
-pub use sweeping::sweep_held;
+pub use seat::Seat;
+pub use shared::Shared;
+pub use sweeping::sweep_core;
 pub use swept::Swept;

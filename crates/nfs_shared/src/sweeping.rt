@@ -20,7 +20,7 @@ use nfs_state::Moment;
 /// Goes through the live clients, by rising numbers, and removes each whose lease is over at `now`: from the book, where
 /// the lease is still as it was seen, and then from the core. A client whose lease isn't over stays, and so does one
 /// whose lease was renewed meanwhile, or for whose entry there is no room.
-pub fn sweep_held<B: LeaseBook>(core: &mut Core, book: &mut B, now: Moment) -> Swept
+pub fn sweep_core<B: LeaseBook>(core: &mut Core, book: &mut B, now: Moment) -> Swept
     requires agrees { IsBookOf (B.is_open book.old) (B.was_opened book.old) (B.lease book.old)
         core.old }
     ensures sweeps { (turns : List Turn)

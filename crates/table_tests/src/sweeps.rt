@@ -8,7 +8,7 @@ ghost use Rattle.nfs_xdr.specs.Op.{has_entry};
 use crate::renewing::Renewing;
 use nfs_core::Core;
 use nfs_operations::setclientid::Setclientid;
-use nfs_shared::{LeaseBook, PlainLeases, Swept, call_held, sweep_held};
+use nfs_shared::{LeaseBook, PlainLeases, Swept, call_core, sweep_core};
 use nfs_state::Moment;
 use nfs_tree::Tree;
 use nfs_xdr::{Address, Answer, Callback, Op, OpResult, Principal, Verifier};
@@ -75,9 +75,9 @@ fn answer_to<B: LeaseBook>(core: &mut Core, book: &mut B, op: &Op) -> OpResult
 {
     let moment = Moment::new(100).unwrap();
     let principal = Principal::AuthSys(1);
-    match call_held(core, book, moment, principal, op, None) {
+    match call_core(core, book, moment, principal, op, None) {
         (answer, Some(_)) => answer,
-        (_, None) => call_held(core, book, moment, principal, op, None).0,
+        (_, None) => call_core(core, book, moment, principal, op, None).0,
     }
 }
 
@@ -103,7 +103,7 @@ fn sweep_at<B: LeaseBook>(core: &mut Core, book: &mut B, now: Moment) -> Swept
     ensures agrees { IsBookOf (B.is_open book.new) (B.was_opened book.new) (B.lease book.new)
         core.new }
 {
-    sweep_held(core, book, now)
+    sweep_core(core, book, now)
 }
 
 /// The client's lease is renewed after the look, and so the client stays. Without room for its end it isn't asked to

@@ -23,6 +23,10 @@ returns-clause-entered c =
 pub returns-in_err-decision-clause-limit : goal.returns-in_err-decision-clause-limit
 returns-in_err-decision-clause-limit c is_limit = c.decide_next.ensures.limit (search (rules, is_limit))
 
+pub returns-in_err-call-clause-memory : goal.returns-in_err-call-clause-memory
+returns-in_err-call-clause-memory c is_memory =
+    decided_within c.at_most_one_decision.ensures c.args.journal.now.history (state_of c.args.tables.now) c.args.request c.in_ok-decision.decision c.in_ok-decision.ensures.next
+
 pub returns-in_err-answer-clause-memory : goal.returns-in_err-answer-clause-memory
 returns-in_err-answer-clause-memory c is_memory =
     decided_within c.at_most_one_decision.ensures c.args.journal.now.history (state_of c.args.tables.now) c.args.request c.in_ok-decision.decision c.in_ok-decision.ensures.next

@@ -2,8 +2,8 @@ use Rattle.std.proofs.Common.{rules}
 use Rattle.nfs_state.specs.Room.{state_of, stored_of}
 use Rattle.nfs_core.proofs.Journals.{Lawful-confirm, Lawful-entered, Lawful-same, Lawful-state}
 use Rattle.nfs_core.proofs.SoundNumbers.{given_numbers}
-use Rattle.nfs_core.proofs.core_state.Core.apply.Goals as goal
-use Rattle.nfs_core.proofs.core_state.Core.apply.Goals.{in-Ok-enter, in-Err}
+use Rattle.nfs_core.proofs.core_state.Core.apply_copied.Goals as goal
+use Rattle.nfs_core.proofs.core_state.Core.apply_copied.Goals.{in-Ok-enter, in-Err}
 
 pub enter-requires-clause-asked : goal.enter-requires-clause-asked
 enter-requires-clause-asked c = record { entry = search rules; node = search rules }

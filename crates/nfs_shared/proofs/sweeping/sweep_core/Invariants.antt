@@ -4,7 +4,7 @@ use Rattle.nfs_core.specs.Server.{IsLawful}
 use Rattle.nfs_shared.specs.BookOf.{IsBookOf}
 use Rattle.nfs_shared.specs.Turn.{Turn}
 use Rattle.nfs_shared.proofs.Comes.{Comes}
-use Rattle.nfs_shared.proofs.sweeping.sweep_held.Given as goal
+use Rattle.nfs_shared.proofs.sweeping.sweep_core.Given as goal
 use Rattle.nfs_state.specs.Stored.{meaning}
 
 -- how far the next client is from the last number that there may be

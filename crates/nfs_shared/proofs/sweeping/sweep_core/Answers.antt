@@ -5,7 +5,7 @@ use Rattle.nfs_shared.specs.Turn.{Turn}
 use Rattle.nfs_shared.specs.declared.swept.Swept.{Swept}
 use Rattle.nfs_shared.proofs.Comes.{AreLaws, Comes, Stays, book_further, comes_first, comes_further, comes_last, is_gone, stays, total_before}
 use Rattle.nfs_shared.proofs.Lists.{none_revoked}
-use Rattle.nfs_shared.proofs.sweeping.sweep_held.Goals as goal
+use Rattle.nfs_shared.proofs.sweeping.sweep_core.Goals as goal
 
 pub loop-next-init : goal.loop-next-init
 loop-next-init g c =

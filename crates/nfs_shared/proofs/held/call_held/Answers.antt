@@ -1,0 +1,109 @@
+-- The receipt is for the entry that the call made, and the register has it.
+use Rattle.std.proofs.Common.{◌≡◌, ◌∙◌, ◌++◌, ◌∷◌, [], length, List, ℕ, Option, IfSome, refl, ap, sym, subst, arith, length-append}
+use Rattle.nfs_core.specs.Entered.{number_entered}
+use Rattle.nfs_core.specs.Server.{Applies, Enters}
+use Rattle.nfs_core.specs.declared.entered.Entered.{Entered}
+use Rattle.nfs_shared.proofs.Calls.{nothing_asked}
+use Rattle.nfs_shared.proofs.Giving.{above_all, counted}
+use Rattle.nfs_shared.proofs.Holding.{KeepsRules, held_call}
+use Rattle.nfs_shared.proofs.Receipts.{calls_in_length}
+use Rattle.nfs_shared.proofs.held.call_held.Goals as goal
+use Rattle.nfs_shared.specs.BookEvent.{BookEvent, Leads}
+use Rattle.nfs_shared.specs.BookOf.{events_of_call}
+use Rattle.nfs_shared.specs.Held.{HeldView}
+use Rattle.nfs_shared.specs.Naming.{start_of}
+use Rattle.nfs_shared.specs.PlainBook.{Happens}
+use Rattle.nfs_shared.specs.Roll.{list_of}
+use Rattle.nfs_state.specs.Entries.{IsFilehandle, entry_of, request_of}
+use Rattle.nfs_state.specs.State.{History}
+use Rattle.nfs_state.specs.declared.entry.Call.{Call}
+use Rattle.nfs_state.specs.declared.entry.Entry.TheVariants as entries
+
+pub call_copied-answer-requires-clause-node : goal.call_copied-answer-requires-clause-node
+call_copied-answer-requires-clause-node g c =
+    subst (λ (j : History). IsFilehandle j c.args.filehandle) (sym c.held.invariant.2) c.requires.node
+
+pub give-receipt-requires-clause-count : goal.give-receipt-requires-clause-count
+give-receipt-requires-clause-count g c =
+    let held = c.held.inside in
+    let h = c.held.invariant.0 in
+    let request = request_of c.args.moment c.args.principal c.args.op.now c.args.filehandle in
+    let es = held.core.journal.entries in
+    let places : c.reserve.new.self.items ≡ held.register.places.items = c.reserve.ensures.items in
+    let few = calls_in_length es in
+    let enters : Enters held.core c.call_copied-answer.new.core (entry_of request c.call_copied-answer.result.0) c.in-Some.entered.number =
+    subst
+    (λ (o : Option Entered).
+    Applies held.core c.call_copied-answer.new.core request c.call_copied-answer.result.0 (number_entered o)) c.in-Some.is
+    c.call_copied-answer.ensures.applies in
+    let same : length (list_of held.register.writer) ≡ length held.register.places.items =
+    counted es held.register.places.items (list_of held.register.writer) h.receipts h.places in
+    (subst (λ (xs : List ℕ). length (list_of held.register.writer) ≡ length xs) (sym {A = List ℕ} places) same, omega (arith, ap length places, h.places, few, enters.2.below))
+
+pub give-receipt-requires-clause-above : goal.give-receipt-requires-clause-above
+give-receipt-requires-clause-above g c =
+    let held = c.held.inside in
+    let request = request_of c.args.moment c.args.principal c.args.op.now c.args.filehandle in
+    let enters : Enters held.core c.call_copied-answer.new.core (entry_of request c.call_copied-answer.result.0) c.in-Some.entered.number =
+    subst
+    (λ (o : Option Entered).
+    Applies held.core c.call_copied-answer.new.core request c.call_copied-answer.result.0 (number_entered o)) c.in-Some.is
+    c.call_copied-answer.ensures.applies in
+    above_all held.core.journal.entries held.register.places.items (list_of held.register.writer) c.in-Some.entered.number c.held.invariant.0.receipts enters.0
+
+pub invariant_of-held-in-Some : goal.invariant_of-held-in-Some
+invariant_of-held-in-Some g c =
+    let held = c.held.inside in
+    let called = c.call_copied-answer in
+    let given = c.give-receipt.ensures in
+    let receipt = c.give-receipt.result in
+    let request = request_of c.args.moment c.args.principal c.args.op.now c.args.filehandle in
+    let call : Call = record { request = request; answer = called.result.0 } in
+    let enters : Enters held.core called.new.core (entries.Call call) c.in-Some.entered.number =
+    subst (λ (o : Option Entered). Applies held.core called.new.core request called.result.0 (number_entered o)) c.in-Some.is
+    called.ensures.applies in
+    let copy : c.in-Some.entered.call ≡ call =
+    subst (λ (o : Option Entered). IfSome o (λ e. e.call ≡ call)) c.in-Some.is called.ensures.copy in
+    let old : HeldView = record {
+      server = held.core;
+      leases = held.leases;
+      places = held.register.places.items;
+      receipts = list_of held.register.writer;
+    } in
+    let new : HeldView = record {
+      server = called.new.core;
+      leases = called.new.book;
+      places = c.give-receipt.new.register.places.items;
+      receipts = list_of c.give-receipt.new.register.writer;
+    } in
+    let keeps : KeepsRules new.server new.leases = record {
+      lawful = called.ensures.lawful;
+      safe = c.lawful_is_safe.ensures.safe _ _ called.ensures.lawful;
+      agrees = called.ensures.agrees;
+    } in
+    let tied = c.held.invariant.1 in (
+      held_call old new c.in-Some.entered.number call receipt c.held.invariant.0 enters keeps
+          (ap (λ r. r.number) given.receipt)
+          (ap (λ r. r.call) given.receipt ∙ copy)
+          (given.places ∙ ap (λ xs. xs ++ receipt.place ∷ []) c.reserve.ensures.items)
+          given.list,
+      record {
+        roll = given.roll ∙ tied.roll;
+        writer = given.writer;
+        total = omega (arith, given.total, tied.total, ap length given.list, length-append (list_of held.register.writer) (receipt ∷ []));
+      },
+      ap start_of enters.1 ∙ c.held.invariant.2,
+      ap (λ s. s.parts) given.rest ∙ c.held.invariant.3,
+      ap (λ s. s.amount) given.rest ∙ c.held.invariant.4,
+    )
+
+-- where there is no room for a place, nobody comes or goes
+pub returns-then-is_err-clause-leases : goal.returns-then-is_err-clause-leases
+returns-then-is_err-clause-leases g c =
+    let held = c.held.inside in
+    subst
+    (λ (h : HeldView).
+    Leads Happens h.leases (events_of_call c.args.op.now c.args.moment h.server held.core) held.leases)
+    c.held.view_is
+    (subst (λ (events : List BookEvent). Leads Happens held.leases events held.leases)
+    (sym (nothing_asked c.args.op.now c.args.moment held.core)) refl)

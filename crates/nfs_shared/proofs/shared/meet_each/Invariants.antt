@@ -1,0 +1,15 @@
+use Rattle.std.proofs.Common.{◌≡◌, ◌+◌, length}
+use Rattle.nfs_shared.specs.Ends.{AllBegin, given_in}
+use Rattle.nfs_shared.specs.Roll.{IsOf, list_of}
+use Rattle.nfs_shared.proofs.shared.meet_each.Given as goal
+
+abbrev pub invariant-loop-seat : goal.invariant-loop-seat
+invariant-loop-seat g l = record {
+  can : (goal.iterator-loop-seat g).can_next l.seat-iterator;
+  ends : (goal.iterator-loop-seat g).is_finite l.seat-iterator;
+  table : IsOf g.N.Naming.roll l.writer;
+  writer : l.writer.me ≡ l.initial.writer.me;
+  begin : AllBegin l.yielded (list_of l.initial.writer);
+  parts : l.rest.parts ≡ l.initial.rest.parts + length l.yielded;
+  amount : l.rest.amount ≡ l.initial.rest.amount + given_in l.yielded;
+}

@@ -1,0 +1,66 @@
+-- What is known of all seats and all receipts when the workers have ended.
+use Rattle.std.specs.Prelude.{◌≡◌, ℕ, ◌+◌, ◌<◌, ◌≤◌, List, [], ◌∷◌, length, slice_get, Some}
+use mathlib.Core.List.{IsPrefix}
+use Rattle.nfs_state.specs.declared.entry.Entry.{Entry}
+use Rattle.nfs_state.specs.declared.entry.Entry.TheVariants as entries
+use Rattle.nfs_shared.specs.declared.receipt.Receipt.{Receipt}
+use Rattle.nfs_shared.specs.Seats.{SeatView, fresh}
+
+-- this number of seats that were given nothing yet, in the order of their places
+abbrev pub AreFresh : ℕ → List SeatView → Type 0
+AreFresh count seats =
+    (length seats ≡ count)
+    × ((k : ℕ) (seat : SeatView) → slice_get seats k ≡ Some seat → seat ≡ fresh k)
+
+-- These are the receipts that the seat was given, in order: they bear its place, stand in its list, and are as many as
+-- it was given. Their numbers rise, and none is above that of the last.
+pub record IsKept (seat : SeatView) (receipts : List Receipt) : Type 0 where
+  pub place : (k : ℕ) (r : Receipt) → slice_get receipts k ≡ Some r → r.place ≡ seat.place
+  pub list : (k : ℕ) (r : Receipt) → slice_get receipts k ≡ Some r
+      → (j : ℕ) × (slice_get seat.list j ≡ Some r)
+  pub rising : (j k : ℕ) (q r : Receipt) → j < k → slice_get receipts j ≡ Some q
+      → slice_get receipts k ≡ Some r → q.number < r.number
+  pub last : (k : ℕ) (r : Receipt) → slice_get receipts k ≡ Some r
+      → (n : ℕ) × (seat.last ≡ Some n) × (r.number ≤ n)
+  pub given : length receipts ≡ seat.given
+
+-- the seats stand in the order of their places, and each list has the receipts of the seat at its place
+abbrev pub AreKept : List SeatView → List (List Receipt) → Type 0
+AreKept seats lists =
+    (length lists ≡ length seats)
+    × ((k : ℕ) (seat : SeatView) (receipts : List Receipt) → slice_get seats k ≡ Some seat
+    → slice_get lists k ≡ Some receipts → (seat.place ≡ k) × IsKept seat receipts)
+
+-- what each seat knows of begins the whole
+abbrev pub AllBegin : List SeatView → List Receipt → Type 0
+AllBegin seats whole =
+    (k : ℕ) (seat : SeatView) → slice_get seats k ≡ Some seat → IsPrefix seat.list whole
+
+-- the receipt r stands at the place k of the list i
+abbrev pub StandsAt : List (List Receipt) → ℕ → ℕ → Receipt → Type 0
+StandsAt lists i k r =
+    (receipts : List Receipt)
+    × (slice_get lists i ≡ Some receipts)
+    × (slice_get receipts k ≡ Some r)
+
+-- the entry of each receipt stands in the journal at its number
+abbrev pub AllStand : List Entry → List (List Receipt) → Type 0
+AllStand journal lists =
+    (i k : ℕ) (r : Receipt) → StandsAt lists i k r
+    → slice_get journal r.number ≡ Some (entries.Call r.call)
+
+-- no number stands twice
+abbrev pub AllApart : List (List Receipt) → Type 0
+AllApart lists =
+    (i j k l : ℕ) (q r : Receipt) → StandsAt lists i k q → StandsAt lists j l r
+    → q.number ≡ r.number → (i ≡ j) × (k ≡ l)
+
+-- how many receipts there are
+abbrev pub receipts_in : List (List Receipt) → ℕ
+receipts_in [] = 0
+receipts_in (receipts ∷ rest) = length receipts + receipts_in rest
+
+-- how many the seats were given
+abbrev pub given_in : List SeatView → ℕ
+given_in [] = 0
+given_in (seat ∷ rest) = seat.given + given_in rest

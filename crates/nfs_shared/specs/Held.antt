@@ -1,0 +1,48 @@
+-- What the lock of the shared state guards, and what holds whenever the lock is free:
+--
+-- The state is the one that the rules lead to from an empty server, entry by entry, through the very journal that is
+-- stored with it (`lawful`). In it no open may do what another owner's open denies; no byte is held by two lock owners,
+-- unless both hold it for reading; and each open and each lock state, which is what stateids name, is of a known owner
+-- of a live client (`safe`). Nothing is delegated yet.
+use Rattle.std.specs.Prelude.{◌≡◌, ℕ, List, length}
+use Rattle.atomic_table.specs.Seated.{TableId}
+use Rattle.atomic_table.specs.declared.shared.Seat as tokens
+use Rattle.nfs_core.specs.Safe.{IsSafe}
+use Rattle.nfs_core.specs.Server.{IsLawful, Server}
+use Rattle.nfs_shared.specs.BookOf.{IsBookOf}
+use Rattle.nfs_shared.specs.PlainBook.{PlainBook, is_open_in, was_opened_in}
+use Rattle.nfs_shared.specs.Receipts.{calls_in, receipts_of}
+use Rattle.nfs_shared.specs.Roll.{IsOf, IsWriter, list_of}
+use Rattle.nfs_shared.specs.declared.receipt.Receipt.{Receipt}
+use Rattle.nfs_shared.specs.declared.roll.View.{View}
+use Rattle.nfs_state.specs.Stored.{meaning}
+
+pub record HeldView : Type 0 where
+  -- the journal, and the state that is stored
+  pub server : Server
+  -- the leases of the clients
+  pub leases : PlainBook
+  -- for each call of the journal, in order, the place of the seat that it was made with
+  pub places : List ℕ
+  -- all receipts that were given, in order
+  pub receipts : List Receipt
+
+pub record IsHeld (held : HeldView) : Type 0 where
+  -- the journal leads to the state
+  pub lawful : IsLawful held.server
+  -- the state is safe
+  pub safe : IsSafe (meaning held.server.stored)
+  -- the leases that are open are those of the live clients
+  pub agrees :
+      IsBookOf (is_open_in held.leases) (was_opened_in held.leases) held.leases.lease held.server
+  -- the receipts are for the calls of the journal, each with its number and the place of its seat
+  pub places : length held.places ≡ calls_in held.server.journal.entries
+  pub receipts : held.receipts ≡ receipts_of 0 held.server.journal.entries held.places
+
+-- The token is the writer's of this run's roll, which is the roll that is kept, and the run's ledger has counted the
+-- receipts.
+pub record IsTied (table kept : TableId) (token : tokens.Seat Receipt View) (count : ℕ) : Type 0
+  where
+    pub roll : kept ≡ table
+    pub writer : IsOf table token × IsWriter token
+    pub total : count ≡ length (list_of token)

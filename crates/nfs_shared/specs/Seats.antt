@@ -1,0 +1,38 @@
+-- Seats: what a worker makes its calls with, and what a receipt adds to it.
+use Rattle.std.specs.Prelude.{◌≡◌, ℕ, ◌+◌, ◌<◌, List, [], ◌∷◌, ◌++◌, slice_get, Option, Some, None}
+use Rattle.nfs_shared.specs.declared.receipt.Receipt.{Receipt}
+
+pub record SeatView : Type 0 where
+  -- its place among the seats, from 0
+  pub place : ℕ
+  -- the number of the receipt that it was given last
+  pub last : Option ℕ
+  -- the receipts that it knows of, with those of other seats: the first that were given
+  pub list : List Receipt
+  -- how many it was given
+  pub given : ℕ
+
+-- a seat that was given nothing yet
+abbrev pub fresh : ℕ → SeatView
+fresh place = record { place = place; last = None; list = []; given = 0 }
+
+-- the number of a receipt, if one was given
+abbrev pub number_given : Option Receipt → Option ℕ
+number_given None = None
+number_given (Some receipt) = Some receipt.number
+
+-- the last number is that of a receipt in the list
+abbrev pub LastStands : Option ℕ → List Receipt → Type 0
+LastStands last list =
+    (n : ℕ) → last ≡ Some n
+    → (k : ℕ) × (r : Receipt) × (slice_get list k ≡ Some r) × (r.number ≡ n)
+
+-- The receipt is the seat's: it bears its place, and its number is above that of the last one. The list goes on, and
+-- ends with the receipt.
+pub record Gives (old : SeatView) (receipt : Receipt) (new : SeatView) : Type 0 where
+  pub place : receipt.place ≡ old.place
+  pub same : new.place ≡ old.place
+  pub above : (n : ℕ) → old.last ≡ Some n → n < receipt.number
+  pub last : new.last ≡ Some receipt.number
+  pub list : (between : List Receipt) × (new.list ≡ (old.list ++ between) ++ receipt ∷ [])
+  pub given : new.given ≡ old.given + 1

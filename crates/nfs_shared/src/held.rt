@@ -1,0 +1,127 @@
+//! The value that the lock guards, and what is done to it.
+ghost use Rattle.std.specs.Prelude.{◌≡◌, ◌≤◌, ◌++◌, ◌∷◌, [], false, IfNone, IfSome, IsTrue, List, length};
+ghost use Rattle.nfs_core.specs.Server.{Applies};
+ghost use Rattle.nfs_shared.specs.BookEvent.{Leads};
+ghost use Rattle.nfs_shared.specs.BookOf.{events_of_call};
+ghost use Rattle.nfs_shared.specs.PlainBook.{Happens, with_renewal};
+ghost use Rattle.nfs_shared.specs.Seats.{Gives, number_given};
+ghost use Rattle.nfs_shared.specs.Sweeps.{Sweeps};
+ghost use Rattle.nfs_shared.specs.Turn.{Turn};
+ghost use Rattle.nfs_state.specs.Entries.{IsFilehandle, request_of};
+ghost use Rattle.nfs_xdr.specs.Names.{renewed_by};
+ghost use Rattle.nfs_xdr.specs.Op.{has_entry, opnum_of};
+ghost use Rattle.nfs_xdr.specs.OpResult.{op_result};
+ghost use Rattle.nfs_xdr.specs.Opnum.{answer_limit};
+
+use crate::calling::call_copied;
+use crate::naming::Naming;
+use crate::receipt::Receipt;
+use crate::register::{Register, give};
+use crate::seat::Seat;
+use crate::sweeping::sweep_core;
+use crate::{LeaseBook, PlainLeases, Swept};
+use nfs_core::{Core, Moment, lawful_is_safe};
+use nfs_xdr::{Op, OpResult, Principal, Refusal};
+use std::marker::Model;
+
+/// The core with its journal, the leases of its clients, and the register of the receipts for its entries.
+#[derive(Drop)]
+pub struct Held<N: Naming> {
+    pub(crate) core: Core,
+    pub(crate) leases: PlainLeases,
+    pub(crate) register: Register<N>,
+}
+
+impl<N: Naming> Model for Held<N> {
+    ghost use Rattle.std.specs.Prelude.{◌≡◌};
+    ghost use Rattle.nfs_shared.specs.Held.{HeldView, IsHeld, IsTied};
+    ghost use Rattle.nfs_shared.specs.Naming.{start_of};
+    ghost use Rattle.nfs_shared.specs.Roll.{list_of};
+
+    ghost Value = { HeldView };
+
+    ghost view = { λ h. record {
+      server = h.core;
+      leases = h.leases;
+      places = h.register.places.items;
+      receipts = list_of h.register.writer;
+    } };
+
+    ghost invariant = { λ h.
+        IsHeld (record {
+          server = h.core;
+          leases = h.leases;
+          places = h.register.places.items;
+          receipts = list_of h.register.writer;
+        })
+        × IsTied N.roll h.register.roll.shared.table_id h.register.writer h.register.count.total
+        × (start_of h.core.journal ≡ N.start)
+        × (h.register.rest.parts ≡ 0) × (h.register.rest.amount ≡ 0) };
+}
+
+/// Has the core answer an operation, and makes the receipt for its entry. The leases of the clients that become live by
+/// it are opened, and those of the clients that are replaced are retired. It renews no lease: the caller does, before.
+pub fn call_held<N: Naming>(
+    held: &mut Held<N>,
+    seat: &mut Seat<N>,
+    moment: Moment,
+    principal: Principal,
+    op: &Op,
+    filehandle: Option<u32>,
+) -> (OpResult, Option<Receipt>)
+    requires entry { IsTrue (has_entry op.now) }
+    requires node { IsFilehandle N.start filehandle }
+    ensures applies { Applies held.old.server held.new.server
+        (request_of moment principal op.now filehandle) result.0 (number_given result.1) }
+    ensures entry { IfSome result.1 (λ r. r.call ≡ record {
+      request = request_of moment principal op.now filehandle;
+      answer = result.0;
+    }) }
+    ensures same { IfNone result.1 ((held.new.places ≡ held.old.places)
+        × (held.new.receipts ≡ held.old.receipts) × (seat.new ≡ seat.old)) }
+    ensures places { IfSome result.1 (λ r. held.new.places ≡ held.old.places ++ r.place ∷ []) }
+    ensures receipts { IfSome result.1 (λ r. held.new.receipts ≡ held.old.receipts ++ r ∷ []) }
+    ensures given { IfSome result.1 (λ r. Gives seat.old r seat.new) }
+    ensures short { length (op_result.encoding result.0) ≤ answer_limit (opnum_of op.now) }
+    ensures form { op_result.Fits result.0 }
+    ensures leases { Leads Happens held.old.leases
+        (events_of_call op.now moment held.old.server held.new.server) held.new.leases }
+{
+    lawful_is_safe();
+    if held.register.places.reserve(1).is_err() {
+        return (op.opnum().refusal(Refusal::Resource), None);
+    }
+    let (core, leases) = (&mut held.core, &mut held.leases);
+    let (answer, entered) = call_copied(core, leases, moment, principal, op, filehandle);
+    match entered {
+        None => (answer, None),
+        Some(entered) => {
+            let receipt = give(&mut held.register, seat, entered.number, entered.call);
+            (answer, Some(receipt))
+        }
+    }
+}
+
+/// Goes through the live clients, and removes each whose lease is over at `now`. No receipt is made.
+pub fn sweep_held<N: Naming>(held: &mut Held<N>, now: Moment) -> Swept
+    ensures sweeps { (turns : List Turn) × Sweeps Happens now held.old.server held.old.leases
+        result turns held.new.server held.new.leases }
+    ensures revoked { result.revoked ≡ 0 }
+    ensures stopped { result.stopped ≡ false }
+    ensures places { held.new.places ≡ held.old.places }
+    ensures receipts { held.new.receipts ≡ held.old.receipts }
+{
+    lawful_is_safe();
+    sweep_core(&mut held.core, &mut held.leases, now)
+}
+
+/// Renews the lease of the client that the operation names, if it names one that has an open lease.
+pub(crate) fn renew_held<N: Naming>(held: &mut Held<N>, op: &Op, moment: Moment)
+    ensures { held.new ≡ record held.old {
+      leases = with_renewal (renewed_by N.start.epoch op.now) moment held.old.leases;
+    } }
+{
+    if let Some(client) = op.renewed_client(held.core.journal().epoch()) {
+        held.leases.renew(client, moment);
+    }
+}

@@ -1,0 +1,49 @@
+ghost use Rattle.std.specs.Prelude.{◌≡◌, IfOk};
+
+use crate::roll::{Roll, Token};
+use std::alloc::{AllocError, Global};
+use std::marker::Model;
+use std::sync::ledger::Blank;
+
+/// What a run needs before it has a name: the table of receipts with the writer's token, and the ledger, which is cut
+/// into a part for each worker.
+#[derive(Drop)]
+pub struct Opened {
+    pub(crate) roll: Roll,
+    pub(crate) writer: Token,
+    pub(crate) blank: Blank,
+    pub(crate) workers: u32,
+}
+
+impl Model for Opened {
+    ghost use Rattle.std.specs.Prelude.{◌≡◌, []};
+    ghost use Rattle.nfs_shared.specs.Naming.{OpenedView};
+    ghost use Rattle.nfs_shared.specs.Roll.{IsOf, writer_of};
+
+    ghost Value = { OpenedView };
+
+    ghost view = { λ o. record {
+      roll = o.roll.shared.table_id;
+      ledger = o.blank.name;
+      workers = o.workers;
+    } };
+
+    ghost invariant = { λ o.
+        IsOf o.roll.shared.table_id o.writer × (o.writer.me ≡ (writer_of [], []))
+        × (o.blank.parts ≡ o.workers) };
+}
+
+impl Opened {
+    /// For this number of workers.
+    pub fn new(alloc: Global, workers: u32) -> Result<Opened, AllocError>
+        ensures { IfOk result (λ o. o.workers ≡ workers) }
+    {
+        let (roll, writer) = Roll::of_words(alloc, &[0], &())?;
+        Ok(Opened {
+            roll,
+            writer,
+            blank: Blank::new(workers as u64),
+            workers,
+        })
+    }
+}

@@ -1,0 +1,210 @@
+//! The state that threads share, behind one lock.
+ghost use Rattle.std.specs.Prelude.{◌≡◌, ◌+◌, ◌<◌, ◌≤◌, ◌↔◌, [], ℕ, false, IfOk, IfErr, IfSome, IfNone, IsFalse, IsNone, IsTrue, length, map};
+ghost use Rattle.nfs_core.specs.Safe.{IsSafe};
+ghost use Rattle.nfs_core.specs.Server.{IsLawful};
+ghost use Rattle.nfs_owners.specs.Registry.{is_live};
+ghost use Rattle.nfs_shared.specs.Ends.{AreFresh, AreKept, AllStand, AllApart, AllBegin, receipts_in, given_in};
+ghost use Rattle.nfs_shared.specs.Naming.{start_of};
+ghost use Rattle.nfs_shared.specs.Receipts.{calls_in};
+ghost use Rattle.nfs_shared.specs.Roll.{IsOf, IsWriter, list_of, writer_of};
+ghost use Rattle.nfs_shared.specs.Seats.{Gives, fresh};
+ghost use Rattle.nfs_state.specs.Entries.{IsFilehandle, request_of, resource};
+ghost use Rattle.nfs_state.specs.Stored.{meaning};
+ghost use Rattle.nfs_xdr.specs.Op.{has_entry, opnum_of};
+ghost use Rattle.nfs_xdr.specs.OpResult.{op_result};
+ghost use Rattle.nfs_xdr.specs.Opnum.{answer_limit};
+
+use crate::held::{Held, call_held, renew_held, sweep_held};
+use crate::naming::Naming;
+use crate::opened::Opened;
+use crate::receipt::Receipt;
+use crate::register::Register;
+use crate::roll::{Copied, Roll, Token, meet};
+use crate::seat::Seat;
+use crate::{PlainLeases, Swept};
+use nfs_core::{Core, Moment};
+use nfs_xdr::{Op, OpResult, Principal};
+use std::alloc::{AllocError, Global};
+use std::sync::ledger::Share;
+use std::sync::{Mutex, Wait};
+
+/// The core with its journal, the leases and the receipts' register, behind one lock. What holds whenever the lock is
+/// free is the invariant of `Held`.
+#[derive(Drop)]
+pub struct Shared<N: Naming> {
+    held: Mutex<Held<N>>,
+}
+
+impl<N: Naming> Shared<N> {
+    /// The core under a lock, and a seat for each worker. The core's journal is empty, and no client is live in it. It
+    /// fails only where memory is refused, and gives the core back.
+    pub fn new(alloc: Global, opened: Opened, core: Core) -> Result<(Shared<N>, Vec<Seat<N>>), Core>
+        requires roll { opened.roll ≡ N.roll }
+        requires ledger { opened.ledger ≡ N.name }
+        requires workers { opened.workers ≡ N.parts }
+        requires start { start_of core.journal ≡ N.start }
+        requires empty { core.journal.entries ≡ [] }
+        requires nobody { (number : ℕ) → IsFalse (is_live number core.stored.clients) }
+        ensures seats { IfOk result (λ r. AreFresh opened.workers r.1.items) }
+        ensures err { IfErr result (λ c. c ≡ core) }
+    {
+        let Ok(leases) = PlainLeases::new(alloc, core.journal().lease()) else {
+            return Err(core);
+        };
+        let Opened {
+            roll,
+            mut writer,
+            blank,
+            workers,
+        } = opened;
+        let (count, mut rest) = blank.open::<N>();
+        let Ok(seats) = new_seats(alloc, &roll, &mut writer, &mut rest, workers) else {
+            return Err(core);
+        };
+        let register = Register {
+            places: Vec::new(alloc),
+            roll,
+            writer,
+            count,
+            rest,
+        };
+        let held = Held {
+            core,
+            leases,
+            register,
+        };
+        Ok((
+            Shared {
+                held: Mutex::new(held),
+            },
+            seats,
+        ))
+    }
+
+    /// Answers an operation that has an entry in the journal, in one hold of the lock, with a receipt for its entry. The
+    /// lease of the client that the operation names is renewed first. `filehandle` has to be a node of the tree.
+    pub fn call<R: Wait>(
+        &self,
+        rt: &R,
+        seat: &mut Seat<N>,
+        moment: Moment,
+        principal: Principal,
+        op: &Op,
+        filehandle: Option<u32>,
+    ) -> (OpResult, Option<Receipt>)
+        requires entry { IsTrue (has_entry op.now) }
+        requires node { IsFilehandle N.start filehandle }
+        ensures refused { IsNone result.1 ↔ (result.0 ≡ resource op.now) }
+        ensures same { IfNone result.1 (seat.new ≡ seat.old) }
+        ensures entry { IfSome result.1 (λ r. r.call ≡ record {
+          request = request_of moment principal op.now filehandle;
+          answer = result.0;
+        }) }
+        ensures given { IfSome result.1 (λ r. Gives seat.old r seat.new) }
+        ensures short { length (op_result.encoding result.0) ≤ answer_limit (opnum_of op.now) }
+        ensures form { op_result.Fits result.0 }
+    {
+        let mut held = self.held.lock(rt);
+        renew_held(&mut *held, op, moment);
+        call_held(&mut *held, seat, moment, principal, op, filehandle)
+    }
+
+    /// Removes each client whose lease is over at this moment, with all that it has, in one hold of the lock.
+    pub fn sweep<R: Wait>(&self, rt: &R, now: Moment) -> Swept
+        ensures revoked { result.revoked ≡ 0 }
+        ensures stopped { result.stopped ≡ false }
+    {
+        let mut held = self.held.lock(rt);
+        sweep_held(&mut *held, now)
+    }
+
+    /// The core, once the workers have ended. `receipts` has for each seat those that it was given, in order, and all
+    /// seats are handed in, in the order of their places.
+    pub fn end(self, receipts: &[Vec<Receipt>], seats: Vec<Seat<N>>) -> Core
+        requires all { length seats.items ≡ N.parts }
+        requires kept { AreKept seats.items (map (λ v. v.items) receipts.now) }
+        ensures start { start_of result.journal ≡ N.start }
+        ensures lawful { IsLawful result }
+        ensures safe { IsSafe (meaning result.stored) }
+        ensures stand { AllStand result.journal.entries (map (λ v. v.items) receipts.now) }
+        ensures apart { AllApart (map (λ v. v.items) receipts.now) }
+        ensures counted { calls_in result.journal.entries
+            ≡ receipts_in (map (λ v. v.items) receipts.now) }
+    {
+        let held = self.held.into_inner();
+        let Held {
+            core,
+            leases: _,
+            register,
+        } = held;
+        let Register {
+            places: _,
+            roll,
+            mut writer,
+            mut count,
+            mut rest,
+        } = register;
+        meet_each(&roll, &mut writer, &mut rest, seats);
+        count.audit(&mut rest);
+        core
+    }
+}
+
+// A fresh seat for each worker, in the order of their places.
+fn new_seats<N: Naming>(
+    alloc: Global,
+    roll: &Roll,
+    writer: &mut Token,
+    rest: &mut Share<N>,
+    workers: u32,
+) -> Result<Vec<Seat<N>>, AllocError>
+    requires roll { roll.now.shared.table_id ≡ N.roll }
+    requires writer { IsOf N.roll writer.old × (writer.old.me ≡ (writer_of [], [])) }
+    requires rest { (rest.old.parts ≡ workers) × (rest.old.amount ≡ 0) }
+    ensures writer { IfOk result (λ s. IsOf N.roll writer.new × (writer.new.me ≡ (writer_of [], []))) }
+    ensures rest { IfOk result (λ s. (rest.new.parts ≡ 0) × (rest.new.amount ≡ 0)) }
+    ensures seats { IfOk result (λ s. AreFresh workers s.items) }
+{
+    let mut seats = Vec::new(alloc);
+    for place in 0..workers {
+        seats.push(new_seat(roll, writer, rest, place))?;
+    }
+    Ok(seats)
+}
+
+fn new_seat<N: Naming>(roll: &Roll, writer: &mut Token, rest: &mut Share<N>, place: u32) -> Seat<N>
+    requires roll { roll.now.shared.table_id ≡ N.roll }
+    requires writer { IsOf N.roll writer.old × (writer.old.me ≡ (writer_of [], [])) }
+    requires rest { (rest.old.amount ≡ 0) × (0 < rest.old.parts) }
+    ensures writer { IsOf N.roll writer.new × (writer.new.me ≡ (writer_of [], [])) }
+    ensures rest { (rest.new.parts + 1 ≡ rest.old.parts) × (rest.new.amount ≡ 0) }
+    ensures seat { result ≡ fresh place }
+{
+    let token = roll.shared.split_seat::<Copied>(writer);
+    Seat {
+        place,
+        last: None,
+        token,
+        share: rest.split_off(1, 0),
+    }
+}
+
+// Each seat meets the writer, and gives its share back.
+fn meet_each<N: Naming>(roll: &Roll, writer: &mut Token, rest: &mut Share<N>, seats: Vec<Seat<N>>)
+    requires roll { roll.now.shared.table_id ≡ N.roll }
+    requires writer { IsOf N.roll writer.old × IsWriter writer.old }
+    ensures begin { AllBegin seats.items (list_of writer.old) }
+    ensures parts { rest.new.parts ≡ rest.old.parts + length seats.items }
+    ensures amount { rest.new.amount ≡ rest.old.amount + given_in seats.items }
+{
+    for seat in seats {
+        let Seat {
+            place: _,
+            last: _,
+            mut token,
+            share,
+        } = seat;
+        meet(roll, writer, &mut token);
+        rest.merge(share);
+    }
+}
