@@ -1,35 +1,31 @@
 ghost use Rattle.std.specs.Prelude.{◌≡◌, ◌≤◌, ◌<◌, [], IfErr, IfOk, IfSome, OnErr, OnOk, IsErrOf, IsTrue, length};
 ghost use Rattle.nfs_core.specs.Entered.{number_entered};
 ghost use Rattle.nfs_core.specs.Expiry.{IsNotEndedFor, IsWithoutRoom, expire_of};
-ghost use Rattle.nfs_core.specs.Following.{CanBeAsked, IsStoredBy, MayBeAnswered};
 ghost use Rattle.nfs_core.specs.LiveClients.{AreNumbered, AreOfOneRun};
 ghost use Rattle.nfs_core.specs.Safe.{IsSafe, KeepRequests};
-ghost use Rattle.nfs_core.specs.Server.{Applies, AreAlike, Enters, IsLawful, server_of};
-ghost use Rattle.nfs_core.specs.Step.{HasNoAnswer, HasNoStep};
+ghost use Rattle.nfs_core.specs.Server.{Applies, AreAlike, Enters, IsLawful};
+ghost use Rattle.nfs_core.specs.Step.{HasNoStep};
 ghost use Rattle.nfs_owners.specs.LiveClients.{IsNextLive, replaced_by};
 ghost use Rattle.nfs_owners.specs.Registry.{is_live};
-ghost use Rattle.nfs_state.specs.Entries.{IsFilehandle, IsSendable, entry_of, request_of};
+ghost use Rattle.nfs_state.specs.Entries.{IsFilehandle, request_of};
 ghost use Rattle.nfs_state.specs.Kept.{Agrees};
-ghost use Rattle.nfs_state.specs.Room.{state_of, stored_of};
 ghost use Rattle.nfs_state.specs.Stored.{empty_store, meaning};
 ghost use Rattle.nfs_state.specs.declared.entry.Entry.TheVariants as entries;
 ghost use Rattle.nfs_xdr.specs.Op.{has_entry, opnum_of};
 ghost use Rattle.nfs_xdr.specs.OpResult.{op_result};
 ghost use Rattle.nfs_xdr.specs.Opnum.{answer_limit};
 
-use crate::entered::{Entered, number_entered};
+use crate::entered::{Entered, enter, number_entered};
 use crate::expiry::enter_expiry;
-use crate::following::{decide_next, follow};
+use crate::following::follow;
 use crate::laws::lawful_is_safe;
 use crate::{CoreError, FollowError};
-use nfs_rules::at_most_one_decision;
 use nfs_state::{
-    Call, Entry, Expire, JOURNAL_LIMIT, Journal, LEASE_MAX, LEASE_MIN, Moment, Request, Shortage,
-    Tables, commit_entry, copy_of_answer,
+    Entry, Expire, JOURNAL_LIMIT, Journal, LEASE_MAX, LEASE_MIN, Moment, Request, Tables,
 };
 use nfs_tree::{Policy, Tree};
 use nfs_xdr::{Op, OpResult, Principal, Refusal};
-use std::alloc::{AllocError, Global};
+use std::alloc::Global;
 use std::marker::Model;
 
 /// The state of a server (RFC 7530, section 9), and the journal of the changes that led to it.
@@ -226,50 +222,4 @@ impl Core {
         lawful_is_safe();
         &self.journal
     }
-}
-
-// Answers the request and enters it in the journal. Returns the answer, and the entry's number with a copy of the entry.
-// Fails with Limit only if no answer may come next, and with Memory only if no limit would be exceeded.
-fn enter(
-    alloc: Global,
-    tables: &mut Tables,
-    journal: &mut Journal,
-    request: Request,
-) -> Result<(OpResult, Entered), Shortage>
-    requires asked { CanBeAsked journal.old.history request }
-    requires stored { IsStoredBy journal.old.history (stored_of tables.old) }
-    ensures entered { IfOk result (λ r. Enters (server_of journal.old tables.old)
-        (server_of journal.new tables.new) (entry_of request r.0) r.1.number) }
-    ensures copy { IfOk result (λ r. r.1.call ≡ record { request = request; answer = r.0 }) }
-    ensures kept { Agrees journal.new.history tables.new.owners.owners }
-    ensures sendable { IfOk result (λ r. IsSendable request.op r.0) }
-    ensures limit { IsErrOf result Shortage.Limit
-        → HasNoAnswer journal.old.history (state_of tables.old) request }
-    ensures memory { IsErrOf result Shortage.Memory
-        → MayBeAnswered journal.old.history (state_of tables.old) request }
-    ensures same { OnErr result ((journal.new.history ≡ journal.old.history)
-        × (stored_of tables.new ≡ stored_of tables.old)) }
-{
-    at_most_one_decision();
-    let decision = decide_next(alloc, tables, journal, &request)?;
-    let call = copied_call(&request, &decision.answer)?;
-    let answer = copy_of_answer(&decision.answer)?;
-    let entry = Entry::Call(Call { request, answer });
-    let number = commit_entry(alloc, tables, journal, entry, decision.effect)?;
-    Ok((decision.answer, Entered { number, call }))
-}
-
-// A call of copies of the request and the answer.
-fn copied_call(request: &Request, answer: &OpResult) -> Result<Call, AllocError>
-    ensures { IfOk result (λ c. c ≡ record { request = request.now; answer = answer.now }) }
-{
-    Ok(Call {
-        request: Request::of_copy(
-            request.moment,
-            request.principal,
-            &request.op,
-            request.filehandle,
-        )?,
-        answer: copy_of_answer(answer)?,
-    })
 }

@@ -5,8 +5,8 @@ use Rattle.nfs_owners.specs.Registry.{Registry, is_live}
 use Rattle.nfs_server.specs.Asking.{GivenByCore, Operation, Question, Renewal}
 use Rattle.nfs_shared.specs.BookEvent.{Leads}
 use Rattle.nfs_shared.specs.BookOf.{events_of_call}
-use Rattle.nfs_server.specs.Leases.{LentCore, renewal_answer, with_renewal}
-use Rattle.nfs_shared.specs.PlainBook.{Happens}
+use Rattle.nfs_server.specs.Leases.{LentCore, renewal_answer}
+use Rattle.nfs_shared.specs.PlainBook.{Happens, with_renewal}
 use Rattle.nfs_xdr.specs.Names.{renewed_by}
 use Rattle.nfs_xdr.specs.declared.op.Op.{Op}
 use Rattle.nfs_xdr.specs.declared.op.Op.TheVariants as ops

@@ -1,14 +1,14 @@
 ghost use Rattle.std.specs.Prelude.{◌≡◌, IfOk, IsFalse, List, ℕ, false, refl};
-ghost use Rattle.nfs_core.specs.Server.{AreAlike, Server};
+ghost use Rattle.nfs_core.specs.Server.{AreAlike};
 ghost use Rattle.nfs_owners.specs.Registry.{is_live};
-ghost use Rattle.nfs_server.specs.Leases.{IsLent, has_open_lease, renewal_answer, with_renewal};
+ghost use Rattle.nfs_server.specs.Leases.{IsLent, renewal_answer};
 ghost use Rattle.nfs_shared.specs.PlainBook.{Happens};
 ghost use Rattle.nfs_shared.specs.Sweeps.{Sweeps};
 ghost use Rattle.nfs_shared.specs.Turn.{Turn};
 
 use crate::Service;
 use nfs_core::{Core, Moment};
-use nfs_shared::{LeaseBook, PlainLeases, Renewal, Swept, call_core, sweep_core};
+use nfs_shared::{PlainLeases, Swept, call_core, renew_lease, sweep_core};
 use nfs_xdr::{Answer, ClientId, Op, OpResult, Principal, Refusal};
 use std::alloc::{AllocError, Global};
 use std::marker::Model;
@@ -96,18 +96,6 @@ impl Service for Lent {
         let answer = OpResult::Renew(answer_of(is_open));
         answer.fits();
         answer
-    }
-}
-
-// Renews the lease of the client with this number, if there is one. Returns whether the lease is open.
-fn renew_lease(book: &mut PlainLeases, client: Option<u32>, moment: Moment) -> bool
-    ensures book { book.new ≡ with_renewal client moment book.old }
-    ensures open { result ≡ has_open_lease book.old client }
-    ensures kept { (core : Server) → IsLent core book.old → IsLent core book.new }
-{
-    match client {
-        Some(client) => matches!(book.renew(client, moment), Renewal::Renewed),
-        None => false,
     }
 }
 

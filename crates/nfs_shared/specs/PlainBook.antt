@@ -1,5 +1,5 @@
 -- A book of leases that is a plain list.
-use Rattle.std.specs.Prelude.{◌≡◌, ◌≢◌, ℕ, ◌+◌, ◌<◌, Bool, true, nat_lt, if◌then◌else◌, List, length, slice_index_or, slice_set, Option, Some, None}
+use Rattle.std.specs.Prelude.{◌≡◌, ◌≢◌, ℕ, ◌+◌, ◌<◌, Bool, true, false, nat_lt, if◌then◌else◌, List, length, slice_index_or, slice_set, Option, Some, None}
 use Rattle.nfs_shared.specs.declared.lease_state.LeaseState.{LeaseState}
 use Rattle.nfs_shared.specs.declared.lease_state.LeaseState.TheVariants as lease_state
 use Rattle.nfs_shared.specs.declared.renewal.Renewal.{Renewal}
@@ -44,6 +44,11 @@ abbrev pub with_renewal : Option ℕ → ℕ → PlainBook → PlainBook
 with_renewal None moment old = old
 with_renewal (Some client) moment old =
     with_lease old client (renewed (lease_of old client) moment)
+
+-- the client with this number, if there is one, has an open lease
+abbrev pub has_open_lease : PlainBook → Option ℕ → Bool
+has_open_lease book None = false
+has_open_lease book (Some client) = is_open_in book client
 
 -- the call, with its answer, leads from the one book to the other
 abbrev pub Happens : PlainBook → BookEvent → PlainBook → Type 0

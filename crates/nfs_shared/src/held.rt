@@ -1,9 +1,10 @@
 //! The value that the lock guards, and what is done to it.
 ghost use Rattle.std.specs.Prelude.{◌≡◌, ◌≤◌, ◌++◌, ◌∷◌, [], false, IfNone, IfSome, IsTrue, List, length};
 ghost use Rattle.nfs_core.specs.Server.{Applies};
+ghost use Rattle.nfs_forms.specs.ClientId.{number_in};
 ghost use Rattle.nfs_shared.specs.BookEvent.{Leads};
 ghost use Rattle.nfs_shared.specs.BookOf.{events_of_call};
-ghost use Rattle.nfs_shared.specs.PlainBook.{Happens, with_renewal};
+ghost use Rattle.nfs_shared.specs.PlainBook.{Happens, has_open_lease, with_renewal};
 ghost use Rattle.nfs_shared.specs.Seats.{Gives, number_given};
 ghost use Rattle.nfs_shared.specs.Sweeps.{Sweeps};
 ghost use Rattle.nfs_shared.specs.Turn.{Turn};
@@ -17,11 +18,12 @@ use crate::calling::call_copied;
 use crate::naming::Naming;
 use crate::receipt::Receipt;
 use crate::register::{Register, give};
+use crate::renewing::renew_lease;
 use crate::seat::Seat;
 use crate::sweeping::sweep_core;
-use crate::{LeaseBook, PlainLeases, Swept};
+use crate::{PlainLeases, Swept};
 use nfs_core::{Core, Moment, lawful_is_safe};
-use nfs_xdr::{Op, OpResult, Principal, Refusal};
+use nfs_xdr::{ClientId, Op, OpResult, Principal, Refusal};
 use std::marker::Model;
 
 /// The core with its journal, the leases of its clients, and the register of the receipts for its entries.
@@ -121,7 +123,21 @@ pub(crate) fn renew_held<N: Naming>(held: &mut Held<N>, op: &Op, moment: Moment)
       leases = with_renewal (renewed_by N.start.epoch op.now) moment held.old.leases;
     } }
 {
-    if let Some(client) = op.renewed_client(held.core.journal().epoch()) {
-        held.leases.renew(client, moment);
-    }
+    let client = op.renewed_client(held.core.journal().epoch());
+    renew_lease(&mut held.leases, client, moment);
+}
+
+/// Renews the lease of this client, if it is open, and returns whether it is.
+pub(crate) fn renew_client<N: Naming>(
+    held: &mut Held<N>,
+    client: ClientId,
+    moment: Moment,
+) -> bool
+    ensures held { held.new ≡ record held.old {
+      leases = with_renewal (number_in N.start.epoch client) moment held.old.leases;
+    } }
+    ensures open { result ≡ has_open_lease held.old.leases (number_in N.start.epoch client) }
+{
+    let client = client.number_in(held.core.journal().epoch());
+    renew_lease(&mut held.leases, client, moment)
 }

@@ -14,7 +14,7 @@ ghost use Rattle.nfs_xdr.specs.Op.{has_entry, opnum_of};
 ghost use Rattle.nfs_xdr.specs.OpResult.{op_result};
 ghost use Rattle.nfs_xdr.specs.Opnum.{answer_limit};
 
-use crate::held::{Held, call_held, renew_held, sweep_held};
+use crate::held::{Held, call_held, renew_client, renew_held, sweep_held};
 use crate::naming::Naming;
 use crate::opened::Opened;
 use crate::receipt::Receipt;
@@ -23,7 +23,7 @@ use crate::roll::{Copied, Roll, Token, meet};
 use crate::seat::Seat;
 use crate::{PlainLeases, Swept};
 use nfs_core::{Core, Moment};
-use nfs_xdr::{Op, OpResult, Principal};
+use nfs_xdr::{ClientId, Op, OpResult, Principal};
 use std::alloc::{AllocError, Global};
 use std::sync::ledger::Share;
 use std::sync::{Mutex, Wait};
@@ -107,6 +107,12 @@ impl<N: Naming> Shared<N> {
         let mut held = self.held.lock(rt);
         renew_held(&mut *held, op, moment);
         call_held(&mut *held, seat, moment, principal, op, filehandle)
+    }
+
+    /// Renews the lease of this client in a hold of the lock, if it is open, and returns whether it is.
+    pub fn renew<R: Wait>(&self, rt: &R, moment: Moment, client: ClientId) -> bool {
+        let mut held = self.held.lock(rt);
+        renew_client(&mut *held, client, moment)
     }
 
     /// Removes each client whose lease is over at this moment, with all that it has, in one hold of the lock.
