@@ -10,3 +10,5 @@ pub mod Sides
 pub mod JournalGains
 pub mod LentLeases
 pub mod CourseLaws
+pub mod Gaining
+pub mod Receipts
