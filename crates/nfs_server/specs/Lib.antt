@@ -11,6 +11,8 @@ pub mod Exchange
 pub mod Connection
 pub mod Serving
 pub mod CourseLaws
+pub mod Holding
+pub mod Receipts
 pub mod Once
 pub mod Audit
 pub mod ServeError
