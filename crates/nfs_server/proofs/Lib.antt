@@ -9,3 +9,5 @@ pub mod Sides
 pub mod JournalGains
 pub mod LentLeases
 pub mod CourseLaws
+pub mod Workers
+pub mod Kept
