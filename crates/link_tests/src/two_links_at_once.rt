@@ -16,12 +16,12 @@ use std::sync::Wait;
 use std::thread::Threads;
 use std::time::Clock as Sleeper;
 
-// What came of the links: how many were served to their end, how many got a whole reply, and how many entries the
+// How many links were served to their end, with a receipt each; in how many a read failed; and how many entries the
 // journal has.
 #[derive(Clone, Copy, Debug, PartialEq, Eq)]
 struct Outcome {
     served: u32,
-    failed: u32,
+    read_failures: u32,
     entries: usize,
 }
 
@@ -57,13 +57,13 @@ fn outcome_in<N: Naming + Send + Sync, R: Threads + Wait + Sleeper + Sync>(
     let board = Board::new(alloc, seats.len()).ok()?;
     let links = links_at(alloc, rt, &board, seats)?;
     let all = serve_all(alloc, rt, &shared, tree, links).ok()?;
-    let (served, failed) = count(&all);
+    let (served, read_failures) = count(&all);
     let (receipts, seats) = Done::split(alloc, all).ok()?;
     workers_keep_receipts::<N, BoardLink<'_, R>>();
     let core = shared.end(receipts.as_slice(), seats);
     Some(Outcome {
         served,
-        failed,
+        read_failures,
         entries: core.journal().entries().len(),
     })
 }
@@ -88,19 +88,19 @@ fn links_at<'a, N: Naming, R: Sleeper>(
     Some(links)
 }
 
-// How many were served to the end, each with its own receipt, and how many failed in a read.
+// How many were served to the end, each with its own receipt, and in how many a read failed.
 fn count<N: Naming>(all: &Vec<Done<N>>) -> (u32, u32) {
     let mut served = 0u32;
-    let mut failed = 0u32;
+    let mut read_failures = 0u32;
     for done in all.iter() {
         if done.result == Ok(0) && done.receipts.len() == 1 {
             served = served.saturating_add(1);
         }
         if done.result == Err(ServeError::Read) {
-            failed = failed.saturating_add(1);
+            read_failures = read_failures.saturating_add(1);
         }
     }
-    (served, failed)
+    (served, read_failures)
 }
 
 #[test]
@@ -110,7 +110,7 @@ fn two_links_at_once(rt: HostRuntime) {
         outcome,
         Some(Outcome {
             served: 2,
-            failed: 0,
+            read_failures: 0,
             entries: 2
         })
     );
@@ -123,7 +123,7 @@ fn eight_links_at_once(rt: HostRuntime) {
         outcome,
         Some(Outcome {
             served: 8,
-            failed: 0,
+            read_failures: 0,
             entries: 8
         })
     );
