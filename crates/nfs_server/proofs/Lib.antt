@@ -1,5 +1,6 @@
 pub mod Limits
 pub mod Folding
+pub mod Receiving
 pub mod Replying
 pub mod Writing
 pub mod Exchanges

@@ -54,8 +54,8 @@ impl<'a, N: Naming, R: Wait> Desk<'a, N, R> {
 
     /// Returns the seat, and the receipts that it was given, in order.
     pub fn into_parts(self) -> (Seat<N>, Vec<Receipt>)
-        ensures seat { result.0 ≡ self.seat }
-        ensures receipts { result.1.items ≡ self.receipts }
+        ensures seat { result.0 ≡ self.entry.seat }
+        ensures receipts { result.1.items ≡ self.entry.receipts }
         ensures kept { IsKept result.0 result.1.items }
     {
         let Desk {
@@ -91,7 +91,9 @@ impl<'a, N: Naming, R: Wait> Service for Desk<'a, N, R> {
         filehandle: Option<u32>,
     ) -> OpResult {
         let seat = &mut self.seat;
-        let (answer, receipt) = self.shared.call(self.rt, seat, moment, principal, op, filehandle);
+        let (answer, receipt) = self
+            .shared
+            .call(self.rt, seat, moment, principal, op, filehandle);
         if let Some(receipt) = receipt {
             self.receipts.push_reserved(receipt);
         }
