@@ -12,3 +12,5 @@ pub mod LentLeases
 pub mod CourseLaws
 pub mod Gaining
 pub mod Receipts
+pub mod Workers
+pub mod Kept

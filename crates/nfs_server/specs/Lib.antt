@@ -13,6 +13,8 @@ pub mod Serving
 pub mod CourseLaws
 pub mod Holding
 pub mod Receipts
+pub mod Working
+pub mod Begun
 pub mod Once
 pub mod Audit
 pub mod ServeError
