@@ -16,6 +16,7 @@ mod once;
 mod replies;
 mod serve_error;
 mod service;
+mod sides;
 mod tree_file;
 
 pub use audit::run_audit;
@@ -23,7 +24,7 @@ pub use clock::{Clock, Stopped};
 pub use compound::run_compound;
 pub use connection::{STREAM_LIMIT, serve_connection, serve_duplex};
 pub use course_laws::{
-    bytes_of_a_connection, journal_of_a_connection, questions_are_entries, turns_are_of_one_text,
+    bytes_of_a_connection, bytes_of_writes, journal_of_a_connection, questions_are_entries, turns_are_of_one_text,
 };
 pub use device::{Counted, DeviceFailed, Sink, Source};
 pub use duplex::Duplex;
@@ -33,4 +34,5 @@ pub use numbers::limits_of_connections;
 pub use once::run_once;
 pub use serve_error::ServeError;
 pub use service::Service;
+pub use sides::Sides;
 pub use tree_file::read_tree;
