@@ -9,10 +9,11 @@ ghost use Rattle.nfs_rpc.specs.Records.{IsStream, TakesPiece};
 
 use crate::duplex::Pair;
 use crate::replies::Replies;
-use crate::{Clock, DeviceFailed, Duplex, ServeError, Service, Sink, Source};
+use crate::{Clock, Counted, DeviceFailed, Duplex, ServeError, Service, Sink, Source};
 use nfs_rpc::{RECORD_LIMIT, RecordError, Records};
 use nfs_tree::Tree;
 use std::alloc::{AllocError, Global};
+use std::io;
 
 /// The greatest number of bytes in the input of a connection.
 pub const STREAM_LIMIT: u64 = 1 << 40;
