@@ -6,7 +6,7 @@ pub mod Writing
 pub mod Exchanges
 pub mod Serving
 pub mod Courses
-pub mod Sides
+pub mod Views
 pub mod JournalGains
 pub mod LentLeases
 pub mod CourseLaws
