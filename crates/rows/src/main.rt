@@ -18,7 +18,7 @@ enum Task {
     Show,
 }
 
-/// `rows [--again | --hex] [FOLDER | FILE.rows]..`: the status is 0 where every row passes, or with `--hex` where every
+/// `rows [--shared] [--again] [FOLDER | FILE.rows]..`, or `rows --hex [FOLDER | FILE.rows]..`: the status is 0 where every row passes, or with `--hex` where every
 /// file can be read, else 1; and 2 where there is no folder of that name, or no memory.
 fn main(rt: HostRuntime) -> ExitCode {
     match try_all(&rt) {
@@ -46,12 +46,22 @@ fn try_all(rt: &HostRuntime) -> io::Result<bool> {
     tally.tell(rt, files.len())
 }
 
-// What the first word after the program's name asks for, and from which word on paths are named.
+// What the words after the program's name ask for, and from which word on paths are named.
 fn task_of(words: &[String]) -> (Task, usize) {
-    match words.get(1) {
-        Some(word) if word.as_str() == "--again" => (Task::Run(Sending::Again), 2),
-        Some(word) if word.as_str() == "--hex" => (Task::Show, 2),
+    match (word_at(words, 1), word_at(words, 2)) {
+        ("--shared", "--again") => (Task::Run(Sending::SharedAgain), 3),
+        ("--shared", _) => (Task::Run(Sending::Shared), 2),
+        ("--again", _) => (Task::Run(Sending::Again), 2),
+        ("--hex", _) => (Task::Show, 2),
         _ => (Task::Run(Sending::Once), 1),
+    }
+}
+
+// The word at this place, or none.
+fn word_at(words: &[String], place: usize) -> &str {
+    match words.get(place) {
+        Some(word) => word.as_str(),
+        None => "",
     }
 }
 
@@ -105,7 +115,7 @@ impl Tally {
             }
         };
         let summary = match task {
-            Task::Run(sending) => try_text(rt.alloc(), path, text.as_str(), sending)?,
+            Task::Run(sending) => try_text(rt, rt.alloc(), path, text.as_str(), sending)?,
             Task::Show => show_text(rt.alloc(), path, text.as_str())?,
         };
         self.rows = self.rows.saturating_add(summary.rows);
