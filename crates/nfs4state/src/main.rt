@@ -1,7 +1,7 @@
 //! A server of NFSv4.0's state, whose journal explains every change of the state.
 #![tactic(auto)]
 
-ghost use Rattle.std.specs.Prelude.{◌≡◌, [], IfOk};
+ghost use Rattle.std.specs.Prelude.{◌≡◌, [], IfOk, IfSome};
 ghost use Rattle.nfs_options.specs.CommandLine.{IsOnceWithinLimits};
 ghost use Rattle.nfs_owners.specs.Registry.{no_clients};
 
@@ -10,7 +10,7 @@ mod new_file;
 use crate::new_file::NewFile;
 use nfs_core::{Core, CoreError, Moment};
 use nfs_options::{Declined, OnceOptions, Subcommand, options};
-use nfs_server::{Counted, Fault, read_tree, run_audit, run_once};
+use nfs_server::{Counted, Fault, Sides, read_tree, run_audit, run_once};
 use nfs_tree::{DEFAULT_TREE, Tree};
 use std::alloc::Global;
 use std::process::ExitCode;
@@ -38,8 +38,8 @@ fn words(rt: &HostRuntime) -> io::Result<Vec<String>> {
     Ok(env::args(rt)?.collect(rt.alloc())?)
 }
 
-// `nfs4state once`: records from standard input, replies to standard output, and the journal to its file at the end. None
-// is touched before there is a core.
+// `nfs4state once`: records from standard input, replies to standard output, which are one device here, and the journal to
+// its file at the end. None is touched before there is a core.
 fn once(rt: &HostRuntime, options: &OnceOptions<'_>) -> u8
     requires { IsOnceWithinLimits options.now }
 {
@@ -51,23 +51,34 @@ fn once(rt: &HostRuntime, options: &OnceOptions<'_>) -> u8
         return report(rt, Fault::NoMemory);
     };
     let now = Moment::new(options.moment).unwrap();
-    let mut source = Counted::new(rt.stdin());
-    let mut sink = Counted::new(rt.stdout());
-    let mut errors = rt.stderr();
-    let mut journal = match options.journal {
-        Some(path) => Some(NewFile::new(rt, path)),
-        None => None,
+    let mut device = Sides {
+        source: Counted::new(rt.stdin()),
+        sink: Counted::new(rt.stdout()),
     };
+    let mut errors = rt.stderr();
+    let mut journal = journal_file(rt, options.journal);
     run_once(
         rt.alloc(),
         core,
         &tree,
         now,
-        &mut source,
-        &mut sink,
+        &mut device,
         &mut errors,
         &mut journal,
     )
+}
+
+// The journal's file, which isn't touched yet, if there is to be one.
+fn journal_file<'r, 'p>(
+    rt: &'r HostRuntime,
+    path: Option<&'p str>,
+) -> Option<Counted<NewFile<'r, 'p>>>
+    ensures { IfSome result (λ file. file.failures ≡ 0) }
+{
+    match path {
+        Some(path) => Some(Counted::new(NewFile::new(rt, path))),
+        None => None,
+    }
 }
 
 // `nfs4state audit`: whether the file is a lawful journal.
@@ -76,7 +87,7 @@ fn audit(rt: &HostRuntime, path: &str) -> u8 {
         Ok(bytes) => bytes,
         Err(fault) => return report(rt, fault),
     };
-    let mut sink = rt.stdout();
+    let mut sink = Counted::new(rt.stdout());
     let mut errors = rt.stderr();
     run_audit(rt.alloc(), bytes.as_slice(), &mut sink, &mut errors)
 }

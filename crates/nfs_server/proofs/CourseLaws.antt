@@ -1,7 +1,7 @@
 -- What follows from every course of a connection.
-use Rattle.std.proofs.Common.{◌≡◌, ℕ, List, [], ◌∷◌, ◌++◌, Option, Result, Ok, Err, inl, inr, refl, sym, ap, subst, ◌∙◌, append_assoc, length, arith}
+use Rattle.std.proofs.Common.{◌≡◌, ℕ, List, [], ◌∷◌, ◌++◌, Option, None, Result, Ok, Err, inl, inr, refl, sym, ap, subst, ◌∙◌, append_assoc, length, arith}
 use Rattle.std.specs.List.{flat_map}
-use Rattle.std.specs.Io.KnownBytes.{Appends, Consumes}
+use Rattle.std.specs.Io.KnownBytes.{Appends, Consumes, IsAtEnd, Keeps}
 use Rattle.std.proofs.KnownBytes.{Appends-nil, Appends-kept, Appends-trans, Consumes-kept, Consumes-nil, Consumes-trans}
 use Rattle.std.proofs.lemmas.List.{append-nil, length-append}
 use Rattle.std.proofs.lemmas.List.Concat.{flat_map-cons}
@@ -17,8 +17,11 @@ use Rattle.nfs_rpc.specs.declared.rpc_call.RpcCall.{RpcCall}
 use Rattle.nfs_rpc.specs.declared.rpc_call.RpcCall.TheVariants as calls
 use Rattle.nfs_server.proofs.JournalGains.{Gains, gains_after, gains_nothing, gains_then, questions_are_entries}
 use Rattle.nfs_server.specs.Connection.{Scene, Turn, Course, AreTurns, EndsWith, IsCourse, IsIdle, IsTurn, all_exchanges, exchanges_of, rest_after, text_of}
-use Rattle.nfs_server.specs.CourseLaws.{GainsEntries, HasBytes, IsOneText, TellsBytes}
-use Rattle.nfs_server.specs.Device.{Device, AreTaken, IsCut, IsWritten}
+use Rattle.nfs_server.specs.Sides.{device_of}
+use Rattle.nfs_server.specs.declared.device.Counted.{Counted}
+use Rattle.nfs_server.specs.declared.sides.Sides.{Sides}
+use Rattle.nfs_server.specs.CourseLaws.{AddsWritten, GainsEntries, HasBytes, IsOneText, TellsBytes}
+use Rattle.nfs_server.specs.Device.{Device, AreTaken, IsCut, IsWritten, device_of_sink}
 use Rattle.nfs_server.specs.Exchange.{Exchange, Rules, AreExchanged, AreLeft, MakesRoom, messages_of, questions_of, rules, written_for_all}
 use Rattle.nfs_server.proofs.Serving.{exchanged_then, messages-append, written-append}
 use Rattle.nfs_xdr.specs.declared.op_result.OpResult.{OpResult}
@@ -74,7 +77,7 @@ turns_exchanged {D = D} {S = S} {C = C} device rules before after carried (turn 
     (exchanged_then rules turn.exchanges (exchanges_of turns) before.service mid.service after.service before.clock mid.clock after.clock here (turns_exchanged device rules mid after turn.rest turns are.4))
 
 -- the exchanges follow one another, and lead to a service that is alike to the one at the end
-abbrev LeadTo : {S C : Type 0} → Rules S C → S → C → List Exchange → S → C → Type 0
+abbrev pub LeadTo : {S C : Type 0} → Rules S C → S → C → List Exchange → S → C → Type 0
 LeadTo {S = S} rules service clock es service' clock' =
     (served : S) × AreExchanged rules service clock es served clock' × rules.alike served service'
 
@@ -102,7 +105,7 @@ end_exchanged device rules same before course (Err errors.Memory) after (inr (in
 end_exchanged device rules same before course (Err errors.Memory) after (inr (inr ends)) = turn_exchanged device rules same IsWritten before (rest_after [] course.turns) course.last after ends.0
 end_exchanged device rules same before course (Err errors.TooMuch) after ends = idle_exchanged device rules same before after course.last.exchanges ends.0.0 ends.0.1
 
-course_exchanged : {D S C : Type 0} (device : Device D) (rules : Rules S C) (same : (s : S) → rules.alike s s) (before : Scene D S C) (course : Course) (result : Result ℕ ServeError) (after : Scene D S C)
+pub course_exchanged : {D S C : Type 0} (device : Device D) (rules : Rules S C) (same : (s : S) → rules.alike s s) (before : Scene D S C) (course : Course) (result : Result ℕ ServeError) (after : Scene D S C)
     → IsCourse device rules before course result after → LeadTo rules before.service before.clock (all_exchanges course) after.service after.clock
 course_exchanged device rules same before course result after is =
     let mid = is.0 in
@@ -164,6 +167,46 @@ written_bytes : {D : Type 0} (device : Device D) (remaining contents : D → Opt
 written_bytes device remaining contents tells a b bytes written =
     let taken = taken_bytes device remaining contents tells a b written.0 written.2 in
     (subst (λ (w : List ℕ). Appends (contents a) (contents b) w) (sym written.1) taken.0, taken.1)
+
+-- what is written to a device that tells its bytes is added after them: all of it, or a beginning where a write failed
+pub adds_written : {D : Type 0} (device : Device D) (remaining contents : D → Option (List ℕ)) (tells : TellsBytes device remaining contents) → AddsWritten device contents
+adds_written device remaining contents tells old new bytes = (
+  λ written. (written_bytes device remaining contents tells old new bytes written).0,
+  λ cut. (
+    cut.0,
+    cut.1,
+    cut.3,
+    cut.4,
+    Appends-kept (contents old) (contents cut.2) (contents new) cut.0 (written_bytes device remaining contents tells old cut.2 cut.0 cut.5).0 (tells.fails_to_write cut.2 new cut.6).0,
+  ),
+)
+
+-- a source and a sink of std that count their failed calls tell their bytes, as one device
+pub counted_tell : {R W : Type 0} (remaining : R → Option (List ℕ)) (contents : W → Option (List ℕ))
+    → TellsBytes {D = Sides (Counted R) (Counted W)}
+    (device_of (λ old piece new. Consumes (remaining old.device) (remaining new.device) piece × (piece ≡ [] → IsAtEnd (remaining new.device)))
+    (λ old new. Keeps (remaining old.device) (remaining new.device))
+    (λ old part new. Appends (contents old.device) (contents new.device) part)
+    (λ old new. Keeps (contents old.device) (contents new.device)))
+    (λ sides. remaining sides.source.device) (λ sides. contents sides.sink.device)
+counted_tell remaining contents = record {
+  gives = λ a b piece did. (did.0.0, did.0.1, ap (λ sink. contents sink.device) did.1);
+  fails_to_read = λ a b did. (did.0, ap (λ sink. contents sink.device) did.1);
+  takes = λ a b part did. (did.0, ap (λ source. remaining source.device) did.1);
+  fails_to_write = λ a b did. (did.0, ap (λ source. remaining source.device) did.1);
+}
+
+-- a sink of std that counts its failed writes tells its bytes
+pub counted_sink_tells : {W : Type 0} (contents : W → Option (List ℕ))
+    → TellsBytes {D = Counted W}
+    (device_of_sink (λ old part new. Appends (contents old.device) (contents new.device) part) (λ old new. Keeps (contents old.device) (contents new.device)))
+    (λ sink. None) (λ sink. contents sink.device)
+counted_sink_tells contents = record {
+  gives = λ a b piece did. (tt, (λ none. tt), ap (λ sink. contents sink.device) did);
+  fails_to_read = λ a b did. (tt, ap (λ sink. contents sink.device) did);
+  takes = λ a b part did. (did, refl);
+  fails_to_write = λ a b did. (did, refl);
+}
 
 -- which bytes a turn read and wrote, given those of its replies that were written
 turn_bytes : {D S C : Type 0} (device : Device D) (rules : Rules S C) (remaining contents : D → Option (List ℕ)) (tells : TellsBytes device remaining contents) (out : Device D → D → List ℕ → D → Type 0) (before : Scene D S C) (carried : List ℕ) (turn : Turn) (after : Scene D S C) (written : List ℕ)

@@ -6,9 +6,11 @@ pub mod Writing
 pub mod Exchanges
 pub mod Serving
 pub mod Courses
-pub mod Sides
+pub mod Views
 pub mod JournalGains
 pub mod LentLeases
 pub mod CourseLaws
+pub mod Gaining
+pub mod Receipts
 pub mod Workers
 pub mod Kept

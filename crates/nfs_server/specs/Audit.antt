@@ -1,11 +1,11 @@
 -- What the program tells of the bytes of a file that may be a journal.
-use Rattle.std.specs.Prelude.{◌≡◌, ◌⊎◌, ℕ, List, ◌++◌, length, codes, Option, Result, Ok, Err}
+use Rattle.std.specs.Prelude.{◌≡◌, ◌⊎◌, ℕ, ◌+◌, List, ◌++◌, length, codes, Result, Ok, Err}
 use Rattle.std.specs.Fmt.{decimal}
-use Rattle.std.specs.Io.KnownBytes.{Appends}
 use Rattle.nfs_journal.specs.Audits.{IsLawfulJournal, IsWrongAt}
 use Rattle.nfs_journal.specs.Journals.{IsFileOf}
 use Rattle.nfs_journal.specs.declared.audit_error.AuditError.{AuditError}
 use Rattle.nfs_journal.specs.declared.audit_error.AuditError.TheVariants as errors
+use Rattle.nfs_server.specs.Device.{Device, IsCut, IsWritten}
 use Rattle.nfs_server.specs.declared.fault.Fault.{Fault}
 use Rattle.nfs_server.specs.declared.fault.Fault.TheVariants.{NotJournal, WrongAnswer, NoMemory}
 use Rattle.nfs_state.specs.State.{History}
@@ -32,9 +32,13 @@ fault_of_audit errors.Memory = NoMemory
 abbrev pub lawful_line : ℕ → List ℕ
 lawful_line count = codes "lawful: " ++ decimal count ++ codes " entries\n"
 
--- How the verdict is told, on a writer that is told by the bytes that it holds, with the program's exit status: a lawful
--- journal by its line, with 0, or with 1 where it couldn't be written; any other by 1, without a byte.
-abbrev pub IsTold : {W : Type 0} → (W → Option (List ℕ)) → W → W → Result ℕ AuditError → ℕ → Type 0
-IsTold contents old new (Ok count) status =
-    ((status ≡ 0) × Appends (contents old) (contents new) (lawful_line count)) ⊎ (status ≡ 1)
-IsTold contents old new (Err error) status = (status ≡ 1) × (new ≡ old)
+-- How the verdict is told, on a sink, which is taken as a device, with the number of its failed writes and the program's
+-- exit status. A lawful journal: its line was written, whole, with 0; or with 1 a beginning of it that isn't all, since
+-- a write failed, one. Any other: 1, and the sink is as it was.
+abbrev pub IsTold : {W : Type 0} → Device W → (W → ℕ) → W → W → Result ℕ AuditError → ℕ → Type 0
+IsTold device failures old new (Ok count) status =
+    ((status ≡ 0) × IsWritten device old (lawful_line count) new
+    × (failures new ≡ failures old))
+    ⊎ ((status ≡ 1) × IsCut device old (lawful_line count) new
+    × (failures new ≡ failures old + 1))
+IsTold device failures old new (Err error) status = (status ≡ 1) × (new ≡ old)

@@ -1,5 +1,5 @@
 -- What follows from every course: for the whole text that was read, for devices whose bytes are known, and for the
--- journal.
+-- journal. And what follows from writes to a device whose bytes are known.
 use Rattle.std.specs.Prelude.{◌≡◌, ◌≢◌, ℕ, List, [], ◌++◌, Option, Result, Err, OnOk}
 use Rattle.std.specs.List.{flat_map}
 use Rattle.std.specs.Io.KnownBytes.{Appends, Consumes, IsAtEnd, Keeps}
@@ -10,7 +10,7 @@ use Rattle.nfs_server.specs.declared.serve_error.ServeError.{ServeError}
 use Rattle.nfs_server.specs.declared.serve_error.ServeError.TheVariants as errors
 use Rattle.nfs_server.specs.Leases.{LentCore}
 use Rattle.nfs_server.specs.Connection.{Scene, Turn, Course, AreTurns, IsCourse, all_exchanges, exchanges_of, rest_after, text_of}
-use Rattle.nfs_server.specs.Device.{Device}
+use Rattle.nfs_server.specs.Device.{Device, IsCut, IsWritten}
 use Rattle.nfs_server.specs.Entries.{AreEntries}
 use Rattle.nfs_server.specs.Exchange.{Rules, messages_of, questions_of, written_for_all}
 
@@ -46,6 +46,15 @@ pub record TellsBytes {D : Type 0} (device : Device D)
       → Appends (contents a) (contents b) part × (remaining b ≡ remaining a)
   pub fails_to_write : (a b : D) → device.fails_to_write a b
       → Keeps (contents a) (contents b) × (remaining b ≡ remaining a)
+
+-- What is written to a device is added after the bytes that were written before, if these are known: all of it, or a
+-- beginning that isn't all where a write failed.
+abbrev pub AddsWritten : {D : Type 0} → Device D → (D → Option (List ℕ)) → Type 0
+AddsWritten {D = D} device contents =
+    (old new : D) (bytes : List ℕ)
+    → (IsWritten device old bytes new → Appends (contents old) (contents new) bytes)
+    × (IsCut device old bytes new → (front : List ℕ) × (back : List ℕ)
+    × (bytes ≡ front ++ back) × (back ≢ []) × Appends (contents old) (contents new) front)
 
 -- What is read in a course is taken from the front of the bytes that the device had, up to their end if the course ends
 -- without an error, and what is written is added after the bytes that were written before.

@@ -10,6 +10,15 @@ pub record Device (D : Type 0) : Type 1 where
   pub takes : D → List ℕ → D → Type 0
   pub fails_to_write : D → D → Type 0
 
+-- A sink as a device: only writes change it.
+abbrev pub device_of_sink : {W : Type 0} → (W → List ℕ → W → Type 0) → (W → W → Type 0) → Device W
+device_of_sink takes fails = record {
+  gives = λ old piece new. new ≡ old;
+  fails_to_read = λ old new. new ≡ old;
+  takes = takes;
+  fails_to_write = fails;
+}
+
 -- writes took these parts, one after the other
 abbrev pub AreTaken : {D : Type 0} → Device D → D → List (List ℕ) → D → Type 0
 AreTaken device old [] new = new ≡ old

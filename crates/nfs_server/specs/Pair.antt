@@ -2,7 +2,8 @@
 use Rattle.std.specs.Prelude.{◌≡◌, ℕ, List}
 use Rattle.nfs_server.specs.declared.duplex.Pair.{Pair}
 use Rattle.nfs_server.specs.Device.{Device}
-use Rattle.nfs_server.specs.Sides.{Sides, device_of}
+use Rattle.nfs_server.specs.declared.sides.Sides.{Sides}
+use Rattle.nfs_server.specs.Sides.{device_of}
 
 -- the states of the source and the sink that a pair borrows
 abbrev pub sides_of : {R W : Type 0} → Pair R W → Sides R W

@@ -1,10 +1,7 @@
 -- A source and a sink that are separate from each other, as one device.
 use Rattle.std.specs.Prelude.{◌≡◌, ℕ, List}
+use Rattle.nfs_server.specs.declared.sides.Sides.{Sides}
 use Rattle.nfs_server.specs.Device.{Device}
-
-pub record Sides (R W : Type 0) : Type 0 where
-  pub source : R
-  pub sink : W
 
 -- A read doesn't change the sink, and a write doesn't change the source.
 abbrev pub device_of : {R W : Type 0} → (R → List ℕ → R → Type 0) → (R → R → Type 0)

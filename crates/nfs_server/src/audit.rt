@@ -1,10 +1,12 @@
 //! The audit of a journal's file.
 
-ghost use Rattle.std.specs.Prelude.{Result, ℕ};
+ghost use Rattle.std.specs.Prelude.{Result, ℕ, ◌-◌, ◌^◌, ◌<◌};
 ghost use Rattle.nfs_journal.specs.declared.audit_error.AuditError.{AuditError};
 ghost use Rattle.nfs_server.specs.Audit.{IsTold, IsVerdict};
+ghost use Rattle.nfs_server.specs.Device.{device_of_sink};
 
-use crate::Fault;
+use crate::connection::write_to;
+use crate::{DeviceFailed, Fault, Sink};
 use nfs_journal::{AuditError, audit, read_journal};
 use std::alloc::Global;
 use std::io::Write;
@@ -12,25 +14,22 @@ use std::io::Write;
 /// Tells whether these bytes are the file of a lawful journal, one in which each answer is the one that the rules give.
 /// Returns the program's exit status: 0 after the line `lawful: K entries` on `sink`, with the number of its entries, or
 /// 1 after a fault, which is reported by a line on `errors`.
-pub fn run_audit<W: Write, E: Write>(
-    alloc: Global,
-    bytes: &[u8],
-    sink: &mut W,
-    errors: &mut E,
-) -> u8
+pub fn run_audit<W: Sink, E: Write>(alloc: Global, bytes: &[u8], sink: &mut W, errors: &mut E) -> u8
+    requires writes { W.failures sink.old < 2 ^ 64 - 1 }
     ensures { (verdict : Result ℕ AuditError) × IsVerdict bytes.now verdict
-        × IsTold W.contents sink.old sink.new verdict result }
+        × IsTold (device_of_sink W.takes W.fails) W.failures sink.old sink.new verdict result }
 {
-    let fault = match verdict(alloc, bytes) {
-        Ok(count) => match writeln!(sink, "lawful: {count} entries") {
-            Ok(()) => return 0,
-            Err(_) => Fault::OutputNotWritten,
-        },
-        Err(error) => Fault::from(error),
+    let count = match verdict(alloc, bytes) {
+        Ok(count) => count,
+        Err(error) => return Fault::from(error).report(errors),
     };
-    // If this line can't be written, there is no other place to report it.
-    let _ = writeln!(errors, "{fault}");
-    1
+    let Ok(line) = format!(in alloc; "lawful: {count} entries\n") else {
+        return Fault::NoMemory.report(errors);
+    };
+    match write_to(sink, line.as_bytes()) {
+        Ok(()) => 0,
+        Err(DeviceFailed) => Fault::OutputNotWritten.report(errors),
+    }
 }
 
 // How many entries the lawful journal has whose file these bytes are.

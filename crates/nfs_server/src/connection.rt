@@ -1,18 +1,19 @@
 ghost use Rattle.std.specs.Prelude.{◌≡◌, ◌+◌, ◌-◌, ◌^◌, ◌<◌, ◌≤◌, ◌↔◌, ◌⊎◌, false, [], length, IfOk, OnOk, OnErr, IsErrOf};
 ghost use Rattle.std.specs.List.{AllByRecursion};
 ghost use Rattle.nfs_server.specs.Connection.{HasCourse, scene};
-ghost use Rattle.nfs_server.specs.Device.{IsCut, IsWritten};
-ghost use Rattle.nfs_server.specs.Sides.{Sides, device_of, sides};
+ghost use Rattle.nfs_server.specs.Device.{IsCut, IsWritten, device_of_sink};
+ghost use Rattle.nfs_server.specs.Sides.{device_of, sides};
 ghost use Rattle.nfs_server.specs.Exchange.{rules};
 ghost use Rattle.nfs_server.specs.Serving.{IsServed};
 ghost use Rattle.nfs_rpc.specs.Records.{IsStream, TakesPiece};
 
 use crate::duplex::Pair;
 use crate::replies::Replies;
-use crate::{Clock, DeviceFailed, Duplex, ServeError, Service, Sink, Source};
+use crate::{Clock, Counted, DeviceFailed, Duplex, ServeError, Service, Sink, Source};
 use nfs_rpc::{RECORD_LIMIT, RecordError, Records};
 use nfs_tree::Tree;
 use std::alloc::{AllocError, Global};
+use std::io;
 
 /// The greatest number of bytes in the input of a connection.
 pub const STREAM_LIMIT: u64 = 1 << 40;
@@ -178,6 +179,24 @@ fn send<D: Duplex>(device: &mut D, replies: &mut Replies) -> Result<(), ServeErr
     Ok(())
 }
 
+/// Writes all of the bytes to the sink.
+pub(crate) fn write_to<W: Sink>(sink: &mut W, bytes: &[u8]) -> Result<(), DeviceFailed>
+    requires room { W.failures sink.old < 2 ^ 64 - 1 }
+    ensures ok { OnOk result
+        (IsWritten (device_of_sink W.takes W.fails) sink.old bytes.now sink.new) }
+    ensures err { OnErr result
+        (IsCut (device_of_sink W.takes W.fails) sink.old bytes.now sink.new) }
+    ensures kept { OnOk result (W.failures sink.new ≡ W.failures sink.old) }
+    ensures failed { OnErr result (W.failures sink.new ≡ W.failures sink.old + 1) }
+{
+    let mut none = Counted::new(io::empty());
+    let mut pair = Pair {
+        source: &mut none,
+        sink,
+    };
+    write_all(&mut pair, bytes)
+}
+
 // Writes all of the bytes.
 fn write_all<D: Duplex>(device: &mut D, bytes: &[u8]) -> Result<(), DeviceFailed>
     requires room { D.write_failures device.old < 2 ^ 64 - 1 }
@@ -185,7 +204,7 @@ fn write_all<D: Duplex>(device: &mut D, bytes: &[u8]) -> Result<(), DeviceFailed
     ensures err { OnErr result (IsCut D.device device.old bytes.now device.new) }
     ensures reads { D.read_failures device.new ≡ D.read_failures device.old }
     ensures kept { OnOk result (D.write_failures device.new ≡ D.write_failures device.old) }
-    ensures failed { OnErr result (D.write_failures device.old < D.write_failures device.new) }
+    ensures failed { OnErr result (D.write_failures device.new ≡ D.write_failures device.old + 1) }
 {
     let mut rest = bytes;
     while !rest.is_empty() {

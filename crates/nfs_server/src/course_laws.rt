@@ -1,12 +1,13 @@
-//! Laws that hold for every course of a connection, and for the questions of a service.
+//! Laws that hold for every course of a connection, for the questions of a service, and for what is written to a device.
 ghost use Rattle.std.specs.Prelude.{◌≡◌, ℕ, List, Option};
-ghost use Rattle.nfs_server.specs.CourseLaws.{GainsEntries, HasBytes, IsOneText, TellsBytes};
+ghost use Rattle.nfs_server.specs.CourseLaws.{AddsWritten, GainsEntries, HasBytes, IsOneText, TellsBytes};
+ghost use Rattle.nfs_server.specs.Device.{device_of_sink};
 ghost use Rattle.nfs_server.specs.Entries.{QuestionsAreEntries};
 ghost use Rattle.nfs_server.specs.Sides.{device_of};
 ghost use Rattle.nfs_server.specs.Exchange.{rules};
 ghost use Rattle.nfs_tree.specs.Tree.{Files};
 
-use crate::{Clock, Counted, Duplex, Lent, Service, Sink, Source};
+use crate::{Clock, Counted, Duplex, Lent, Service, Sides, Sink, Source};
 use nfs_rpc::split_goes_on;
 use std::io::{Read, Write};
 
@@ -21,17 +22,27 @@ pub fn turns_are_of_one_text<D: Duplex, R: Source, W: Sink, S: Service, C: Clock
 }
 
 /// The law that a connection takes what it reads from the front of the bytes that its device has, and adds what it
-/// writes after the bytes that were written before, if these bytes are known: of any device that tells them, and of two
-/// devices of std.
+/// writes after the bytes that were written before, if these bytes are known: of any device that tells them, as do two
+/// devices of std as one, and of two devices of std apart.
 pub fn bytes_of_a_connection<D: Duplex, R: Read, W: Write, S: Service, C: Clock>()
     ensures together { (tree : Files) (remaining contents : D → Option (List ℕ))
         → TellsBytes D.device remaining contents
         → HasBytes D.device (rules tree S.gives S.alike C.tells) remaining contents }
+    ensures sides { TellsBytes ⟦<Sides<Counted<R>, Counted<W>> as Duplex>⟧.device
+        (λ sides. R.remaining sides.source.device) (λ sides. W.contents sides.sink.device) }
     ensures apart { (tree : Files) → HasBytes
         (device_of ⟦<Counted<R> as Source>⟧.gives ⟦<Counted<R> as Source>⟧.fails
         ⟦<Counted<W> as Sink>⟧.takes ⟦<Counted<W> as Sink>⟧.fails)
         (rules tree S.gives S.alike C.tells)
         (λ sides. R.remaining sides.source.device) (λ sides. W.contents sides.sink.device) }
+{}
+
+/// The law that what is written to a device of std is added after the bytes that were written before, if these are
+/// known: all of it, or a beginning that isn't all where a write failed.
+pub fn bytes_of_writes<W: Write>()
+    ensures { AddsWritten
+        (device_of_sink ⟦<Counted<W> as Sink>⟧.takes ⟦<Counted<W> as Sink>⟧.fails)
+        (λ sink. W.contents sink.device) }
 {}
 
 /// The law that, if the service is a core, its journal gains an entry for each operation that it was asked in a

@@ -4,6 +4,7 @@ ghost use Rattle.nfs_server.specs.Once.{fault_of};
 use crate::ServeError;
 use nfs_journal::AuditError;
 use nfs_tree::TreeError;
+use std::io::Write;
 use thiserror::Error;
 
 /// Why a run of the program failed, displayed as the line that it writes on standard error.
@@ -76,5 +77,14 @@ impl Fault {
             Err(ServeError::Memory) => Some(Fault::NoMemory),
             Err(ServeError::TooMuch) => Some(Fault::InputTooLong),
         }
+    }
+
+    /// Reports the fault by a line, and returns the program's exit status, which is 1.
+    pub(crate) fn report<E: Write>(self, errors: &mut E) -> u8
+        ensures { result ≡ 1 }
+    {
+        // If this line can't be written, there is no other place to report it.
+        let _ = writeln!(errors, "{self}");
+        1
     }
 }

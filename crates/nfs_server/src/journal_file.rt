@@ -1,20 +1,24 @@
 //! The journal's file, written at the end of a run.
 
+ghost use Rattle.std.specs.Prelude.{◌-◌, ◌^◌, ◌<◌, IfSome};
+ghost use Rattle.nfs_server.specs.Device.{device_of_sink};
 ghost use Rattle.nfs_server.specs.Once.{IsFiled, IsFiledBy};
 
-use crate::Fault;
+use crate::connection::write_to;
+use crate::{DeviceFailed, Fault, Sink};
 use nfs_core::Journal;
 use nfs_journal::{AuditError, write_journal};
 use std::alloc::Global;
-use std::io::Write;
 
-/// Writes the file of the journal, if there is a writer for it. Returns why it wasn't written, if it should have been.
-pub(crate) fn file_journal<J: Write>(
+/// Writes the file of the journal, if there is a sink for it. Returns why it wasn't written, if it should have been.
+pub(crate) fn file_journal<J: Sink>(
     alloc: Global,
     journal: &Journal,
     file: &mut Option<J>,
 ) -> Option<Fault>
-    ensures { IsFiled J.contents file.old file.new journal.now.history result }
+    requires writes { IfSome file.old (λ sink. J.failures sink < 2 ^ 64 - 1) }
+    ensures { IsFiled (device_of_sink J.takes J.fails) J.failures file.old file.new
+        journal.now.history result }
 {
     match file {
         None => None,
@@ -22,8 +26,10 @@ pub(crate) fn file_journal<J: Write>(
     }
 }
 
-fn write_file<J: Write>(alloc: Global, journal: &Journal, file: &mut J) -> Option<Fault>
-    ensures { IsFiledBy J.contents file.old file.new journal.now.history result }
+fn write_file<J: Sink>(alloc: Global, journal: &Journal, file: &mut J) -> Option<Fault>
+    requires writes { J.failures file.old < 2 ^ 64 - 1 }
+    ensures { IsFiledBy (device_of_sink J.takes J.fails) J.failures file.old file.new
+        journal.now.history result }
 {
     let mut bytes = Vec::new(alloc);
     match write_journal(&mut bytes, journal) {
@@ -31,8 +37,8 @@ fn write_file<J: Write>(alloc: Global, journal: &Journal, file: &mut J) -> Optio
         Err(_) => return Some(Fault::FileNotWritten),
         Ok(()) => {}
     }
-    match file.write_all(bytes.as_slice()) {
-        Err(_) => Some(Fault::FileNotWritten),
+    match write_to(file, bytes.as_slice()) {
+        Err(DeviceFailed) => Some(Fault::FileNotWritten),
         Ok(()) => None,
     }
 }

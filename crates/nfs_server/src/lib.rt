@@ -22,6 +22,7 @@ mod replies;
 mod serve_error;
 mod service;
 mod serving;
+mod sides;
 mod tree_file;
 mod worker;
 mod worker_laws;
@@ -31,7 +32,8 @@ pub use clock::{Clock, Stopped};
 pub use compound::run_compound;
 pub use connection::{STREAM_LIMIT, serve_connection, serve_duplex};
 pub use course_laws::{
-    bytes_of_a_connection, journal_of_a_connection, questions_are_entries, turns_are_of_one_text,
+    bytes_of_a_connection, bytes_of_writes, journal_of_a_connection, questions_are_entries,
+    turns_are_of_one_text,
 };
 pub use desk::Desk;
 pub use device::{Counted, DeviceFailed, Sink, Source};
@@ -46,5 +48,6 @@ pub use receipt_laws::receipts_are_questions;
 pub use serve_error::ServeError;
 pub use service::Service;
 pub use serving::serve_all;
+pub use sides::Sides;
 pub use tree_file::read_tree;
 pub use worker_laws::workers_keep_receipts;

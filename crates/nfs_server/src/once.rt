@@ -1,8 +1,8 @@
-ghost use Rattle.std.specs.Prelude.{◌≡◌, ◌-◌, ◌^◌, ◌<◌, ◌↔◌, ◌⊎◌, ℕ, Option, None, Result, Err, IsErrOf, IsFalse};
+ghost use Rattle.std.specs.Prelude.{◌≡◌, ◌-◌, ◌^◌, ◌<◌, ◌↔◌, ◌⊎◌, ℕ, Option, None, Result, Err, IfSome, IsErrOf, IsFalse};
 ghost use Rattle.std.specs.Option.{option_or};
 ghost use Rattle.nfs_owners.specs.Registry.{is_live};
 ghost use Rattle.nfs_server.specs.Connection.{HasCourse, scene};
-ghost use Rattle.nfs_server.specs.Sides.{device_of, sides};
+ghost use Rattle.nfs_server.specs.Device.{device_of_sink};
 ghost use Rattle.nfs_server.specs.Exchange.{rules};
 ghost use Rattle.nfs_server.specs.Once.{IsFiled, fault_of, status_of};
 ghost use Rattle.nfs_server.specs.declared.clock.Stopped.{Stopped};
@@ -11,7 +11,7 @@ ghost use Rattle.nfs_server.specs.declared.serve_error.ServeError.{ServeError};
 ghost use Rattle.nfs_server.specs.Leases.{IsLent, LentCore};
 
 use crate::journal_file::file_journal;
-use crate::{Clock, Fault, Lent, ServeError, Service, Sink, Source, Stopped, serve_connection};
+use crate::{Clock, Duplex, Fault, Lent, ServeError, Service, Sink, Stopped, serve_duplex};
 use nfs_core::{Core, Moment};
 use nfs_tree::Tree;
 use std::alloc::Global;
@@ -19,60 +19,52 @@ use std::io::Write;
 
 /// Serves one input to its end, with this core, in which no client is live, and the tree for which the core was made. All
 /// calls come at the moment `now`. At the end, also after a fault, the file of the core's journal is written, if there is
-/// a writer for it. Returns the program's exit status: 0, or 1 after a fault, the first of which is reported by a line on
+/// a sink for it. Returns the program's exit status: 0, or 1 after a fault, the first of which is reported by a line on
 /// `errors`.
-pub fn run_once<R: Source, W: Sink, E: Write, J: Write>(
+pub fn run_once<D: Duplex, E: Write, J: Sink>(
     alloc: Global,
     core: Core,
     tree: &Tree,
     now: Moment,
-    source: &mut R,
-    sink: &mut W,
+    device: &mut D,
     errors: &mut E,
     journal: &mut Option<J>,
 ) -> u8
-    requires reads { R.failures source.old < 2 ^ 64 - 1 }
-    requires writes { W.failures sink.old < 2 ^ 64 - 1 }
+    requires reads { D.read_failures device.old < 2 ^ 64 - 1 }
+    requires writes { D.write_failures device.old < 2 ^ 64 - 1 }
+    requires files { IfSome journal.old (λ sink. J.failures sink < 2 ^ 64 - 1) }
     requires tree { core.journal.nodes ≡ tree.now.nodes }
     requires policy { core.journal.policy ≡ tree.now.policy }
     requires clients { (number : ℕ) → IsFalse (is_live number core.stored.clients) }
-    // The input was served as one connection at this moment, starting from this core, the file of the journal that the
-    // core has at the end was written, and the status says how both ended; or memory ran out before anything was read.
+    // The input was served as one connection at this moment, starting from this core, it was then seen to the file of the
+    // journal that the core has at the end, and the status says how both ended; or memory ran out before anything was
+    // read, and nothing was written.
     ensures served { (outcome : Result ℕ ServeError) × (filed : Option Fault)
         × (((lent : LentCore) × (clock : Stopped) × (lent' : LentCore) × (clock' : Stopped)
         × (lent.core ≡ core) × IsLent core lent.book × (clock.moment ≡ now)
-        × HasCourse (device_of R.gives R.fails W.takes W.fails)
+        × HasCourse D.device
         (rules tree.now ⟦<Lent as Service>⟧.gives ⟦<Lent as Service>⟧.alike
         ⟦<Stopped as Clock>⟧.tells)
-        (scene (sides source.old sink.old) lent clock) outcome
-        (scene (sides source.new sink.new) lent' clock')
-        × IsFiled J.contents journal.old journal.new lent'.core.journal filed)
+        (scene device.old lent clock) outcome (scene device.new lent' clock')
+        × IsFiled (device_of_sink J.takes J.fails) J.failures journal.old journal.new
+        lent'.core.journal filed)
         ⊎ ((outcome ≡ Err ServeError.Memory) × (filed ≡ None)
-        × (source.new ≡ source.old) × (sink.new ≡ sink.old) × (journal.new ≡ journal.old)))
-        × (IsErrOf outcome ServeError.Read ↔ R.failures source.old < R.failures source.new)
-        × (IsErrOf outcome ServeError.Write ↔ W.failures sink.old < W.failures sink.new)
+        × (device.new ≡ device.old) × (journal.new ≡ journal.old)))
+        × (IsErrOf outcome ServeError.Read
+        ↔ D.read_failures device.old < D.read_failures device.new)
+        × (IsErrOf outcome ServeError.Write
+        ↔ D.write_failures device.old < D.write_failures device.new)
         × (result ≡ status_of (option_or (fault_of outcome) filed)) }
 {
     let Ok(mut lent) = Lent::new(alloc, core) else {
-        return status(errors, Some(Fault::NoMemory));
+        return Fault::NoMemory.report(errors);
     };
     let mut clock = Stopped::at(now);
-    let outcome = serve_connection(alloc, source, sink, &mut lent, tree, &mut clock);
+    let outcome = serve_duplex(alloc, device, &mut lent, tree, &mut clock);
     let core = lent.into_core();
     let filed = file_journal(alloc, core.journal(), journal);
-    status(errors, Fault::of(outcome).or(filed))
-}
-
-// Reports the fault by a line, if there is one. Returns the exit status.
-fn status<E: Write>(errors: &mut E, fault: Option<Fault>) -> u8
-    ensures { result ≡ status_of fault }
-{
-    match fault {
+    match Fault::of(outcome).or(filed) {
         None => 0,
-        Some(fault) => {
-            // If this line can't be written, there is no other place to report it.
-            let _ = writeln!(errors, "{fault}");
-            1
-        }
+        Some(fault) => fault.report(errors),
     }
 }

@@ -4,7 +4,7 @@ ghost use Rattle.std.specs.Prelude.{◌≡◌, [], IfOk};
 ghost use Rattle.nfs_owners.specs.Registry.{no_clients};
 
 use nfs_core::{Core, CoreError, Moment};
-use nfs_server::{Counted, run_audit, run_once};
+use nfs_server::{Counted, Sides, run_audit, run_once};
 use nfs_tree::{DEFAULT_TREE, Tree};
 use std::alloc::Global;
 use std::test::Fail;
@@ -135,9 +135,10 @@ fn is_told(alloc: Global, parts: &[&str], line: &str) -> Result<bool, Fail> {
     let mut file = bytes_of(alloc, &[OPENING])?;
     let rest = bytes_of(alloc, parts)?;
     file.extend_from_slice(rest.as_slice())?;
-    let mut output = Vec::new(alloc);
+    let mut output = Counted::new(Vec::new(alloc));
     let mut errors = Vec::new(alloc);
     let status = run_audit(alloc, file.as_slice(), &mut output, &mut errors);
+    let output = output.into_device();
     Ok(if line.starts_with("fault: ") {
         status == 1 && output.is_empty() && errors.as_slice() == line.as_bytes()
     } else {
@@ -208,23 +209,24 @@ fn is_run(
         return Ok(false);
     };
     let sent = bytes_of(alloc, sent)?;
-    let mut source = Counted::new(sent.as_slice());
-    let mut sink = Counted::new(Vec::new(alloc));
+    let mut device = Sides {
+        source: Counted::new(sent.as_slice()),
+        sink: Counted::new(Vec::new(alloc)),
+    };
     let mut errors = Vec::new(alloc);
-    let mut journal = Some(Vec::new(alloc));
+    let mut journal = Some(Counted::new(Vec::new(alloc)));
     let status = run_once(
         alloc,
         core,
         &tree,
         Moment::new(0).unwrap(),
-        &mut source,
-        &mut sink,
+        &mut device,
         &mut errors,
         &mut journal,
     );
     let (replies, file) = (bytes_of(alloc, replies)?, bytes_of(alloc, file)?);
-    let is_filed = journal.is_some_and(|bytes| bytes.as_slice() == file.as_slice());
-    let is_answered = sink.into_device().as_slice() == replies.as_slice();
+    let is_filed = journal.is_some_and(|sink| sink.into_device().as_slice() == file.as_slice());
+    let is_answered = device.sink.into_device().as_slice() == replies.as_slice();
     Ok(status == 0 && errors.is_empty() && is_answered && is_filed)
 }
 

@@ -1,7 +1,7 @@
 use Rattle.std.proofs.Common.{rules}
 use Rattle.nfs_server.specs.Sides.{device_of}
 use Rattle.nfs_server.specs.Exchange.{rules as answered_by}
-use Rattle.nfs_server.proofs.Sides.{course_of_sides, course_to}
+use Rattle.nfs_server.proofs.Views.{course_of_sides, course_to}
 use Rattle.nfs_server.proofs.connection.serve_connection.Goals as goal
 
 pub returns-clause-course : goal.returns-clause-course

@@ -1,12 +1,15 @@
--- A course over a pair that borrows a source and a sink is a course over the source and the sink.
-use Rattle.std.proofs.Common.{◌≡◌, ℕ, List, [], ◌∷◌, Result, Ok, Err, inl, inr, refl, ap, subst, sym, ◌∙◌}
+-- What is done over a device is done over another one, as which it is seen: a course over a pair that borrows a source
+-- and a sink is a course over the source and the sink, and writes to the pair are writes to the sink.
+use Rattle.std.proofs.Common.{◌≡◌, ℕ, List, [], ◌∷◌, Result, Ok, Err, OnOk, OnErr, inl, inr, refl, ap, subst, sym, ◌∙◌}
 use Rattle.nfs_server.specs.declared.serve_error.ServeError.{ServeError}
 use Rattle.nfs_server.specs.declared.serve_error.ServeError.TheVariants as errors
 use Rattle.nfs_server.specs.Connection.{Scene, Turn, Course, AreTurns, EndsWith, HasCourse, IsIdle, IsTurn, rest_after, scene}
-use Rattle.nfs_server.specs.Device.{Device, AreTaken, IsCut, IsWritten}
-use Rattle.nfs_server.specs.Sides.{Sides, device_of, sides}
+use Rattle.nfs_server.specs.Device.{Device, AreTaken, IsCut, IsWritten, device_of_sink}
+use Rattle.nfs_server.specs.declared.sides.Sides.{Sides}
+use Rattle.nfs_server.specs.Sides.{device_of, sides}
 use Rattle.nfs_server.specs.Exchange.{Rules}
 use Rattle.nfs_server.specs.Pair.{BorrowsTheSame, device_of_pair, sides_of}
+use Rattle.nfs_server.specs.declared.device.DeviceFailed.{DeviceFailed}
 use Rattle.nfs_server.specs.declared.duplex.Pair.{Pair}
 
 -- In a state in which `IsBound` holds, each call of the device `from` is a call of the device `to`, seen through
@@ -121,6 +124,30 @@ pair_is_sides gives fails takes fails' start = record {
   takes = λ a b part bound did. (did.1, (did.0.0 ∙ bound.0, did.0.1 ∙ bound.1));
   fails_to_write = λ a b bound did. (did.1, (did.0.0 ∙ bound.0, did.0.1 ∙ bound.1));
 }
+
+-- a pair behaves like the sink that it borrows, as long as it borrows the same one; reads of it don't change the sink
+pair_is_sink : {R W : Type 0} (gives : R → List ℕ → R → Type 0) (fails : R → R → Type 0) (takes : W → List ℕ → W → Type 0) (fails' : W → W → Type 0) (start : Pair R W)
+    → Is (device_of_pair gives fails takes fails') (device_of_sink takes fails') (λ p. p.sink.now) (λ p. BorrowsTheSame start p)
+pair_is_sink gives fails takes fails' start = record {
+  gives = λ a b piece bound did. (did.1.1, (did.0.0 ∙ bound.0, did.0.1 ∙ bound.1));
+  fails_to_read = λ a b bound did. (did.1.1, (did.0.0 ∙ bound.0, did.0.1 ∙ bound.1));
+  takes = λ a b part bound did. (did.1.0, (did.0.0 ∙ bound.0, did.0.1 ∙ bound.1));
+  fails_to_write = λ a b bound did. (did.1.0, (did.0.0 ∙ bound.0, did.0.1 ∙ bound.1));
+}
+
+-- what was written to a pair was written to its sink, and the pair still borrows the same source and the same sink
+pub writes_to_sink : {R W : Type 0} (gives : R → List ℕ → R → Type 0) (fails : R → R → Type 0) (takes : W → List ℕ → W → Type 0) (fails' : W → W → Type 0) (result : Result (Unit {0}) DeviceFailed) (before after : Pair R W) (bytes : List ℕ)
+    → OnOk result (IsWritten (device_of_pair gives fails takes fails') before bytes after)
+    → OnErr result (IsCut (device_of_pair gives fails takes fails') before bytes after)
+    → OnOk result (IsWritten (device_of_sink takes fails') before.sink.now bytes after.sink.now)
+    × OnErr result (IsCut (device_of_sink takes fails') before.sink.now bytes after.sink.now)
+    × BorrowsTheSame before after
+writes_to_sink gives fails takes fails' (Ok tt) before after bytes written cut =
+    let to = written_as (device_of_pair gives fails takes fails') (device_of_sink takes fails') (λ p. p.sink.now) (λ p. BorrowsTheSame before p) (pair_is_sink gives fails takes fails' before) before after bytes (refl, refl) written in
+    (to.0, tt, to.1)
+writes_to_sink gives fails takes fails' (Err error) before after bytes written cut =
+    let to = cut_as (device_of_pair gives fails takes fails') (device_of_sink takes fails') (λ p. p.sink.now) (λ p. BorrowsTheSame before p) (pair_is_sink gives fails takes fails' before) before after bytes (refl, refl) cut in
+    (tt, to.0, to.1)
 
 -- a course over a pair that borrows a source and a sink is a course over these, and the pair still borrows the same
 -- ones
