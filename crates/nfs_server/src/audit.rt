@@ -14,12 +14,7 @@ use std::io::Write;
 /// Tells whether these bytes are the file of a lawful journal, one in which each answer is the one that the rules give.
 /// Returns the program's exit status: 0 after the line `lawful: K entries` on `sink`, with the number of its entries, or
 /// 1 after a fault, which is reported by a line on `errors`.
-pub fn run_audit<W: Sink, E: Write>(
-    alloc: Global,
-    bytes: &[u8],
-    sink: &mut W,
-    errors: &mut E,
-) -> u8
+pub fn run_audit<W: Sink, E: Write>(alloc: Global, bytes: &[u8], sink: &mut W, errors: &mut E) -> u8
     requires writes { W.failures sink.old < 2 ^ 64 - 1 }
     ensures { (verdict : Result ℕ AuditError) × IsVerdict bytes.now verdict
         × IsTold (device_of_sink W.takes W.fails) W.failures sink.old sink.new verdict result }

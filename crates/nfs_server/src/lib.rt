@@ -24,7 +24,8 @@ pub use clock::{Clock, Stopped};
 pub use compound::run_compound;
 pub use connection::{STREAM_LIMIT, serve_connection, serve_duplex};
 pub use course_laws::{
-    bytes_of_a_connection, bytes_of_writes, journal_of_a_connection, questions_are_entries, turns_are_of_one_text,
+    bytes_of_a_connection, bytes_of_writes, journal_of_a_connection, questions_are_entries,
+    turns_are_of_one_text,
 };
 pub use device::{Counted, DeviceFailed, Sink, Source};
 pub use duplex::Duplex;

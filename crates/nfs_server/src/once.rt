@@ -57,13 +57,20 @@ pub fn run_once<D: Duplex, E: Write, J: Sink>(
         × (result ≡ status_of (option_or (fault_of outcome) filed)) }
 {
     let Ok(mut lent) = Lent::new(alloc, core) else {
-        return Fault::NoMemory.report(errors);
+        return status(errors, Some(Fault::NoMemory));
     };
     let mut clock = Stopped::at(now);
     let outcome = serve_duplex(alloc, device, &mut lent, tree, &mut clock);
     let core = lent.into_core();
     let filed = file_journal(alloc, core.journal(), journal);
-    match Fault::of(outcome).or(filed) {
+    status(errors, Fault::of(outcome).or(filed))
+}
+
+// Reports the fault, if there is one. Returns the exit status.
+fn status<E: Write>(errors: &mut E, fault: Option<Fault>) -> u8
+    ensures { result ≡ status_of fault }
+{
+    match fault {
         None => 0,
         Some(fault) => fault.report(errors),
     }
