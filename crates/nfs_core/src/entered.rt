@@ -9,9 +9,7 @@ ghost use Rattle.nfs_state.specs.Room.{HasGivenNumbers, state_of, stored_of};
 
 use crate::following::decide_next;
 use nfs_rules::{Decision, at_most_one_decision};
-use nfs_state::{
-    Call, Entry, Journal, Request, Shortage, Tables, commit_entry, copy_of_answer,
-};
+use nfs_state::{Call, Entry, Journal, Request, Shortage, Tables, commit_entry, copy_of_answer};
 use nfs_xdr::OpResult;
 use std::alloc::{AllocError, Global};
 

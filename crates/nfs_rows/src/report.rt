@@ -1,9 +1,12 @@
 //! What the program reports of a file of rows.
 
-use crate::{Connection, Got, Reason, Refused, Row, Step, Sweep, read_rows, retry_row, run_row};
+use crate::{Connection, Got, Reason, Refused, Row, Step, Sweep, Wrong};
+use crate::{read_rows, retry_row, run_row, share_row, share_row_again};
 use nfs_server::Fault;
 use nfs_shared::Swept;
 use std::alloc::{AllocError, Global};
+use std::sync::Wait;
+use std::thread::Threads;
 
 /// The lengths of the pieces that a row's input comes in: first the whole, and then cut in several ways.
 const PIECES: [usize; 4] = [1 << 20, 1000, 3, 1];
@@ -18,6 +21,10 @@ pub enum Sending {
     Once,
     /// Whole, and once more where it goes wrong.
     Again,
+    /// Once, each to a thread of its own, with a state that threads share.
+    Shared,
+    /// The same, and once more where it goes wrong.
+    SharedAgain,
 }
 
 /// What came of a file: the report, and how many rows there are and failed.
@@ -30,7 +37,8 @@ pub struct Summary {
 }
 
 /// Runs the rows of a file's text, which is reported under this name.
-pub fn try_text(
+pub fn try_text<R: Threads + Wait + Sync>(
+    rt: &R,
     alloc: Global,
     name: &str,
     text: &str,
@@ -43,7 +51,8 @@ pub fn try_text(
     let mut out = String::new(alloc);
     let mut failures = 0usize;
     for row in &rows {
-        if !report_row(alloc, name, row, sending, &mut out)? {
+        if let Some(failure) = first_failure(rt, alloc, row, sending)? {
+            report_row(alloc, name, row, &failure, &mut out)?;
             failures = failures.saturating_add(1);
         }
     }
@@ -107,37 +116,41 @@ fn refusal(alloc: Global, name: &str, text: &str, refused: Refused) -> Result<Su
     })
 }
 
-// Whether the row passes; the first way in which it doesn't is reported.
+// The first way in which a row goes wrong.
+#[derive(Debug, Drop)]
+enum Failure {
+    /// A step, counted from 0, that doesn't get what is wanted: what it gets, and the most bytes that a piece of its
+    /// input had.
+    Step(usize, Got, usize),
+    /// The journal that it leaves where threads share the state.
+    Journal,
+}
+
 fn report_row(
     alloc: Global,
     name: &str,
     row: &Row,
-    sending: Sending,
+    failure: &Failure,
     out: &mut String,
-) -> Result<bool, AllocError> {
-    let Some(failure) = first_failure(alloc, row, sending)? else {
-        return Ok(true);
-    };
+) -> Result<(), AllocError> {
     writeln!(out, "{name}:{}: {}", row.line, row.name)?;
     for line in row.rule.as_str().lines() {
         writeln!(out, "    {line}")?;
     }
-    if let Some(step) = row.steps.get(failure.place) {
-        report_step(alloc, step, &failure, out)?;
+    match failure {
+        Failure::Step(place, got, piece_len) => match row.steps.get(*place) {
+            Some(step) => report_step(alloc, step, got, *piece_len, out),
+            None => Ok(()),
+        },
+        Failure::Journal => writeln!(
+            out,
+            "    the journal isn't the one that is left where no state is shared"
+        ),
     }
-    Ok(false)
 }
 
-// A step of a row, counted from 0, that doesn't get what is wanted: what it gets, and the most bytes that a piece of its
-// input had.
-#[derive(Debug, Drop)]
-struct Failure {
-    place: usize,
-    got: Got,
-    piece_len: usize,
-}
-
-fn first_failure(
+fn first_failure<R: Threads + Wait + Sync>(
+    rt: &R,
     alloc: Global,
     row: &Row,
     sending: Sending,
@@ -145,6 +158,8 @@ fn first_failure(
     match sending {
         Sending::Once => first_failure_in_pieces(alloc, row),
         Sending::Again => Ok(failure_of(retry_row(alloc, row)?, usize::MAX)),
+        Sending::Shared => Ok(failure_of_shared(share_row(rt, alloc, row)?)),
+        Sending::SharedAgain => Ok(failure_of_shared(share_row_again(rt, alloc, row)?)),
     }
 }
 
@@ -164,22 +179,26 @@ fn first_failure_in_pieces(alloc: Global, row: &Row) -> Result<Option<Failure>, 
 
 fn failure_of(wrong: Option<(usize, Got)>, piece_len: usize) -> Option<Failure> {
     let (place, got) = wrong?;
-    Some(Failure {
-        place,
-        got,
-        piece_len,
-    })
+    Some(Failure::Step(place, got, piece_len))
+}
+
+fn failure_of_shared(wrong: Option<Wrong>) -> Option<Failure> {
+    match wrong? {
+        Wrong::Step(place, got) => Some(Failure::Step(place, got, usize::MAX)),
+        Wrong::Journal => Some(Failure::Journal),
+    }
 }
 
 fn report_step(
     alloc: Global,
     step: &Step,
-    failure: &Failure,
+    got: &Got,
+    piece_len: usize,
     out: &mut String,
 ) -> Result<(), AllocError> {
-    match (step, &failure.got) {
+    match (step, got) {
         (Step::Connection(connection), Got::Replies(bytes, fault)) => {
-            report_pieces(connection, failure.piece_len, out)?;
+            report_pieces(connection, piece_len, out)?;
             report_fault(out, "wanted", connection.fault)?;
             report_fault(out, "got", *fault)?;
             report_words(alloc, connection.wanted.as_slice(), bytes.as_slice(), out)

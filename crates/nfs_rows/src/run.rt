@@ -25,7 +25,7 @@ pub fn run_row(
 }
 
 // The first step that doesn't get what is wanted.
-fn first_wrong(
+pub(crate) fn first_wrong(
     alloc: Global,
     server: &mut Server,
     steps: &[Step],

@@ -43,6 +43,14 @@ impl Server {
         }
     }
 
+    /// The tree, and the core.
+    pub fn into_parts(self) -> (Tree, Core)
+        ensures { result.1.journal.nodes ≡ result.0.nodes }
+    {
+        let Server { tree, lent } = self;
+        (tree, lent.into_core())
+    }
+
     fn converse(
         &mut self,
         alloc: Global,

@@ -77,7 +77,7 @@ turns_exchanged {D = D} {S = S} {C = C} device rules before after carried (turn 
     (exchanged_then rules turn.exchanges (exchanges_of turns) before.service mid.service after.service before.clock mid.clock after.clock here (turns_exchanged device rules mid after turn.rest turns are.4))
 
 -- the exchanges follow one another, and lead to a service that is alike to the one at the end
-abbrev LeadTo : {S C : Type 0} → Rules S C → S → C → List Exchange → S → C → Type 0
+abbrev pub LeadTo : {S C : Type 0} → Rules S C → S → C → List Exchange → S → C → Type 0
 LeadTo {S = S} rules service clock es service' clock' =
     (served : S) × AreExchanged rules service clock es served clock' × rules.alike served service'
 
@@ -105,7 +105,7 @@ end_exchanged device rules same before course (Err errors.Memory) after (inr (in
 end_exchanged device rules same before course (Err errors.Memory) after (inr (inr ends)) = turn_exchanged device rules same IsWritten before (rest_after [] course.turns) course.last after ends.0
 end_exchanged device rules same before course (Err errors.TooMuch) after ends = idle_exchanged device rules same before after course.last.exchanges ends.0.0 ends.0.1
 
-course_exchanged : {D S C : Type 0} (device : Device D) (rules : Rules S C) (same : (s : S) → rules.alike s s) (before : Scene D S C) (course : Course) (result : Result ℕ ServeError) (after : Scene D S C)
+pub course_exchanged : {D S C : Type 0} (device : Device D) (rules : Rules S C) (same : (s : S) → rules.alike s s) (before : Scene D S C) (course : Course) (result : Result ℕ ServeError) (after : Scene D S C)
     → IsCourse device rules before course result after → LeadTo rules before.service before.clock (all_exchanges course) after.service after.clock
 course_exchanged device rules same before course result after is =
     let mid = is.0 in

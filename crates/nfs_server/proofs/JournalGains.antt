@@ -23,7 +23,7 @@ Gains questions answers old new =
     (entries : List Entry) × AreEntries questions answers entries × (new ≡ record old { entries = old.entries ++ entries })
 
 -- the entries of questions and of more questions after them
-entries_then : (questions more : List Question) (answers others : List OpResult) (entries last : List Entry) → AreEntries questions answers entries → AreEntries more others last → AreEntries (questions ++ more) (answers ++ others) (entries ++ last)
+pub entries_then : (questions more : List Question) (answers others : List OpResult) (entries last : List Entry) → AreEntries questions answers entries → AreEntries more others last → AreEntries (questions ++ more) (answers ++ others) (entries ++ last)
 entries_then [] more [] others entries last are rest = rw are rest
 entries_then (Operation request ∷ questions) more (answer ∷ answers) others entries last (inl refused) rest =
     inl (refused.0, entries_then questions more answers others entries last refused.1 rest)

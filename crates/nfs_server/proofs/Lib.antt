@@ -1,5 +1,6 @@
 pub mod Limits
 pub mod Folding
+pub mod Receiving
 pub mod Replying
 pub mod Writing
 pub mod Exchanges
@@ -9,3 +10,7 @@ pub mod Views
 pub mod JournalGains
 pub mod LentLeases
 pub mod CourseLaws
+pub mod Gaining
+pub mod Receipts
+pub mod Workers
+pub mod Kept

@@ -11,6 +11,10 @@ pub mod Exchange
 pub mod Connection
 pub mod Serving
 pub mod CourseLaws
+pub mod Holding
+pub mod Receipts
+pub mod Working
+pub mod Begun
 pub mod Once
 pub mod Audit
 pub mod ServeError

@@ -23,8 +23,8 @@ use std::alloc::AllocError;
 use xdr::{Bytes, Measure, Sequence, padding_of};
 
 /// Answers a COMPOUND (RFC 7530, section 15.2), operation by operation, up to the first answer other than NFS4_OK. It
-/// takes no memory itself; its service may. `results` has to be empty, with room for the results of as many operations
-/// as a COMPOUND may have.
+/// takes no memory itself. The service has to have room for as many questions as there are operations. `results` has to be
+/// empty, with room for the results of as many operations as a COMPOUND may have.
 pub fn run_compound<S: Service>(
     service: &mut S,
     tree: &Tree,
@@ -34,6 +34,7 @@ pub fn run_compound<S: Service>(
     mut results: Vec<OpResult>,
 ) -> CompoundReply
     requires limits { IsWithinLimits RECORD_LIMIT compound }
+    requires ready { length (operations_of compound.request) ≤ S.room service.old }
     requires serves { S.serves service.old ≡ tree.now.nodes }
     requires empty { results.items ≡ [] }
     requires room { OPERATION_LIMIT ≤ vec_capacity results }
@@ -141,6 +142,7 @@ fn answer_operations<S: Service>(
     results: &mut Vec<OpResult>,
 )
     requires few { head < 2 ^ 40 }
+    requires ready { length ops.now ≤ S.room service.old }
     requires serves { S.serves service.old ≡ context.now.tree.now.nodes }
     requires empty { results.old.items ≡ [] }
     requires room { length ops.now ≤ vec_capacity results.old }
@@ -181,11 +183,13 @@ fn answer_one<S: Service>(
     size: usize,
 ) -> OpResult
     requires few { size < 2 ^ 41 }
+    requires ready { 0 < S.room service.old }
     requires serves { S.serves service.old ≡ context.now.tree.now.nodes }
     requires nodes { AreNodes context.now.tree.now handles.old }
     ensures answer { IsAnswered (asker_of S.gives context.now)
         (record { service = service.old; handles = handles.old; size = size }) op.now
         (record { answer = result; after = handles.new }) service.new }
+    ensures ready { S.room service.old ≤ S.room service.new + 1 }
     ensures serves { S.serves service.new ≡ context.now.tree.now.nodes }
     ensures nodes { AreNodes context.now.tree.now handles.new }
     ensures form { op_result.Fits result }
@@ -219,6 +223,7 @@ fn ask<S: Service>(
     op: &Op,
 ) -> OpResult
     requires more { IsFalse (is_on_tree op.now) }
+    requires ready { 0 < S.room service.old }
     requires serves { S.serves service.old ≡ context.now.tree.now.nodes }
     requires nodes { AreNodes context.now.tree.now handles.old }
     ensures given { S.gives service.old
@@ -226,6 +231,7 @@ fn ask<S: Service>(
         (question_for op.now handles.old.current)) result service.new }
     ensures handles { handles.new ≡ handles_after_answer context.now.tree.now handles.old
         (question_for op.now handles.old.current) result }
+    ensures ready { S.room service.old ≤ S.room service.new + 1 }
     ensures serves { S.serves service.new ≡ context.now.tree.now.nodes }
     ensures nodes { AreNodes context.now.tree.now handles.new }
     ensures form { op_result.Fits result }

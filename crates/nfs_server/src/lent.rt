@@ -1,4 +1,4 @@
-ghost use Rattle.std.specs.Prelude.{◌≡◌, IfOk, IsFalse, List, ℕ, false, refl};
+ghost use Rattle.std.specs.Prelude.{◌≡◌, ◌^◌, IfOk, IsFalse, List, ℕ, false, refl};
 ghost use Rattle.nfs_core.specs.Server.{AreAlike};
 ghost use Rattle.nfs_owners.specs.Registry.{is_live};
 ghost use Rattle.nfs_server.specs.Leases.{IsLent, renewal_answer};
@@ -71,7 +71,9 @@ impl Service for Lent {
 
     ghost serves = { λ l. l.core.journal.nodes };
 
-    // Neither a core nor its leases need room before they are asked.
+    ghost room = { λ l. 2 ^ 64 };
+
+    // Neither a core nor its leases need room before they are asked, so there is always enough.
     fn room(&mut self, _questions: usize) -> Result<(), AllocError> {
         Ok(())
     }
@@ -99,8 +101,8 @@ impl Service for Lent {
     }
 }
 
-// What RENEW is answered, by whether the lease is open.
-fn answer_of(is_open: bool) -> Answer<()>
+/// What RENEW is answered, by whether the lease is open.
+pub(crate) fn answer_of(is_open: bool) -> Answer<()>
     ensures { result ≡ renewal_answer is_open }
 {
     if is_open {

@@ -1,4 +1,4 @@
-ghost use Rattle.std.specs.Prelude.{◌≡◌, ◌<◌, ◌≤◌, IsTrue, IfSome, List, length};
+ghost use Rattle.std.specs.Prelude.{◌≡◌, ◌+◌, ◌<◌, ◌≤◌, ℕ, IsTrue, IfSome, List, OnOk, length};
 ghost use Rattle.nfs_xdr.specs.Op.{has_entry, opnum_of};
 ghost use Rattle.nfs_server.specs.Asking.{Operation, Question, Renewal};
 ghost use Rattle.nfs_state.specs.Entries.{request_of};
@@ -21,9 +21,12 @@ pub trait Service {
     ghost alike: { Self → Self → Type 0 };
     /// The nodes of the tree that the service serves.
     ghost serves: { Self → List Node };
+    /// For how many questions the service has room.
+    ghost room: { Self → ℕ };
 
     /// Makes room for what the service needs to answer so many questions, before they are asked.
     fn room(&mut self, questions: usize) -> Result<(), AllocError>
+        ensures room { OnOk result (questions ≤ room self.new) }
         ensures alike { alike self.old self.new }
         ensures serves { serves self.new ≡ serves self.old };
 
@@ -35,10 +38,12 @@ pub trait Service {
         op: &Op,
         filehandle: Option<u32>,
     ) -> OpResult
+        requires room { 0 < room self.old }
         requires entry { IsTrue (has_entry op.now) }
         requires node { IfSome filehandle (λ node. node < node_count (serves self.old)) }
         ensures gives { gives self.old
             (Operation (request_of moment principal op.now filehandle)) result self.new }
+        ensures room { room self.old ≤ room self.new + 1 }
         ensures serves { serves self.new ≡ serves self.old }
         ensures fits { length (op_result.encoding result) ≤ answer_limit (opnum_of op.now) }
         ensures form { op_result.Fits result };
@@ -46,6 +51,7 @@ pub trait Service {
     /// Answers RENEW: renews the lease of the client with this clientid.
     fn renew(&mut self, moment: Moment, client: ClientId) -> OpResult
         ensures gives { gives self.old (Renewal moment client) result self.new }
+        ensures room { room self.old ≤ room self.new + 1 }
         ensures serves { serves self.new ≡ serves self.old }
         ensures fits { length (op_result.encoding result) ≤ answer_limit Renew }
         ensures form { op_result.Fits result };

@@ -128,11 +128,7 @@ pub(crate) fn renew_held<N: Naming>(held: &mut Held<N>, op: &Op, moment: Moment)
 }
 
 /// Renews the lease of this client, if it is open, and returns whether it is.
-pub(crate) fn renew_client<N: Naming>(
-    held: &mut Held<N>,
-    client: ClientId,
-    moment: Moment,
-) -> bool
+pub(crate) fn renew_client<N: Naming>(held: &mut Held<N>, client: ClientId, moment: Moment) -> bool
     ensures held { held.new ≡ record held.old {
       leases = with_renewal (number_in N.start.epoch client) moment held.old.leases;
     } }

@@ -4,6 +4,8 @@
 use nfs_rows::{Sending, show_text, try_text};
 use std::io::ErrorKind;
 use std::process::ExitCode;
+use std::sync::Wait;
+use std::thread::Threads;
 use std::{env, fs, io};
 
 /// The rows of the repository, from its top.
@@ -18,10 +20,10 @@ enum Task {
     Show,
 }
 
-/// `rows [--again | --hex] [FOLDER | FILE.rows]..`: the status is 0 where every row passes, or with `--hex` where every
+/// `rows [--shared] [--again] [FOLDER | FILE.rows]..`, or `rows --hex [FOLDER | FILE.rows]..`: the status is 0 where every row passes, or with `--hex` where every
 /// file can be read, else 1; and 2 where there is no folder of that name, or no memory.
 fn main(rt: HostRuntime) -> ExitCode {
-    match try_all(&rt) {
+    match try_all(&rt, &rt) {
         Ok(true) => ExitCode::from(0),
         Ok(false) => ExitCode::from(1),
         Err(error) => {
@@ -32,13 +34,14 @@ fn main(rt: HostRuntime) -> ExitCode {
     }
 }
 
-fn try_all(rt: &HostRuntime) -> io::Result<bool> {
+// `threads` is what threads are started and waited for by.
+fn try_all<R: Threads + Wait + Sync>(rt: &HostRuntime, threads: &R) -> io::Result<bool> {
     let words: Vec<String> = env::args(rt)?.collect(rt.alloc())?;
     let (task, first) = task_of(words.as_slice());
     let files = files_of(rt, words.as_slice(), first)?;
     let mut tally = Tally::default();
     for file in &files {
-        tally.try_file(rt, file.as_str(), task)?;
+        tally.try_file(rt, threads, file.as_str(), task)?;
     }
     if task == Task::Show {
         return Ok(tally.unread == 0);
@@ -46,12 +49,22 @@ fn try_all(rt: &HostRuntime) -> io::Result<bool> {
     tally.tell(rt, files.len())
 }
 
-// What the first word after the program's name asks for, and from which word on paths are named.
+// What the words after the program's name ask for, and from which word on paths are named.
 fn task_of(words: &[String]) -> (Task, usize) {
-    match words.get(1) {
-        Some(word) if word.as_str() == "--again" => (Task::Run(Sending::Again), 2),
-        Some(word) if word.as_str() == "--hex" => (Task::Show, 2),
+    match (word_at(words, 1), word_at(words, 2)) {
+        ("--shared", "--again") => (Task::Run(Sending::SharedAgain), 3),
+        ("--shared", _) => (Task::Run(Sending::Shared), 2),
+        ("--again", _) => (Task::Run(Sending::Again), 2),
+        ("--hex", _) => (Task::Show, 2),
         _ => (Task::Run(Sending::Once), 1),
+    }
+}
+
+// The word at this place, or none.
+fn word_at(words: &[String], place: usize) -> &str {
+    match words.get(place) {
+        Some(word) => word.as_str(),
+        None => "",
     }
 }
 
@@ -95,7 +108,13 @@ struct Tally {
 }
 
 impl Tally {
-    fn try_file(&mut self, rt: &HostRuntime, path: &str, task: Task) -> io::Result<()> {
+    fn try_file<R: Threads + Wait + Sync>(
+        &mut self,
+        rt: &HostRuntime,
+        threads: &R,
+        path: &str,
+        task: Task,
+    ) -> io::Result<()> {
         let text = match fs::read_to_string(rt, path) {
             Ok(text) => text,
             Err(error) if error.kind() == ErrorKind::OutOfMemory => return Err(error),
@@ -105,7 +124,7 @@ impl Tally {
             }
         };
         let summary = match task {
-            Task::Run(sending) => try_text(rt.alloc(), path, text.as_str(), sending)?,
+            Task::Run(sending) => try_text(threads, rt.alloc(), path, text.as_str(), sending)?,
             Task::Show => show_text(rt.alloc(), path, text.as_str())?,
         };
         self.rows = self.rows.saturating_add(summary.rows);

@@ -28,6 +28,7 @@ loop-op-preserved g c =
       completes = rw (c.push_reserved.ensures.items, c.written_len-size.ensures)
           (completes_more asker first now c.args.ops.now c.loop-op.results.items c.loop-op.op-index c.op-item.result effect c.answer_one-answer.new.service
           c.loop-op-test.true c.op-item.is c.answer_one-answer.ensures.answer goes c.loop-op.invariant.completes);
+      ready = omega (arith, c.answer_one-answer.ensures.ready, c.loop-op.invariant.ready);
       count = omega (arith, c.push_reserved.ensures.len);
       room = omega (arith, c.push_reserved.ensures.capacity, c.loop-op.invariant.room);
       size = rw (c.push_reserved.ensures.items, length_with, c.written_len-size.ensures) (omega (arith, c.loop-op.invariant.size));

@@ -11,6 +11,7 @@ use Rattle.nfs_server.proofs.compound.answer_operations.Given as goal
 abbrev pub invariant-loop-op : goal.invariant-loop-op
 invariant-loop-op g l = record {
   completes : Completes (asker_of g.S.Service.gives l.context) (start l.fn.service l.head) l.ops (record { service = l.service; handles = l.handles; size = l.size }) (drop l.op-index l.ops) l.results.items;
+  ready : length l.ops ≤ g.S.Service.room l.service + l.op-index;
   count : vec_len l.results ≡ l.op-index;
   room : vec_capacity l.results ≡ vec_capacity l.fn.results;
   size : l.size ≡ l.head + length (flat_map op_result.encoding l.results.items);

@@ -1,0 +1,130 @@
+ghost use Rattle.std.specs.Prelude.{◌≡◌, ◌≤◌, [], ℕ, IfSome, IsFalse};
+ghost use Rattle.nfs_owners.specs.Registry.{is_live};
+ghost use Rattle.nfs_server.specs.Working.{seats_of};
+ghost use Rattle.nfs_shared.specs.Ends.{AreFresh};
+ghost use Rattle.nfs_shared.specs.Naming.{start_of};
+
+use crate::board::Board;
+use crate::board_link::{BoardLink, NULL_REPLY_LEN};
+use nfs_core::{Core, Moment};
+use nfs_server::{Done, ServeError, serve_all, workers_keep_receipts};
+use nfs_shared::{Naming, Opened, Seat, Shared};
+use nfs_tree::Tree;
+use std::alloc::Global;
+use std::marker::Brand;
+use std::sync::Wait;
+use std::thread::Threads;
+use std::time::Clock as Sleeper;
+
+// How many links were served to their end, with a receipt each; in how many a read failed; and how many entries the
+// journal has.
+#[derive(Clone, Copy, Debug, PartialEq, Eq)]
+struct Outcome {
+    served: u32,
+    read_failures: u32,
+    entries: usize,
+}
+
+// Serves this number of links at once; none where memory was refused.
+fn outcome<R: Threads + Wait + Sleeper + Sync>(
+    rt: &R,
+    alloc: Global,
+    links: u32,
+) -> Option<Outcome> {
+    let tree = Tree::from_toml(alloc, "file = [{ path = \"a\" }]").ok()?;
+    let core = Core::new(alloc, &tree, 90, 7, tree.policy()).ok()?;
+    let opened = Opened::new(alloc, links).ok()?;
+    outcome_in::<Brand, R>(rt, alloc, opened, core, &tree)
+}
+
+// The same in a run of this name.
+fn outcome_in<N: Naming + Send + Sync, R: Threads + Wait + Sleeper + Sync>(
+    rt: &R,
+    alloc: Global,
+    opened: Opened,
+    core: Core,
+    tree: &Tree,
+) -> Option<Outcome>
+    requires roll { opened.roll ≡ N.roll }
+    requires ledger { opened.ledger ≡ N.name }
+    requires workers { opened.workers ≡ N.parts }
+    requires start { start_of core.journal ≡ N.start }
+    requires empty { core.journal.entries ≡ [] }
+    requires nobody { (number : ℕ) → IsFalse (is_live number core.stored.clients) }
+    requires tree { N.start.nodes ≡ tree.now.nodes }
+{
+    let (shared, seats) = Shared::<N>::new(alloc, opened, core).ok()?;
+    let board = Board::new(alloc, seats.len()).ok()?;
+    let links = links_at(alloc, rt, &board, seats)?;
+    let all = serve_all(alloc, rt, &shared, tree, links).ok()?;
+    let (served, read_failures) = count(&all);
+    let (receipts, seats) = Done::split(alloc, all).ok()?;
+    workers_keep_receipts::<N, BoardLink<'_, R>>();
+    let core = shared.end(receipts.as_slice(), seats);
+    Some(Outcome {
+        served,
+        read_failures,
+        entries: core.journal().entries().len(),
+    })
+}
+
+// A link for each seat.
+fn links_at<'a, N: Naming, R: Sleeper>(
+    alloc: Global,
+    rt: &'a R,
+    board: &'a Board,
+    seats: Vec<Seat<N>>,
+) -> Option<Vec<(BoardLink<'a, R>, Seat<N>)>>
+    ensures { IfSome result (λ links. seats_of links.items ≡ seats.items) }
+{
+    let moment = Moment::new(100)?;
+    let mut links = Vec::new(alloc);
+    for seat in seats {
+        let place = links.len();
+        links
+            .push((BoardLink::new(rt, board, place, moment), seat))
+            .ok()?;
+    }
+    Some(links)
+}
+
+// How many were served to the end, each with its own receipt, and in how many a read failed.
+fn count<N: Naming>(all: &Vec<Done<N>>) -> (u32, u32) {
+    let mut served = 0u32;
+    let mut read_failures = 0u32;
+    for done in all.iter() {
+        if done.result == Ok(0) && done.receipts.len() == 1 {
+            served = served.saturating_add(1);
+        }
+        if done.result == Err(ServeError::Read) {
+            read_failures = read_failures.saturating_add(1);
+        }
+    }
+    (served, read_failures)
+}
+
+#[test]
+fn two_links_at_once(rt: HostRuntime) {
+    let outcome = outcome(&rt, rt.alloc(), 2);
+    assert_eq!(&rt;
+        outcome,
+        Some(Outcome {
+            served: 2,
+            read_failures: 0,
+            entries: 2
+        })
+    );
+}
+
+#[test]
+fn eight_links_at_once(rt: HostRuntime) {
+    let outcome = outcome(&rt, rt.alloc(), 8);
+    assert_eq!(&rt;
+        outcome,
+        Some(Outcome {
+            served: 8,
+            read_failures: 0,
+            entries: 8
+        })
+    );
+}

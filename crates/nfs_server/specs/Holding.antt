@@ -1,0 +1,43 @@
+-- What a desk holds, and how it answers as a service.
+use Rattle.std.specs.Prelude.{◌≡◌, ◌≢◌, ℕ, Bool, List, [], ◌∷◌, ◌++◌, Option, Some, None}
+use Rattle.nfs_shared.specs.Seats.{Gives, SeatView}
+use Rattle.nfs_shared.specs.declared.receipt.Receipt.{Receipt}
+use Rattle.nfs_state.specs.Entries.{resource}
+use Rattle.nfs_state.specs.declared.request.Request.{Request}
+use Rattle.nfs_server.specs.Asking.{Operation, Question, Renewal}
+use Rattle.nfs_server.specs.Leases.{renewal_answer}
+use Rattle.nfs_xdr.specs.declared.op_result.OpResult.{OpResult}
+use Rattle.nfs_xdr.specs.declared.op_result.OpResult.TheVariants as results
+
+pub record Holding : Type 0 where
+  pub seat : SeatView
+  -- the receipts that the seat was given, in order
+  pub receipts : List Receipt
+  -- for how many more receipts there is room
+  pub room : ℕ
+
+-- these differ at most in their room
+abbrev pub AreAlikeButRoom : Holding → Holding → Type 0
+AreAlikeButRoom old new = new ≡ record old { room = new.room }
+
+-- seat and receipts are as they were
+abbrev pub HoldsTheSame : Holding → Holding → Type 0
+HoldsTheSame old new = (new.seat ≡ old.seat) × (new.receipts ≡ old.receipts)
+
+-- The receipt for an operation, if there is one. Without a receipt the answer is NFS4ERR_RESOURCE. A receipt is for this
+-- request with this answer, it is the seat's, and it comes after those that it was given before.
+abbrev pub IsReceived : Holding → Request → OpResult → Option Receipt → Holding → Type 0
+IsReceived old request answer None new = (answer ≡ resource request.op) × HoldsTheSame old new
+IsReceived old request answer (Some receipt) new =
+    (answer ≢ resource request.op)
+    × (receipt.call ≡ record { request = request; answer = answer })
+    × Gives old.seat receipt new.seat
+    × (new.receipts ≡ old.receipts ++ receipt ∷ [])
+
+-- How a desk answers a question. RENEW is answered by whether the lease is open, which nobody can tell outside of the
+-- lock.
+abbrev pub GivenBySeat : Holding → Question → OpResult → Holding → Type 0
+GivenBySeat old (Operation request) answer new =
+    (receipt : Option Receipt) × IsReceived old request answer receipt new
+GivenBySeat old (Renewal moment client) answer new =
+    (is_open : Bool) × (answer ≡ results.Renew (renewal_answer is_open)) × HoldsTheSame old new

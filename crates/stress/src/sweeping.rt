@@ -1,0 +1,50 @@
+use crate::rising::Calls;
+use nfs_core::Moment;
+use nfs_shared::{Naming, Shared, Swept};
+use std::sync::Wait;
+use std::sync::atomic::{AtomicBool, Ordering};
+use std::thread;
+
+/// How many sweeps there were, and how many clients they removed.
+#[derive(Clone, Copy, Debug)]
+pub(crate) struct Sweeps {
+    pub(crate) count: u32,
+    pub(crate) expired: u32,
+}
+
+impl Sweeps {
+    // One sweep more.
+    fn and(self, swept: Swept) -> Sweeps {
+        Sweeps {
+            count: self.count.saturating_add(1),
+            expired: self.expired.saturating_add(swept.expired),
+        }
+    }
+}
+
+/// Sweeps once at each moment that comes, and once more when the connections have ended.
+pub(crate) fn sweep_until<N: Naming, R: Wait>(
+    rt: &R,
+    shared: &Shared<N>,
+    calls: &Calls,
+    ended: &AtomicBool,
+) -> Sweeps {
+    let mut sweeps = Sweeps {
+        count: 0,
+        expired: 0,
+    };
+    let mut last = Moment::new(0).unwrap();
+    for _ in rt.forever() {
+        let is_last = ended.load(Ordering::SeqCst);
+        let now = calls.moment();
+        if now.seconds() != last.seconds() || is_last {
+            sweeps = sweeps.and(shared.sweep(rt, now));
+            last = now;
+        }
+        if is_last {
+            return sweeps;
+        }
+        thread::yield_now();
+    }
+    unreachable!()
+}

@@ -1,0 +1,326 @@
+"""What `stress` sends: random COMPOUNDs for 64 connections that come at once, and for one that comes alone before them.
+
+Nobody knows in which order the connections are served, so the calls can't be made from replies. But numbers are given in
+order: the connection that comes alone makes clients, opens and lock states, whose numbers are therefore known. Each of
+the others has open owners and lock owners of its own, and guesses what comes of its calls: in ranges that nobody else
+locks, nearly all of them succeed. Other calls meet each other."""
+import random
+from dataclasses import dataclass, field
+
+from messages import call, COMPOUND, handle, setclientid
+from tree import DEFAULT
+from wire import Opnum, opaque, u32, u64
+
+LEASE, EPOCH, PACE = 20, 7, 20
+LINKS = 64
+# Clients that are used all the time, and one that nobody uses again.
+CLIENTS, IDLE = 6, 7
+VERIFIER = b"verifier"
+# The nodes of the tree's files, with their paths.
+FILES = {1: (b"a",), 2: (b"b",), 4: (b"d", b"c")}
+READ, WRITE = 1, 2
+# The bytes that everybody locks; each link has as many of its own above them.
+COMMON = 100
+
+
+@dataclass
+class Lock:
+    """A lock state as its link knows it: its number, the seqids that it may have, and the last sequence id of its
+    owner."""
+    owner: bytes
+    number: int
+    seqids: list
+    last: int = 1
+
+
+@dataclass
+class Open:
+    """An open as its link knows it: the owner's client and name, its number and its pairs, the seqid of its stateid, and
+    the last sequence id of its owner."""
+    client: int
+    owner: bytes
+    file: int
+    number: int
+    pairs: list
+    seqid: int = 2
+    last: int = 2
+    lock: Lock = None
+    base: int = 0
+
+
+def stateid(seqid, client, number):
+    return u32(seqid, EPOCH, client, number)
+
+
+def spelled(client, name):
+    return u32(EPOCH, client) + opaque(name)
+
+
+def span(offset, length):
+    return u64(offset) + u64(length)
+
+
+def confirm(number, value):
+    return u32(Opnum.SETCLIENTID_CONFIRM, EPOCH, number) + u64(value)
+
+
+def putfh(file):
+    return u32(Opnum.PUTFH) + handle(file)
+
+
+def way_to(file):
+    """The operations that make the file's directory the current filehandle."""
+    return [u32(Opnum.PUTROOTFH)] + [u32(Opnum.LOOKUP) + opaque(name) for name in FILES[file][:-1]]
+
+
+def open_of(one, seqid, access, deny):
+    words = u32(Opnum.OPEN, seqid, access, deny) + spelled(one.client, one.owner) + u32(0)
+    return words + u32(0) + opaque(FILES[one.file][-1])
+
+
+def first_lock(one, name, kind, offset, length):
+    """A LOCK of a new lock owner: the next request of the open's owner, and the first of the lock owner's."""
+    locker = u32(1, one.last + 1) + stateid(one.seqid, one.client, one.number) + u32(1) + spelled(one.client, name)
+    return u32(Opnum.LOCK, kind, 0) + span(offset, length) + locker
+
+
+def compounds(chunks, chance, uids=(None,)):
+    """Records of calls with these operations, which stand in lists that aren't cut, by one of these users each."""
+    records, taken, last = [], [], len(chunks) - 1
+    for place, (operations, may_fail) in enumerate(chunks):
+        taken += operations
+        if may_fail or place == last or len(taken) > 40 or chance.random() < 0.3:
+            arguments = u32(0, 0, len(taken)) + b"".join(taken)
+            records.append(call(len(records) + 1, COMPOUND, arguments, chance.choice(uids)))
+            taken = []
+    return b"".join(records)
+
+
+class First:
+    """The connection that comes alone: it makes the clients, and for each link two opens, one with a lock."""
+
+    def __init__(self, chance):
+        self.chance, self.chunks, self.states = chance, [], 0
+        for number in range(1, CLIENTS + 2):
+            self.chunks.append(([setclientid(VERIFIER, b"client %d" % number), confirm(number, number)], True))
+        self.opens = [self.make_open(link, turn) for turn in (0, 1) for link in range(LINKS)]
+        for one in self.opens[:LINKS]:
+            self.make_lock(one)
+        self.bytes = compounds(self.chunks, chance)
+
+    def make_open(self, link, turn):
+        self.states += 1
+        one = Open(1 + link % CLIENTS, b"owner %d.%d" % (link, turn), self.chance.choice(list(FILES)), self.states,
+                   [(3, 0)], base=COMMON * (1 + link))
+        words = u32(Opnum.OPEN_CONFIRM) + stateid(1, one.client, one.number) + u32(2)
+        self.chunks.append((way_to(one.file) + [open_of(one, 1, 3, 0), words], False))
+        return one
+
+    def make_lock(self, one):
+        self.states += 1
+        one.lock = Lock(b"locker %s" % one.owner, self.states, [1])
+        self.chunks.append(([putfh(one.file), first_lock(one, one.lock.owner, WRITE, one.base, 10)], False))
+        one.last += 1
+
+
+@dataclass
+class Link:
+    """One of the connections that come at once."""
+    place: int
+    opens: list
+    states: int
+    chance: random.Random
+    count: int
+    chunks: list = field(default_factory=list)
+
+    def __post_init__(self):
+        makers = {
+            self.lock: 8, self.locku: 5, self.lockt: 4, self.lock_common: 2, self.lock_of_new_owner: 3, self.open: 4,
+            self.open_denying: 1, self.open_downgrade: 2, self.open_confirm: 1, self.close: 0.4, self.again: 1,
+            self.renew: 2, self.release: 3, self.setclientid: 1, self.setclientid_anew: 0.3, self.on_tree: 3, self.getattr: 2,
+            self.guess: 2, self.lock_of_other: 1}
+        for _ in range(self.count):
+            self.chance.choices(list(makers), makers.values())[0]()
+        self.bytes = compounds(self.chunks, self.chance, [None] * 15 + [5])
+
+    def add(self, *operations, may_fail=False):
+        self.chunks.append((list(operations), may_fail))
+
+    def an_open(self):
+        return self.chance.choice(self.opens)
+
+    def a_client(self):
+        """Not the idle one, whose lease ends."""
+        others = [number for number in range(1, CLIENTS + 4) if number != IDLE]
+        return self.chance.choice([1 + self.place % CLIENTS] * len(others) + others)
+
+    def own_span(self, one):
+        """A few bytes that no other link locks."""
+        return span(one.base + self.chance.randrange(0, 40), self.chance.randint(1, 20))
+
+    def kind(self):
+        return self.chance.choice([1, 2, 2, 3, 4])
+
+    # Locks. A state has one seqid that its link knows of, or two where the answer depends on others: the higher one is
+    # tried first, since a seqid above the state's isn't counted.
+
+    def tries(self, one, words_of, may_fail=False):
+        """An operation on the lock state, by each seqid that it may have."""
+        lock = one.lock
+        for seqid in sorted(lock.seqids, reverse=True):
+            words = words_of(stateid(seqid, one.client, lock.number), lock.last + 1)
+            self.add(putfh(one.file), words, may_fail=may_fail or len(lock.seqids) > 1)
+        lock.last += 1
+
+    def locked(self):
+        found = [one for one in self.opens if one.lock]
+        return self.chance.choice(found) if found else None
+
+    def lock(self):
+        one = self.locked()
+        if one is None:
+            return self.guess()
+        head = u32(Opnum.LOCK, self.kind(), 0) + self.own_span(one)
+        self.tries(one, lambda state, seqid: head + u32(0) + state + u32(seqid))
+        one.lock.seqids = [seqid + 1 for seqid in one.lock.seqids]
+
+    def lock_common(self):
+        """Of bytes that others lock, too."""
+        one = self.locked()
+        if one is None or len(one.lock.seqids) > 1:
+            return self.lockt()
+        head = u32(Opnum.LOCK, self.kind(), 0) + span(self.chance.randrange(COMMON), self.chance.randint(1, 8))
+        self.tries(one, lambda state, seqid: head + u32(0) + state + u32(seqid), may_fail=True)
+        one.lock.seqids = [one.lock.seqids[0], one.lock.seqids[0] + 1]
+
+    def locku(self):
+        one = self.locked()
+        if one is None:
+            return self.guess()
+        where = self.chance.choice([self.own_span(one), span(0, COMMON), span(0, 2**64 - 1)])
+        self.tries(one, lambda state, seqid: u32(Opnum.LOCKU, self.kind(), seqid) + state + where)
+        one.lock.seqids = [seqid + 1 for seqid in one.lock.seqids]
+
+    def lockt(self):
+        one, where = self.an_open(), self.chance.choice([0, self.chance.randrange(COMMON * LINKS)])
+        owner = spelled(self.a_client(), self.chance.choice([b"tester", b"locker %s" % one.owner]))
+        words = u32(Opnum.LOCKT, self.kind()) + span(where, self.chance.randint(1, 50)) + owner
+        self.add(putfh(one.file), words, may_fail=True)
+
+    def lock_of_new_owner(self):
+        one = self.an_open()
+        name = b"new %d.%d" % (self.place, len(self.chunks))
+        offset = one.base + 40 + self.chance.randrange(30)
+        self.add(putfh(one.file), first_lock(one, name, self.chance.choice([READ, READ, WRITE]), offset, 1), may_fail=True)
+        one.last += 1
+
+    def lock_of_other(self):
+        """With the stateid of another link's open, and a guess of its owner's sequence id."""
+        client, number = self.chance.randint(1, CLIENTS), self.chance.randint(1, 2 * LINKS)
+        one = Open(client, b"", self.chance.choice(list(FILES)), number, [], last=self.chance.randint(2, 6))
+        self.add(putfh(one.file), first_lock(one, b"other", READ, 7, 1), may_fail=True)
+
+    def release(self):
+        name = self.chance.choice([b"tester", b"nobody", b"new %d.%d" % (self.place, self.chance.randrange(60))])
+        self.add(u32(Opnum.RELEASE_LOCKOWNER) + spelled(self.a_client(), name), may_fail=True)
+
+    # Opens.
+
+    def open(self):
+        one = self.an_open()
+        one.last, one.seqid = one.last + 1, one.seqid + 1
+        access = self.chance.choice([1, 2, 3, 3])
+        self.add(*way_to(one.file), open_of(one, one.last, access, 0))
+        if (access, 0) not in one.pairs:
+            one.pairs.append((access, 0))
+
+    def open_denying(self):
+        """Denied, as long as another link has an open on the file."""
+        one = self.an_open()
+        one.last += 1
+        self.add(*way_to(one.file), open_of(one, one.last, 1, self.chance.randint(1, 3)), may_fail=True)
+
+    def open_downgrade(self):
+        one = self.an_open()
+        one.last, share = one.last + 1, self.chance.choice(one.pairs)
+        words = u32(Opnum.OPEN_DOWNGRADE) + stateid(one.seqid, one.client, one.number) + u32(one.last, *share)
+        self.add(putfh(one.file), words)
+        one.seqid, one.pairs = one.seqid + 1, [pair for pair in one.pairs if pair[0] & ~share[0] == 0]
+
+    def open_confirm(self):
+        """Of one that is confirmed, which isn't counted."""
+        one = self.an_open()
+        words = u32(Opnum.OPEN_CONFIRM) + stateid(one.seqid, one.client, one.number) + u32(one.last + 1)
+        self.add(putfh(one.file), words, may_fail=True)
+
+    def close(self):
+        """And another open of the same owner, whose number is a guess."""
+        one = self.an_open()
+        words = u32(Opnum.CLOSE, one.last + 1) + stateid(one.seqid, one.client, one.number)
+        self.add(putfh(one.file), words, may_fail=True)
+        one.last += 2
+        self.add(*way_to(one.file), open_of(one, one.last, 3, 0))
+        one.number, one.seqid, one.pairs, one.lock = self.states + self.chance.randint(1, 40), 1, [(3, 0)], None
+
+    def again(self):
+        """The last operations once more, or those of another link's owner."""
+        if self.chunks:
+            self.add(*self.chunks[-1][0], may_fail=True)
+
+    def guess(self):
+        """An operation on a state with a number that may have been given since."""
+        client, number = self.chance.randint(1, CLIENTS), self.states + self.chance.randint(1, 60)
+        file, state = self.chance.choice(list(FILES)), stateid(1, client, number)
+        words = self.chance.choice([
+            u32(Opnum.CLOSE, 2) + state, u32(Opnum.OPEN_CONFIRM) + state + u32(2),
+            u32(Opnum.LOCKU, 1, 2) + state + span(0, 100), u32(Opnum.OPEN_DOWNGRADE) + state + u32(3, 1, 0)])
+        self.add(putfh(file), words, may_fail=True)
+
+    # Clients, and the tree.
+
+    def renew(self):
+        self.add(u32(Opnum.RENEW, EPOCH, self.a_client()), may_fail=True)
+
+    def setclientid(self):
+        """Of a client that is known, whose number stays; and guesses of the value that confirms it."""
+        number, value = self.chance.randint(1, CLIENTS), IDLE + 1 + len(self.chunks)
+        self.add(setclientid(VERIFIER, b"client %d" % number), may_fail=True)
+        for _ in range(4):
+            self.add(confirm(number, value + self.chance.randint(-8, 8)), may_fail=True)
+
+    def setclientid_anew(self):
+        """Of a client that is new, or comes again with another verifier."""
+        number = self.chance.choice([1, 100, 101, 102])
+        self.add(setclientid(b"verified", b"client %d" % number), may_fail=True)
+        self.add(confirm(IDLE + self.chance.randint(1, 20), IDLE + 1 + len(self.chunks)), may_fail=True)
+
+    def on_tree(self):
+        self.add(*self.chance.choice([
+            [u32(Opnum.PUTROOTFH), u32(Opnum.LOOKUP) + opaque(b"d"), u32(Opnum.LOOKUP) + opaque(b"c"), u32(Opnum.GETFH)],
+            [putfh(1), u32(Opnum.SAVEFH), putfh(2), u32(Opnum.RESTOREFH), u32(Opnum.ACCESS, 63)]]))
+        if self.chance.random() < 0.1:
+            self.add(u32(Opnum.PUTROOTFH), u32(Opnum.LOOKUP) + opaque(b"nothing"), may_fail=True)
+
+    def getattr(self):
+        self.add(putfh(self.chance.randint(0, 4)), u32(Opnum.GETATTR, 1, 0x100012), u32(Opnum.GETFH))
+
+
+class Plan:
+    """The input of the connection that comes alone, and those of the others; all by a seed."""
+
+    def __init__(self, seed):
+        chance = random.Random(seed)
+        first = First(chance)
+        self.first = first.bytes
+        self.others = [self.link(place, first, chance).bytes for place in range(LINKS)]
+        # The last two send the same.
+        self.others[-1] = self.others[-2]
+
+    def link(self, place, first, chance):
+        return Link(place, first.opens[place::LINKS], first.states, chance, chance.choice([10, 60, 80, 100]))
+
+    def spelled(self):
+        """As the program reads it."""
+        parts = [DEFAULT.encode(), self.first]
+        head = u32(LEASE, EPOCH, PACE) + b"".join(u32(len(part)) + part for part in parts)
+        return head + u32(len(self.others)) + b"".join(u32(len(part)) + part for part in self.others)
