@@ -36,9 +36,9 @@ pub fn run_once<D: Duplex, E: Write, J: Sink>(
     requires tree { core.journal.nodes ≡ tree.now.nodes }
     requires policy { core.journal.policy ≡ tree.now.policy }
     requires clients { (number : ℕ) → IsFalse (is_live number core.stored.clients) }
-    // The input was served as one connection at this moment, starting from this core, it was then seen to the file of the
-    // journal that the core has at the end, and the status says how both ended; or memory ran out before anything was
-    // read, and nothing was written.
+    // The input was served as one connection at this moment, starting from this core; then it was seen to the file of the
+    // journal that the core has at the end; and the status says how both ended. Or memory ran out before anything was read
+    // or written.
     ensures served { (outcome : Result ℕ ServeError) × (filed : Option Fault)
         × (((lent : LentCore) × (clock : Stopped) × (lent' : LentCore) × (clock' : Stopped)
         × (lent.core ≡ core) × IsLent core lent.book × (clock.moment ≡ now)
