@@ -2,7 +2,8 @@ use Rattle.nfs_shared.proofs.held.renew_held.Goals as goal
 
 pub invariant_of-held : goal.invariant_of-held
 invariant_of-held g c =
-    let was = c.held.invariant.0 in (
+    let held = c.held.invariant in
+    let was = held.0 in (
       record {
         lawful = was.lawful;
         safe = was.safe;
@@ -10,5 +11,8 @@ invariant_of-held g c =
         places = was.places;
         receipts = was.receipts;
       },
-      c.held.invariant.1,
+      held.1,
+      held.2,
+      held.3,
+      held.4,
     )
