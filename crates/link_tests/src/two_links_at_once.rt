@@ -26,7 +26,7 @@ struct Outcome {
 }
 
 // Serves this number of links at once; none where memory was refused.
-fn outcome<R: Threads + Wait + Sleeper + Sync>(
+fn serve_links<R: Threads + Wait + Sleeper + Sync>(
     rt: &R,
     alloc: Global,
     links: u32,
@@ -34,11 +34,11 @@ fn outcome<R: Threads + Wait + Sleeper + Sync>(
     let tree = Tree::from_toml(alloc, "file = [{ path = \"a\" }]").ok()?;
     let core = Core::new(alloc, &tree, 90, 7, tree.policy()).ok()?;
     let opened = Opened::new(alloc, links).ok()?;
-    outcome_in::<Brand, R>(rt, alloc, opened, core, &tree)
+    serve_links_in::<Brand, R>(rt, alloc, opened, core, &tree)
 }
 
 // The same in a run of this name.
-fn outcome_in<N: Naming + Send + Sync, R: Threads + Wait + Sleeper + Sync>(
+fn serve_links_in<N: Naming + Send + Sync, R: Threads + Wait + Sleeper + Sync>(
     rt: &R,
     alloc: Global,
     opened: Opened,
@@ -53,12 +53,18 @@ fn outcome_in<N: Naming + Send + Sync, R: Threads + Wait + Sleeper + Sync>(
     requires nobody { (number : ℕ) → IsFalse (is_live number core.stored.clients) }
     requires tree { N.start.nodes ≡ tree.now.nodes }
 {
-    let (shared, seats) = Shared::<N>::new(alloc, opened, core).ok()?;
+    let Ok((shared, seats)) = Shared::<N>::new(alloc, opened, core) else {
+        return None;
+    };
     let board = Board::new(alloc, seats.len()).ok()?;
     let links = links_at(alloc, rt, &board, seats)?;
-    let all = serve_all(alloc, rt, &shared, tree, links).ok()?;
+    let Ok(all) = serve_all(alloc, rt, &shared, tree, links) else {
+        return None;
+    };
     let (served, read_failures) = count(&all);
-    let (receipts, seats) = Done::split(alloc, all).ok()?;
+    let Ok((receipts, seats)) = Done::split(alloc, all) else {
+        return None;
+    };
     workers_keep_receipts::<N, BoardLink<'_, R>>();
     let core = shared.end(receipts.as_slice(), seats);
     Some(Outcome {
@@ -105,7 +111,7 @@ fn count<N: Naming>(all: &Vec<Done<N>>) -> (u32, u32) {
 
 #[test]
 fn two_links_at_once(rt: HostRuntime) {
-    let outcome = outcome(&rt, rt.alloc(), 2);
+    let outcome = serve_links(&rt, rt.alloc(), 2);
     assert_eq!(&rt;
         outcome,
         Some(Outcome {
@@ -118,7 +124,7 @@ fn two_links_at_once(rt: HostRuntime) {
 
 #[test]
 fn eight_links_at_once(rt: HostRuntime) {
-    let outcome = outcome(&rt, rt.alloc(), 8);
+    let outcome = serve_links(&rt, rt.alloc(), 8);
     assert_eq!(&rt;
         outcome,
         Some(Outcome {

@@ -9,22 +9,14 @@ use Rattle.nfs_rpc.specs.Records.{IsRest, SplitGoesOn, Splits}
 use Rattle.nfs_tree.specs.Tree.{Files}
 use Rattle.nfs_server.specs.declared.serve_error.ServeError.{ServeError}
 use Rattle.nfs_server.specs.declared.serve_error.ServeError.TheVariants as errors
-use Rattle.nfs_server.specs.Asking.{Question}
-use Rattle.nfs_server.specs.LentAnswers.{IsGiven}
-use Rattle.nfs_server.specs.Leases.{LentCore}
-use Rattle.nfs_core.specs.Server.{AreAlike}
-use Rattle.nfs_rpc.specs.declared.rpc_call.RpcCall.{RpcCall}
-use Rattle.nfs_rpc.specs.declared.rpc_call.RpcCall.TheVariants as calls
-use Rattle.nfs_server.proofs.JournalGains.{Gains, gains_after, gains_nothing, gains_then, questions_are_entries}
 use Rattle.nfs_server.specs.Connection.{Scene, Turn, Course, AreTurns, EndsWith, IsCourse, IsIdle, IsTurn, all_exchanges, exchanges_of, rest_after, text_of}
 use Rattle.nfs_server.specs.Sides.{device_of}
 use Rattle.nfs_server.specs.declared.device.Counted.{Counted}
 use Rattle.nfs_server.specs.declared.sides.Sides.{Sides}
-use Rattle.nfs_server.specs.CourseLaws.{AddsWritten, GainsEntries, HasBytes, IsOneText, TellsBytes}
+use Rattle.nfs_server.specs.CourseLaws.{AddsWritten, HasBytes, IsOneText, TellsBytes}
 use Rattle.nfs_server.specs.Device.{Device, AreTaken, IsCut, IsWritten, device_of_sink}
-use Rattle.nfs_server.specs.Exchange.{Exchange, Rules, AreExchanged, AreLeft, MakesRoom, messages_of, questions_of, rules, written_for_all}
+use Rattle.nfs_server.specs.Exchange.{Exchange, Rules, AreExchanged, AreLeft, messages_of, rules, written_for_all}
 use Rattle.nfs_server.proofs.Serving.{exchanged_then, messages-append, written-append}
-use Rattle.nfs_xdr.specs.declared.op_result.OpResult.{OpResult}
 
 -- turns that begin with the rest of a text that was split: the whole text is split into the records of both
 texts_go_on : {D S C : Type 0} (continues : SplitGoesOn) (device : Device D) (rules : Rules S C) (before after : Scene D S C) (text : List ℕ) (messages : List (List ℕ)) (carried : List ℕ) (turns : List Turn)
@@ -115,40 +107,6 @@ course_exchanged device rules same before course result after is =
           (turns_exchanged device rules before mid [] course.turns is.1) end.1,
       end.2,
     )
-
--- the rules of a connection whose service is a core
-abbrev of_core : {C : Type 0} → Files → (C → ℕ → C → Type 0) → Rules LentCore C
-of_core tree tells =
-    rules tree IsGiven (λ (old new : LentCore). AreAlike old.core new.core × (new.book ≡ old.book)) tells
-
--- before the first question of a call the core is alike
-ready_alike : (old ready : LentCore) (call : RpcCall) → MakesRoom (λ (old new : LentCore). AreAlike old.core new.core × (new.book ≡ old.book)) old call ready → AreAlike old.core ready.core
-ready_alike old ready (calls.Compound xid principal compound) made = made.0
-ready_alike old ready calls.Silent made = rw made (refl, refl)
-ready_alike old ready (calls.Null xid) made = rw made (refl, refl)
-ready_alike old ready (calls.Answer xid reply) made = rw made (refl, refl)
-
--- by exchanges that follow one another the journal of a core gains the entries of their questions
-exchanges_gain : {C : Type 0} (tree : Files) (tells : C → ℕ → C → Type 0) (s new : LentCore) (c after : C) (es : List Exchange) → AreExchanged (of_core tree tells) s c es new after
-    → Gains (flat_map (questions_of tree) es) (flat_map (λ (e : Exchange). e.answers) es) s.core.journal new.core.journal
-exchanges_gain tree tells s new c after [] are = gains_nothing s new are.0
-exchanges_gain tree tells s new c after (e ∷ es) are =
-    let mid = are.0 in
-    let one = are.2 in
-    let ready = one.0 in
-    let questions = questions_of tree e in
-    let more = flat_map (questions_of tree) es in
-    let others = flat_map (λ (x : Exchange). x.answers) es in
-    let here = gains_after s.core ready.core mid.core questions e.answers (ready_alike s ready e.call one.2) (questions_are_entries ready mid questions e.answers one.3) in
-    let all = gains_then questions more e.answers others s.core.journal mid.core.journal new.core.journal here (exchanges_gain tree tells mid new are.1 after es are.3) in
-    subst (λ (q : List Question). Gains q (flat_map (λ (x : Exchange). x.answers) (e ∷ es)) s.core.journal new.core.journal) (sym (flat_map-cons (questions_of tree) e es))
-    (subst (λ (a : List OpResult). Gains (questions ++ more) a s.core.journal new.core.journal) (sym (flat_map-cons (λ (x : Exchange). x.answers) e es)) all)
-
-pub gains_entries : {D C : Type 0} (device : Device D) (tree : Files) (tells : C → ℕ → C → Type 0) → GainsEntries device (of_core tree tells)
-gains_entries device tree tells before after course result is =
-    let led = course_exchanged device (of_core tree tells) (λ (s : LentCore). ((refl, refl), refl)) before course result after is in
-    let gained = exchanges_gain tree tells before.service led.0 before.clock after.clock (all_exchanges course) led.1 in
-    (gained.0, gained.1, led.2.0.0 ∙ gained.2)
 
 -- which bytes are in the device after writes took these parts
 taken_bytes : {D : Type 0} (device : Device D) (remaining contents : D → Option (List ℕ)) (tells : TellsBytes device remaining contents) (a b : D) (parts : List (List ℕ)) → AreTaken device a parts b

@@ -6,10 +6,15 @@ use Rattle.nfs_core.specs.Server.{Server, Applies, AreAlike}
 use Rattle.nfs_state.specs.State.{History}
 use Rattle.nfs_state.specs.Entries.{entry_of}
 use Rattle.nfs_state.specs.declared.request.Request.{Request}
+use Rattle.nfs_tree.specs.Tree.{Files}
 use Rattle.nfs_server.specs.Asking.{GivenByCore, Operation, Question, Renewal}
+use Rattle.nfs_server.specs.CourseLaws.{GainsEntries}
+use Rattle.nfs_server.specs.Device.{Device}
 use Rattle.nfs_server.specs.Entries.{AreEntries, QuestionsAreEntries}
+use Rattle.nfs_server.specs.Exchange.{rules as answered_by}
 use Rattle.nfs_server.specs.LentAnswers.{IsGiven}
 use Rattle.nfs_server.specs.Leases.{LentCore}
+use Rattle.nfs_server.proofs.Gaining.{IsGain, asked_gain, course_gains}
 use Rattle.nfs_xdr.specs.declared.op_result.OpResult.{OpResult}
 
 -- what a call of `apply` gives is given by the core
@@ -34,7 +39,7 @@ entries_then (Renewal moment client ∷ questions) more (answer ∷ answers) oth
 entries_then [] more (answer ∷ answers) others entries last are rest = absurd are
 entries_then (question ∷ questions) more [] others entries last are rest = absurd are
 
-pub gains_then : (questions more : List Question) (answers others : List OpResult) (old mid new : History) → Gains questions answers old mid → Gains more others mid new → Gains (questions ++ more) (answers ++ others) old new
+gains_then : (questions more : List Question) (answers others : List OpResult) (old mid new : History) → Gains questions answers old mid → Gains more others mid new → Gains (questions ++ more) (answers ++ others) old new
 gains_then questions more answers others old mid new first second = (
   first.0 ++ second.0,
   entries_then questions more answers others first.0 second.0 first.1 second.1,
@@ -43,56 +48,45 @@ gains_then questions more answers others old mid new first second = (
       ∙ ap (λ (es : List Entry). record old { entries = es }) (append_assoc old.entries first.0 second.0),
 )
 
--- from a core that is alike the journal gains the same
-pub gains_after : (old mid new : Server) (questions : List Question) (answers : List OpResult) → AreAlike old mid → Gains questions answers mid.journal new.journal → Gains questions answers old.journal new.journal
-gains_after old mid new questions answers alike others =
-    (others.0, others.1, others.2 ∙ ap (λ (j : History). record j { entries = j.entries ++ others.0 }) alike.0)
+-- a core that is alike has the same journal
+gains_alike : (old new : Server) → AreAlike old new → Gains [] [] old.journal new.journal
+gains_alike old new alike =
+    ([], refl, alike.0 ∙ ap (λ (es : List Entry). record old.journal { entries = es }) (sym (append-nil old.journal.entries)))
 
--- an entered operation and the following questions: its own entry comes first
-gains_entered : (old mid new : Server) (request : Request) (questions : List Question) (answer : OpResult) (answers : List OpResult) (number : ℕ)
-    → Applies old mid request answer (Some number) → Gains questions answers mid.journal new.journal
-    → Gains (Operation request ∷ questions) (answer ∷ answers) old.journal new.journal
-gains_entered old mid new request questions answer answers number applies others =
-    let entry = entry_of request answer in
-    let entered = applies.2.allowed in (
-      entry ∷ others.0,
-      inr (entered.other, others.0, refl, others.1),
-      others.2
-          ∙ ap (λ (j : History). record j { entries = j.entries ++ others.0 }) applies.1
-          ∙ ap (λ (es : List Entry). record old.journal { entries = es }) (append_assoc old.journal.entries (entry ∷ []) others.0),
-    )
+-- an operation that was entered, or was answered NFS4ERR_RESOURCE
+gains_operation : (old new : Server) (request : Request) (answer : OpResult) → GivenByCore old request answer new → Gains (Operation request ∷ []) (answer ∷ []) old.journal new.journal
+gains_operation old new request answer (inl applied) =
+    (entry_of request answer ∷ [], inr (applied.1.2.allowed.other, [], refl, refl), applied.1.1)
+gains_operation old new request answer (inr refused) =
+    let same = gains_alike old new refused.1 in
+    (same.0, inl (refused.0, same.1), same.2)
 
--- an operation and the following questions
-gains_operation : (old mid new : Server) (request : Request) (questions : List Question) (answer : OpResult) (answers : List OpResult)
-    → GivenByCore old request answer mid → Gains questions answers mid.journal new.journal
-    → Gains (Operation request ∷ questions) (answer ∷ answers) old.journal new.journal
-gains_operation old mid new request questions answer answers (inl applied) others =
-    gains_entered old mid new request questions answer answers applied.0 applied.1 others
-gains_operation old mid new request questions answer answers (inr refused) others =
-    let gained = gains_after old mid new questions answers refused.1 others in
-    (gained.0, inl (refused.0, gained.1), gained.2)
+-- one question
+gains_one : (old new : LentCore) (question : Question) (answer : OpResult) → IsGiven old question answer new → Gains (question ∷ []) (answer ∷ []) old.core.journal new.core.journal
+gains_one old new (Operation request) answer given =
+    gains_operation old.core new.core request answer given.0
+gains_one old new (Renewal moment client) answer given =
+    gains_alike old.core new.core (ap (λ (s : Server). s.journal) given.1, ap (λ (s : Server). s.stored) given.1)
 
--- one question and the following ones
-gains_first : (old mid new : LentCore) (question : Question) (questions : List Question) (answer : OpResult) (answers : List OpResult)
-    → IsGiven old question answer mid → Gains questions answers mid.core.journal new.core.journal
-    → Gains (question ∷ questions) (answer ∷ answers) old.core.journal new.core.journal
-gains_first old mid new (Operation request) questions answer answers given others =
-    gains_operation old.core mid.core new.core request questions answer answers given.0 others
-gains_first old mid new (Renewal moment client) questions answer answers given others =
-    gains_after old.core mid.core new.core questions answers (ap (λ (s : Server). s.journal) given.1, ap (λ (s : Server). s.stored) given.1) others
+-- states of a lent core that differ at most in room
+abbrev AreAlikeLent : LentCore → LentCore → Type 0
+AreAlikeLent old new = AreAlike old.core new.core × (new.book ≡ old.book)
 
--- where nothing was asked the journal gained nothing
-pub gains_nothing : (old new : LentCore) → new ≡ old → Gains [] [] old.core.journal new.core.journal
-gains_nothing old new same = (
-  [],
-  refl,
-  ap (λ (s : LentCore). s.core.journal) same ∙ ap (λ (es : List Entry). record old.core.journal { entries = es }) (sym (append-nil old.core.journal.entries)),
-)
+abbrev LentGains : LentCore → List Question → List OpResult → LentCore → Type 0
+LentGains old questions answers new = Gains questions answers old.core.journal new.core.journal
+
+lent_gains : IsGain IsGiven AreAlikeLent LentGains
+lent_gains = record {
+  same = λ (s : LentCore). ((refl, refl), refl);
+  stays = λ old new alike. gains_alike old.core new.core alike.0;
+  one = gains_one;
+  more = λ old mid new questions more answers others. gains_then questions more answers others old.core.journal mid.core.journal new.core.journal;
+}
 
 pub questions_are_entries : QuestionsAreEntries
-questions_are_entries old new [] [] asked = gains_nothing old new asked
-questions_are_entries old new (question ∷ questions) (answer ∷ answers) asked =
-    let mid = asked.0 in
-    gains_first old mid new question questions answer answers asked.1 (questions_are_entries mid new questions answers asked.2)
-questions_are_entries old new [] (answer ∷ answers) asked = absurd asked
-questions_are_entries old new (question ∷ questions) [] asked = absurd asked
+questions_are_entries old new questions answers asked =
+    asked_gain IsGiven AreAlikeLent LentGains lent_gains old new questions answers asked
+
+pub gains_entries : {D C : Type 0} (device : Device D) (tree : Files) (tells : C → ℕ → C → Type 0) → GainsEntries device (answered_by tree IsGiven AreAlikeLent tells)
+gains_entries device tree tells before after course result is =
+    course_gains device (answered_by tree IsGiven AreAlikeLent tells) LentGains lent_gains before course result after is

@@ -6,18 +6,16 @@ use Rattle.nfs_shared.specs.declared.receipt.Receipt.{Receipt}
 use Rattle.nfs_shared.specs.Seats.{SeatView}
 use Rattle.nfs_tree.specs.Tree.{Files}
 use Rattle.nfs_server.specs.Connection.{scene}
-use Rattle.nfs_server.specs.Exchange.{rules}
-use Rattle.nfs_server.specs.Holding.{AreAlikeButRoom, GivenBySeat}
 use Rattle.nfs_server.specs.Working.{AreDone, IsDone, Linking, receipts_back, seats_back, seats_of}
 use Rattle.nfs_server.specs.declared.done.Done.{Done}
-use Rattle.nfs_server.proofs.Courses.{keeps_place}
+use Rattle.nfs_server.proofs.Receipts.{receipts_are_questions}
 
 -- a worker gives back the seat that it was given
 place_kept : {N L D C : Type 0} (linking : Linking L D C) (tree : Files) (link : L) (seat : SeatView) (done : Done N)
     → IsDone linking tree link seat done → done.seat.place ≡ seat.place
 place_kept linking tree link seat done is =
     ap (λ (s : SeatView). s.place) is.ended.0
-    ∙ keeps_place linking.device (rules tree GivenBySeat AreAlikeButRoom linking.tells) (scene is.device is.desk is.clock) (scene is.device' is.desk' is.clock') done.result is.course
+    ∙ (receipts_are_questions linking.device tree linking.tells (scene is.device is.desk is.clock) (scene is.device' is.desk' is.clock') is.course.0 done.result is.course.1).place
     ∙ ap (λ (s : SeatView). s.place) is.begun.0
 
 some_is : {A : Type 0} (x y : A) → Some x ≡ Some y → x ≡ y
@@ -50,7 +48,7 @@ came_back linking tree (l ∷ links) (d ∷ dones) (suc k) seat receipts are at 
     record { went = back.went; at = back.at; place = back.place; kept = back.kept }
 
 as_many : {N L D C : Type 0} (linking : Linking L D C) (tree : Files) (links : List (L × SeatView)) (dones : List (Done N))
-    → AreDone linking tree links dones → length dones ≡ length (seats_of links)
+    → AreDone linking tree links dones → length (seats_back dones) ≡ length (seats_of links)
 as_many linking tree [] [] are = refl
 as_many linking tree (l ∷ links) [] are = absurd are
 as_many linking tree [] (d ∷ dones) are = absurd are
@@ -58,7 +56,7 @@ as_many linking tree (l ∷ links) (d ∷ dones) are = ap (λ n. suc n) (as_many
 
 pub are_kept : {N L D C : Type 0} (linking : Linking L D C) (tree : Files) (count : ℕ) (links : List (L × SeatView)) (dones : List (Done N))
     → AreFresh count (seats_of links) → AreDone linking tree links dones
-    → (length dones ≡ count) × AreKept (seats_back dones) (receipts_back dones)
+    → (length (seats_back dones) ≡ count) × AreKept (seats_back dones) (receipts_back dones)
 are_kept {N = N} linking tree count links dones fresh are = (
   as_many linking tree links dones are ∙ fresh.0,
   (

@@ -7,10 +7,10 @@ pub mod Exchanges
 pub mod Serving
 pub mod Courses
 pub mod Views
-pub mod JournalGains
 pub mod LentLeases
 pub mod CourseLaws
 pub mod Gaining
+pub mod JournalGains
 pub mod Receipts
 pub mod Workers
 pub mod Kept

@@ -36,9 +36,9 @@ pub fn run_once<D: Duplex, E: Write, J: Sink>(
     requires tree { core.journal.nodes ≡ tree.now.nodes }
     requires policy { core.journal.policy ≡ tree.now.policy }
     requires clients { (number : ℕ) → IsFalse (is_live number core.stored.clients) }
-    // The input was served as one connection at this moment, starting from this core, it was then seen to the file of the
-    // journal that the core has at the end, and the status says how both ended; or memory ran out before anything was
-    // read, and nothing was written.
+    // The input was served as one connection at this moment, starting from this core; then it was seen to the file of the
+    // journal that the core has at the end; and the status says how both ended. Or memory ran out before anything was read
+    // or written.
     ensures served { (outcome : Result ℕ ServeError) × (filed : Option Fault)
         × (((lent : LentCore) × (clock : Stopped) × (lent' : LentCore) × (clock' : Stopped)
         × (lent.core ≡ core) × IsLent core lent.book × (clock.moment ≡ now)
@@ -57,13 +57,20 @@ pub fn run_once<D: Duplex, E: Write, J: Sink>(
         × (result ≡ status_of (option_or (fault_of outcome) filed)) }
 {
     let Ok(mut lent) = Lent::new(alloc, core) else {
-        return Fault::NoMemory.report(errors);
+        return status(errors, Some(Fault::NoMemory));
     };
     let mut clock = Stopped::at(now);
     let outcome = serve_duplex(alloc, device, &mut lent, tree, &mut clock);
     let core = lent.into_core();
     let filed = file_journal(alloc, core.journal(), journal);
-    match Fault::of(outcome).or(filed) {
+    status(errors, Fault::of(outcome).or(filed))
+}
+
+// Reports the fault, if there is one. Returns the exit status.
+fn status<E: Write>(errors: &mut E, fault: Option<Fault>) -> u8
+    ensures { result ≡ status_of fault }
+{
+    match fault {
         None => 0,
         Some(fault) => fault.report(errors),
     }

@@ -16,5 +16,5 @@ pub fn workers_keep_receipts<N: Naming, L: Link>()
         → AreDone
         (linking L.opens L.Device.device L.Device.read_failures L.Device.write_failures L.Clock.tells)
         tree links dones
-        → (length dones ≡ count) × AreKept (seats_back dones) (receipts_back dones) }
+        → (length (seats_back dones) ≡ count) × AreKept (seats_back dones) (receipts_back dones) }
 {}

@@ -1,4 +1,4 @@
-use Rattle.nfs_server.proofs.CourseLaws.{gains_entries}
+use Rattle.nfs_server.proofs.JournalGains.{gains_entries}
 use Rattle.nfs_server.proofs.course_laws.journal_of_a_connection.Goals as goal
 
 pub returns-clause-together : goal.returns-clause-together

@@ -7,7 +7,7 @@ returns-in_default g c = record {
   served = (
     Err errors.Memory,
     None,
-    inr (refl, refl, refl, refl, refl),
+    inr (refl, refl, refl, refl),
     ((λ h. absurd cc), (λ h. absurd (omega (arith, h)))),
     ((λ h. absurd cc), (λ h. absurd (omega (arith, h)))),
     c.status.ensures,

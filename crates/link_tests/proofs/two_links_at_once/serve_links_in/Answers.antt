@@ -1,0 +1,19 @@
+use Rattle.std.proofs.Common.{List, map, length, ap, subst, sym, ◌∙◌}
+use Rattle.nfs_server.specs.Working.{seats_back}
+use Rattle.nfs_shared.specs.Ends.{AreFresh, AreKept}
+use Rattle.nfs_shared.specs.Seats.{SeatView}
+use Rattle.link_tests.proofs.two_links_at_once.serve_links_in.Goals as goal
+
+pub end-core-requires-clause-all : goal.end-core-requires-clause-all
+end-core-requires-clause-all g c =
+    let fresh = subst (λ (s : List SeatView). AreFresh c.args.opened.workers s) (sym c.in_ok-links.ensures) c.in-Ok.ensures.seats in
+    let law = c.workers_keep_receipts.ensures c.args.tree.now c.args.opened.workers c.in_ok-links.links.items c.in-Ok-serve_all.all.items fresh c.in-Ok-serve_all.ensures.done in
+    ap (λ (s : List SeatView). length s) c.in-Ok-split.ensures.seats ∙ law.0 ∙ c.requires.workers
+
+pub end-core-requires-clause-kept : goal.end-core-requires-clause-kept
+end-core-requires-clause-kept g c =
+    let fresh = subst (λ (s : List SeatView). AreFresh c.args.opened.workers s) (sym c.in_ok-links.ensures) c.in-Ok.ensures.seats in
+    let law = c.workers_keep_receipts.ensures c.args.tree.now c.args.opened.workers c.in_ok-links.links.items c.in-Ok-serve_all.all.items fresh c.in-Ok-serve_all.ensures.done in
+    let seats = c.in-Ok-split.ensures.seats in
+    let receipts = ap (map (λ v. v.items)) c.as_slice.ensures.value ∙ c.in-Ok-split.ensures.receipts in
+    subst (λ s. AreKept s (map (λ v. v.items) c.as_slice.result.now)) (sym seats) (subst (λ r. AreKept (seats_back c.in-Ok-serve_all.all.items) r) (sym receipts) law.1)
