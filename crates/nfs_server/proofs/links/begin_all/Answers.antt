@@ -2,7 +2,7 @@ use Rattle.std.proofs.Common.{List, length, rules, ap, arith}
 use Rattle.std.specs.Vec.Iter.{into_iter_items}
 use Rattle.nfs_server.specs.Working.{linking}
 use Rattle.nfs_server.proofs.Workers.{all_begun, one_more_begun, unused_rest}
-use Rattle.nfs_server.proofs.serving.begin_all.Goals as goal
+use Rattle.nfs_server.proofs.links.begin_all.Goals as goal
 
 pub begin-requires-clause-unused : goal.begin-requires-clause-unused
 begin-requires-clause-unused g c κs lives =

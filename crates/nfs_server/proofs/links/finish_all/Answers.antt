@@ -3,7 +3,7 @@ use Rattle.std.specs.Vec.Iter.{into_iter_items}
 use Rattle.nfs_server.specs.Begun.{AreWorkers}
 use Rattle.nfs_server.specs.Working.{linking}
 use Rattle.nfs_server.proofs.Workers.{all_done, one_more_done}
-use Rattle.nfs_server.proofs.serving.finish_all.Goals as goal
+use Rattle.nfs_server.proofs.links.finish_all.Goals as goal
 
 pub loop-worker-preserved : goal.loop-worker-preserved
 loop-worker-preserved g c =

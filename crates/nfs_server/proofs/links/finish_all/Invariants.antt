@@ -5,7 +5,7 @@ use Rattle.nfs_tree.specs.Tree.{Files}
 use Rattle.nfs_server.specs.Begun.{AreWorkers}
 use Rattle.nfs_server.specs.Working.{linking}
 use Rattle.nfs_server.proofs.Workers.{Completes}
-use Rattle.nfs_server.proofs.serving.finish_all.Given as goal
+use Rattle.nfs_server.proofs.links.finish_all.Given as goal
 
 -- The workers that are left are those of some links; what is done of these is, after what is done so far, what is done
 -- of all links.
