@@ -1,10 +1,12 @@
-ghost use Rattle.std.specs.Prelude.{◌≡◌, ◌∷◌, ◌++◌, [], List, length, OnOk, OnErr};
+ghost use Rattle.std.specs.Prelude.{◌≡◌, ◌∷◌, ◌++◌, [], IfOk, List, OnErr, OnOk, length, map};
 ghost use Rattle.nfs_core.specs.Server.{IsLawful};
-ghost use Rattle.nfs_shared.specs.Ends.{AllApart, AllStand, IsKept, receipts_in};
+ghost use Rattle.nfs_server.specs.Working.{receipts_back, seats_back};
+ghost use Rattle.nfs_shared.specs.Ends.{AllApart, AllStand, AreKept, IsKept, receipts_in};
 ghost use Rattle.nfs_shared.specs.Naming.{start_of};
 ghost use Rattle.nfs_shared.specs.Receipts.{calls_in};
 
 use nfs_core::Core;
+use nfs_server::Done;
 use nfs_shared::{Naming, Receipt, Seat, Shared};
 use std::alloc::{AllocError, Global};
 use std::marker::Model;
@@ -40,6 +42,18 @@ impl<N: Naming> Handed<N> {
         Handed {
             seats: Vec::new(alloc),
             receipts: Vec::new(alloc),
+        }
+    }
+
+    /// What these workers gave back, in the order of the places of their seats.
+    pub fn of(alloc: Global, all: Vec<Done<N>>) -> Result<Handed<N>, AllocError>
+        requires kept { AreKept (seats_back all.items) (receipts_back all.items) }
+        ensures seats { IfOk result (λ h. h.seats ≡ seats_back all.items) }
+        ensures receipts { IfOk result (λ h. h.receipts ≡ receipts_back all.items) }
+    {
+        match Done::split(alloc, all) {
+            Ok((receipts, seats)) => Ok(Handed { seats, receipts }),
+            Err(_) => Err(AllocError),
         }
     }
 

@@ -23,6 +23,7 @@ impl<'a, S, C> MemoryLink<'a, S, C> {
 
 impl<'a, S: Read + Drop + Send, C: Clock + Drop + Send> Link for MemoryLink<'a, S, C> {
     type Device = Sides<Counted<S>, Counted<&'a mut Vec<u8>>>;
+
     type Clock = C;
 
     ghost opens = { λ link device clock.

@@ -1,7 +1,9 @@
 //! What the program reports of a file of rows.
 
-use crate::{Connection, Got, Reason, Refused, Row, Step, Sweep, Wrong};
-use crate::{read_rows, retry_row, run_row, share_row, share_row_again};
+use crate::{
+    Connection, Got, Reason, Refused, Row, Step, Sweep, Wrong, read_rows, retry_row, run_row,
+    share_row, share_row_again,
+};
 use nfs_server::Fault;
 use nfs_shared::Swept;
 use std::alloc::{AllocError, Global};

@@ -4,14 +4,16 @@ ghost use Rattle.std.specs.Prelude.{◌≡◌, ◌-◌, ◌^◌, ◌<◌, [], �
 ghost use Rattle.nfs_owners.specs.Registry.{is_live};
 ghost use Rattle.nfs_shared.specs.Ends.{AreFresh, IsKept};
 ghost use Rattle.nfs_shared.specs.Naming.{start_of};
+ghost use Rattle.nfs_shared.specs.Seats.{fresh};
 
 use crate::course::Course;
+use crate::linking::serve_link;
 use crate::run::{document, first_wrong, refused_tree};
 use crate::server::Server;
 use crate::{Connection, Got, Handed, MemoryLink, Pieces, Row, Step};
 use nfs_core::{Core, Journal};
 use nfs_journal::write_journal;
-use nfs_server::{Done, Fault, Stopped, serve_all};
+use nfs_server::{Done, Fault, Stopped};
 use nfs_shared::{Naming, Opened, Receipt, Seat, Shared};
 use nfs_tree::{Tree, TreeError};
 use std::alloc::{AllocError, Global};
@@ -167,7 +169,7 @@ impl<'a, N: Naming + Send + Sync, R: Threads + Wait + Sync> SharedServer<'a, N, 
         seats: Vec<Seat<N>>,
         course: &mut Course<'_>,
     ) -> Result<Handed<N>, AllocError>
-        requires nodes { self.now.tree.now.nodes ≡ N.start.nodes }
+        requires nodes { N.start.nodes ≡ self.now.tree.now.nodes }
         requires fresh { AreFresh N.parts seats.items }
         ensures { IfOk result (λ handed. length handed.seats ≡ N.parts) }
     {
@@ -184,7 +186,12 @@ impl<'a, N: Naming + Send + Sync, R: Threads + Wait + Sync> SharedServer<'a, N, 
         &self,
         seat: Seat<N>,
         course: &mut Course<'_>,
-    ) -> Result<(Seat<N>, Vec<Receipt>), AllocError> {
+    ) -> Result<(Seat<N>, Vec<Receipt>), AllocError>
+        requires nodes { N.start.nodes ≡ self.now.tree.now.nodes }
+        requires fresh { seat ≡ fresh seat.place }
+        ensures place { IfOk result (λ r. r.0.place ≡ seat.place) }
+        ensures kept { IfOk result (λ r. IsKept r.0 r.1.items) }
+    {
         match course.next() {
             None => Ok((seat, Vec::new(self.alloc))),
             Some(Step::Sweep(sweep)) => {
@@ -199,24 +206,22 @@ impl<'a, N: Naming + Send + Sync, R: Threads + Wait + Sync> SharedServer<'a, N, 
         }
     }
 
+    // Serves the connection at this seat: what came of it, and the seat with its receipts.
     fn converse(
         &self,
         connection: &Connection,
         seat: Seat<N>,
-    ) -> Result<(Got, Seat<N>, Vec<Receipt>), AllocError> {
+    ) -> Result<(Got, Seat<N>, Vec<Receipt>), AllocError>
+        requires nodes { N.start.nodes ≡ self.now.tree.now.nodes }
+        requires fresh { seat ≡ fresh seat.place }
+        ensures place { IfOk result (λ r. r.1.place ≡ seat.place) }
+        ensures kept { IfOk result (λ r. IsKept r.1 r.2.items) }
+    {
         // There is room for the replies, since one that is lost isn't one that was refused.
         let mut replies = Vec::with_capacity(self.alloc, connection.wanted.len())?;
         let source = Pieces::new(connection.sent.as_slice(), PIECE_LEN);
-        let clock = Stopped::at(connection.moment);
-        let link = MemoryLink::new(source, &mut replies, clock);
-        let mut links = Vec::with_capacity(self.alloc, 1)?;
-        links.push_reserved((link, seat));
-        let Ok(mut all) = serve_all(self.alloc, self.rt, self.shared, self.tree, links) else {
-            return Err(AllocError);
-        };
-        let Some(done) = all.pop() else {
-            return Err(AllocError);
-        };
+        let link = MemoryLink::new(source, &mut replies, Stopped::at(connection.moment));
+        let done = serve_link(self.alloc, self.rt, self.shared, self.tree, link, seat)?;
         let Done {
             result,
             seat,

@@ -2,11 +2,11 @@
 //! standard input, and what came of it goes to standard output: `tools/stress` writes the one and judges the other.
 #![tactic(auto)]
 
+mod outcome;
 mod plan;
 mod rising;
 mod serving;
 mod sweeping;
-mod told;
 mod yielding;
 
 use crate::plan::Plan;

@@ -98,6 +98,10 @@ impl<'a> Rest<'a> {
             };
             parts.push(part)?;
         }
-        Ok(if self.bytes.is_empty() { Some(parts) } else { None })
+        Ok(if self.bytes.is_empty() {
+            Some(parts)
+        } else {
+            None
+        })
     }
 }

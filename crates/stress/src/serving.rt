@@ -1,18 +1,19 @@
-ghost use Rattle.std.specs.Prelude.{◌≡◌, ◌<◌, [], ℕ, IfOk, IsFalse, length};
+ghost use Rattle.std.specs.Prelude.{◌≡◌, ◌+◌, [], ℕ, IfOk, IfSome, IsFalse, length};
 ghost use Rattle.nfs_owners.specs.Registry.{is_live};
-ghost use Rattle.nfs_shared.specs.Ends.{AreFresh};
+ghost use Rattle.nfs_server.specs.Working.{seats_of};
+ghost use Rattle.nfs_shared.specs.Ends.{AreFresh, IsKept};
 ghost use Rattle.nfs_shared.specs.Naming.{start_of};
+ghost use Rattle.nfs_shared.specs.Seats.{fresh};
 
+use crate::outcome::{Ended, Outcome};
 use crate::plan::Plan;
 use crate::rising::{Calls, Rising};
 use crate::sweeping::{Sweeps, sweep_until};
-use crate::told::{put_end, put_numbers, put_part, put_sweeps, put_word};
 use crate::yielding::Yielding;
 use nfs_core::Core;
-use nfs_journal::write_journal;
-use nfs_rows::{Handed, MemoryLink, Pieces};
-use nfs_server::{Done, ServeError, serve_all};
-use nfs_shared::{Naming, Opened, Seat, Shared};
+use nfs_rows::{Handed, MemoryLink, serve_link};
+use nfs_server::{Done, serve_all, workers_keep_receipts};
+use nfs_shared::{Naming, Opened, Receipt, Seat, Shared};
 use nfs_tree::Tree;
 use std::alloc::{AllocError, Global};
 use std::marker::Brand;
@@ -21,12 +22,7 @@ use std::sync::atomic::{AtomicBool, Ordering};
 use std::thread;
 use std::thread::Threads;
 
-// The most bytes that a read gives: most calls come in a few pieces.
-const PIECE_LEN: usize = 100;
-
-/// Serves the plan, and appends what came of it: the file of the journal, how many sweeps there were and how many clients
-/// they removed, how many connections there were, and for each, the first one first, how it ended, its replies and the
-/// numbers of its receipts. Texts and bytes stand behind their length, lists behind how many they have.
+/// Serves the plan, and appends what came of it.
 pub(crate) fn serve_plan<R: Threads + Wait + Sync>(
     rt: &R,
     alloc: Global,
@@ -43,10 +39,11 @@ pub(crate) fn serve_plan<R: Threads + Wait + Sync>(
         return Err(AllocError);
     };
     let opened = Opened::new(alloc, workers)?;
-    run::<Brand, R>(rt, alloc, opened, core, &tree, plan, out)
+    let (core, outcome) = run::<Brand, R>(rt, alloc, opened, core, &tree, plan)?;
+    outcome.put(alloc, core.journal(), out)
 }
 
-// The same for a run of this name.
+// Serves the plan in a run of this name.
 fn run<N: Naming + Send + Sync, R: Threads + Wait + Sync>(
     rt: &R,
     alloc: Global,
@@ -54,8 +51,7 @@ fn run<N: Naming + Send + Sync, R: Threads + Wait + Sync>(
     core: Core,
     tree: &Tree,
     plan: &Plan<'_>,
-    out: &mut Vec<u8>,
-) -> Result<(), AllocError>
+) -> Result<(Core, Outcome), AllocError>
     requires roll { opened.roll ≡ N.roll }
     requires ledger { opened.ledger ≡ N.name }
     requires workers { opened.workers ≡ N.parts }
@@ -64,7 +60,10 @@ fn run<N: Naming + Send + Sync, R: Threads + Wait + Sync>(
     requires nobody { (number : ℕ) → IsFalse (is_live number core.stored.clients) }
     requires nodes { core.journal.nodes ≡ tree.now.nodes }
 {
-    let Ok((shared, mut seats)) = Shared::<N>::new(alloc, opened, core) else {
+    let Ok((shared, seats)) = Shared::<N>::new(alloc, opened, core) else {
+        return Err(AllocError);
+    };
+    let Some((others, last)) = split_last(seats) else {
         return Err(AllocError);
     };
     let calls = Calls::new(plan.pace);
@@ -75,42 +74,39 @@ fn run<N: Naming + Send + Sync, R: Threads + Wait + Sync>(
         tree,
         calls: &calls,
     };
-    let others = seats.split_off(1)?;
-    let mut served = Served {
-        handed: Handed::new(alloc),
-        ends: Vec::new(alloc),
-        replies: Vec::new(alloc),
-    };
-    let alone = [plan.first];
-    server.serve(&alone, seats, &mut served)?;
-    let sweeps = server.serve_swept(plan.others.as_slice(), others, &mut served)?;
+    let (alone, seat, own) = server.serve_alone(plan.first, last)?;
+    let (served, sweeps) = server.serve_swept(plan.others.as_slice(), others)?;
     let Served {
-        handed,
-        ends,
-        replies,
+        mut handed,
+        mut connections,
     } = served;
+    handed.hand_in(seat, own)?;
+    connections.push(alone)?;
     let (core, receipts) = handed.end(shared);
-    let mut journal = Vec::new(alloc);
-    if write_journal(&mut journal, core.journal()).is_err() {
-        return Err(AllocError);
-    }
-    put_part(out, journal.as_slice())?;
-    put_sweeps(out, sweeps)?;
-    put_word(out, ends.len() as u32)?;
-    for ((end, replies), receipts) in ends.iter().zip(&replies).zip(&receipts) {
-        put_end(alloc, out, *end)?;
-        put_part(out, replies.as_slice())?;
-        put_numbers(out, receipts.as_slice())?;
-    }
-    Ok(())
+    let outcome = Outcome {
+        sweeps,
+        connections,
+        receipts,
+    };
+    Ok((core, outcome))
 }
 
-// What came of the connections that have ended, in the order of their seats.
+// The seats before the last, and the last.
+fn split_last<N: Naming>(mut seats: Vec<Seat<N>>) -> Option<(Vec<Seat<N>>, Seat<N>)>
+    requires fresh { AreFresh N.parts seats.items }
+    ensures others { IfSome result (λ r. AreFresh (length r.0.items) r.0.items) }
+    ensures last { IfSome result (λ r. r.1 ≡ fresh (length r.0.items)) }
+    ensures all { IfSome result (λ r. length r.0.items + 1 ≡ N.parts) }
+{
+    let last = seats.pop()?;
+    Some((seats, last))
+}
+
+// What came of connections that were served at once, by the places of their seats.
 #[derive(Drop)]
 struct Served<N: Naming> {
     handed: Handed<N>,
-    ends: Vec<Result<usize, ServeError>>,
-    replies: Vec<Vec<u8>>,
+    connections: Vec<Ended>,
 }
 
 // What all connections have in common.
@@ -124,58 +120,144 @@ struct Server<'a, N: Naming, R> {
 }
 
 impl<'a, N: Naming + Send + Sync, R: Threads + Wait + Sync> Server<'a, N, R> {
+    // Serves a connection alone: what came of it, and its seat with the receipts.
+    fn serve_alone(
+        &self,
+        input: &[u8],
+        seat: Seat<N>,
+    ) -> Result<(Ended, Seat<N>, Vec<Receipt>), AllocError>
+        requires nodes { N.start.nodes ≡ self.now.tree.now.nodes }
+        requires unused { seat.given ≡ 0 }
+        ensures place { IfOk result (λ r. r.1.place ≡ seat.place) }
+        ensures kept { IfOk result (λ r. IsKept r.1 r.2.items) }
+    {
+        let mut replies = Vec::new(self.alloc);
+        let source = Yielding::new(input);
+        let link = MemoryLink::new(source, &mut replies, Rising::new(self.calls));
+        let done = serve_link(self.alloc, self.rt, self.shared, self.tree, link, seat)?;
+        let Done {
+            result,
+            seat,
+            receipts,
+        } = done;
+        Ok((Ended { result, replies }, seat, receipts))
+    }
+
     // Serves these connections at once, while another thread sweeps.
     fn serve_swept(
         &self,
         inputs: &[&[u8]],
         seats: Vec<Seat<N>>,
-        served: &mut Served<N>,
-    ) -> Result<Sweeps, AllocError> {
-        let ended = AtomicBool::new(false);
+    ) -> Result<(Served<N>, Sweeps), AllocError>
+        requires nodes { N.start.nodes ≡ self.now.tree.now.nodes }
+        requires fresh { AreFresh (length seats.items) seats.items }
+        ensures { IfOk result (λ r. length r.0.handed.seats ≡ length seats.items) }
+    {
+        let ended = &AtomicBool::new(false);
         let (rt, shared, calls) = (self.rt, self.shared, self.calls);
         // Where no thread can be made, the first is called after the second.
-        let (sweeps, result) = thread::join(
+        let (sweeps, served) = thread::join(
             rt,
-            || sweep_until(rt, shared, calls, &ended),
-            || {
-                let result = self.serve(inputs, seats, served);
-                ended.store(true, Ordering::SeqCst);
-                result
-            },
+            move || sweep_until(rt, shared, calls, ended),
+            move || -> Result<Served<N>, AllocError>
+                requires { (N.start.nodes ≡ self.now.tree.now.nodes)
+                    × AreFresh (length seats.items) seats.items }
+                ensures { IfOk result (λ s. length s.handed.seats ≡ length seats.items) }
+            { self.serve_and_tell(inputs, seats, ended) },
         );
-        result?;
-        Ok(sweeps)
+        Ok((served?, sweeps))
     }
 
-    // Serves these connections at once.
-    fn serve(
+    // Serves these connections at once, and tells when they have ended.
+    fn serve_and_tell(
         &self,
         inputs: &[&[u8]],
         seats: Vec<Seat<N>>,
-        served: &mut Served<N>,
-    ) -> Result<(), AllocError> {
-        let mut replies = Vec::with_capacity(self.alloc, inputs.len())?;
-        for _ in inputs {
-            replies.push(Vec::new(self.alloc))?;
-        }
-        let mut links = Vec::with_capacity(self.alloc, inputs.len())?;
-        for ((input, seat), replies) in inputs.iter().zip(seats).zip(replies.iter_mut()) {
-            let source = Yielding::new(Pieces::new(input, PIECE_LEN));
-            links.push((MemoryLink::new(source, replies, Rising::new(self.calls)), seat))?;
-        }
+        ended: &AtomicBool,
+    ) -> Result<Served<N>, AllocError>
+        requires nodes { N.start.nodes ≡ self.now.tree.now.nodes }
+        requires fresh { AreFresh (length seats.items) seats.items }
+        ensures { IfOk result (λ s. length s.handed.seats ≡ length seats.items) }
+    {
+        let served = self.serve(inputs, seats);
+        ended.store(true, Ordering::SeqCst);
+        served
+    }
+
+    // Serves these connections at once.
+    fn serve(&self, inputs: &[&[u8]], seats: Vec<Seat<N>>) -> Result<Served<N>, AllocError>
+        requires nodes { N.start.nodes ≡ self.now.tree.now.nodes }
+        requires fresh { AreFresh (length seats.items) seats.items }
+        ensures { IfOk result (λ s. length s.handed.seats ≡ length seats.items) }
+    {
+        let mut replies = no_replies(self.alloc, inputs.len())?;
+        let links = links_of(
+            self.alloc,
+            self.calls,
+            inputs,
+            seats,
+            replies.as_mut_slice(),
+        )?;
         let Ok(all) = serve_all(self.alloc, self.rt, self.shared, self.tree, links) else {
             return Err(AllocError);
         };
-        for done in all {
-            let Done {
-                result,
-                seat,
-                receipts,
-            } = done;
-            served.ends.push(result)?;
-            served.handed.hand_in(seat, receipts)?;
-        }
-        served.replies.append(&mut replies)?;
-        Ok(())
+        workers_keep_receipts::<N, MemoryLink<'_, Yielding<'_>, Rising<'_>>>();
+        let connections = connections_of(self.alloc, all.as_slice(), replies)?;
+        let handed = Handed::of(self.alloc, all)?;
+        Ok(Served {
+            handed,
+            connections,
+        })
     }
+}
+
+// A list for the replies of each connection.
+fn no_replies(alloc: Global, count: usize) -> Result<Vec<Vec<u8>>, AllocError> {
+    let mut replies = Vec::with_capacity(alloc, count)?;
+    for _ in 0..count {
+        replies.push(Vec::new(alloc))?;
+    }
+    Ok(replies)
+}
+
+// A link for each input, at the seat in the same place. There are as many lists for replies as inputs, and seats.
+fn links_of<'c, 'i, 'r, N: Naming>(
+    alloc: Global,
+    calls: &'c Calls,
+    inputs: &[&'i [u8]],
+    seats: Vec<Seat<N>>,
+    replies: &'r mut [Vec<u8>],
+) -> Result<Vec<(MemoryLink<'r, Yielding<'i>, Rising<'c>>, Seat<N>)>, AllocError>
+    ensures { IfOk result (λ links. seats_of links.items ≡ seats.items) }
+{
+    let mut links = Vec::with_capacity(alloc, seats.len())?;
+    let mut inputs = inputs.iter();
+    let mut replies = replies.iter_mut();
+    for seat in seats {
+        let Some(input) = inputs.next() else {
+            return Err(AllocError);
+        };
+        let Some(own) = replies.next() else {
+            return Err(AllocError);
+        };
+        let source = Yielding::new(input);
+        links.push((MemoryLink::new(source, own, Rising::new(calls)), seat))?;
+    }
+    Ok(links)
+}
+
+// What came of each connection.
+fn connections_of<N: Naming>(
+    alloc: Global,
+    all: &[Done<N>],
+    replies: Vec<Vec<u8>>,
+) -> Result<Vec<Ended>, AllocError> {
+    let mut connections = Vec::with_capacity(alloc, all.len())?;
+    for (done, replies) in all.iter().zip(replies) {
+        connections.push(Ended {
+            result: done.result,
+            replies,
+        })?;
+    }
+    Ok(connections)
 }
