@@ -23,6 +23,9 @@ pub call_copied-answer-requires-clause-node : goal.call_copied-answer-requires-c
 call_copied-answer-requires-clause-node g c =
     subst (λ (j : History). IsFilehandle j c.args.filehandle) (sym c.held.invariant.2) c.requires.node
 
+pub call_copied-answer-requires-clause-agrees : goal.call_copied-answer-requires-clause-agrees
+call_copied-answer-requires-clause-agrees g c = c.renew_lease.ensures.kept c.held.inside.core c.held.invariant.0.agrees
+
 pub give-receipt-requires-clause-count : goal.give-receipt-requires-clause-count
 give-receipt-requires-clause-count g c =
     let held = c.held.inside in
