@@ -7,7 +7,7 @@ use Rattle.nfs_shared.proofs.Calls.{nothing_asked}
 use Rattle.nfs_shared.proofs.Giving.{above_all, counted}
 use Rattle.nfs_shared.proofs.Holding.{KeepsRules, held_call}
 use Rattle.nfs_shared.proofs.Receipts.{calls_in_length}
-use Rattle.nfs_shared.proofs.Renewing.{leads_named, renewed_named}
+use Rattle.nfs_shared.proofs.Renewals.{leads_named, renewed_named}
 use Rattle.nfs_shared.proofs.held.call_held.Goals as goal
 use Rattle.nfs_shared.specs.BookEvent.{BookEvent, Leads}
 use Rattle.nfs_shared.specs.Held.{HeldView}
