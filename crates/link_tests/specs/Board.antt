@@ -1,5 +1,5 @@
 -- Devices of the tests.
-use Rattle.std.specs.Prelude.{◌≡◌, ℕ, List}
+use Rattle.std.specs.Prelude.{◌≡◌, ℕ}
 use Rattle.nfs_server.specs.Device.{Device}
 
 -- the calls of a device whose bytes nobody tells: it keeps its place

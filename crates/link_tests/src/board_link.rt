@@ -1,4 +1,4 @@
-ghost use Rattle.std.specs.Prelude.{◌≡◌, IfOk, ◌≤◌, length};
+ghost use Rattle.std.specs.Prelude.{◌≡◌, ◌≤◌, length};
 
 use crate::board::Board;
 use nfs_core::Moment;
@@ -24,8 +24,8 @@ const SETCLIENTID: [u8; 112] = [
     0x31, 0, 0, 0, 0, 0, 0, 1,
 ];
 
-/// The length of the record with the reply to NULL.
-pub const NULL_REPLY_LEN: usize = 28;
+// The length of the record with the reply to NULL.
+const NULL_REPLY_LEN: usize = 28;
 
 /// A link over memory. Its first read gives a call of NULL; its second gives another one only when every other link has
 /// a whole reply; its third gives a call of COMPOUND; and then its input ends.

@@ -1,11 +1,10 @@
-ghost use Rattle.std.specs.Prelude.{◌≡◌, ◌≤◌, [], ℕ, IfSome, IsFalse};
+ghost use Rattle.std.specs.Prelude.{◌≡◌, [], ℕ, IfSome, IsFalse};
 ghost use Rattle.nfs_owners.specs.Registry.{is_live};
 ghost use Rattle.nfs_server.specs.Working.{seats_of};
-ghost use Rattle.nfs_shared.specs.Ends.{AreFresh};
 ghost use Rattle.nfs_shared.specs.Naming.{start_of};
 
 use crate::board::Board;
-use crate::board_link::{BoardLink, NULL_REPLY_LEN};
+use crate::board_link::BoardLink;
 use nfs_core::{Core, Moment};
 use nfs_server::{Done, ServeError, serve_all, workers_keep_receipts};
 use nfs_shared::{Naming, Opened, Seat, Shared};

@@ -1,5 +1,5 @@
--- What a service gains in a connection: a relation of the service before, the questions that it is asked, its answers, and
--- the service after, which holds of each question by itself, goes over from questions to more questions after them, and
+-- What a service gains in a connection: a relation of the service before, the questions that it is asked, its answers,
+-- and the service after. It holds of each question by itself, goes over from questions to more questions after them, and
 -- holds of alike services where nothing is asked.
 use Rattle.std.proofs.Common.{List, [], ◌∷◌, ◌++◌, Result, sym, subst}
 use Rattle.std.specs.Prelude.{ℕ}

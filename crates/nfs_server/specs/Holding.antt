@@ -24,8 +24,8 @@ AreAlikeButRoom old new = new ≡ record old { room = new.room }
 abbrev pub HoldsTheSame : Holding → Holding → Type 0
 HoldsTheSame old new = (new.seat ≡ old.seat) × (new.receipts ≡ old.receipts)
 
--- The receipt for an operation, if there is one. Without a receipt the answer is NFS4ERR_RESOURCE. A receipt is for this
--- request with this answer, it is the seat's, and it comes after those that it was given before.
+-- The receipt for an operation, if there is one. Without a receipt the answer is NFS4ERR_RESOURCE. A receipt is for
+-- this request with this answer, it is the seat's, and it comes after those that it was given before.
 abbrev pub IsReceived : Holding → Request → OpResult → Option Receipt → Holding → Type 0
 IsReceived old request answer None new = (answer ≡ resource request.op) × HoldsTheSame old new
 IsReceived old request answer (Some receipt) new =

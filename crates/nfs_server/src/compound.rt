@@ -23,8 +23,8 @@ use std::alloc::AllocError;
 use xdr::{Bytes, Measure, Sequence, padding_of};
 
 /// Answers a COMPOUND (RFC 7530, section 15.2), operation by operation, up to the first answer other than NFS4_OK. It
-/// takes no memory itself. The service has to have room for as many questions as there are operations. `results` has to be
-/// empty, with room for the results of as many operations as a COMPOUND may have.
+/// takes no memory itself. The service has to have room for as many questions as there are operations. `results` has to
+/// be empty, with room for the results of as many operations as a COMPOUND may have.
 pub fn run_compound<S: Service>(
     service: &mut S,
     tree: &Tree,

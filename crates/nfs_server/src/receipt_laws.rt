@@ -12,6 +12,7 @@ use crate::{Clock, Duplex, Sink, Source};
 pub fn receipts_are_questions<D: Duplex, R: Source, W: Sink, C: Clock>()
     ensures together { (tree : Files) → ReceiptsAreQuestions D.device
         (rules tree GivenBySeat AreAlikeButRoom C.tells) }
-    ensures apart { (tree : Files) → ReceiptsAreQuestions (device_of R.gives R.fails W.takes W.fails)
+    ensures apart { (tree : Files) → ReceiptsAreQuestions
+        (device_of R.gives R.fails W.takes W.fails)
         (rules tree GivenBySeat AreAlikeButRoom C.tells) }
 {}

@@ -6,4 +6,5 @@ pub mod Moves
 pub mod Receipts
 pub mod Giving
 pub mod Holding
+pub mod Renewing
 pub mod Ends

@@ -1,9 +1,4 @@
--- What the lock of the shared state guards, and what holds whenever the lock is free:
---
--- The state is the one that the rules lead to from an empty server, entry by entry, through the very journal that is
--- stored with it (`lawful`). In it no open may do what another owner's open denies; no byte is held by two lock owners,
--- unless both hold it for reading; and each open and each lock state, which is what stateids name, is of a known owner
--- of a live client (`safe`). Nothing is delegated yet.
+-- What the lock of the shared state guards, and what holds whenever the lock is free (`IsHeld`).
 use Rattle.std.specs.Prelude.{◌≡◌, ℕ, List, length}
 use Rattle.atomic_table.specs.Seated.{TableId}
 use Rattle.atomic_table.specs.declared.shared.Seat as tokens
@@ -27,10 +22,16 @@ pub record HeldView : Type 0 where
   -- all receipts that were given, in order
   pub receipts : List Receipt
 
+-- Whenever the lock of the shared state is free, the state is what the rules give for its own stored journal from an
+-- empty server; no two opens break each other's deny modes; no byte is held by two lock owners unless both read; no
+-- write delegation stands beside another client's open or delegation; every stateid names a live owner.
 pub record IsHeld (held : HeldView) : Type 0 where
-  -- the journal leads to the state
+  -- "the state is what the rules give for its own stored journal from an empty server": the journal that is stored leads
+  -- to the state, entry by entry
   pub lawful : IsLawful held.server
-  -- the state is safe
+  -- The rest of the sentence, and more: no open may do what another owner's open denies; no byte is held by two lock
+  -- owners, unless both hold it for reading; each open and each lock state, which is what stateids name, is of a known
+  -- owner of a live client. Nothing is delegated yet.
   pub safe : IsSafe (meaning held.server.stored)
   -- the leases that are open are those of the live clients
   pub agrees :

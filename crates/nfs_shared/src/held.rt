@@ -61,8 +61,9 @@ impl<N: Naming> Model for Held<N> {
         × (h.register.rest.parts ≡ 0) × (h.register.rest.amount ≡ 0) };
 }
 
-/// Has the core answer an operation, and makes the receipt for its entry. The leases of the clients that become live by
-/// it are opened, and those of the clients that are replaced are retired. It renews no lease: the caller does, before.
+/// Has the core answer an operation, and makes the receipt for its entry. The lease of the client that the operation
+/// names is renewed before, whatever is answered. The leases of the clients that become live by it are opened, and those
+/// of the clients that are replaced are retired.
 pub fn call_held<N: Naming>(
     held: &mut Held<N>,
     seat: &mut Seat<N>,
@@ -86,10 +87,13 @@ pub fn call_held<N: Naming>(
     ensures given { IfSome result.1 (λ r. Gives seat.old r seat.new) }
     ensures short { length (op_result.encoding result.0) ≤ answer_limit (opnum_of op.now) }
     ensures form { op_result.Fits result.0 }
-    ensures leases { Leads Happens held.old.leases
+    ensures leases { Leads Happens
+        (with_renewal (renewed_by N.start.epoch op.now) moment held.old.leases)
         (events_of_call op.now moment held.old.server held.new.server) held.new.leases }
 {
     lawful_is_safe();
+    let client = op.renewed_client(held.core.journal().epoch());
+    renew_lease(&mut held.leases, client, moment);
     if held.register.places.reserve(1).is_err() {
         return (op.opnum().refusal(Refusal::Resource), None);
     }
@@ -115,16 +119,6 @@ pub fn sweep_held<N: Naming>(held: &mut Held<N>, now: Moment) -> Swept
 {
     lawful_is_safe();
     sweep_core(&mut held.core, &mut held.leases, now)
-}
-
-/// Renews the lease of the client that the operation names, if it names one that has an open lease.
-pub(crate) fn renew_held<N: Naming>(held: &mut Held<N>, op: &Op, moment: Moment)
-    ensures { held.new ≡ record held.old {
-      leases = with_renewal (renewed_by N.start.epoch op.now) moment held.old.leases;
-    } }
-{
-    let client = op.renewed_client(held.core.journal().epoch());
-    renew_lease(&mut held.leases, client, moment);
 }
 
 /// Renews the lease of this client, if it is open, and returns whether it is.

@@ -1,5 +1,5 @@
 //! The table that ties the receipts of seats to the journal. It has one word, the number of the receipts that were
-//! given. A view of it has a list of receipts: the writer's has all of them, and that of another seat a beginning.
+//! given. A view of it has a list of receipts: the writer's has all of them, and that of another token a beginning.
 ghost use Rattle.std.specs.Prelude.{◌≡◌, ◌+◌, ◌^◌, ◌<◌, ◌++◌, ◌∷◌, [], length};
 ghost use mathlib.Core.List.{IsPrefix};
 ghost use Rattle.nfs_shared.specs.Roll.{IsWriter, IsReader, IsOf, list_of};
@@ -110,7 +110,7 @@ pub fn add(roll: &Roll, writer: &mut Token, count: u64, receipt: &Receipt)
         .compare_exchange_with::<Adds>(writer, 0, count, count + 1, receipt);
 }
 
-/// The token's list is the writer's, if it was no longer than that.
+/// The token's list is the writer's, if it was shorter than that.
 pub fn tell(roll: &Roll, writer: &mut Token, token: &mut Token)
     requires writer { IsOf roll.now.shared.table_id writer.old × IsWriter writer.old }
     requires token { IsOf roll.now.shared.table_id token.old × IsReader token.old }

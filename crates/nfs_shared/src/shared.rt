@@ -14,7 +14,7 @@ ghost use Rattle.nfs_xdr.specs.Op.{has_entry, opnum_of};
 ghost use Rattle.nfs_xdr.specs.OpResult.{op_result};
 ghost use Rattle.nfs_xdr.specs.Opnum.{answer_limit};
 
-use crate::held::{Held, call_held, renew_client, renew_held, sweep_held};
+use crate::held::{Held, call_held, renew_client, sweep_held};
 use crate::naming::Naming;
 use crate::opened::Opened;
 use crate::receipt::Receipt;
@@ -105,7 +105,6 @@ impl<N: Naming> Shared<N> {
         ensures form { op_result.Fits result.0 }
     {
         let mut held = self.held.lock(rt);
-        renew_held(&mut *held, op, moment);
         call_held(&mut *held, seat, moment, principal, op, filehandle)
     }
 

@@ -4,6 +4,11 @@ use Rattle.nfs_shared.specs.Ends.{AreFresh, AreKept}
 use Rattle.nfs_shared.specs.Seats.{SeatView}
 use Rattle.link_tests.proofs.two_links_at_once.serve_links_in.Goals as goal
 
+pub serve_all-requires-clause-unused : goal.serve_all-requires-clause-unused
+serve_all-requires-clause-unused g c κs within k seat at =
+    let fresh = subst (λ (s : List SeatView). AreFresh c.args.opened.workers s) (sym c.in_ok-links.ensures) c.in-Ok.ensures.seats in
+    ap (λ (s : SeatView). s.given) (fresh.1 k seat at)
+
 pub end-core-requires-clause-all : goal.end-core-requires-clause-all
 end-core-requires-clause-all g c =
     let fresh = subst (λ (s : List SeatView). AreFresh c.args.opened.workers s) (sym c.in_ok-links.ensures) c.in-Ok.ensures.seats in

@@ -1,9 +1,4 @@
-use Rattle.std.proofs.Common.{ℕ, List, [], Option, ap}
-use Rattle.std.specs.Io.KnownBytes.{Appends, Consumes, IsAtEnd, Keeps}
-use Rattle.nfs_server.specs.declared.device.Counted.{Counted}
-use Rattle.nfs_server.specs.CourseLaws.{TellsBytes}
 use Rattle.nfs_server.specs.Exchange.{rules}
-use Rattle.nfs_server.specs.Sides.{device_of}
 use Rattle.nfs_server.proofs.CourseLaws.{counted_tell, has_bytes}
 use Rattle.nfs_server.proofs.course_laws.bytes_of_a_connection.Goals as goal
 

@@ -7,21 +7,26 @@ use Rattle.nfs_shared.proofs.Calls.{nothing_asked}
 use Rattle.nfs_shared.proofs.Giving.{above_all, counted}
 use Rattle.nfs_shared.proofs.Holding.{KeepsRules, held_call}
 use Rattle.nfs_shared.proofs.Receipts.{calls_in_length}
+use Rattle.nfs_shared.proofs.Renewing.{leads_named, renewed_named}
 use Rattle.nfs_shared.proofs.held.call_held.Goals as goal
 use Rattle.nfs_shared.specs.BookEvent.{BookEvent, Leads}
-use Rattle.nfs_shared.specs.BookOf.{events_of_call}
 use Rattle.nfs_shared.specs.Held.{HeldView}
 use Rattle.nfs_shared.specs.Naming.{start_of}
-use Rattle.nfs_shared.specs.PlainBook.{Happens}
+use Rattle.nfs_shared.specs.PlainBook.{Happens, with_renewal}
+use Rattle.nfs_shared.specs.Receipts.{receipts_of}
 use Rattle.nfs_shared.specs.Roll.{list_of}
 use Rattle.nfs_state.specs.Entries.{IsFilehandle, entry_of, request_of}
 use Rattle.nfs_state.specs.State.{History}
 use Rattle.nfs_state.specs.declared.entry.Call.{Call}
 use Rattle.nfs_state.specs.declared.entry.Entry.TheVariants as entries
+use Rattle.nfs_xdr.specs.Names.{renewed_by}
 
 pub call_copied-answer-requires-clause-node : goal.call_copied-answer-requires-clause-node
 call_copied-answer-requires-clause-node g c =
     subst (λ (j : History). IsFilehandle j c.args.filehandle) (sym c.held.invariant.2) c.requires.node
+
+pub call_copied-answer-requires-clause-agrees : goal.call_copied-answer-requires-clause-agrees
+call_copied-answer-requires-clause-agrees g c = c.renew_lease.ensures.kept c.held.inside.core c.held.invariant.0.agrees
 
 pub give-receipt-requires-clause-count : goal.give-receipt-requires-clause-count
 give-receipt-requires-clause-count g c =
@@ -97,13 +102,45 @@ invariant_of-held-in-Some g c =
       ap (λ s. s.amount) given.rest ∙ c.held.invariant.4,
     )
 
--- where there is no room for a place, nobody comes or goes
+pub returns-in-Some-clause-leases : goal.returns-in-Some-clause-leases
+returns-in-Some-clause-leases g c =
+    let held = c.held.inside in
+    let book : c.renew_lease.new.book ≡ with_renewal (renewed_by g.N.Naming.start.epoch c.args.op.now) c.args.moment c.args.held.now.leases =
+    renewed_named g.N.Naming.start held.core.journal c.journal.result.now.history c.epoch.result c.renewed_client-client.result c.args.op.now c.args.moment c.args.held.now.leases held.leases c.renew_lease.new.book c.held.invariant.2 c.journal.ensures.journal c.epoch.ensures c.renewed_client-client.ensures (ap (λ (h : HeldView). h.leases) c.held.view_is) c.renew_lease.ensures.book in
+    let server : held.core ≡ c.args.held.now.server = ap (λ (h : HeldView). h.server) c.held.view_is in
+    leads_named c.args.op.now c.args.moment held.core c.args.held.now.server c.call_copied-answer.new.core c.renew_lease.new.book _ c.call_copied-answer.new.book c.call_copied-answer.ensures.leases book server
+
+pub returns-in-None-clause-leases : goal.returns-in-None-clause-leases
+returns-in-None-clause-leases g c =
+    let held = c.held.inside in
+    let book : c.renew_lease.new.book ≡ with_renewal (renewed_by g.N.Naming.start.epoch c.args.op.now) c.args.moment c.args.held.now.leases =
+    renewed_named g.N.Naming.start held.core.journal c.journal.result.now.history c.epoch.result c.renewed_client-client.result c.args.op.now c.args.moment c.args.held.now.leases held.leases c.renew_lease.new.book c.held.invariant.2 c.journal.ensures.journal c.epoch.ensures c.renewed_client-client.ensures (ap (λ (h : HeldView). h.leases) c.held.view_is) c.renew_lease.ensures.book in
+    let server : held.core ≡ c.args.held.now.server = ap (λ (h : HeldView). h.server) c.held.view_is in
+    leads_named c.args.op.now c.args.moment held.core c.args.held.now.server c.call_copied-answer.new.core c.renew_lease.new.book _ c.call_copied-answer.new.book c.call_copied-answer.ensures.leases book server
+
+-- where there is no room for a place, the lease is renewed, and nobody comes or goes
+pub invariant_of-held : goal.invariant_of-held
+invariant_of-held g c =
+    let held = c.held.inside in
+    let was = c.held.invariant.0 in (
+      record {
+        lawful = was.lawful;
+        safe = was.safe;
+        agrees = c.renew_lease.ensures.kept held.core was.agrees;
+        places = ap length c.reserve.ensures.items ∙ was.places;
+        receipts = was.receipts ∙ ap (λ (xs : List ℕ). receipts_of 0 held.core.journal.entries xs) (sym {A = List ℕ} c.reserve.ensures.items);
+      },
+      c.held.invariant.1,
+      c.held.invariant.2,
+      c.held.invariant.3,
+      c.held.invariant.4,
+    )
+
 pub returns-then-is_err-clause-leases : goal.returns-then-is_err-clause-leases
 returns-then-is_err-clause-leases g c =
     let held = c.held.inside in
-    subst
-    (λ (h : HeldView).
-    Leads Happens h.leases (events_of_call c.args.op.now c.args.moment h.server held.core) held.leases)
-    c.held.view_is
-    (subst (λ (events : List BookEvent). Leads Happens held.leases events held.leases)
-    (sym (nothing_asked c.args.op.now c.args.moment held.core)) refl)
+    let book : c.renew_lease.new.book ≡ with_renewal (renewed_by g.N.Naming.start.epoch c.args.op.now) c.args.moment c.args.held.now.leases =
+    renewed_named g.N.Naming.start held.core.journal c.journal.result.now.history c.epoch.result c.renewed_client-client.result c.args.op.now c.args.moment c.args.held.now.leases held.leases c.renew_lease.new.book c.held.invariant.2 c.journal.ensures.journal c.epoch.ensures c.renewed_client-client.ensures (ap (λ (h : HeldView). h.leases) c.held.view_is) c.renew_lease.ensures.book in
+    let server : held.core ≡ c.args.held.now.server = ap (λ (h : HeldView). h.server) c.held.view_is in
+    leads_named c.args.op.now c.args.moment held.core c.args.held.now.server held.core c.renew_lease.new.book _ c.renew_lease.new.book
+    (subst (λ (events : List BookEvent). Leads Happens c.renew_lease.new.book events c.renew_lease.new.book) (sym (nothing_asked c.args.op.now c.args.moment held.core)) refl) book server
