@@ -1,1 +1,2 @@
 mod Handing
+mod OneLink

@@ -29,5 +29,8 @@ pub fn serve_link<N: Naming + Send + Sync, L: Link + Drop + Send, R: Threads + W
         return Err(AllocError);
     };
     receipts_are_questions::<L::Device, Counted<Pieces<'_>>, Counted<Vec<u8>>, L::Clock>();
-    all.pop().ok_or(AllocError)
+    let Some(done) = all.pop() else {
+        return Err(AllocError);
+    };
+    Ok(done)
 }
