@@ -15,7 +15,7 @@ ghost use Rattle.nfs_xdr.specs.Op.{has_entry, opnum_of};
 ghost use Rattle.nfs_xdr.specs.OpResult.{op_result};
 ghost use Rattle.nfs_xdr.specs.Opnum.{answer_limit};
 
-use crate::entered::{Entered, enter, number_entered};
+use crate::entered::{Entered, enter, enter_copied};
 use crate::expiry::enter_expiry;
 use crate::following::follow;
 use crate::laws::lawful_is_safe;
@@ -100,8 +100,19 @@ impl Core {
         ensures form { op_result.Fits result.0 }
         ensures lawful { IsLawful self.new }
     {
-        let (answer, entered) = self.apply_copied(moment, principal, op, filehandle);
-        (answer, number_entered(entered))
+        lawful_is_safe();
+        let tables = &mut self.tables;
+        let journal = &mut self.journal;
+        let Ok(request) = Request::of_copy(moment, principal, op, filehandle) else {
+            return (op.opnum().refusal(Refusal::Resource), None);
+        };
+        match enter(self.alloc, tables, journal, request) {
+            Ok((answer, number)) => {
+                answer.fits();
+                (answer, Some(number))
+            }
+            Err(_) => (op.opnum().refusal(Refusal::Resource), None),
+        }
     }
 
     /// The same as `apply`, and returns a copy of the entry with its number. The copy is made before anything changes:
@@ -131,7 +142,7 @@ impl Core {
         let Ok(request) = Request::of_copy(moment, principal, op, filehandle) else {
             return (op.opnum().refusal(Refusal::Resource), None);
         };
-        match enter(self.alloc, tables, journal, request) {
+        match enter_copied(self.alloc, tables, journal, request) {
             Ok((answer, entered)) => {
                 answer.fits();
                 (answer, Some(entered))

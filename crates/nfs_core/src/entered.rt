@@ -32,9 +32,34 @@ pub fn number_entered(entered: Option<Entered>) -> Option<u32>
     }
 }
 
-/// Answers the request and enters it in the journal. Returns the answer, and the entry's number with a copy of the entry.
-/// Fails with Limit only if no answer may come next, and with Memory only if no limit would be exceeded.
+/// Answers the request and enters it in the journal. Returns the answer, and the entry's number. Fails with Limit only if
+/// no answer may come next, and with Memory only if no limit would be exceeded.
 pub(crate) fn enter(
+    alloc: Global,
+    tables: &mut Tables,
+    journal: &mut Journal,
+    request: Request,
+) -> Result<(OpResult, u32), Shortage>
+    requires asked { CanBeAsked journal.old.history request }
+    requires stored { IsStoredBy journal.old.history (stored_of tables.old) }
+    ensures entered { IfOk result (λ r. Enters (server_of journal.old tables.old)
+        (server_of journal.new tables.new) (entry_of request r.0) r.1) }
+    ensures kept { Agrees journal.new.history tables.new.owners.owners }
+    ensures sendable { IfOk result (λ r. IsSendable request.op r.0) }
+    ensures limit { IsErrOf result Shortage.Limit
+        → HasNoAnswer journal.old.history (state_of tables.old) request }
+    ensures memory { IsErrOf result Shortage.Memory
+        → MayBeAnswered journal.old.history (state_of tables.old) request }
+    ensures same { OnErr result ((journal.new.history ≡ journal.old.history)
+        × (stored_of tables.new ≡ stored_of tables.old)) }
+{
+    at_most_one_decision();
+    let decision = decide_next(alloc, tables, journal, &request)?;
+    enter_decided(alloc, tables, journal, request, decision)
+}
+
+/// The same as `enter`, and returns a copy of the entry with its number. The copy is made before anything changes.
+pub(crate) fn enter_copied(
     alloc: Global,
     tables: &mut Tables,
     journal: &mut Journal,
@@ -56,11 +81,37 @@ pub(crate) fn enter(
 {
     at_most_one_decision();
     let decision = decide_next(alloc, tables, journal, &request)?;
-    enter_decided(alloc, tables, journal, request, decision)
+    enter_decided_copied(alloc, tables, journal, request, decision)
 }
 
 // Enters the request with the answer that was decided.
 fn enter_decided(
+    alloc: Global,
+    tables: &mut Tables,
+    journal: &mut Journal,
+    request: Request,
+    decision: Decision,
+) -> Result<(OpResult, u32), Shortage>
+    requires next { IsNext journal.old.history (state_of tables.old)
+        (entry_of request decision.answer) decision.effect }
+    requires given { HasGivenNumbers (state_of tables.old) }
+    requires owners { Agrees journal.old.history tables.old.owners.owners }
+    ensures answer { IfOk result (λ r. r.0 ≡ decision.answer) }
+    ensures entered { IfOk result (λ r. Enters (server_of journal.old tables.old)
+        (server_of journal.new tables.new) (entry_of request r.0) r.1) }
+    ensures kept { Agrees journal.new.history tables.new.owners.owners }
+    ensures memory { IfErr result (λ e. e ≡ Shortage.Memory) }
+    ensures same { OnErr result ((journal.new.history ≡ journal.old.history)
+        × (stored_of tables.new ≡ stored_of tables.old)) }
+{
+    let answer = copy_of_answer(&decision.answer)?;
+    let call = Call { request, answer };
+    let number = commit_entry(alloc, tables, journal, Entry::Call(call), decision.effect)?;
+    Ok((decision.answer, number))
+}
+
+// The same, with a copy of the entry, which is made first.
+fn enter_decided_copied(
     alloc: Global,
     tables: &mut Tables,
     journal: &mut Journal,
@@ -80,20 +131,9 @@ fn enter_decided(
     ensures same { OnErr result ((journal.new.history ≡ journal.old.history)
         × (stored_of tables.new ≡ stored_of tables.old)) }
 {
-    let calls = calls_of(request, &decision.answer)?;
-    let (call, copy) = calls;
-    let number = commit_entry(alloc, tables, journal, Entry::Call(call), decision.effect)?;
-    Ok((decision.answer, Entered { number, call: copy }))
-}
-
-// The answered request, twice: for the journal, and for the one who called.
-fn calls_of(request: Request, answer: &OpResult) -> Result<(Call, Call), AllocError>
-    ensures kept { IfOk result (λ c. c.0 ≡ record { request = request; answer = answer.now }) }
-    ensures copy { IfOk result (λ c. c.1 ≡ record { request = request; answer = answer.now }) }
-{
-    let copy = copied_call(&request, answer)?;
-    let answer = copy_of_answer(answer)?;
-    Ok((Call { request, answer }, copy))
+    let call = copied_call(&request, &decision.answer)?;
+    let (answer, number) = enter_decided(alloc, tables, journal, request, decision)?;
+    Ok((answer, Entered { number, call }))
 }
 
 // A call of copies of the request and the answer.

@@ -1,5 +1,5 @@
 ghost use Rattle.std.specs.Prelude.{◌≡◌};
-ghost use Rattle.nfs_server.specs.Once.{fault_of};
+ghost use Rattle.nfs_server.specs.Once.{fault_of, status_of};
 
 use crate::ServeError;
 use nfs_journal::AuditError;
@@ -31,6 +31,9 @@ pub enum Fault {
     EndsInsideRecord,
     #[error("fault: no memory")]
     NoMemory,
+    /// No listener can be had at the address that is asked for.
+    #[error("fault: socket")]
+    Socket,
     /// The bytes are no journal.
     #[error("fault: not a journal")]
     NotJournal,
@@ -80,11 +83,21 @@ impl Fault {
     }
 
     /// Reports the fault by a line, and returns the program's exit status, which is 1.
-    pub(crate) fn report<E: Write>(self, errors: &mut E) -> u8
+    pub fn report<E: Write>(self, errors: &mut E) -> u8
         ensures { result ≡ 1 }
     {
         // If this line can't be written, there is no other place to report it.
         let _ = writeln!(errors, "{self}");
         1
+    }
+}
+
+/// Reports the fault of a run, if there is one. Returns the program's exit status.
+pub fn exit_status<E: Write>(errors: &mut E, fault: Option<Fault>) -> u8
+    ensures { result ≡ status_of fault }
+{
+    match fault {
+        None => 0,
+        Some(fault) => fault.report(errors),
     }
 }

@@ -11,7 +11,7 @@ use nfs_journal::{AuditError, write_journal};
 use std::alloc::Global;
 
 /// Writes the file of the journal, if there is a sink for it. Returns why it wasn't written, if it should have been.
-pub(crate) fn file_journal<J: Sink>(
+pub fn file_journal<J: Sink>(
     alloc: Global,
     journal: &Journal,
     file: &mut Option<J>,

@@ -11,7 +11,9 @@ ghost use Rattle.nfs_server.specs.declared.serve_error.ServeError.{ServeError};
 ghost use Rattle.nfs_server.specs.Leases.{IsLent, LentCore};
 
 use crate::journal_file::file_journal;
-use crate::{Clock, Duplex, Fault, Lent, ServeError, Service, Sink, Stopped, serve_duplex};
+use crate::{
+    Clock, Duplex, Fault, Lent, ServeError, Service, Sink, Stopped, exit_status, serve_duplex,
+};
 use nfs_core::{Core, Moment};
 use nfs_tree::Tree;
 use std::alloc::Global;
@@ -57,21 +59,11 @@ pub fn run_once<D: Duplex, E: Write, J: Sink>(
         × (result ≡ status_of (option_or (fault_of outcome) filed)) }
 {
     let Ok(mut lent) = Lent::new(alloc, core) else {
-        return status(errors, Some(Fault::NoMemory));
+        return Fault::NoMemory.report(errors);
     };
     let mut clock = Stopped::at(now);
     let outcome = serve_duplex(alloc, device, &mut lent, tree, &mut clock);
     let core = lent.into_core();
     let filed = file_journal(alloc, core.journal(), journal);
-    status(errors, Fault::of(outcome).or(filed))
-}
-
-// Reports the fault, if there is one. Returns the exit status.
-fn status<E: Write>(errors: &mut E, fault: Option<Fault>) -> u8
-    ensures { result ≡ status_of fault }
-{
-    match fault {
-        None => 0,
-        Some(fault) => fault.report(errors),
-    }
+    exit_status(errors, Fault::of(outcome).or(filed))
 }
