@@ -1,0 +1,4 @@
+pub mod Sockets
+pub mod Uptimes
+pub mod Links
+pub mod Faults

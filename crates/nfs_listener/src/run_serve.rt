@@ -1,0 +1,44 @@
+ghost use Rattle.std.specs.Prelude.{◌≡◌, ℕ, IfSome, IsFalse};
+
+use crate::{first_fault, serve_on};
+use nfs_core::Core;
+use nfs_server::{Fault, Sink, exit_status, file_journal};
+use nfs_tree::Tree;
+use std::alloc::Global;
+use std::io::Write;
+use std::net::TcpListener;
+use std::sync::Wait;
+use std::thread::Threads;
+use std::time::Clock as Timer;
+
+/// What is served: a core in which no client is live, with an empty journal, and the tree for which it was made; and to
+/// how many connections.
+#[derive(Drop)]
+pub struct Served<'a> {
+    pub core: Core,
+    pub tree: &'a Tree,
+    pub connections: u32,
+}
+
+/// Serves the next connections of the listener, as `serve_on` does. At the end, also after a fault, the file of the
+/// core's journal is written, if there is a sink for it. Returns the program's exit status: 0, or 1 after a fault. The
+/// fault of the first connection that had one, or else that of the journal's file, is reported by a line on `errors`.
+pub fn run_serve<R: Threads + Wait + Timer + Sync, E: Write, J: Sink>(
+    alloc: Global,
+    rt: &R,
+    listener: &TcpListener,
+    served: Served<'_>,
+    errors: &mut E,
+    journal: &mut Option<J>,
+) -> u8 {
+    let Served {
+        core,
+        tree,
+        connections,
+    } = served;
+    let Ok((core, ended)) = serve_on(alloc, rt, listener, core, tree, connections) else {
+        return Fault::NoMemory.report(errors);
+    };
+    let filed = file_journal(alloc, core.journal(), journal);
+    exit_status(errors, first_fault(ended.as_slice()).or(filed))
+}
