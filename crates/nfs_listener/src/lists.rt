@@ -1,4 +1,6 @@
-ghost use Rattle.std.specs.Prelude.{◌≡◌, ◌≤◌, IfOk, [], vec_capacity, vec_len, length, map};
+ghost use Rattle.std.specs.Prelude.{◌≡◌, ◌≤◌, IfOk, List, length, map};
+ghost use Rattle.nfs_listener.specs.Lists.{AllHaveRoom, HaveRoom};
+ghost use Rattle.nfs_server.specs.Working.{receipts_back, seats_back};
 
 use crate::{Ended, TcpLink};
 use nfs_server::{Done, ServeError};
@@ -25,25 +27,22 @@ pub(crate) struct Parts<N: Naming> {
 }
 
 impl<'a, N: Naming, R> Lists<'a, N, R> {
-    pub(crate) fn new(alloc: Global, count: usize) -> Result<Lists<'a, N, R>, AllocError> {
-        let parts = Parts::new(alloc, count)?;
-        let mut links = Vec::new(alloc);
-        links.reserve(count)?;
-        let mut spare = Vec::new(alloc);
-        spare.reserve(count)?;
-        let mut ended = Vec::new(alloc);
-        ended.reserve(count)?;
+    pub(crate) fn new(alloc: Global, count: usize) -> Result<Lists<'a, N, R>, AllocError>
+        ensures { IfOk result (AllHaveRoom count) }
+    {
         Ok(Lists {
-            links,
-            spare,
-            parts,
-            ended,
+            links: Vec::with_capacity(alloc, count)?,
+            spare: Vec::with_capacity(alloc, count)?,
+            parts: Parts::new(alloc, count)?,
+            ended: Vec::with_capacity(alloc, count)?,
         })
     }
 }
 
 impl<N: Naming> Parts<N> {
-    fn new(alloc: Global, count: usize) -> Result<Parts<N>, AllocError> {
+    fn new(alloc: Global, count: usize) -> Result<Parts<N>, AllocError>
+        ensures { IfOk result (HaveRoom count) }
+    {
         Ok(Parts {
             results: Vec::with_capacity(alloc, count)?,
             seats: Vec::with_capacity(alloc, count)?,
@@ -52,7 +51,12 @@ impl<N: Naming> Parts<N> {
     }
 
     /// Takes what these workers gave back, in order.
-    pub(crate) fn take(&mut self, all: Vec<Done<N>>) {
+    pub(crate) fn take(&mut self, all: Vec<Done<N>>)
+        requires room { HaveRoom (length all.items) self.old }
+        ensures results { self.new.results.items ≡ map (λ d. d.result) all.items }
+        ensures seats { self.new.seats.items ≡ seats_back all.items }
+        ensures receipts { map (λ v. v.items) self.new.receipts.items ≡ receipts_back all.items }
+    {
         for done in all {
             let Done {
                 result,

@@ -1,6 +1,10 @@
-ghost use Rattle.std.specs.Prelude.{◌≡◌, ℕ, IfSome, IsFalse};
+ghost use Rattle.std.specs.Prelude.{◌≡◌, ◌-◌, ◌^◌, ◌<◌, [], ℕ, IfSome, IsFalse};
+ghost use Rattle.nfs_listener.specs.Runs.{IsRun};
+ghost use Rattle.nfs_listener.specs.declared.tcp_link.TcpLink.{TcpLink};
+ghost use Rattle.nfs_owners.specs.Registry.{is_live};
+ghost use Rattle.nfs_server.specs.Device.{device_of_sink};
 
-use crate::{first_fault, serve_on};
+use crate::{TcpLink, first_fault, serve_on};
 use nfs_core::Core;
 use nfs_server::{Fault, Sink, exit_status, file_journal};
 use nfs_tree::Tree;
@@ -30,7 +34,15 @@ pub fn run_serve<R: Threads + Wait + Timer + Sync, E: Write, J: Sink>(
     served: Served<'_>,
     errors: &mut E,
     journal: &mut Option<J>,
-) -> u8 {
+) -> u8
+    requires files { IfSome journal.old (λ sink. J.failures sink < 2 ^ 64 - 1) }
+    requires empty { served.core.journal.entries ≡ [] }
+    requires nobody { (number : ℕ) → IsFalse (is_live number served.core.stored.clients) }
+    requires nodes { served.core.journal.nodes ≡ served.tree.now.nodes }
+    ensures run { (link : TcpLink R) × (link.listener ≡ listener)
+        × IsRun link (device_of_sink J.takes J.fails) J.failures served journal.old journal.new
+        result }
+{
     let Served {
         core,
         tree,

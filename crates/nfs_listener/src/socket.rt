@@ -1,5 +1,5 @@
-ghost use Rattle.std.specs.Prelude.{◌≡◌, ◌≤◌, IfOk, IsSome, OnErr, OnOk, length, ◌<◌};
-ghost use Rattle.nfs_listener.specs.Sockets.{KeepsConnection};
+ghost use Rattle.std.specs.Prelude.{◌≡◌, ◌<◌, ◌≤◌, None, Some, IfOk, IfSome, IsSome, OnOk, length};
+ghost use Rattle.nfs_listener.specs.Sockets.{HasFailed, KeepsConnection};
 
 use nfs_server::{DeviceFailed, Duplex};
 use std::io;
@@ -17,7 +17,14 @@ pub struct Socket<'a> {
 
 impl<'a> Socket<'a> {
     /// The next connection that comes to the listener.
-    pub(crate) fn of(listener: &'a TcpListener) -> Socket<'a> {
+    pub(crate) fn of(listener: &'a TcpListener) -> Socket<'a>
+        ensures { result ≡ record {
+          listener = listener;
+          stream = None;
+          read_failures = 0;
+          write_failures = 0;
+        } }
+    {
         Socket {
             listener,
             stream: None,
@@ -27,31 +34,58 @@ impl<'a> Socket<'a> {
     }
 
     // The connection, which is accepted if that wasn't done.
-    fn accepted(&mut self) -> io::Result<&TcpStream> {
+    fn accept(&mut self) -> io::Result<()>
+        ensures keeps { KeepsConnection self.old self.new }
+        ensures failures { HasFailed 0 0 self.old self.new }
+        ensures some { OnOk result (IsSome self.new.stream) }
+    {
         if self.stream.is_none() {
             let (stream, _) = self.listener.accept()?;
             // Replies go out at once. Without this they only come later.
             let _ = stream.set_nodelay(true);
             self.stream = Some(stream);
         }
+        Ok(())
+    }
+
+    fn receive(&mut self, buffer: &mut [u8]) -> io::Result<usize>
+        ensures within { IfOk result (λ n. n ≤ length buffer.new) }
+        ensures keeps { KeepsConnection self.old self.new }
+        ensures failures { HasFailed 0 0 self.old self.new }
+        ensures some { OnOk result (IsSome self.new.stream) }
+    {
+        self.accept()?;
         match &self.stream {
-            Some(stream) => Ok(stream),
+            Some(stream) => read_from(stream, buffer),
             None => unreachable!(),
         }
     }
 
-    fn receive(&mut self, buffer: &mut [u8]) -> io::Result<usize> {
-        let mut stream = self.accepted()?;
-        stream.read(buffer)
-    }
-
     // A connection that wasn't accepted yet takes nothing.
-    fn send(&self, bytes: &[u8]) -> Option<usize> {
-        let mut stream = self.stream.as_ref()?;
-        match stream.write(bytes) {
-            Ok(n) if n > 0 => Some(n),
-            _ => None,
+    fn send(&self, bytes: &[u8]) -> Option<usize>
+        ensures within { IfSome result (λ n. (0 < n) × (n ≤ length bytes.now)) }
+        ensures some { IsSome result → IsSome self.now.stream }
+    {
+        match &self.stream {
+            Some(stream) => write_to(stream, bytes),
+            None => None,
         }
+    }
+}
+
+fn read_from(mut stream: &TcpStream, buffer: &mut [u8]) -> io::Result<usize>
+    ensures within { IfOk result (λ n. n ≤ length buffer.new) }
+{
+    stream.read(buffer)
+}
+
+// A write that takes nothing is a failure.
+fn write_to(mut stream: &TcpStream, bytes: &[u8]) -> Option<usize>
+    ensures within { IfSome result (λ n. (0 < n) × (n ≤ length bytes.now)) }
+{
+    match stream.write(bytes) {
+        Ok(n) if n > 0 => Some(n),
+        _ => None,
     }
 }
 

@@ -1,3 +1,5 @@
+ghost use Rattle.std.specs.Prelude.{◌≡◌};
+
 use crate::{Socket, Uptime};
 use nfs_server::Link;
 use std::net::TcpListener;
@@ -13,11 +15,24 @@ pub struct TcpLink<'a, R> {
 
 impl<'a, R> TcpLink<'a, R> {
     /// `start` is what the monotonic clock showed when the service began.
-    pub(crate) fn new(rt: &'a R, start: Duration, listener: &'a TcpListener) -> TcpLink<'a, R> {
+    pub(crate) fn new(rt: &'a R, start: Duration, listener: &'a TcpListener) -> TcpLink<'a, R>
+        ensures { result ≡ record { rt = rt; start = start; listener = listener } }
+    {
         TcpLink {
             rt,
             start,
             listener,
+        }
+    }
+
+    /// The same link once more.
+    pub(crate) fn again(&self) -> TcpLink<'a, R>
+        ensures { result ≡ self.now }
+    {
+        TcpLink {
+            rt: self.rt,
+            start: self.start,
+            listener: self.listener,
         }
     }
 }
