@@ -1,19 +1,24 @@
 //! A server of NFSv4.0's state, whose journal explains every change of the state.
 #![tactic(auto)]
 
-ghost use Rattle.std.specs.Prelude.{◌≡◌, [], IfOk, IfSome};
-ghost use Rattle.nfs_options.specs.CommandLine.{IsOnceWithinLimits};
+ghost use Rattle.std.specs.Prelude.{◌≡◌, ◌≤◌, [], IfOk, IfSome};
+ghost use Rattle.nfs_options.specs.CommandLine.{IsOnceWithinLimits, IsServeWithinLimits};
 ghost use Rattle.nfs_owners.specs.Registry.{no_clients};
 
 mod new_file;
 
 use crate::new_file::NewFile;
-use nfs_core::{Core, CoreError, Moment};
-use nfs_options::{Declined, OnceOptions, Subcommand, options};
+use nfs_core::{Core, CoreError, LEASE_MAX, LEASE_MIN, Moment};
+use nfs_listener::{Served, run_serve};
+use nfs_options::{Declined, OnceOptions, ServeOptions, Subcommand, options};
 use nfs_server::{Counted, Fault, Sides, read_tree, run_audit, run_once};
 use nfs_tree::{DEFAULT_TREE, Tree};
 use std::alloc::Global;
+use std::net::TcpListener;
 use std::process::ExitCode;
+use std::sync::Wait;
+use std::thread::Threads;
+use std::time::Clock;
 use std::{env, fs, io};
 
 /// Does what the words of the command line ask for: see `nfs4state --help`.
@@ -27,6 +32,7 @@ fn main(rt: HostRuntime) -> ExitCode {
     };
     match options(rt.alloc(), words.as_slice()) {
         Ok(Subcommand::Once(options)) => ExitCode::from(once(&rt, &options)),
+        Ok(Subcommand::Serve(options)) => ExitCode::from(serve(&rt, &rt, &options)),
         Ok(Subcommand::Audit(path)) => ExitCode::from(audit(&rt, path)),
         Err(Declined::Help(text)) => print_help(&rt, text.as_str()),
         Err(Declined::Usage(text)) => print_usage(&rt, text.as_str()),
@@ -47,7 +53,7 @@ fn once(rt: &HostRuntime, options: &OnceOptions<'_>) -> u8
         Ok(tree) => tree,
         Err(fault) => return report(rt, fault),
     };
-    let Ok(core) = core_of(rt.alloc(), options, &tree) else {
+    let Ok(core) = core_of(rt.alloc(), &tree, options.lease, options.epoch) else {
         return report(rt, Fault::NoMemory);
     };
     let now = Moment::new(options.moment).unwrap();
@@ -66,6 +72,58 @@ fn once(rt: &HostRuntime, options: &OnceOptions<'_>) -> u8
         &mut errors,
         &mut journal,
     )
+}
+
+// `nfs4state serve`: connections of a TCP listener, and the journal to its file at the end. `threads` is what threads are
+// started and waited for by.
+fn serve<R: Threads + Wait + Clock + Sync>(
+    rt: &HostRuntime,
+    threads: &R,
+    options: &ServeOptions<'_>,
+) -> u8
+    requires { IsServeWithinLimits options.now }
+{
+    let tree = match tree(rt, options.tree) {
+        Ok(tree) => tree,
+        Err(fault) => return report(rt, fault),
+    };
+    let Ok(core) = core_of(rt.alloc(), &tree, options.lease, options.epoch) else {
+        return report(rt, Fault::NoMemory);
+    };
+    let listener = match listen(rt, options.listen) {
+        Ok(listener) => listener,
+        Err(fault) => return report(rt, fault),
+    };
+    let served = Served {
+        core,
+        tree: &tree,
+        connections: options.connections,
+    };
+    let mut errors = rt.stderr();
+    let mut journal = journal_file(rt, options.journal);
+    run_serve(
+        rt.alloc(),
+        threads,
+        &listener,
+        served,
+        &mut errors,
+        &mut journal,
+    )
+}
+
+// A listener at this address. The address that it got is told by a line on standard error, by which a script can know
+// when to connect, and where if the port was left to the system. An error in writing it is ignored, as others are below.
+fn listen(rt: &HostRuntime, address: &str) -> Result<TcpListener, Fault> {
+    let listener = match TcpListener::bind(rt, address) {
+        Ok(listener) => listener,
+        Err(error) if error.kind() == io::ErrorKind::OutOfMemory => return Err(Fault::NoMemory),
+        Err(_) => return Err(Fault::Socket),
+    };
+    let Ok(address) = listener.local_addr() else {
+        return Err(Fault::Socket);
+    };
+    let _ = eprintln!(rt; "listening on {address}");
+    Ok(listener)
 }
 
 // The journal's file, which isn't touched yet, if there is to be one.
@@ -92,19 +150,19 @@ fn audit(rt: &HostRuntime, path: &str) -> u8 {
     run_audit(rt.alloc(), bytes.as_slice(), &mut sink, &mut errors)
 }
 
-// A core for the tree, with the tree's policy, and the lease and the epoch of the options.
-fn core_of(alloc: Global, options: &OnceOptions<'_>, tree: &Tree) -> Result<Core, CoreError>
-    requires limits { IsOnceWithinLimits options.now }
+// A core for the tree, with the tree's policy.
+fn core_of(alloc: Global, tree: &Tree, lease: u32, epoch: u32) -> Result<Core, CoreError>
+    requires lease { (LEASE_MIN ≤ lease) × (lease ≤ LEASE_MAX) }
     ensures journal { IfOk result (λ core. core.journal ≡ record {
       nodes = tree.now.nodes;
-      epoch = options.now.epoch;
-      lease = options.now.lease;
+      epoch = epoch;
+      lease = lease;
       policy = tree.now.policy;
       entries = [];
     }) }
     ensures clients { IfOk result (λ core. core.stored.clients ≡ no_clients) }
 {
-    Core::new(alloc, tree, options.lease, options.epoch, tree.policy())
+    Core::new(alloc, tree, lease, epoch, tree.policy())
 }
 
 // The tree that the file describes, or the default tree if no file is given.

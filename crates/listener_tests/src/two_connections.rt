@@ -1,0 +1,92 @@
+ghost use Rattle.std.specs.Prelude.{◌≡◌, [], ℕ, IsFalse};
+ghost use Rattle.nfs_owners.specs.Registry.{is_live};
+
+use crate::client::converse;
+use nfs_core::Core;
+use nfs_listener::{Ended, serve_on};
+use nfs_tree::Tree;
+use std::alloc::Global;
+use std::net::{TcpListener, TcpStream};
+use std::sync::Wait;
+use std::sync::atomic::AtomicUsize;
+use std::thread::Threads;
+use std::time::{Clock, Duration};
+use std::{io, thread};
+
+// How many clients got the replies that are expected, how many connections were served to their end with a receipt each,
+// and how many entries the journal has.
+#[derive(Clone, Copy, Debug, PartialEq, Eq)]
+struct Outcome {
+    answered: u32,
+    served: u32,
+    entries: usize,
+}
+
+// Serves two clients at once that have these connections with the listener; none where memory was refused.
+fn serve_two<R: Threads + Wait + Clock + Sync>(
+    rt: &R,
+    alloc: Global,
+    listener: &TcpListener,
+    clients: (&TcpStream, &TcpStream),
+) -> Option<Outcome> {
+    let tree = &Tree::from_toml(alloc, "file = [{ path = \"a\" }]").ok()?;
+    let core = Core::new(alloc, tree, 90, 7, tree.policy()).ok()?;
+    let (first, second) = clients;
+    let answered = &AtomicUsize::new(0);
+    let (answered, served) = thread::join(
+        rt,
+        move || thread::join(
+            rt,
+            move || converse(rt, first, answered),
+            move || converse(rt, second, answered),
+        ),
+        move || -> Option<(u32, usize)>
+            requires { (core.journal.entries ≡ [])
+                × ((number : ℕ) → IsFalse (is_live number core.stored.clients))
+                × (core.journal.nodes ≡ tree.now.nodes) }
+        {
+            let (core, all) = serve_on(alloc, rt, listener, core, tree, 2).ok()?;
+            Some((count(all.as_slice()), core.journal().entries().len()))
+        },
+    );
+    let (served, entries) = served?;
+    Some(Outcome {
+        answered: u32::from(answered.0) + u32::from(answered.1),
+        served,
+        entries,
+    })
+}
+
+// How many were served to the end, each with its own receipt.
+fn count(all: &[Ended]) -> u32 {
+    let mut served = 0u32;
+    for ended in all {
+        if ended.result == Ok(0) && ended.receipts.len() == 1 {
+            served = served.saturating_add(1);
+        }
+    }
+    served
+}
+
+// A connection with the listener, in which no read waits for long.
+fn connect(rt: &HostRuntime, listener: &TcpListener) -> io::Result<TcpStream> {
+    let stream = TcpStream::connect(rt, listener.local_addr()?)?;
+    stream.set_read_timeout(Some(Duration::from_secs(10)))?;
+    Ok(stream)
+}
+
+#[test]
+fn two_connections(rt: HostRuntime) {
+    let listener = TcpListener::bind(&rt, "127.0.0.1:0").unwrap();
+    let first = connect(&rt, &listener).unwrap();
+    let second = connect(&rt, &listener).unwrap();
+    let outcome = serve_two(&rt, rt.alloc(), &listener, (&first, &second));
+    assert_eq!(&rt;
+        outcome,
+        Some(Outcome {
+            answered: 2,
+            served: 2,
+            entries: 2
+        })
+    );
+}

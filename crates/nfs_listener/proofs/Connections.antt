@@ -1,0 +1,108 @@
+-- What workers did, said of connections.
+use Rattle.std.proofs.Common.{◌≡◌, ℕ, zero, suc, ◌+◌, ◌<◌, ◌↔◌, List, [], ◌∷◌, ◌++◌, map, length, slice_get, Some, IsErrOf, refl, sym, ap, subst, ◌∙◌, arith}
+use Rattle.std.specs.List.{AllByRecursion}
+use Rattle.nfs_shared.specs.Ends.{AreFresh, IsKept}
+use Rattle.nfs_shared.specs.Seats.{SeatView, fresh}
+use Rattle.nfs_tree.specs.Tree.{Files}
+use Rattle.nfs_server.specs.Connection.{HasCourse, scene}
+use Rattle.nfs_server.specs.Exchange.{rules}
+use Rattle.nfs_server.specs.Holding.{AreAlikeButRoom, GivenBySeat}
+use Rattle.nfs_server.specs.Working.{AreDone, IsDone, Linking, receipts_back, seats_of}
+use Rattle.nfs_server.specs.declared.done.Done.{Done}
+use Rattle.nfs_server.specs.declared.serve_error.ServeError.TheVariants as errors
+use Rattle.nfs_listener.specs.Links.{tcp}
+use Rattle.nfs_listener.specs.Serving.{AreConnections, IsConnection, receipts_of}
+use Rattle.nfs_listener.specs.declared.ended.Ended.{Ended}
+use Rattle.nfs_listener.specs.declared.tcp_link.TcpLink.{TcpLink}
+
+-- one worker more is done
+pub one_more_done : {N L D C : Type 0} (linking : Linking L D C) (tree : Files) (links : List (L × SeatView)) (dones : List (Done N)) (link : L × SeatView) (done : Done N)
+    → AreDone linking tree links dones → IsDone linking tree link.0 link.1 done
+    → AreDone linking tree (links ++ link ∷ []) (dones ++ done ∷ [])
+one_more_done linking tree [] [] link done are is = (is, tt)
+one_more_done linking tree [] (d ∷ dones) link done are is = absurd are
+one_more_done linking tree (l ∷ links) [] link done are is = absurd are
+one_more_done linking tree (l ∷ links) (d ∷ dones) link done are is = (are.0, one_more_done linking tree links dones link done are.1 is)
+
+-- a seat that was given nothing is kept with no receipts
+kept_unused : (seat : SeatView) → seat.given ≡ 0 → IsKept seat []
+kept_unused seat none = record {
+  place = λ k r at. cc;
+  list = λ k r at. cc;
+  rising = λ j k q r less at other. cc;
+  last = λ k r at. cc;
+  given = sym none;
+}
+
+-- a worker that gives its seat back, with the error Memory, before it opened its link
+pub is_refused : {N R : Type 0} (tree : Files) (link : TcpLink R) (seat : SeatView) (done : Done N) → seat.given ≡ 0
+    → done.result ≡ Err errors.Memory → done.seat ≡ seat → done.receipts.items ≡ []
+    → IsDone tcp tree link seat done
+is_refused tree link seat done none result same empty =
+    let socket = record { listener = link.listener; stream = None; read_failures = 0; write_failures = 0 } in
+    let clock = record { rt = link.rt; start = link.start; last = 0 } in
+    let desk = record { seat = seat; receipts = []; room = 0 } in
+    let here = scene socket desk clock in
+    let idle = record { piece = []; exchanges = []; unanswered = []; rest = [] } in record {
+      device = socket;
+      clock = clock;
+      opened = (refl, refl);
+      desk = desk;
+      begun = (refl, refl);
+      device' = socket;
+      clock' = clock;
+      desk' = desk;
+      ended = (same, empty);
+      course = rw result (record { turns = []; last = idle }, (here, refl, omega arith, inl (refl, refl, refl, refl)));
+      read_failed = (λ is. absurd cc, λ less. absurd (omega arith));
+      write_failed = (λ is. absurd cc, λ less. absurd (omega arith));
+      kept = rw same (rw empty (kept_unused seat none));
+    }
+
+-- the connection that a worker served
+of_done : {N L D C : Type 0} (linking : Linking L D C) (tree : Files) (link : L) (seat : SeatView) (done : Done N) (ended : Ended)
+    → IsDone linking tree link seat done → ended.result ≡ done.result → ended.receipts.items ≡ done.receipts.items
+    → IsConnection linking tree link seat ended
+of_done linking tree link seat done ended is result receipts = record {
+  device = is.device;
+  clock = is.clock;
+  opened = is.opened;
+  desk = is.desk;
+  begun = is.begun;
+  device' = is.device';
+  clock' = is.clock';
+  desk' = is.desk';
+  receipts = receipts ∙ is.ended.1;
+  course = rw result is.course;
+  read_failed = rw result is.read_failed;
+  write_failed = rw result is.write_failed;
+}
+
+-- these seats are unused, and their places go up from this one
+abbrev FreshFrom : ℕ → List SeatView → Type 0
+FreshFrom place [] = Unit {0}
+FreshFrom place (seat ∷ seats) = (seat ≡ fresh place) × FreshFrom (suc place) seats
+
+fresh_from : (place : ℕ) (seats : List SeatView) → ((k : ℕ) (seat : SeatView) → slice_get seats k ≡ Some seat → seat ≡ fresh (k + place)) → FreshFrom place seats
+fresh_from place [] each = tt
+fresh_from place (seat ∷ seats) each = (each 0 seat refl, fresh_from (suc place) seats (λ k s at. each (suc k) s at ∙ ap fresh (omega arith)))
+
+connected : {N L D C : Type 0} (linking : Linking L D C) (tree : Files) (link : L) (place : ℕ) (links : List (L × SeatView)) (dones : List (Done N)) (connections : List Ended)
+    → FreshFrom place (seats_of links) → AllByRecursion (λ l. l.0 ≡ link) links → AreDone linking tree links dones
+    → map (λ e. e.result) connections ≡ map (λ d. d.result) dones → receipts_of connections ≡ receipts_back dones
+    → AreConnections linking tree link place connections
+connected linking tree link place links dones [] new same are results receipts = tt
+connected linking tree link place links [] (e ∷ es) new same are results receipts = absurd cc
+connected linking tree link place [] (d ∷ dones) (e ∷ es) new same are results receipts = absurd are
+connected linking tree link place (l ∷ links) (d ∷ dones) (e ∷ es) new same are results receipts = (
+  of_done linking tree link (fresh place) d e (subst (λ x. IsDone linking tree x (fresh place) d) same.0 (subst (λ s. IsDone linking tree l.0 s d) new.0 are.0)) cc cc,
+  connected linking tree link (suc place) links dones es new.1 same.1 are.1 cc cc,
+)
+
+-- the connections that workers served, one link at fresh seats
+pub connections_of : {N L D C : Type 0} (linking : Linking L D C) (tree : Files) (link : L) (count : ℕ) (links : List (L × SeatView)) (dones : List (Done N)) (connections : List Ended)
+    → AreFresh count (seats_of links) → AllByRecursion (λ l. l.0 ≡ link) links → AreDone linking tree links dones
+    → map (λ e. e.result) connections ≡ map (λ d. d.result) dones → receipts_of connections ≡ receipts_back dones
+    → AreConnections linking tree link 0 connections
+connections_of linking tree link count links dones connections new same are results receipts =
+    connected linking tree link 0 links dones connections (fresh_from 0 (seats_of links) (λ k seat at. new.1 k seat at ∙ ap fresh (omega arith))) same are results receipts

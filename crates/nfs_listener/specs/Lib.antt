@@ -1,0 +1,6 @@
+pub mod Sockets
+pub mod Uptimes
+pub mod Links
+pub mod Serving
+pub mod Runs
+pub mod Lists

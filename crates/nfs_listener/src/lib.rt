@@ -1,0 +1,22 @@
+//! Serves the connections of a TCP listener, each in a thread of its own, with a state that they share, while another
+//! thread removes the clients whose leases are over.
+#![tactic(auto)]
+
+mod bell;
+mod ended;
+mod faults;
+mod lists;
+mod run_serve;
+mod serve_on;
+mod socket;
+mod sweeping;
+mod tcp_link;
+mod uptime;
+
+pub use ended::Ended;
+pub use faults::first_fault;
+pub use run_serve::{Served, run_serve};
+pub use serve_on::serve_on;
+pub use socket::Socket;
+pub use tcp_link::TcpLink;
+pub use uptime::Uptime;

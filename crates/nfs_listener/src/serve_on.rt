@@ -1,0 +1,249 @@
+ghost use Rattle.std.specs.Prelude.{◌≡◌, ◌≤◌, [], ℕ, IfErr, IfOk, IsFalse, length, map, vec_capacity, vec_len};
+ghost use Rattle.std.specs.List.{AllByRecursion};
+ghost use Rattle.nfs_core.specs.Safe.{IsSafe};
+ghost use Rattle.nfs_core.specs.Server.{IsLawful};
+ghost use Rattle.nfs_listener.specs.Links.{tcp};
+ghost use Rattle.nfs_listener.specs.Lists.{HaveRoom};
+ghost use Rattle.nfs_listener.specs.Serving.{IsServed, receipts_of};
+ghost use Rattle.nfs_listener.specs.declared.tcp_link.TcpLink.{TcpLink};
+ghost use Rattle.nfs_owners.specs.Registry.{is_live};
+ghost use Rattle.nfs_server.specs.Working.{AreDone, AreUnused, receipts_back, seats_back, seats_of};
+ghost use Rattle.nfs_shared.specs.Ends.{AllApart, AllStand, AreKept, receipts_in};
+ghost use Rattle.nfs_shared.specs.Naming.{start_of};
+ghost use Rattle.nfs_shared.specs.Receipts.{calls_in};
+ghost use Rattle.nfs_state.specs.Stored.{meaning};
+
+use crate::bell::Bell;
+use crate::lists::{Lists, Parts};
+use crate::sweeping::sweep_until;
+use crate::{Ended, TcpLink, Uptime};
+use nfs_core::Core;
+use nfs_server::{Done, ServeError, serve_all, workers_keep_receipts};
+use nfs_shared::{Naming, Opened, Receipt, Seat, Shared};
+use nfs_tree::Tree;
+use std::alloc::Global;
+use std::marker::Brand;
+use std::net::TcpListener;
+use std::sync::Wait;
+use std::thread;
+use std::thread::Threads;
+use std::time::{Clock as Timer, Duration};
+
+/// Serves the next connections that come to the listener, as many as `connections` says, each in a thread of its own,
+/// and ends when all of them have ended. Meanwhile clients are removed whose leases are over. It returns the core as the
+/// connections left it, and how each of them ended. If memory is refused before anything begins, the core comes back.
+pub fn serve_on<R: Threads + Wait + Timer + Sync>(
+    alloc: Global,
+    rt: &R,
+    listener: &TcpListener,
+    core: Core,
+    tree: &Tree,
+    connections: u32,
+) -> Result<(Core, Vec<Ended>), Core>
+    requires empty { core.journal.entries ≡ [] }
+    requires nobody { (number : ℕ) → IsFalse (is_live number core.stored.clients) }
+    requires nodes { core.journal.nodes ≡ tree.now.nodes }
+    ensures served { IfOk result (λ r. (link : TcpLink R) × (link.listener ≡ listener)
+        × IsServed link tree.now connections core r.0 r.1.items) }
+    ensures back { IfErr result (λ back. back ≡ core) }
+{
+    let Ok(opened) = Opened::new(alloc, connections) else {
+        return Err(core);
+    };
+    let start = rt.monotonic().unwrap_or(Duration::ZERO);
+    let place = Place {
+        alloc,
+        rt,
+        tree,
+        start,
+    };
+    let link = TcpLink::new(rt, start, listener);
+    run::<Brand, R>(&place, &link, connections, opened, core)
+}
+
+// What all connections have in common.
+#[derive(Drop)]
+struct Place<'a, R> {
+    alloc: Global,
+    rt: &'a R,
+    tree: &'a Tree,
+    start: Duration,
+}
+
+// Serves in a run of this name. No type of the signature may rest on the name.
+fn run<N: Naming + Send + Sync, R: Threads + Wait + Timer + Sync>(
+    place: &Place<'_, R>,
+    link: &TcpLink<'_, R>,
+    connections: u32,
+    opened: Opened,
+    core: Core,
+) -> Result<(Core, Vec<Ended>), Core>
+    requires roll { opened.roll ≡ N.roll }
+    requires ledger { opened.ledger ≡ N.name }
+    requires workers { opened.workers ≡ N.parts }
+    requires count { opened.workers ≡ connections }
+    requires start { start_of core.journal ≡ N.start }
+    requires empty { core.journal.entries ≡ [] }
+    requires nobody { (number : ℕ) → IsFalse (is_live number core.stored.clients) }
+    requires nodes { core.journal.nodes ≡ place.now.tree.now.nodes }
+    ensures served { IfOk result
+        (λ r. IsServed link.now place.now.tree.now connections core r.0 r.1.items) }
+    ensures back { IfErr result (λ back. back ≡ core) }
+{
+    let Ok(lists) = Lists::<N, R>::new(place.alloc, connections as usize) else {
+        return Err(core);
+    };
+    let (shared, seats) = match Shared::<N>::new(place.alloc, opened, core) {
+        Ok(shared) => shared,
+        Err(core) => return Err(core),
+    };
+    let Lists {
+        mut links,
+        spare,
+        parts,
+        ended,
+    } = lists;
+    link_all(link, seats, &mut links);
+    let all = serve_swept(place, &shared, links, spare);
+    workers_keep_receipts::<N, TcpLink<'_, R>>();
+    Ok(end(shared, all, parts, ended))
+}
+
+// The link, for each of the seats.
+fn link_all<'a, N: Naming, R>(
+    link: &TcpLink<'a, R>,
+    seats: Vec<Seat<N>>,
+    links: &mut Vec<(TcpLink<'a, R>, Seat<N>)>,
+)
+    requires empty { links.old.items ≡ [] }
+    requires room { vec_len seats ≤ vec_capacity links.old }
+    ensures same { AllByRecursion (λ l. l.0 ≡ link.now) links.new.items }
+    ensures seats { seats_of links.new.items ≡ seats.items }
+{
+    for seat in seats {
+        links.push_reserved((link.again(), seat));
+    }
+}
+
+// Serves the links, while another thread sweeps. What the workers give back is put into `spare` if they can't begin.
+fn serve_swept<N: Naming + Send + Sync, R: Threads + Wait + Timer + Sync>(
+    place: &Place<'_, R>,
+    shared: &Shared<N>,
+    links: Vec<(TcpLink<'_, R>, Seat<N>)>,
+    spare: Vec<Done<N>>,
+) -> Vec<Done<N>>
+    requires nodes { N.start.nodes ≡ place.now.tree.now.nodes }
+    requires unused { AreUnused (seats_of links.items) }
+    requires empty { spare.items ≡ [] }
+    requires room { length links.items ≤ vec_capacity spare }
+    ensures { AreDone tcp place.now.tree.now links.items result.items }
+{
+    let bell = &Bell::new();
+    // Where no thread can be made, the first is called after the second, and finds the end told.
+    let (_, all) = thread::join(
+        place.rt,
+        move || sweep_until(place.rt, shared, Uptime::since(place.rt, place.start), bell),
+        move || -> Vec<Done<N>>
+            requires { (N.start.nodes ≡ place.now.tree.now.nodes) × AreUnused (seats_of links.items)
+                × (spare.items ≡ []) × (length links.items ≤ vec_capacity spare) }
+            ensures { AreDone tcp place.entry.now.tree.now links.items result.items }
+        { serve_and_ring(place, shared, bell, links, spare) },
+    );
+    all
+}
+
+// Serves the links, and tells their end.
+fn serve_and_ring<N: Naming + Send + Sync, R: Threads + Wait + Timer + Sync>(
+    place: &Place<'_, R>,
+    shared: &Shared<N>,
+    bell: &Bell,
+    links: Vec<(TcpLink<'_, R>, Seat<N>)>,
+    spare: Vec<Done<N>>,
+) -> Vec<Done<N>>
+    requires nodes { N.start.nodes ≡ place.now.tree.now.nodes }
+    requires unused { AreUnused (seats_of links.items) }
+    requires empty { spare.items ≡ [] }
+    requires room { length links.items ≤ vec_capacity spare }
+    ensures { AreDone tcp place.now.tree.now links.items result.items }
+{
+    let all = match serve_all(place.alloc, place.rt, shared, place.tree, links) {
+        Ok(all) => all,
+        Err(links) => refuse_all(place.alloc, place.tree, links, spare),
+    };
+    bell.ring(place.rt);
+    all
+}
+
+// The links get no worker, as memory is refused: none is opened, and the seats come back.
+fn refuse_all<N: Naming, R>(
+    alloc: Global,
+    tree: &Tree,
+    links: Vec<(TcpLink<'_, R>, Seat<N>)>,
+    spare: Vec<Done<N>>,
+) -> Vec<Done<N>>
+    requires unused { AreUnused (seats_of links.items) }
+    requires empty { spare.items ≡ [] }
+    requires room { vec_len links ≤ vec_capacity spare }
+    ensures { AreDone tcp tree.now links.items result.items }
+{
+    let mut all = spare;
+    for (_, seat) in links {
+        all.push_reserved(Done {
+            result: Err(ServeError::Memory),
+            seat,
+            receipts: Vec::new(alloc),
+        });
+    }
+    all
+}
+
+// The core at the end, and how the connections ended.
+fn end<N: Naming>(
+    shared: Shared<N>,
+    all: Vec<Done<N>>,
+    mut parts: Parts<N>,
+    ended: Vec<Ended>,
+) -> (Core, Vec<Ended>)
+    requires seats { length (seats_back all.items) ≡ N.parts }
+    requires kept { AreKept (seats_back all.items) (receipts_back all.items) }
+    requires parts { HaveRoom (length all.items) parts }
+    requires none { ended.items ≡ [] }
+    requires room { length all.items ≤ vec_capacity ended }
+    ensures start { start_of result.0.journal ≡ N.start }
+    ensures lawful { IsLawful result.0 }
+    ensures safe { IsSafe (meaning result.0.stored) }
+    ensures stand { AllStand result.0.journal.entries (receipts_back all.items) }
+    ensures apart { AllApart (receipts_back all.items) }
+    ensures counted { calls_in result.0.journal.entries ≡ receipts_in (receipts_back all.items) }
+    ensures results { map (λ e. e.result) result.1.items ≡ map (λ d. d.result) all.items }
+    ensures receipts { receipts_of result.1.items ≡ receipts_back all.items }
+{
+    parts.take(all);
+    let Parts {
+        results,
+        seats,
+        receipts,
+    } = parts;
+    let core = shared.end(receipts.as_slice(), seats);
+    (core, pair(results.as_slice(), receipts, ended))
+}
+
+// Each result with the receipts at its place.
+fn pair(
+    results: &[Result<usize, ServeError>],
+    receipts: Vec<Vec<Receipt>>,
+    ended: Vec<Ended>,
+) -> Vec<Ended>
+    requires count { length results.now ≡ vec_len receipts }
+    requires empty { ended.items ≡ [] }
+    requires room { vec_len receipts ≤ vec_capacity ended }
+    ensures results { map (λ e. e.result) result.items ≡ results.now }
+    ensures receipts { receipts_of result.items ≡ map (λ v. v.items) receipts.items }
+{
+    let mut all = ended;
+    for receipts in receipts {
+        let result = results[all.len()];
+        all.push_reserved(Ended { result, receipts });
+    }
+    all
+}
