@@ -19,23 +19,23 @@ use nfs_state::Moment;
 use nfs_xdr::{Op, OpResult, Principal};
 use std::snapshot::Snapshot;
 
-/// What is to be known of the clients before a call that asks to confirm one.
+// What is to be known of the clients before a call that asks to confirm one.
 #[derive(Clone, Copy)]
-pub(crate) struct Confirmation {
-    /// The number of the client that is to be confirmed.
-    pub(crate) client: u32,
-    /// Whether it is live already.
-    pub(crate) was_live: bool,
-    /// The number of the live client that it replaces, if there is one.
-    pub(crate) replaced: Option<u32>,
+struct Confirmation {
+    // The number of the client that is to be confirmed.
+    client: u32,
+    // Whether it is live already.
+    was_live: bool,
+    // The number of the live client that it replaces, if there is one.
+    replaced: Option<u32>,
 }
 
-/// What is to be known before a call, so that the leases can follow it afterwards.
+// What is to be known before a call, so that the leases can follow it afterwards.
 #[derive(Drop)]
-pub(crate) struct Before {
-    pub(crate) core: Snapshot<Core>,
-    pub(crate) op: Snapshot<Op>,
-    pub(crate) confirmation: Option<Confirmation>,
+struct Before {
+    core: Snapshot<Core>,
+    op: Snapshot<Op>,
+    confirmation: Option<Confirmation>,
 }
 
 /// Has the core answer an operation, as `Core::apply` does. Where a client becomes live by it, its lease is opened at
