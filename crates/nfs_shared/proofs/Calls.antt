@@ -12,12 +12,14 @@ use Rattle.nfs_owners.specs.Registry.{Registry, is_confirmed_of, is_live, is_of_
 use Rattle.nfs_owners.specs.declared.client_record.ClientRecord.{ClientRecord}
 use Rattle.nfs_shared.specs.BookEvent.{BookEvent, Leads}
 use Rattle.nfs_shared.specs.BookOf.{IsBookOf, events_of_call, opening, opening_of, retiring, retiring_of}
+use Rattle.nfs_shared.specs.Calling.{HasAnswered, confirmation_by}
+use Rattle.nfs_shared.specs.declared.calling.Confirmation.{Confirmation}
 use Rattle.nfs_shared.proofs.Comes.{AreLaws, contrary, lease_after}
+use Rattle.nfs_state.specs.Entries.{request_of}
 use Rattle.nfs_state.specs.State.{History, State}
 use Rattle.nfs_state.specs.Stored.{Stored, meaning}
 use Rattle.nfs_state.specs.declared.request.Request.{Request}
 use Rattle.nfs_xdr.specs.declared.op.Op.{Op}
-use Rattle.nfs_xdr.specs.declared.op.Op.TheVariants as ops
 use Rattle.nfs_xdr.specs.declared.op_result.OpResult.{OpResult}
 
 -- a live client's number was given
@@ -76,7 +78,7 @@ follow_same op old new same = record {
   once = λ number h. subst (λ (r : Registry). IsTrue (can_become_live number r)) same h;
 }
 
-pub follow_of : CallsFollow → (old new : Server) (request : Request) (answer : OpResult) (number : Option ℕ)
+follow_of : CallsFollow → (old new : Server) (request : Request) (answer : OpResult) (number : Option ℕ)
     → IsLawful old → Applies old new request answer number
     → LiveFollow request.op old.stored.clients new.stored.clients
 follow_of calls old new request answer None lawful h =
@@ -85,10 +87,21 @@ follow_of calls old new request answer None lawful h =
 follow_of calls old new request answer (Some number) lawful h =
     calls old.journal (meaning old.stored) (meaning new.stored) request answer lawful h.2
 
-pub lease_kept : (old new : Server) (request : Request) (answer : OpResult) (number : Option ℕ)
+lease_kept : (old new : Server) (request : Request) (answer : OpResult) (number : Option ℕ)
     → Applies old new request answer number → new.journal.lease ≡ old.journal.lease
 lease_kept old new request answer None h = ap (λ (j : History). j.lease) h.1.0
 lease_kept old new request answer (Some number) h = ap (λ (j : History). j.lease) h.1
+
+-- the same, whoever called
+pub answered_follow : CallsFollow → (op : Op) (moment : ℕ) (old new : Server) → IsLawful old
+    → HasAnswered op moment old new → LiveFollow op old.stored.clients new.stored.clients
+answered_follow calls op moment old new lawful h =
+    follow_of calls old new (request_of moment h.principal op h.filehandle) h.answer h.number lawful h.applies
+
+pub answered_lease : (op : Op) (moment : ℕ) (old new : Server) → HasAnswered op moment old new
+    → new.journal.lease ≡ old.journal.lease
+answered_lease op moment old new h =
+    lease_kept old new (request_of moment h.principal op h.filehandle) h.answer h.number h.applies
 
 -- what is asked of the book, where the operation confirms nobody
 pub no_events : (op : Op) (moment : ℕ) (old new : Server) → confirmed_by op ≡ None → events_of_call op moment old new ≡ []
@@ -247,10 +260,25 @@ pub newcomer_is_fresh : (op : Op) (old new : Server) (client : ℕ) (is_open was
 newcomer_is_fresh op old new client is_open was_opened lease follow agrees away here =
     fresh_by (was_opened client) (can_become_live client old.stored.clients) (agrees.past client) (follow.comes client away here).1
 
--- an operation that confirms nobody
-pub confirms_none : (op : Op) → ((args : _) → op ≡ ops.SetclientidConfirm args → ⊥) → confirmed_by op ≡ None
-confirms_none (ops.SetclientidConfirm args) h = absurd (h args refl)
-confirms_none op h = refl
+-- what was to be known before a call: nothing, as it confirms nobody, or how it was with the client that it confirms
+pub none_known : (registry : Registry) (by : Option ℕ) → confirmation_by registry by ≡ None → by ≡ None
+none_known registry None h = refl
+none_known registry (Some client) h = cc
+
+pub record IsKnown (registry : Registry) (by : Option ℕ) (confirmation : Confirmation) : Type 0 where
+  pub asked : by ≡ Some confirmation.client
+  pub was_live : confirmation.was_live ≡ is_live confirmation.client registry
+  pub replaced : confirmation.replaced ≡ replaced_by confirmation.client registry
+
+same_confirmation : (a b : Confirmation) → Some a ≡ Some b → a ≡ b
+same_confirmation a b h = cc
+
+pub is_known : (registry : Registry) (by : Option ℕ) (confirmation : Confirmation)
+    → confirmation_by registry by ≡ Some confirmation → IsKnown registry by confirmation
+is_known registry None confirmation h = cc
+is_known registry (Some client) confirmation h =
+    subst (λ (c : Confirmation). IsKnown registry (Some client) c) (same_confirmation _ confirmation h)
+    (record { asked = refl; was_live = refl; replaced = refl })
 
 pub book_same : (op : Op) (old new : Server) (is_open was_opened : ℕ → Bool) (lease : ℕ)
     → new.journal.lease ≡ old.journal.lease

@@ -1,5 +1,6 @@
 pub mod BookEvent
 pub mod BookOf
+pub mod Calling
 pub mod Ends
 pub mod Held
 pub mod Naming
