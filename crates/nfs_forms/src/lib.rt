@@ -3,7 +3,7 @@
 
 mod answer;
 mod bitmap;
-mod boxed_how;
+mod boxed;
 mod callback;
 mod change_info;
 mod claim;
@@ -27,7 +27,7 @@ mod verifier;
 
 pub use answer::Answer;
 pub use bitmap::Bitmap;
-pub use boxed_how::BoxedHow;
+pub use boxed::Boxed;
 pub use callback::{Address, Callback};
 pub use change_info::ChangeInfo;
 pub use claim::Claim;
