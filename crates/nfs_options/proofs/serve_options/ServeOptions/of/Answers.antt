@@ -36,7 +36,8 @@ returns-in_err-short_number-3-clause-err c =
 pub returns-clause-ok : goal.returns-clause-ok
 returns-clause-ok c =
     let given = first_value-rows (found_of c.args.matches.now) in
-    let listen = ? in
+    let listen = ap (λ (text : Bor (List ℕ)). text.now) c.unwrap_or.ensures
+    ∙ (text_or_default c.get_str.result _ ∙ ap (λ text. unwrap_or text listen_default) (c.get_str.ensures ∙ given (codes "listen"))) in
     let connections = subst (λ o. IsNumber 1 connections_max connections_default o c.in_ok-short_number.field-0) (c.get_str-2.ensures ∙ given (codes "connections")) c.in_ok-short_number.ensures.ok in
     let lease = subst (λ o. IsNumber LEASE_MIN LEASE_MAX lease_default o c.in_ok-short_number-2.field-0) (c.get_str-4.ensures ∙ given (codes "lease")) c.in_ok-short_number-2.ensures.ok in
     let epoch = subst (λ o. IsNumber 0 epoch_max epoch_default o c.in_ok-short_number-3.field-0) (c.get_str-5.ensures ∙ given (codes "epoch")) c.in_ok-short_number-3.ensures.ok in
