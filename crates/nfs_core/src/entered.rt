@@ -1,5 +1,4 @@
 ghost use Rattle.std.specs.Prelude.{◌≡◌, IfErr, IfOk, IsErrOf, OnErr};
-ghost use Rattle.nfs_core.specs.Entered.{number_entered};
 ghost use Rattle.nfs_core.specs.Following.{CanBeAsked, IsNext, IsStoredBy, MayBeAnswered};
 ghost use Rattle.nfs_core.specs.Server.{Enters, server_of};
 ghost use Rattle.nfs_core.specs.Step.{HasNoAnswer};
@@ -20,16 +19,6 @@ pub struct Entered {
     pub number: u32,
     /// A copy of its entry.
     pub call: Call,
-}
-
-/// The number of the entry, if there is one.
-pub fn number_entered(entered: Option<Entered>) -> Option<u32>
-    ensures { result ≡ number_entered entered }
-{
-    match entered {
-        None => None,
-        Some(entered) => Some(entered.number),
-    }
 }
 
 /// Answers the request and enters it in the journal. Returns the answer, and the entry's number. Fails with Limit only if

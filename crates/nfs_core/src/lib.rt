@@ -10,7 +10,7 @@ mod laws;
 
 pub use core_error::CoreError;
 pub use core_state::Core;
-pub use entered::{Entered, number_entered};
+pub use entered::Entered;
 pub use following::FollowError;
 pub use laws::{at_most_one_state, at_most_one_step, lawful_is_safe, live_clients_follow};
 pub use nfs_state::{

@@ -1,7 +1,7 @@
-ghost use Rattle.std.specs.Prelude.{◌≡◌, ◌≤◌, ◌<◌, length, IfSome, IfNone};
+ghost use Rattle.std.specs.Prelude.{◌≡◌, ◌≤◌, length, IfOk, IsOk};
 ghost use Rattle.nfs_forms.specs.FileHandle as forms;
-ghost use Rattle.xdr.specs.Reading.{Answers};
 
+use smallvec::SmallVec;
 use std::alloc::{AllocError, Global};
 use std::marker::Model;
 use xdr::{Measure, Wire, WireError, padding_of, read_opaque, write_opaque};
@@ -9,38 +9,33 @@ use xdr::{Measure, Wire, WireError, padding_of, read_opaque, write_opaque};
 /// The greatest length of a filehandle in bytes (NFS4_FHSIZE).
 pub const FILE_HANDLE_LIMIT: usize = 128;
 
-/// A filehandle (nfs_fh4): up to 128 bytes that only the server interprets. It takes no memory. Contracts see the
-/// bytes.
+/// A filehandle (nfs_fh4): up to 128 bytes that only the server interprets. Contracts see the bytes.
 #[derive(Debug, Drop)]
 pub struct FileHandle {
-    bytes: [u8; FILE_HANDLE_LIMIT],
-    len: usize,
+    bytes: SmallVec<u8, 16>,
 }
 
 impl Model for FileHandle {
-    ghost use Rattle.std.specs.Prelude.{List, ℕ, ◌≤◌, take};
+    ghost use Rattle.std.specs.Prelude.{List, ℕ, ◌≤◌, length};
     ghost use Rattle.nfs_forms.specs.declared.file_handle.TheConstants.{FILE_HANDLE_LIMIT};
 
     ghost Value = { List ℕ };
 
-    ghost view = { λ h. take h.len h.bytes };
+    ghost view = { λ h. h.bytes.items };
 
-    ghost invariant = { λ h. h.len ≤ FILE_HANDLE_LIMIT };
+    ghost invariant = { λ h. length h.bytes.items ≤ FILE_HANDLE_LIMIT };
 }
 
 impl FileHandle {
-    /// A filehandle of these bytes, or `None` if there are more than 128.
-    pub fn new(items: &[u8]) -> Option<FileHandle>
-        ensures some { IfSome result (λ h. h ≡ items.now) }
-        ensures none { IfNone result (FILE_HANDLE_LIMIT < length items.now) }
+    /// A copy of these bytes. Up to 16, more than a filehandle of this server has, take no memory.
+    pub fn copy_of(alloc: Global, items: &[u8]) -> Result<FileHandle, AllocError>
+        requires limit { length items.now ≤ FILE_HANDLE_LIMIT }
+        ensures ok { IfOk result (λ h. h ≡ items.now) }
+        ensures few { length items.now ≤ 16 → IsOk result }
     {
-        let len = items.len();
-        if len > FILE_HANDLE_LIMIT {
-            return None;
-        }
-        let mut bytes = [0; FILE_HANDLE_LIMIT];
-        bytes[..len].copy_from_slice(items);
-        Some(FileHandle { bytes, len })
+        Ok(FileHandle {
+            bytes: SmallVec::from_slice(alloc, items)?,
+        })
     }
 
     /// The bytes.
@@ -48,7 +43,7 @@ impl FileHandle {
         ensures value { result.now ≡ self.now }
         ensures limit { length result.now ≤ FILE_HANDLE_LIMIT }
     {
-        &self.bytes[..self.len]
+        self.bytes.as_slice()
     }
 }
 
@@ -70,24 +65,16 @@ impl Clone for FileHandle {
     ghost is_clone = { λ x y. y ≡ x };
 
     fn clone(&self) -> Result<FileHandle, AllocError> {
-        Ok(FileHandle {
-            bytes: self.bytes,
-            len: self.len,
-        })
+        FileHandle::copy_of(*self.bytes.allocator(), self.as_slice())
     }
 }
 
 impl Wire for FileHandle {
     ghost form = { forms.file_handle };
 
-    fn read(alloc: Global, bytes: &[u8]) -> Result<(FileHandle, &[u8]), WireError>
-        ensures { Answers (λ x. (x.0, x.1.now)) result (forms.file_handle.at bytes.now) }
-    {
+    fn read(alloc: Global, bytes: &[u8]) -> Result<(FileHandle, &[u8]), WireError> {
         let (handle, rest) = read_opaque(bytes, FILE_HANDLE_LIMIT as u32)?;
-        match FileHandle::new(handle) {
-            Some(handle) => Ok((handle, rest)),
-            None => Err(WireError::TooLong),
-        }
+        Ok((FileHandle::copy_of(alloc, handle)?, rest))
     }
 
     fn write(&self, out: &mut Vec<u8>) -> Result<(), WireError> {
@@ -98,6 +85,7 @@ impl Wire for FileHandle {
 impl Measure for FileHandle {
     #[tactic(auto, unfolding(xdr::specs::Writing::written_opaque, xdr::specs::Writing::written_number))]
     fn written_len(&self) -> usize {
-        4 + self.len + padding_of(self.len)
+        let len = self.bytes.len();
+        4 + len + padding_of(len)
     }
 }

@@ -3,6 +3,7 @@
 
 mod answer;
 mod bitmap;
+mod boxed;
 mod callback;
 mod change_info;
 mod claim;
@@ -26,6 +27,7 @@ mod verifier;
 
 pub use answer::Answer;
 pub use bitmap::Bitmap;
+pub use boxed::Boxed;
 pub use callback::{Address, Callback};
 pub use change_info::ChangeInfo;
 pub use claim::Claim;

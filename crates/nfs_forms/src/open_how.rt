@@ -2,7 +2,7 @@ ghost use Rattle.std.specs.Prelude.{◌≡◌, ◌≢◌, MatchBool};
 ghost use Rattle.nfs_forms.specs.OpenHow as forms;
 ghost use Rattle.xdr.specs.Reading.{Answers};
 
-use crate::CreateHow;
+use crate::{Boxed, CreateHow};
 use std::alloc::Global;
 use xdr::{Wire, WireError, read_u32, write_two, write_u32};
 
@@ -10,7 +10,7 @@ use xdr::{Wire, WireError, read_u32, write_two, write_u32};
 #[derive(Clone, Debug, PartialEq, Drop)]
 pub enum OpenHow {
     Nocreate,
-    Create(CreateHow),
+    Create(Boxed<CreateHow>),
 }
 
 impl OpenHow {
@@ -20,7 +20,7 @@ impl OpenHow {
     {
         match (self, other) {
             (OpenHow::Nocreate, OpenHow::Nocreate) => true,
-            (OpenHow::Create(how), OpenHow::Create(other)) => how.is_same(other),
+            (OpenHow::Create(how), OpenHow::Create(other)) => how.get().is_same(other.get()),
             _ => false,
         }
     }
@@ -63,7 +63,7 @@ impl Wire for OpenHow {
         match kind {
             OpenType::Nocreate => Ok((OpenHow::Nocreate, rest)),
             OpenType::Create => {
-                let (how, rest) = CreateHow::read(alloc, rest)?;
+                let (how, rest) = Boxed::<CreateHow>::read(alloc, rest)?;
                 Ok((OpenHow::Create(how), rest))
             }
         }

@@ -1,7 +1,7 @@
-ghost use Rattle.std.specs.Prelude.{◌≡◌, ◌≤◌, ◌<◌, ◌↔◌, [], nat_le, Some, None};
+ghost use Rattle.std.specs.Prelude.{◌≡◌, ◌-◌, ◌≤◌, ◌<◌, ◌↔◌, [], nat_le, vec_capacity, vec_len, Some, None};
 ghost use Rattle.std.specs.Prelude.{IfErr, IsErrOf, IsOk, IsTrue, OnErr, OnOk};
 ghost use Rattle.nfs_ranges.specs.RoomyRanges.{IsFree, modes_after, modes_in};
-ghost use Rattle.nfs_ranges.specs.Modes.{with_mode};
+ghost use Rattle.nfs_ranges.specs.Modes.{uncovered, with_mode};
 ghost use Rattle.nfs_ranges.specs.Questions.{IsFirstConflict, IsRunAt};
 ghost use Rattle.nfs_ranges.specs.Runs.{runs};
 ghost use Rattle.nfs_ranges.specs.declared.limits.TheConstants.{RUN_LIMIT};
@@ -129,13 +129,14 @@ impl Ranges {
         runs_after(&self.pieces, self.count, change)
     }
 
-    // Adds the piece, with which there are so many runs.
+    // Adds the piece, with which there are so many runs. Pieces all of whose bytes it has go: they mean nothing any more.
     fn put(&mut self, piece: Piece, count: usize)
         requires room { 0 < self.old.room }
         requires count { count ≡ runs (modes_after piece self.old) }
         requires few { count ≤ RUN_LIMIT }
         ensures { modes_in self.new ≡ modes_after piece self.old }
     {
+        drop_covered(&mut self.pieces, piece.range);
         self.pieces.push_reserved(piece);
         self.count = count;
     }
@@ -161,4 +162,13 @@ impl Ranges {
     {
         self.count == 0
     }
+}
+
+// Removes the pieces all of whose bytes the range has.
+fn drop_covered(pieces: &mut Vec<Piece>, range: Range)
+    ensures pieces { pieces.new.items ≡ uncovered range pieces.old.items }
+    ensures room { vec_capacity pieces.old - vec_len pieces.old
+        ≤ vec_capacity pieces.new - vec_len pieces.new }
+{
+    pieces.retain(|piece| !range.covers(piece.range));
 }

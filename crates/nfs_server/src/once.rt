@@ -59,7 +59,7 @@ pub fn run_once<D: Duplex, E: Write, J: Sink>(
         × (result ≡ status_of (option_or (fault_of outcome) filed)) }
 {
     let Ok(mut lent) = Lent::new(alloc, core) else {
-        return Fault::NoMemory.report(errors);
+        return exit_status(errors, Some(Fault::NoMemory));
     };
     let mut clock = Stopped::at(now);
     let outcome = serve_duplex(alloc, device, &mut lent, tree, &mut clock);

@@ -47,7 +47,7 @@ impl Filehandles {
     {
         match op {
             Op::Access(bits) => self.access(tree, *bits),
-            Op::Getfh => self.getfh(),
+            Op::Getfh => self.getfh(tree),
             Op::Lookup(name) => self.lookup(tree, name.as_slice()),
             Op::Putfh(handle) => self.putfh(tree, handle.as_slice()),
             Op::Putrootfh => self.putrootfh(tree),

@@ -103,10 +103,12 @@ fn found_by(how: &OpenHow, found: Result<u32, Refusal>) -> Result<u32, Refusal>
 fn wants_new(how: &OpenHow) -> bool
     ensures { result ≡ wants_new how.now }
 {
-    matches!(
-        how,
-        OpenHow::Create(CreateHow::Guarded(_) | CreateHow::Exclusive(_))
-    )
+    match how {
+        OpenHow::Create(how) => {
+            matches!(how.get(), CreateHow::Guarded(_) | CreateHow::Exclusive(_))
+        }
+        OpenHow::Nocreate => false,
+    }
 }
 
 // The node, if it is a file that the OPEN may open.

@@ -10,6 +10,6 @@ returns-in_default g c = record {
     inr (refl, refl, refl, refl),
     ((λ h. absurd cc), (λ h. absurd (omega (arith, h)))),
     ((λ h. absurd cc), (λ h. absurd (omega (arith, h)))),
-    c.status.ensures,
+    c.exit_status.ensures,
   );
 }
