@@ -9,7 +9,6 @@ from contextlib import contextmanager
 HERE = os.path.dirname(os.path.abspath(__file__))
 # The seconds that a server has to listen, or to end.
 PATIENCE = 30
-GANESHA_PLUGINS = "/usr/lib/{}/ganesha"
 
 
 class Failure(Exception):
@@ -72,23 +71,25 @@ class Counted:
 
 
 class Ganesha:
-    """nfs-ganesha with its memory back end, which runs throughout. `is_served` tells whether a port answers."""
+    """nfs-ganesha with its memory back end, which runs until it is ended."""
 
     name = "nfs-ganesha"
     load_options = ["--path", "export/load", "--create"]
 
-    def __init__(self, folder, is_served):
+    def __init__(self, folder):
         self.folder, self.port = os.path.join(folder, "ganesha"), free_port()
         os.mkdir(self.folder)
-        log = os.path.join(self.folder, "log")
-        words = ["ganesha.nfsd", "-F", "-f", self.configuration(), "-L", log, "-p", os.path.join(self.folder, "pid")]
+        self.log = os.path.join(self.folder, "log")
+        words = ["ganesha.nfsd", "-F", "-f", self.configuration(), "-L", self.log, "-p", f"{self.folder}/pid"]
         self.process = subprocess.Popen(words, stdin=subprocess.DEVNULL, stdout=subprocess.DEVNULL,
                                         stderr=subprocess.DEVNULL)
+
+    def wait(self, is_served):
+        """Until the port is served."""
         limit = time.monotonic() + PATIENCE
         while not is_served(self.port):
             if self.process.poll() is not None or time.monotonic() > limit:
-                end(self.process)
-                raise Failure(f"nfs-ganesha doesn't start: {last_line(log)}")
+                raise Failure(f"nfs-ganesha doesn't start: {last_line(self.log)}")
             time.sleep(0.2)
 
     def configuration(self):
@@ -104,18 +105,14 @@ class Ganesha:
         if self.process.poll() is not None:
             raise Failure(f"nfs-ganesha ended with status {self.process.returncode}")
 
-    def close(self):
-        end(self.process)
-
 
 def plugins():
     """The folder of nfs-ganesha's back ends."""
-    listed = subprocess.run(["dpkg", "-L", "nfs-ganesha-mem"], capture_output=True, text=True) \
-        if shutil.which("ganesha.nfsd") and shutil.which("dpkg") else None
-    paths = listed.stdout.split() if listed else []
-    for path in paths:
-        if path.endswith("/libfsalmem.so"):
-            return os.path.dirname(path)
+    if shutil.which("ganesha.nfsd") and shutil.which("dpkg"):
+        listed = subprocess.run(["dpkg", "-L", "nfs-ganesha-mem"], capture_output=True, text=True)
+        for path in listed.stdout.split():
+            if path.endswith("/libfsalmem.so"):
+                return os.path.dirname(path)
     raise Failure("nfs-ganesha with its memory back end isn't here: apt-get install nfs-ganesha nfs-ganesha-mem")
 
 
