@@ -3,6 +3,7 @@
 
 use crate::client::{close, introduce, Client, Open};
 use crate::connection::{Connection, COMPOUND, NULL};
+use crate::drive::SLOT_BITS;
 use crate::operations::*;
 use crate::wire::{Outcome, Reader, Stateid};
 
@@ -220,7 +221,8 @@ impl Plan {
             }
             "lock" => {
                 let client = Client::new(connection, &name, &self.path, self.creates)?;
-                let places = number * self.slots..(number + 1) * self.slots;
+                let first = number << SLOT_BITS;
+                let places = first..first + self.slots;
                 let slots = places.map(|place| locker(connection, &client, place)).collect::<Outcome<_>>()?;
                 Ok(Box::new(LockUnlock { client, slots, pairs: self.pairs }))
             }
@@ -235,7 +237,8 @@ fn opener(connection: &mut Connection, client: &Client, slot: usize) -> Outcome<
     Ok(Opener { owner: open.owner, file: open.file, open: None })
 }
 
-/// Each slot of all connections has a place of its own, and so its own bytes.
+/// Each slot of all connections has a place of its own, and so its own bytes. They depend on nothing else, so that what
+/// a load of before still holds, in a server that knows its clients, is in nobody's way.
 fn locker(connection: &mut Connection, client: &Client, place: usize) -> Outcome<Locker> {
     let open = client.open(connection, format!("open-{place}"))?;
     let range = Range { offset: place as u64 * 1000, length: 100 };
