@@ -196,13 +196,13 @@ LacksServe rows = IsNoNumber 1 connections_max (first_of (codes "connections") r
 abbrev pub LacksAudit : List Row → Type 0
 LacksAudit rows = first_of (codes "file") rows ≡ None
 
--- what is given for the subcommand of this name isn't enough
+-- what is given for the subcommand of this name can't be followed: there is no file, or a number isn't within its limits
 abbrev pub LacksNamed : Name → List Row → Type 0
 LacksNamed name.Once rows = LacksOnce rows
 LacksNamed name.Serve rows = LacksServe rows
 LacksNamed name.Audit rows = LacksAudit rows
 
--- a subcommand is given, and what is given for it isn't enough
+-- a subcommand is given, and what is given for it can't be followed
 abbrev pub Lacks : Option (Text × List Row) → Type 0
 Lacks None = ⊥
 Lacks (Some given) = LacksNamed (name_of given.0) given.1
@@ -231,7 +231,8 @@ IsMemoryOr P declined.Memory = ⊤
 IsMemoryOr P (declined.Usage text) = P
 IsMemoryOr P (declined.Help text) = ⊥
 
--- why the words can't be followed: they ask for help, clap rejects them, or a value that is given isn't enough
+-- why the words can't be followed: they ask for help, clap rejects them, or what is given can't be
+-- followed
 abbrev pub IsDeclined : List Text → Declined → Type 0
 IsDeclined words declined.Memory = ⊤
 IsDeclined words (declined.Help text) = IsAmong DisplayHelp (fault_of program words)

@@ -10,7 +10,7 @@ use Rattle.nfs_state.specs.Entries.{request_of}
 use Rattle.nfs_xdr.specs.declared.op.Op.{Op}
 use Rattle.nfs_xdr.specs.declared.op_result.OpResult.{OpResult}
 
--- what is to be known of the clients before the one with this number is confirmed
+-- what is to be known of the clients before the one with this number is confirmed, if there is one to be confirmed
 abbrev pub confirmation_by : Registry → Option ℕ → Option Confirmation
 confirmation_by registry None = None
 confirmation_by registry (Some client) =
@@ -24,7 +24,7 @@ confirmation_by registry (Some client) =
 abbrev pub confirmation_in : Registry → Op → Option Confirmation
 confirmation_in registry op = confirmation_by registry (confirmed_by op)
 
--- The server has answered the operation at this moment, somebody's, and became the new one by it.
+-- Somebody sent the operation at this moment. By the answer, which may be a refusal, the old server became the new one.
 pub record HasAnswered (op : Op) (moment : ℕ) (old new : Server) : Type 0 where
   pub principal : Principal
   pub filehandle : Option ℕ

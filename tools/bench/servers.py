@@ -1,0 +1,129 @@
+"""The servers that are measured. Each listens on 127.0.0.1 alone, and is a child of this process, which ends it."""
+import os
+import shutil
+import socket
+import subprocess
+import time
+from contextlib import contextmanager
+
+HERE = os.path.dirname(os.path.abspath(__file__))
+# The seconds that a server has to listen, or to end.
+PATIENCE = 30
+
+
+class Failure(Exception):
+    """What went wrong, as a line."""
+
+
+def build(source, folder):
+    """The path of a program of this folder's, built in that one."""
+    if shutil.which("rustc") is None:
+        raise Failure("there is no rustc to build the load with: https://rustup.rs")
+    path = os.path.join(folder, source.partition(".")[0].partition("/")[0])
+    words = ["rustc", "-O", "--edition", "2021", "-o", path, os.path.join(HERE, source)]
+    built = subprocess.run(words, capture_output=True, text=True)
+    if built.returncode != 0:
+        raise Failure(f"{source} can't be built:\n{built.stderr}")
+    return path
+
+
+def end(process):
+    if process.poll() is None:
+        process.terminate()
+        try:
+            process.wait(PATIENCE)
+        except subprocess.TimeoutExpired:
+            process.kill()
+            process.wait()
+
+
+class Counted:
+    """A server that is started for each load, takes so many connections, and ends by itself when these have ended."""
+
+    def __init__(self, name, words):
+        self.name, self.words, self.load_options = name, words, []
+
+    @contextmanager
+    def serving(self, connections):
+        """The port and the process's number."""
+        words = [*self.words, "--listen", "127.0.0.1:0", "--connections", str(connections)]
+        process = subprocess.Popen(words, stdin=subprocess.DEVNULL, stdout=subprocess.DEVNULL, stderr=subprocess.PIPE,
+                                   text=True)
+        try:
+            yield self.port(process), process.pid
+            self.expect_end(process)
+        finally:
+            end(process)
+
+    def port(self, process):
+        line = process.stderr.readline().strip()
+        if not line.startswith("listening on 127.0.0.1:"):
+            raise Failure(f"{self.name} says where it listens by the line: {line}")
+        return int(line.rpartition(":")[2])
+
+    def expect_end(self, process):
+        try:
+            said = process.communicate(timeout=PATIENCE)[1].strip()
+        except subprocess.TimeoutExpired:
+            raise Failure(f"{self.name} doesn't end by itself") from None
+        if process.returncode != 0 or said:
+            raise Failure(f"{self.name} ends with status {process.returncode}: {said}")
+
+
+class Ganesha:
+    """nfs-ganesha with its memory back end, which runs until it is ended."""
+
+    name = "nfs-ganesha"
+    load_options = ["--path", "export/load", "--create"]
+
+    def __init__(self, folder):
+        self.folder, self.port = os.path.join(folder, "ganesha"), free_port()
+        os.mkdir(self.folder)
+        self.log = os.path.join(self.folder, "log")
+        words = ["ganesha.nfsd", "-F", "-f", self.configuration(), "-L", self.log, "-p", f"{self.folder}/pid"]
+        self.process = subprocess.Popen(words, stdin=subprocess.DEVNULL, stdout=subprocess.DEVNULL,
+                                        stderr=subprocess.DEVNULL)
+
+    def wait(self, is_served):
+        """Until the port is served."""
+        limit = time.monotonic() + PATIENCE
+        while not is_served(self.port):
+            if self.process.poll() is not None or time.monotonic() > limit:
+                raise Failure(f"nfs-ganesha doesn't start: {last_line(self.log)}")
+            time.sleep(0.2)
+
+    def configuration(self):
+        path = os.path.join(self.folder, "configuration")
+        with open(os.path.join(HERE, "ganesha.conf")) as source, open(path, "w") as file:
+            text = source.read().replace("@PORT@", str(self.port)).replace("@FOLDER@", self.folder)
+            file.write(text.replace("@PLUGINS@", plugins()))
+        return path
+
+    @contextmanager
+    def serving(self, _connections):
+        yield self.port, self.process.pid
+        if self.process.poll() is not None:
+            raise Failure(f"nfs-ganesha ended with status {self.process.returncode}")
+
+
+def plugins():
+    """The folder of nfs-ganesha's back ends."""
+    if shutil.which("ganesha.nfsd") and shutil.which("dpkg"):
+        listed = subprocess.run(["dpkg", "-L", "nfs-ganesha-mem"], capture_output=True, text=True)
+        for path in listed.stdout.split():
+            if path.endswith("/libfsalmem.so"):
+                return os.path.dirname(path)
+    raise Failure("nfs-ganesha with its memory back end isn't here: apt-get install nfs-ganesha nfs-ganesha-mem")
+
+
+def free_port():
+    with socket.socket() as listener:
+        listener.bind(("127.0.0.1", 0))
+        return listener.getsockname()[1]
+
+
+def last_line(path):
+    if not os.path.exists(path):
+        return "it has no log"
+    with open(path, errors="replace") as file:
+        return (file.read().splitlines() or ["its log is empty"])[-1]
