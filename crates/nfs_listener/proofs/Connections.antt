@@ -10,6 +10,7 @@ use Rattle.nfs_server.specs.Holding.{AreAlikeButRoom, GivenBySeat}
 use Rattle.nfs_server.specs.Working.{AreDone, IsDone, Linking, receipts_back, seats_of}
 use Rattle.nfs_server.specs.declared.done.Done.{Done}
 use Rattle.nfs_server.specs.declared.serve_error.ServeError.TheVariants as errors
+use Rattle.nfs_listener.proofs.Courses.{ends_unread}
 use Rattle.nfs_listener.specs.Links.{tcp}
 use Rattle.nfs_listener.specs.Serving.{AreConnections, IsConnection, receipts_of}
 use Rattle.nfs_listener.specs.declared.ended.Ended.{Ended}
@@ -43,7 +44,7 @@ is_refused tree link seat done none result same empty =
     let clock = record { rt = link.rt; start = link.start; last = 0 } in
     let desk = record { seat = seat; receipts = []; room = 0 } in
     let here = scene socket desk clock in
-    let idle = record { piece = []; exchanges = []; unanswered = []; rest = [] } in record {
+    record {
       device = socket;
       clock = clock;
       opened = (refl, refl);
@@ -53,7 +54,7 @@ is_refused tree link seat done none result same empty =
       clock' = clock;
       desk' = desk;
       ended = (same, empty);
-      course = rw result (record { turns = []; last = idle }, (here, refl, omega arith, inl (refl, refl, refl, refl)));
+      course = rw result (ends_unread tcp.device tree tcp.tells here);
       read_failed = (λ is. absurd cc, λ less. absurd (omega arith));
       write_failed = (λ is. absurd cc, λ less. absurd (omega arith));
       kept = rw same (rw empty (kept_unused seat none));

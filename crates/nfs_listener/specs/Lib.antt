@@ -3,4 +3,4 @@ pub mod Uptimes
 pub mod Links
 pub mod Serving
 pub mod Runs
-pub mod Lists
+pub mod Rooms

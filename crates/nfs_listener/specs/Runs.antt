@@ -4,7 +4,7 @@ use Rattle.std.specs.Option.{option_or}
 use Rattle.nfs_core.specs.Server.{Server}
 use Rattle.nfs_listener.specs.Serving.{IsServed}
 use Rattle.nfs_listener.specs.declared.ended.Ended.{Ended}
-use Rattle.nfs_listener.specs.declared.run_serve.Served.{Served}
+use Rattle.nfs_listener.specs.declared.running.Served.{Served}
 use Rattle.nfs_listener.specs.declared.tcp_link.TcpLink.{TcpLink}
 use Rattle.nfs_server.specs.Device.{Device}
 use Rattle.nfs_server.specs.Once.{IsFiled, fault_of, status_of}

@@ -2,7 +2,7 @@ use Rattle.std.proofs.Common.{◌≡◌, ◌+◌, ◌≤◌, vec_capacity, vec_l
 use Rattle.std.specs.List.{AllByRecursion}
 use Rattle.std.specs.Vec.Iter.{into_iter_len}
 use Rattle.nfs_server.specs.Working.{seats_of}
-use Rattle.nfs_listener.proofs.serve_on.link_all.Given as goal
+use Rattle.nfs_listener.proofs.listening.link_all.Given as goal
 
 abbrev pub invariant-loop-seat : goal.invariant-loop-seat
 invariant-loop-seat g l = record {

@@ -1,7 +1,7 @@
 use Rattle.std.proofs.Common.{◌≡◌, ◌+◌, ◌≤◌, ◌++◌, drop, length, map, vec_capacity, vec_len}
 use Rattle.std.specs.Vec.Iter.{into_iter_len}
 use Rattle.nfs_listener.specs.Serving.{receipts_of}
-use Rattle.nfs_listener.proofs.serve_on.pair.Given as goal
+use Rattle.nfs_listener.proofs.listening.pair.Given as goal
 
 abbrev pub invariant-loop-receipts : goal.invariant-loop-receipts
 invariant-loop-receipts g l = record {

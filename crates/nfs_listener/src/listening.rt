@@ -3,7 +3,7 @@ ghost use Rattle.std.specs.List.{AllByRecursion};
 ghost use Rattle.nfs_core.specs.Safe.{IsSafe};
 ghost use Rattle.nfs_core.specs.Server.{IsLawful};
 ghost use Rattle.nfs_listener.specs.Links.{tcp};
-ghost use Rattle.nfs_listener.specs.Lists.{HaveRoom};
+ghost use Rattle.nfs_listener.specs.Rooms.{HaveRoom};
 ghost use Rattle.nfs_listener.specs.Serving.{IsServed, receipts_of};
 ghost use Rattle.nfs_listener.specs.declared.tcp_link.TcpLink.{TcpLink};
 ghost use Rattle.nfs_owners.specs.Registry.{is_live};
@@ -142,7 +142,10 @@ fn serve_swept<N: Naming + Send + Sync, R: Threads + Wait + Timer + Sync>(
     // Where no thread can be made, the first is called after the second, and finds the end told.
     let (_, all) = thread::join(
         place.rt,
-        move || sweep_until(place.rt, shared, Uptime::since(place.rt, place.start), bell),
+        move || {
+            let mut uptime = Uptime::since(place.rt, place.start);
+            sweep_until(place.rt, shared, &mut uptime, bell)
+        },
         move || -> Vec<Done<N>>
             requires { (N.start.nodes ≡ place.now.tree.now.nodes) × AreUnused (seats_of links.items)
                 × (spare.items ≡ []) × (length links.items ≤ vec_capacity spare) }

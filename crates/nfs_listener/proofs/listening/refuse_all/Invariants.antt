@@ -2,7 +2,7 @@ use Rattle.std.proofs.Common.{◌≡◌, ◌+◌, ◌≤◌, vec_capacity, vec_l
 use Rattle.std.specs.Vec.Iter.{into_iter_items, into_iter_len}
 use Rattle.nfs_server.specs.Working.{AreDone, AreUnused, seats_of}
 use Rattle.nfs_listener.specs.Links.{tcp}
-use Rattle.nfs_listener.proofs.serve_on.refuse_all.Given as goal
+use Rattle.nfs_listener.proofs.listening.refuse_all.Given as goal
 
 abbrev pub invariant-loop-seat : goal.invariant-loop-seat
 invariant-loop-seat g l = record {
