@@ -1,5 +1,5 @@
 -- The command line of the program: what its words ask the program to do.
-use Rattle.std.specs.Prelude.{◌≡◌, ◌≢◌, ◌≤◌, ◌⊎◌, [], ℕ, Bool, List, Option, Some, None, codes, option_map, true, false, ⊤}
+use Rattle.std.specs.Prelude.{◌≡◌, ◌≢◌, ◌≤◌, ◌⊎◌, ◌∷◌, ◌++◌, [], ℕ, List, Option, Some, None, codes, if◌then◌else◌, option_map, true, unwrap_or, ⊤}
 use Rattle.std.specs.Borrow.{Bor}
 use Rattle.std.specs.Str.{bytes_eq}
 use Rattle.std.specs.Str.Parse.{IsNumeral, digits_value}
@@ -9,7 +9,10 @@ use Rattle.clap.specs.declared.error.kind.ErrorKind.{ErrorKind}
 use Rattle.clap.specs.declared.error.kind.ErrorKind.TheVariants.{DisplayHelp, OutOfMemory}
 use Rattle.nfs_options.specs.declared.declined.Declined.{Declined}
 use Rattle.nfs_options.specs.declared.declined.Declined.TheVariants as declined
+use Rattle.nfs_options.specs.declared.name.Name.{Name}
+use Rattle.nfs_options.specs.declared.name.Name.TheVariants as name
 use Rattle.nfs_options.specs.declared.once_options.OnceOptions.{OnceOptions}
+use Rattle.nfs_options.specs.declared.serve_options.ServeOptions.{ServeOptions}
 use Rattle.nfs_options.specs.declared.command_line.Subcommand.{Subcommand}
 use Rattle.nfs_options.specs.declared.command_line.Subcommand.TheVariants as subcommand
 use Rattle.nfs_state.specs.declared.journal.TheConstants.{LEASE_MIN, LEASE_MAX}
@@ -24,12 +27,23 @@ option_rule name = record (new_rule name) { long = Some name; value_names = 1 }
 abbrev pub word_rule : Text → Rule
 word_rule name = record (new_rule name) { value_names = 1; required = true }
 
+-- an app with options of these names as well
+abbrev pub with_options : List Text → App → App
+with_options [] app = app
+with_options (name ∷ names) app = with_options names (with_rule app (option_rule name))
+
+-- the options that say which core there is: its tree, its lease and its epoch
+abbrev pub core_options : List Text
+core_options = codes "tree" ∷ codes "lease" ∷ codes "epoch" ∷ []
+
 -- `once`, with its options
 abbrev pub once : App
-once =
-    with_rule (with_rule (with_rule (with_rule (with_rule (new_app (codes "once"))
-    (option_rule (codes "tree"))) (option_rule (codes "lease"))) (option_rule (codes "epoch")))
-    (option_rule (codes "now"))) (option_rule (codes "journal"))
+once = with_options (core_options ++ codes "now" ∷ codes "journal" ∷ []) (new_app (codes "once"))
+
+-- `serve`, with its options
+abbrev pub serve : App
+serve = with_options (codes "listen" ∷ codes "connections" ∷ core_options ++ codes "journal" ∷ [])
+    (new_app (codes "serve"))
 
 -- `audit`, with its file
 abbrev pub audit : App
@@ -37,9 +51,16 @@ audit = with_rule (new_app (codes "audit")) (word_rule (codes "file"))
 
 -- the program: its subcommands, no options of its own except clap's help, and no subcommand `help`
 abbrev pub program : App
-program = with_subcommand (with_subcommand
+program = with_subcommand (with_subcommand (with_subcommand
     (on_top (λ s. record s { disable_help_subcommand = true }) (new_app (codes "nfs4state")))
-    once.top) audit.top
+    once.top) serve.top) audit.top
+
+-- the subcommand of this name: clap accepts no other name than these three
+abbrev pub name_of : Text → Name
+name_of text =
+    if bytes_eq text (codes "audit") then name.Audit
+    else if bytes_eq text (codes "serve") then name.Serve
+    else name.Once
 
 -- the text of an option's value, if the option is present
 abbrev pub text_of : Option (Bor Text) → Option Text
@@ -71,6 +92,12 @@ epoch_default = 1
 abbrev pub epoch_max : ℕ
 epoch_max = 4294967295
 
+abbrev pub connections_default : ℕ
+connections_default = 4
+
+abbrev pub connections_max : ℕ
+connections_max = 64
+
 abbrev pub moment_default : ℕ
 moment_default = 0
 
@@ -79,64 +106,112 @@ moment_max = 1099511627775
 
 -- ---- what the words ask the program to do
 
--- the options hold what the words give for each of them, or its default
+abbrev pub listen_default : Text
+listen_default = codes "127.0.0.1:2049"
+
+-- the lease is the one that `--lease` gives, or the default
+abbrev pub IsLease : List Row → ℕ → Type 0
+IsLease rows = IsNumber LEASE_MIN LEASE_MAX lease_default (first_of (codes "lease") rows)
+
+-- the epoch is the one that `--epoch` gives, or the default
+abbrev pub IsEpoch : List Row → ℕ → Type 0
+IsEpoch rows = IsNumber 0 epoch_max epoch_default (first_of (codes "epoch") rows)
+
+-- the options of `once` hold what the words give for each of them, or its default
 abbrev pub IsOnce : List Row → OnceOptions → Type 0
 IsOnce rows o =
     (text_of o.tree ≡ first_of (codes "tree") rows)
-    × IsNumber LEASE_MIN LEASE_MAX lease_default (first_of (codes "lease") rows) o.lease
-    × IsNumber 0 epoch_max epoch_default (first_of (codes "epoch") rows) o.epoch
+    × IsLease rows o.lease
+    × IsEpoch rows o.epoch
     × IsNumber 0 moment_max moment_default (first_of (codes "now") rows) o.moment
     × (text_of o.journal ≡ first_of (codes "journal") rows)
 
--- the value of some option is not a number within its limits
-abbrev pub HasNoNumber : List Row → Type 0
-HasNoNumber rows = IsNoNumber LEASE_MIN LEASE_MAX (first_of (codes "lease") rows)
-    ⊎ (IsNoNumber 0 epoch_max (first_of (codes "epoch") rows)
-    ⊎ IsNoNumber 0 moment_max (first_of (codes "now") rows))
+-- the options of `serve` hold what the words give for each of them, or its default
+abbrev pub IsServe : List Row → ServeOptions → Type 0
+IsServe rows o =
+    (o.listen.now ≡ unwrap_or (first_of (codes "listen") rows) listen_default)
+    × IsNumber 1 connections_max connections_default (first_of (codes "connections") rows)
+    o.connections
+    × (text_of o.tree ≡ first_of (codes "tree") rows)
+    × IsLease rows o.lease
+    × IsEpoch rows o.epoch
+    × (text_of o.journal ≡ first_of (codes "journal") rows)
 
 abbrev pub AsksOnce : List Row → Subcommand → Type 0
 AsksOnce rows (subcommand.Once o) = IsOnce rows o
+AsksOnce rows (subcommand.Serve o) = ⊥
 AsksOnce rows (subcommand.Audit file) = ⊥
+
+abbrev pub AsksServe : List Row → Subcommand → Type 0
+AsksServe rows (subcommand.Once o) = ⊥
+AsksServe rows (subcommand.Serve o) = IsServe rows o
+AsksServe rows (subcommand.Audit file) = ⊥
 
 -- the journal's file is the word that is given
 abbrev pub AsksAudit : List Row → Subcommand → Type 0
 AsksAudit rows (subcommand.Once o) = ⊥
+AsksAudit rows (subcommand.Serve o) = ⊥
 AsksAudit rows (subcommand.Audit file) = first_of (codes "file") rows ≡ Some file.now
 
-abbrev pub is_audit : Text → Bool
-is_audit name = bytes_eq name (codes "audit")
-
 -- what the subcommand of this name asks for, with what is given for it
-abbrev pub AsksNamed : Bool → List Row → Subcommand → Type 0
-AsksNamed true rows s = AsksAudit rows s
-AsksNamed false rows s = AsksOnce rows s
+abbrev pub AsksNamed : Name → List Row → Subcommand → Type 0
+AsksNamed name.Once rows s = AsksOnce rows s
+AsksNamed name.Serve rows s = AsksServe rows s
+AsksNamed name.Audit rows s = AsksAudit rows s
 
 -- no subcommand means `once` without options
 abbrev pub AsksBy : Option (Text × List Row) → Subcommand → Type 0
 AsksBy None s = AsksOnce [] s
-AsksBy (Some given) s = AsksNamed (is_audit given.0) given.1 s
+AsksBy (Some given) s = AsksNamed (name_of given.0) given.1 s
 
 -- clap accepts the words, and this is what they ask for
 abbrev pub Asks : List Text → Subcommand → Type 0
 Asks words s = (fault_of program words ≡ []) × AsksBy (subcommand_of program words) s
 
--- what is given for the subcommand of this name isn't enough
-abbrev pub LacksNamed : Bool → List Row → Type 0
-LacksNamed true rows = first_of (codes "file") rows ≡ None
-LacksNamed false rows = HasNoNumber rows
+-- an option is present whose value is no number that it may have
+abbrev pub LacksLease : List Row → Type 0
+LacksLease rows = IsNoNumber LEASE_MIN LEASE_MAX (first_of (codes "lease") rows)
 
--- no file is given to audit, or the value of an option of `once` is not a number within its limits
+abbrev pub LacksEpoch : List Row → Type 0
+LacksEpoch rows = IsNoNumber 0 epoch_max (first_of (codes "epoch") rows)
+
+abbrev pub LacksOnce : List Row → Type 0
+LacksOnce rows = LacksLease rows
+    ⊎ (LacksEpoch rows
+    ⊎ IsNoNumber 0 moment_max (first_of (codes "now") rows))
+
+abbrev pub LacksServe : List Row → Type 0
+LacksServe rows = IsNoNumber 1 connections_max (first_of (codes "connections") rows)
+    ⊎ (LacksLease rows
+    ⊎ LacksEpoch rows)
+
+-- no file is given
+abbrev pub LacksAudit : List Row → Type 0
+LacksAudit rows = first_of (codes "file") rows ≡ None
+
+-- what is given for the subcommand of this name isn't enough
+abbrev pub LacksNamed : Name → List Row → Type 0
+LacksNamed name.Once rows = LacksOnce rows
+LacksNamed name.Serve rows = LacksServe rows
+LacksNamed name.Audit rows = LacksAudit rows
+
+-- a subcommand is given, and what is given for it isn't enough
 abbrev pub Lacks : Option (Text × List Row) → Type 0
 Lacks None = ⊥
-Lacks (Some given) = LacksNamed (is_audit given.0) given.1
+Lacks (Some given) = LacksNamed (name_of given.0) given.1
 
 -- the numbers are within their limits
 abbrev pub IsOnceWithinLimits : OnceOptions → Type 0
 IsOnceWithinLimits o = (LEASE_MIN ≤ o.lease) × (o.lease ≤ LEASE_MAX)
     × (o.epoch ≤ epoch_max) × (o.moment ≤ moment_max)
 
+abbrev pub IsServeWithinLimits : ServeOptions → Type 0
+IsServeWithinLimits o = (LEASE_MIN ≤ o.lease) × (o.lease ≤ LEASE_MAX)
+    × (o.epoch ≤ epoch_max) × (1 ≤ o.connections) × (o.connections ≤ connections_max)
+
 abbrev pub IsWithinLimits : Subcommand → Type 0
 IsWithinLimits (subcommand.Once o) = IsOnceWithinLimits o
+IsWithinLimits (subcommand.Serve o) = IsServeWithinLimits o
 IsWithinLimits (subcommand.Audit file) = ⊤
 
 -- clap rejects the words for one of these reasons, other than a request for help

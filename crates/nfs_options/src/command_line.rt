@@ -4,7 +4,8 @@ ghost use Rattle.nfs_options.specs.declared.declined.Declined.{Declined};
 ghost use Rattle.nfs_options.specs.CommandLine.{Asks, AsksBy, AsksNamed, AsksOnce, IsDeclined, IsMemoryOr, IsWithinLimits, Lacks, LacksNamed};
 
 use crate::commands::program_command;
-use crate::{Declined, OnceOptions};
+use crate::name::Name;
+use crate::{Declined, OnceOptions, ServeOptions};
 use clap::ArgMatches;
 use std::alloc::Global;
 use std::convert::AsStr;
@@ -14,14 +15,18 @@ use std::convert::AsStr;
 pub enum Subcommand<'a> {
     /// Serve standard input to its end.
     Once(OnceOptions<'a>),
+    /// Serve TCP connections until as many as are asked for have ended.
+    Serve(ServeOptions<'a>),
     /// Audit the journal in this file.
     Audit(&'a str),
 }
 
 /// Reads the words of the command line, the first of which is the program's name: `once`, with `--tree FILE`, `--lease
 /// SECONDS` (1 to 86,400, by default 90), `--epoch NUMBER` (0 to 2^32 - 1, by default 1), `--now SECONDS` (0 to 2^40 - 1,
-/// by default 0) and `--journal FILE`, each at most once; or `audit FILE`. Numbers are decimal digits without a sign. The
-/// program's name alone means `once` without options, and `--help` or `-h`, before or after the subcommand, asks for help.
+/// by default 0) and `--journal FILE`; `serve`, with `--listen ADDR` (by default 127.0.0.1:2049), `--connections NUMBER`
+/// (1 to 64, by default 4), and the options of `once` but `--now`; or `audit FILE`. Each option is given at most once.
+/// Numbers are decimal digits without a sign. The program's name alone means `once` without options, and `--help` or
+/// `-h`, before or after the subcommand, asks for help.
 pub fn options<'a, S: AsStr>(alloc: Global, words: &'a [S]) -> Result<Subcommand<'a>, Declined>
     ensures asked { IfOk result (Asks (map S.text words.now)) }
     ensures limits { IfOk result IsWithinLimits }
@@ -44,28 +49,29 @@ impl<'a> Subcommand<'a> {
         ensures err { IfErr result (IsMemoryOr (Lacks (subcommand_rows_of matches.now))) }
     {
         match matches.subcommand() {
-            Some((name, matches)) => Subcommand::named(alloc, name == "audit", matches),
+            Some((name, matches)) => Subcommand::named(alloc, Name::of(name), matches),
             None => Ok(Subcommand::Once(OnceOptions::DEFAULT)),
         }
     }
 
-    // The subcommand that was found, `audit` or `once`.
+    // The subcommand of this name, which was found.
     fn named(
         alloc: Global,
-        is_audit: bool,
+        name: Name,
         matches: &ArgMatches<'a>,
     ) -> Result<Subcommand<'a>, Declined>
         ensures ok { IfOk result
-            (λ s. AsksNamed is_audit (rows_of (found_of matches.now)) s × IsWithinLimits s) }
+            (λ s. AsksNamed name (rows_of (found_of matches.now)) s × IsWithinLimits s) }
         ensures err { IfErr result
-            (IsMemoryOr (LacksNamed is_audit (rows_of (found_of matches.now)))) }
+            (IsMemoryOr (LacksNamed name (rows_of (found_of matches.now)))) }
     {
-        if !is_audit {
-            return Ok(Subcommand::Once(OnceOptions::of(alloc, matches)?));
-        }
-        match matches.get_str("file") {
-            Some(file) => Ok(Subcommand::Audit(file)),
-            None => Err(Declined::without_file(alloc)),
+        match name {
+            Name::Once => Ok(Subcommand::Once(OnceOptions::of(alloc, matches)?)),
+            Name::Serve => Ok(Subcommand::Serve(ServeOptions::of(alloc, matches)?)),
+            Name::Audit => match matches.get_str("file") {
+                Some(file) => Ok(Subcommand::Audit(file)),
+                None => Err(Declined::without_file(alloc)),
+            },
         }
     }
 }

@@ -1,23 +1,30 @@
 ghost use Rattle.std.specs.Prelude.{◌≡◌, IfOk, codes, false};
 ghost use Rattle.clap.specs.Words.{app_of, rule_of};
 ghost use Rattle.clap.specs.declared.builder.command.Command.TheViews.{out-Command};
-ghost use Rattle.nfs_options.specs.CommandLine.{audit, once, option_rule, program, word_rule};
+ghost use Rattle.nfs_options.specs.CommandLine.{audit, core_options, once, option_rule, program, serve, with_options, word_rule};
 
+use crate::name::Name;
 use clap::error::ErrorKind;
 use clap::{Arg, Command, Error};
 use std::alloc::{AllocError, Global};
 
 const PROGRAM_NOTE: &str = "Without a command it does what `nfs4state once` does without options.
-`nfs4state once --help` shows the options.";
+`nfs4state once --help` and `nfs4state serve --help` show the options.";
+
+const ONCE_NOTE: &str = "Example:
+  nfs4state once --tree files.toml < records > replies";
+
+const SERVE_NOTE: &str =
+    "Before the first connection it prints the address that it listens on, on standard error.
+
+Example:
+  nfs4state serve --listen 127.0.0.1:0 --connections 1 --journal run.journal";
 
 const AUDIT_NOTE: &str = "It prints `lawful: K entries`, or where the first wrong answer is.
 
 Example:
   nfs4state once --journal run.journal < records > replies
   nfs4state audit run.journal";
-
-const ONCE_NOTE: &str = "Example:
-  nfs4state once --tree files.toml < records > replies";
 
 /// The program's command line.
 pub(crate) fn program_command<'a>(alloc: Global) -> Result<Command<'a>, AllocError>
@@ -29,6 +36,7 @@ pub(crate) fn program_command<'a>(alloc: Global) -> Result<Command<'a>, AllocErr
         .disable_help_subcommand(true);
     program
         .subcommand(once_command(alloc)?)?
+        .subcommand(serve_command(alloc)?)?
         .subcommand(audit_command(alloc)?)
 }
 
@@ -36,6 +44,51 @@ pub(crate) fn program_command<'a>(alloc: Global) -> Result<Command<'a>, AllocErr
 fn once_command<'a>(alloc: Global) -> Result<Command<'a>, AllocError>
     ensures app { IfOk result (λ c. app_of c ≡ once) }
     ensures local { IfOk result (λ c. (out-Command c).has_globals ≡ false) }
+{
+    let now = option(
+        alloc,
+        "now",
+        "SECONDS",
+        "The moment of all calls, 0 to 1099511627775 seconds [default: 0]",
+    );
+    let once = Command::new(alloc, "once")
+        .about("Answers the records on standard input, to its end, on standard output")
+        .after_help(ONCE_NOTE);
+    with_core_options(alloc, once)?
+        .arg(now)?
+        .arg(journal_option(alloc))
+}
+
+/// The subcommand `serve`.
+fn serve_command<'a>(alloc: Global) -> Result<Command<'a>, AllocError>
+    ensures app { IfOk result (λ c. app_of c ≡ serve) }
+    ensures local { IfOk result (λ c. (out-Command c).has_globals ≡ false) }
+{
+    let listen = option(
+        alloc,
+        "listen",
+        "ADDR",
+        "The address to listen on; port 0 means any free port [default: 127.0.0.1:2049]",
+    );
+    let connections = option(
+        alloc,
+        "connections",
+        "NUMBER",
+        "How many connections to serve before ending, 1 to 64 [default: 4]",
+    );
+    let serve = Command::new(alloc, "serve")
+        .about("Answers the records on TCP connections, each to its end")
+        .after_help(SERVE_NOTE)
+        .arg(listen)?
+        .arg(connections)?;
+    with_core_options(alloc, serve)?.arg(journal_option(alloc))
+}
+
+// The options that say which core the calls come to: its tree, its lease and its epoch.
+fn with_core_options<'a>(alloc: Global, command: Command<'a>) -> Result<Command<'a>, AllocError>
+    ensures app { IfOk result (λ c. app_of c ≡ with_options core_options (app_of command.entry)) }
+    ensures local { (out-Command command.entry).has_globals ≡ false
+        → IfOk result (λ c. (out-Command c).has_globals ≡ false) }
 {
     let tree = option(
         alloc,
@@ -55,26 +108,30 @@ fn once_command<'a>(alloc: Global) -> Result<Command<'a>, AllocError>
         "NUMBER",
         "The run, the upper half of each clientid, 0 to 4294967295 [default: 1]",
     );
-    let now = option(
-        alloc,
-        "now",
-        "SECONDS",
-        "The moment of all calls, 0 to 1099511627775 seconds [default: 0]",
-    );
-    let once = Command::new(alloc, "once")
-        .about("Answers the records on standard input, to its end, on standard output")
-        .after_help(ONCE_NOTE);
-    let journal = option(
+    command.arg(tree)?.arg(lease)?.arg(epoch)
+}
+
+// The option for the file of the journal.
+fn journal_option<'a>(alloc: Global) -> Arg<'a>
+    ensures rule { rule_of result ≡ option_rule (codes "journal") }
+    ensures local { result.global ≡ false }
+{
+    option(
         alloc,
         "journal",
         "FILE",
         "Where to write the journal at the end [default: nowhere]",
-    );
-    once.arg(tree)?
-        .arg(lease)?
-        .arg(epoch)?
-        .arg(now)?
-        .arg(journal)
+    )
+}
+
+fn option<'a>(alloc: Global, name: &'a str, value_name: &'a str, help: &'a str) -> Arg<'a>
+    ensures rule { rule_of result ≡ option_rule name.now }
+    ensures local { result.global ≡ false }
+{
+    Arg::new(alloc, name)
+        .long(name)
+        .value_name(value_name)
+        .help(help)
 }
 
 /// The subcommand `audit`.
@@ -95,28 +152,25 @@ fn journal_file<'a>(alloc: Global) -> Arg<'a>
 {
     Arg::new(alloc, "file")
         .value_name("FILE")
-        .help("A journal that `once --journal FILE` wrote")
+        .help("A journal that `--journal FILE` wrote")
         .required(true)
 }
 
-fn option<'a>(alloc: Global, name: &'a str, value_name: &'a str, help: &'a str) -> Arg<'a>
-    ensures rule { rule_of result ≡ option_rule name.now }
-    ensures local { result.global ≡ false }
-{
-    Arg::new(alloc, name)
-        .long(name)
-        .value_name(value_name)
-        .help(help)
+/// The error of this kind in what is given for a subcommand.
+pub(crate) fn error_of(
+    alloc: Global,
+    name: Name,
+    kind: ErrorKind,
+    message: &str,
+) -> Result<Error, AllocError> {
+    named_command(alloc, name)?.error(kind, message)
 }
 
-/// The error for an `audit` to which no file is given.
-pub(crate) fn file_error(alloc: Global) -> Result<Error, AllocError> {
-    let mut audit = audit_command(alloc)?.bin_name("nfs4state audit")?;
-    audit.error(ErrorKind::MissingRequiredArgument, "no FILE is given")
-}
-
-/// The error for a value of an option of `once` that can't be accepted.
-pub(crate) fn value_error(alloc: Global, message: &str) -> Result<Error, AllocError> {
-    let mut once = once_command(alloc)?.bin_name("nfs4state once")?;
-    once.error(ErrorKind::ValueValidation, message)
+// The subcommand of this name, as its usage shows it.
+fn named_command<'a>(alloc: Global, name: Name) -> Result<Command<'a>, AllocError> {
+    match name {
+        Name::Once => once_command(alloc)?.bin_name("nfs4state once"),
+        Name::Serve => serve_command(alloc)?.bin_name("nfs4state serve"),
+        Name::Audit => audit_command(alloc)?.bin_name("nfs4state audit"),
+    }
 }

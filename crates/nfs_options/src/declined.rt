@@ -2,7 +2,8 @@ ghost use Rattle.std.specs.Prelude.{◌≡◌, ⊤};
 ghost use Rattle.clap.specs.Words.{kind_of};
 ghost use Rattle.nfs_options.specs.CommandLine.{IsDeclinedFor, IsMemoryOr};
 
-use crate::commands::file_error;
+use crate::commands::error_of;
+use crate::name::Name;
 use clap::Error;
 use clap::error::ErrorKind;
 use std::alloc::{AllocError, Global};
@@ -38,7 +39,8 @@ impl Declined {
     pub(crate) fn without_file(alloc: Global) -> Declined
         ensures { IsMemoryOr ⊤ result }
     {
-        match file_error(alloc) {
+        let kind = ErrorKind::MissingRequiredArgument;
+        match error_of(alloc, Name::Audit, kind, "no FILE is given") {
             Ok(error) => match format!(in alloc; "{error}") {
                 Ok(text) => Declined::Usage(text),
                 Err(_) => Declined::Memory,

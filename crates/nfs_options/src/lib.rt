@@ -4,9 +4,12 @@
 mod command_line;
 mod commands;
 mod declined;
+mod name;
 mod number_option;
 mod once_options;
+mod serve_options;
 
 pub use command_line::{Subcommand, options};
 pub use declined::Declined;
 pub use once_options::OnceOptions;
+pub use serve_options::ServeOptions;

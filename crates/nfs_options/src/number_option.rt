@@ -3,10 +3,13 @@ ghost use Rattle.std.specs.Str.Parse.{IsNumeral, digits_value};
 ghost use Rattle.nfs_options.specs.CommandLine.{IsMemoryOr, IsNoNumber, IsNumber, SpellsWithin, text_of};
 
 use crate::Declined;
-use crate::commands::value_error;
+use crate::commands::error_of;
+use crate::name::Name;
+use clap::error::ErrorKind;
+use nfs_core::{LEASE_MAX, LEASE_MIN};
 use std::alloc::{AllocError, Global};
 
-/// An option of `once` whose value is a number, written in decimal digits without a sign.
+/// An option whose value is a number, written in decimal digits without a sign.
 #[derive(Clone, Copy, Debug)]
 pub(crate) struct NumberOption {
     pub(crate) name: &'static str,
@@ -19,8 +22,31 @@ pub(crate) struct NumberOption {
 }
 
 impl NumberOption {
-    /// The number that the option's value gives, or the default.
-    pub(crate) fn number(&self, alloc: Global, value: Option<&str>) -> Result<u64, Declined>
+    /// The lease that clients see.
+    pub(crate) const LEASE: NumberOption = NumberOption {
+        name: "lease",
+        value_name: "SECONDS",
+        least: LEASE_MIN as u64,
+        most: LEASE_MAX as u64,
+        default: 90,
+    };
+
+    /// The number of the server's run.
+    pub(crate) const EPOCH: NumberOption = NumberOption {
+        name: "epoch",
+        value_name: "NUMBER",
+        least: 0,
+        most: u32::MAX as u64,
+        default: 1,
+    };
+
+    /// The number that the option's value gives behind this subcommand, or the default.
+    pub(crate) fn number(
+        &self,
+        alloc: Global,
+        subcommand: Name,
+        value: Option<&str>,
+    ) -> Result<u64, Declined>
         ensures ok { IfOk result
             (IsNumber self.now.least self.now.most self.now.default (text_of value.entry)) }
         ensures err { IfErr result
@@ -31,12 +57,17 @@ impl NumberOption {
         };
         match number_within(text, self.least, self.most) {
             Some(number) => Ok(number),
-            None => Err(self.refusal(alloc, text)),
+            None => Err(self.refusal(alloc, subcommand, text)),
         }
     }
 
     /// The same, where no number that the option may have is above a `u32`.
-    pub(crate) fn short_number(&self, alloc: Global, value: Option<&str>) -> Result<u32, Declined>
+    pub(crate) fn short_number(
+        &self,
+        alloc: Global,
+        subcommand: Name,
+        value: Option<&str>,
+    ) -> Result<u32, Declined>
         requires most { self.now.most < 2 ^ 32 }
         requires default { self.now.default < 2 ^ 32 }
         ensures ok { IfOk result
@@ -44,21 +75,26 @@ impl NumberOption {
         ensures err { IfErr result
             (IsMemoryOr (IsNoNumber self.now.least self.now.most (text_of value.entry))) }
     {
-        let number = self.number(alloc, value)?;
+        let number = self.number(alloc, subcommand, value)?;
         Ok(number as u32)
     }
 
     // The error for a text that is not a number within the limits.
-    fn refusal(&self, alloc: Global, text: &str) -> Declined
+    fn refusal(&self, alloc: Global, subcommand: Name, text: &str) -> Declined
         ensures { IsMemoryOr ⊤ result }
     {
-        match self.refusal_text(alloc, text) {
+        match self.refusal_text(alloc, subcommand, text) {
             Ok(text) => Declined::Usage(text),
             Err(_) => Declined::Memory,
         }
     }
 
-    fn refusal_text(&self, alloc: Global, text: &str) -> Result<String, AllocError> {
+    fn refusal_text(
+        &self,
+        alloc: Global,
+        subcommand: Name,
+        text: &str,
+    ) -> Result<String, AllocError> {
         let name = self.name;
         let value_name = self.value_name;
         let least = self.least;
@@ -66,7 +102,12 @@ impl NumberOption {
         let message = format!(in alloc;
             "invalid value '{text}' for '--{name} <{value_name}>': not a number from {least} to {most}"
         )?;
-        let error = value_error(alloc, message.as_str())?;
+        let error = error_of(
+            alloc,
+            subcommand,
+            ErrorKind::ValueValidation,
+            message.as_str(),
+        )?;
         format!(in alloc; "{error}")
     }
 }

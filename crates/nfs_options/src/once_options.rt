@@ -1,11 +1,11 @@
 ghost use Rattle.std.specs.Prelude.{IfErr, IfOk};
 ghost use Rattle.clap.specs.Words.{found_of, rows_of};
-ghost use Rattle.nfs_options.specs.CommandLine.{HasNoNumber, IsMemoryOr, IsOnce, IsOnceWithinLimits};
+ghost use Rattle.nfs_options.specs.CommandLine.{IsMemoryOr, IsOnce, IsOnceWithinLimits, LacksOnce};
 
 use crate::Declined;
+use crate::name::Name;
 use crate::number_option::NumberOption;
 use clap::ArgMatches;
-use nfs_core::{LEASE_MAX, LEASE_MIN};
 use std::alloc::Global;
 
 /// The options of `once`.
@@ -23,16 +23,22 @@ pub struct OnceOptions<'a> {
     pub journal: Option<&'a str>,
 }
 
-/// The last moment that there is.
-const MOMENT_MAX: u64 = (1 << 40) - 1;
+/// The moment of all calls, of which the last is before 2^40.
+const MOMENT: NumberOption = NumberOption {
+    name: "now",
+    value_name: "SECONDS",
+    least: 0,
+    most: (1 << 40) - 1,
+    default: 0,
+};
 
 impl<'a> OnceOptions<'a> {
     /// The values of the options that are absent.
     pub const DEFAULT: OnceOptions<'static> = OnceOptions {
         tree: None,
-        lease: 90,
-        epoch: 1,
-        moment: 0,
+        lease: NumberOption::LEASE.default as u32,
+        epoch: NumberOption::EPOCH.default as u32,
+        moment: MOMENT.default,
         journal: None,
     };
 
@@ -40,34 +46,16 @@ impl<'a> OnceOptions<'a> {
     pub(crate) fn of(alloc: Global, matches: &ArgMatches<'a>) -> Result<OnceOptions<'a>, Declined>
         ensures ok { IfOk result (IsOnce (rows_of (found_of matches.now))) }
         ensures limits { IfOk result IsOnceWithinLimits }
-        ensures err { IfErr result (IsMemoryOr (HasNoNumber (rows_of (found_of matches.now)))) }
+        ensures err { IfErr result (IsMemoryOr (LacksOnce (rows_of (found_of matches.now)))) }
     {
-        let lease = NumberOption {
-            name: "lease",
-            value_name: "SECONDS",
-            least: LEASE_MIN as u64,
-            most: LEASE_MAX as u64,
-            default: OnceOptions::DEFAULT.lease as u64,
-        };
-        let epoch = NumberOption {
-            name: "epoch",
-            value_name: "NUMBER",
-            least: 0,
-            most: u32::MAX as u64,
-            default: OnceOptions::DEFAULT.epoch as u64,
-        };
-        let moment = NumberOption {
-            name: "now",
-            value_name: "SECONDS",
-            least: 0,
-            most: MOMENT_MAX,
-            default: OnceOptions::DEFAULT.moment,
-        };
+        let lease = NumberOption::LEASE;
+        let epoch = NumberOption::EPOCH;
+        let moment = MOMENT;
         Ok(OnceOptions {
             tree: matches.get_str("tree"),
-            lease: lease.short_number(alloc, matches.get_str(lease.name))?,
-            epoch: epoch.short_number(alloc, matches.get_str(epoch.name))?,
-            moment: moment.number(alloc, matches.get_str(moment.name))?,
+            lease: lease.short_number(alloc, Name::Once, matches.get_str(lease.name))?,
+            epoch: epoch.short_number(alloc, Name::Once, matches.get_str(epoch.name))?,
+            moment: moment.number(alloc, Name::Once, matches.get_str(moment.name))?,
             journal: matches.get_str("journal"),
         })
     }

@@ -8,5 +8,6 @@ pub returns : goal.returns
 returns c =
     let start : app_of c.after_help.result ≡ new_app (codes "nfs4state") = search rules in
     let begun = ap app_of_fields c.disable_help_subcommand-program.ensures ∙ ap (on_top (λ s. record s { disable_help_subcommand = true })) start in
-    let first = c.in_ok-subcommand.ensures.shape c.in_ok-once_command.ensures.local ∙ ap₂ with_subcommand begun (ap (λ (a : App). a.top) c.in_ok-once_command.ensures.app) in
-    IfOk-weaker c.subcommand-2.result _ _ (λ made h. h.shape c.in_ok-audit_command.ensures.local ∙ ap₂ with_subcommand first (ap (λ (a : App). a.top) c.in_ok-audit_command.ensures.app)) c.subcommand-2.ensures
+    let one = c.in_ok-subcommand.ensures.shape c.in_ok-once_command.ensures.local ∙ ap₂ with_subcommand begun (ap (λ (a : App). a.top) c.in_ok-once_command.ensures.app) in
+    let two = c.in_ok-subcommand-2.ensures.shape c.in_ok-serve_command.ensures.local ∙ ap₂ with_subcommand one (ap (λ (a : App). a.top) c.in_ok-serve_command.ensures.app) in
+    IfOk-weaker c.subcommand-3.result _ _ (λ made h. h.shape c.in_ok-audit_command.ensures.local ∙ ap₂ with_subcommand two (ap (λ (a : App). a.top) c.in_ok-audit_command.ensures.app)) c.subcommand-3.ensures

@@ -1,0 +1,21 @@
+use Rattle.std.proofs.Common.{◌≡◌, ◌∙◌, ◌||◌, ap, ap₂, codes, false, rules}
+use Rattle.std.proofs.lemmas.Result.{IfOk-weaker}
+use Rattle.clap.specs.Words.{app_of, new_app, with_rule}
+use Rattle.clap.specs.declared.builder.command.Command.TheViews.{out-Command}
+use Rattle.nfs_options.specs.CommandLine.{core_options, with_options}
+use Rattle.nfs_options.proofs.commands.serve_command.Goals as goal
+
+pub returns : goal.returns
+returns c =
+    let start : app_of c.after_help.result ≡ new_app (codes "serve") = search rules in
+    let one = c.in_ok-arg.ensures.shape c.option-listen.ensures.local ∙ ap₂ with_rule start c.option-listen.ensures.rule in
+    let two = c.in_ok-serve.ensures.shape c.option-connections.ensures.local ∙ ap₂ with_rule one c.option-connections.ensures.rule in
+    let core = c.in_ok-with_core_options.ensures.app ∙ ap (with_options core_options) two in
+    let no_global : (out-Command c.after_help.result).has_globals ≡ false = search rules in
+    let one_local = c.in_ok-arg.ensures.globals ∙ ap₂ (λ a b. a || b) no_global c.option-listen.ensures.local in
+    let two_local = c.in_ok-serve.ensures.globals ∙ ap₂ (λ a b. a || b) one_local c.option-connections.ensures.local in
+    let core_local = c.in_ok-with_core_options.ensures.local two_local in
+    record {
+      app = IfOk-weaker c.arg-3.result _ _ (λ made h. h.shape c.journal_option.ensures.local ∙ ap₂ with_rule core c.journal_option.ensures.rule) c.arg-3.ensures;
+      local = IfOk-weaker c.arg-3.result _ _ (λ made h. h.globals ∙ ap₂ (λ a b. a || b) core_local c.journal_option.ensures.local) c.arg-3.ensures;
+    }

@@ -1,0 +1,72 @@
+ghost use Rattle.std.specs.Prelude.{IfErr, IfOk};
+ghost use Rattle.clap.specs.Words.{found_of, rows_of};
+ghost use Rattle.nfs_options.specs.CommandLine.{IsMemoryOr, IsServe, IsServeWithinLimits, LacksServe};
+
+use crate::Declined;
+use crate::name::Name;
+use crate::number_option::NumberOption;
+use clap::ArgMatches;
+use std::alloc::Global;
+
+/// The options of `serve`.
+#[derive(Clone, Copy, Debug, PartialEq, Eq)]
+pub struct ServeOptions<'a> {
+    /// The address to listen on, as it is written.
+    pub listen: &'a str,
+    /// How many connections to serve before ending, from 1 to 64.
+    pub connections: u32,
+    /// The file that describes the tree of files to serve, if there is one.
+    pub tree: Option<&'a str>,
+    /// The lease in seconds, from `LEASE_MIN` to `LEASE_MAX`.
+    pub lease: u32,
+    /// The number of the server's run, the upper half of each clientid.
+    pub epoch: u32,
+    /// The file to which the journal is written at the end, if there is one.
+    pub journal: Option<&'a str>,
+}
+
+/// How many connections to serve before ending.
+const CONNECTIONS: NumberOption = NumberOption {
+    name: "connections",
+    value_name: "NUMBER",
+    least: 1,
+    most: 64,
+    default: 4,
+};
+
+impl<'a> ServeOptions<'a> {
+    /// The values of the options that are absent.
+    pub const DEFAULT: ServeOptions<'static> = ServeOptions {
+        listen: "127.0.0.1:2049",
+        connections: CONNECTIONS.default as u32,
+        tree: None,
+        lease: NumberOption::LEASE.default as u32,
+        epoch: NumberOption::EPOCH.default as u32,
+        journal: None,
+    };
+
+    /// The options that clap found, with the defaults for the others.
+    pub(crate) fn of(alloc: Global, matches: &ArgMatches<'a>) -> Result<ServeOptions<'a>, Declined>
+        ensures ok { IfOk result (IsServe (rows_of (found_of matches.now))) }
+        ensures limits { IfOk result IsServeWithinLimits }
+        ensures err { IfErr result (IsMemoryOr (LacksServe (rows_of (found_of matches.now)))) }
+    {
+        let connections = CONNECTIONS;
+        let lease = NumberOption::LEASE;
+        let epoch = NumberOption::EPOCH;
+        Ok(ServeOptions {
+            listen: matches
+                .get_str("listen")
+                .unwrap_or(ServeOptions::DEFAULT.listen),
+            connections: connections.short_number(
+                alloc,
+                Name::Serve,
+                matches.get_str(connections.name),
+            )?,
+            tree: matches.get_str("tree"),
+            lease: lease.short_number(alloc, Name::Serve, matches.get_str(lease.name))?,
+            epoch: epoch.short_number(alloc, Name::Serve, matches.get_str(epoch.name))?,
+            journal: matches.get_str("journal"),
+        })
+    }
+}
