@@ -43,7 +43,7 @@ pub fn serve_on<R: Threads + Wait + Timer + Sync>(
     requires empty { core.journal.entries ≡ [] }
     requires nobody { (number : ℕ) → IsFalse (is_live number core.stored.clients) }
     requires nodes { core.journal.nodes ≡ tree.now.nodes }
-    ensures served { IfOk result (λ r. (link : TcpLink R) × (link.listener ≡ listener)
+    ensures served { IfOk result (λ r. (link : TcpLink R) × (link.listener.now ≡ listener.now)
         × IsServed link tree.now connections core r.0 r.1.items) }
     ensures back { IfErr result (λ back. back ≡ core) }
 {
@@ -136,7 +136,7 @@ fn serve_swept<N: Naming + Send + Sync, R: Threads + Wait + Timer + Sync>(
     requires unused { AreUnused (seats_of links.items) }
     requires empty { spare.items ≡ [] }
     requires room { length links.items ≤ vec_capacity spare }
-    ensures { AreDone tcp place.now.tree.now links.items result.items }
+    ensures { AreDone tcp place.now.tree.now links.entry.items result.items }
 {
     let bell = &Bell::new();
     // Where no thread can be made, the first is called after the second, and finds the end told.
@@ -149,7 +149,7 @@ fn serve_swept<N: Naming + Send + Sync, R: Threads + Wait + Timer + Sync>(
         move || -> Vec<Done<N>>
             requires { (N.start.nodes ≡ place.now.tree.now.nodes) × AreUnused (seats_of links.items)
                 × (spare.items ≡ []) × (length links.items ≤ vec_capacity spare) }
-            ensures { AreDone tcp place.entry.now.tree.now links.items result.items }
+            ensures { AreDone tcp place.entry.now.tree.now links.entry.items result.items }
         { serve_and_ring(place, shared, bell, links, spare) },
     );
     all
@@ -167,7 +167,7 @@ fn serve_and_ring<N: Naming + Send + Sync, R: Threads + Wait + Timer + Sync>(
     requires unused { AreUnused (seats_of links.items) }
     requires empty { spare.items ≡ [] }
     requires room { length links.items ≤ vec_capacity spare }
-    ensures { AreDone tcp place.now.tree.now links.items result.items }
+    ensures { AreDone tcp place.now.tree.now links.entry.items result.items }
 {
     let all = match serve_all(place.alloc, place.rt, shared, place.tree, links) {
         Ok(all) => all,
@@ -187,7 +187,7 @@ fn refuse_all<N: Naming, R>(
     requires unused { AreUnused (seats_of links.items) }
     requires empty { spare.items ≡ [] }
     requires room { vec_len links ≤ vec_capacity spare }
-    ensures { AreDone tcp tree.now links.items result.items }
+    ensures { AreDone tcp tree.now links.entry.items result.items }
 {
     let mut all = spare;
     for (_, seat) in links {

@@ -1,10 +1,9 @@
 ghost use Rattle.std.specs.Prelude.{◌≡◌, ◌-◌, ◌^◌, ◌<◌, [], ℕ, IfSome, IsFalse};
 ghost use Rattle.nfs_listener.specs.Runs.{IsRun};
-ghost use Rattle.nfs_listener.specs.declared.tcp_link.TcpLink.{TcpLink};
 ghost use Rattle.nfs_owners.specs.Registry.{is_live};
 ghost use Rattle.nfs_server.specs.Device.{device_of_sink};
 
-use crate::{TcpLink, first_fault, serve_on};
+use crate::{first_fault, serve_on};
 use nfs_core::Core;
 use nfs_server::{Fault, Sink, exit_status, file_journal};
 use nfs_tree::Tree;
@@ -39,9 +38,8 @@ pub fn run_serve<R: Threads + Wait + Timer + Sync, E: Write, J: Sink>(
     requires empty { served.core.journal.entries ≡ [] }
     requires nobody { (number : ℕ) → IsFalse (is_live number served.core.stored.clients) }
     requires nodes { served.core.journal.nodes ≡ served.tree.now.nodes }
-    ensures run { (link : TcpLink R) × (link.listener ≡ listener)
-        × IsRun link (device_of_sink J.takes J.fails) J.failures served journal.old journal.new
-        result }
+    ensures run { IsRun R (device_of_sink J.takes J.fails) J.failures listener.now served.entry
+        journal.old journal.new result }
 {
     let Served {
         core,
@@ -49,7 +47,7 @@ pub fn run_serve<R: Threads + Wait + Timer + Sync, E: Write, J: Sink>(
         connections,
     } = served;
     let Ok((core, ended)) = serve_on(alloc, rt, listener, core, tree, connections) else {
-        return Fault::NoMemory.report(errors);
+        return exit_status(errors, Some(Fault::NoMemory));
     };
     let filed = file_journal(alloc, core.journal(), journal);
     exit_status(errors, first_fault(ended.as_slice()).or(filed))

@@ -9,6 +9,6 @@ invariant-loop-seat g l = record {
   can : (goal.iterator-loop-seat g).can_next l.seat-iterator;
   finite : (goal.iterator-loop-seat g).is_finite l.seat-iterator;
   room : vec_len l.links + into_iter_len l.seat-iterator ≤ vec_capacity l.links;
-  same : AllByRecursion (λ x. x.0 ≡ l.link.now) l.links.items;
+  same : AllByRecursion (λ x. x.0 ≡ l.link) l.links.items;
   seats : seats_of l.links.items ≡ l.yielded;
 }
