@@ -66,7 +66,7 @@ name_of text =
 abbrev pub text_of : Option (Bor Text) → Option Text
 text_of = option_map (λ s. s.now)
 
--- ---- numbers
+-- ---- numbers and defaults
 
 -- n is the number that the text gives in decimal digits, with nothing else, and is within the limits
 abbrev pub SpellsWithin : ℕ → ℕ → Text → ℕ → Type 0
@@ -104,10 +104,15 @@ moment_default = 0
 abbrev pub moment_max : ℕ
 moment_max = 1099511627775
 
--- ---- what the words ask the program to do
-
 abbrev pub listen_default : Text
 listen_default = codes "127.0.0.1:2049"
+
+-- ---- what the words ask the program to do
+
+-- as many connections as `--connections` gives, or the default
+abbrev pub IsConnections : List Row → ℕ → Type 0
+IsConnections rows =
+    IsNumber 1 connections_max connections_default (first_of (codes "connections") rows)
 
 -- the lease is the one that `--lease` gives, or the default
 abbrev pub IsLease : List Row → ℕ → Type 0
@@ -130,8 +135,7 @@ IsOnce rows o =
 abbrev pub IsServe : List Row → ServeOptions → Type 0
 IsServe rows o =
     (o.listen.now ≡ unwrap_or (first_of (codes "listen") rows) listen_default)
-    × IsNumber 1 connections_max connections_default (first_of (codes "connections") rows)
-    o.connections
+    × IsConnections rows o.connections
     × (text_of o.tree ≡ first_of (codes "tree") rows)
     × IsLease rows o.lease
     × IsEpoch rows o.epoch
@@ -168,18 +172,21 @@ AsksBy (Some given) s = AsksNamed (name_of given.0) given.1 s
 abbrev pub Asks : List Text → Subcommand → Type 0
 Asks words s = (fault_of program words ≡ []) × AsksBy (subcommand_of program words) s
 
--- an option is present whose value is no number that it may have
+-- `--lease` is present, and its value is not a number within the limits
 abbrev pub LacksLease : List Row → Type 0
 LacksLease rows = IsNoNumber LEASE_MIN LEASE_MAX (first_of (codes "lease") rows)
 
+-- `--epoch` is present, and its value is not a number within the limits
 abbrev pub LacksEpoch : List Row → Type 0
 LacksEpoch rows = IsNoNumber 0 epoch_max (first_of (codes "epoch") rows)
 
+-- the value of some option is not a number within its limits
 abbrev pub LacksOnce : List Row → Type 0
 LacksOnce rows = LacksLease rows
     ⊎ (LacksEpoch rows
     ⊎ IsNoNumber 0 moment_max (first_of (codes "now") rows))
 
+-- the same for `serve`
 abbrev pub LacksServe : List Row → Type 0
 LacksServe rows = IsNoNumber 1 connections_max (first_of (codes "connections") rows)
     ⊎ (LacksLease rows

@@ -102,12 +102,8 @@ impl NumberOption {
         let message = format!(in alloc;
             "invalid value '{text}' for '--{name} <{value_name}>': not a number from {least} to {most}"
         )?;
-        let error = error_of(
-            alloc,
-            subcommand,
-            ErrorKind::ValueValidation,
-            message.as_str(),
-        )?;
+        let kind = ErrorKind::ValueValidation;
+        let error = error_of(alloc, subcommand, kind, message.as_str())?;
         format!(in alloc; "{error}")
     }
 }

@@ -23,7 +23,7 @@ pub struct OnceOptions<'a> {
     pub journal: Option<&'a str>,
 }
 
-/// The moment of all calls, of which the last is before 2^40.
+/// The moment of all calls, in seconds below 2^40.
 const MOMENT: NumberOption = NumberOption {
     name: "now",
     value_name: "SECONDS",
