@@ -50,7 +50,8 @@ AreConnections linking tree link place (ended ∷ rest) =
 abbrev pub receipts_of : List Ended → List (List Receipt)
 receipts_of connections = map (λ ended. ended.receipts.items) connections
 
--- The core `old` was shared by connections of the link, so many, and `new` is what they left.
+-- The core `old` was shared by connections of the link, so many, and `new` is what they left. Clients may have ended
+-- between them: of that is said only that it was lawful.
 pub record IsServed {R : Type 0} (link : TcpLink R) (tree : Files) (count : ℕ) (old new : Server)
     (connections : List Ended) : Type 0 where
   pub all : length connections ≡ count

@@ -16,7 +16,7 @@ mod uptime;
 pub use ended::Ended;
 pub use faults::first_fault;
 pub use listening::serve_on;
-pub use running::{Served, run_serve};
+pub use running::end_run;
 pub use socket::Socket;
 pub use tcp_link::TcpLink;
 pub use uptime::Uptime;

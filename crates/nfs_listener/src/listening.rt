@@ -31,7 +31,8 @@ use std::time::{Clock as Timer, Duration};
 
 /// Serves the next connections that come to the listener, as many as `connections` says, each in a thread of its own,
 /// and ends when all of them have ended. Meanwhile clients are removed whose leases are over. It returns the core as the
-/// connections left it, and how each of them ended. If memory is refused before anything begins, the core comes back.
+/// connections left it, and how each of them ended. If memory is refused for the state, the core comes back; if it is for
+/// the workers, each connection ends with the error `Memory`, and none is accepted.
 pub fn serve_on<R: Threads + Wait + Timer + Sync>(
     alloc: Global,
     rt: &R,
@@ -50,6 +51,7 @@ pub fn serve_on<R: Threads + Wait + Timer + Sync>(
     let Ok(opened) = Opened::new(alloc, connections) else {
         return Err(core);
     };
+    // Where the clock can't be read now and can be later, moments count from its own beginning.
     let start = rt.monotonic().unwrap_or(Duration::ZERO);
     let place = Place {
         alloc,

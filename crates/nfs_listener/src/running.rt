@@ -1,54 +1,33 @@
-ghost use Rattle.std.specs.Prelude.{◌≡◌, ◌-◌, ◌^◌, ◌<◌, [], ℕ, IfSome, IsFalse};
-ghost use Rattle.nfs_listener.specs.Runs.{IsRun};
-ghost use Rattle.nfs_owners.specs.Registry.{is_live};
+ghost use Rattle.std.specs.Prelude.{◌≡◌, ◌-◌, ◌^◌, ◌<◌, IfSome, Option};
+ghost use Rattle.std.specs.Option.{option_or};
+ghost use Rattle.nfs_listener.specs.Faults.{first_fault_of};
 ghost use Rattle.nfs_server.specs.Device.{device_of_sink};
+ghost use Rattle.nfs_server.specs.Once.{IsFiled, status_of};
+ghost use Rattle.nfs_server.specs.declared.fault.Fault.{Fault};
 
-use crate::{first_fault, serve_on};
+use crate::{Ended, first_fault};
 use nfs_core::Core;
-use nfs_server::{Fault, Sink, exit_status, file_journal};
-use nfs_tree::Tree;
+use nfs_server::{Sink, exit_status, file_journal};
 use std::alloc::Global;
 use std::io::Write;
-use std::net::TcpListener;
-use std::sync::Wait;
-use std::thread::Threads;
-use std::time::Clock as Timer;
 
-/// What is served: a core in which no client is live, with an empty journal, and the tree for which it was made; and to
-/// how many connections.
-#[derive(Drop)]
-pub struct Served<'a> {
-    pub core: Core,
-    pub tree: &'a Tree,
-    pub connections: u32,
-}
-
-/// Serves the next connections of the listener, as `serve_on` does. At the end, also after a fault, the file of the
-/// core's journal is written, if there is a sink for it. Returns the program's exit status: 0, or 1 after a fault. The
-/// fault of the first connection that had one, or else that of the journal's file, is reported by a line on `errors`.
-pub fn run_serve<R: Threads + Wait + Timer + Sync, E: Write, J: Sink>(
+/// Ends a run that served these connections, which left this core. The file of the core's journal is written, also after a
+/// fault, if there is a sink for it. Returns the program's exit status: 0, or 1 after a fault. The fault of the first
+/// connection in the list that had one, or else that of the journal's file, is reported by a line on `errors`.
+pub fn end_run<E: Write, J: Sink>(
     alloc: Global,
-    rt: &R,
-    listener: &TcpListener,
-    served: Served<'_>,
+    core: &Core,
+    connections: &[Ended],
     errors: &mut E,
     journal: &mut Option<J>,
 ) -> u8
     requires files { IfSome journal.old (λ sink. J.failures sink < 2 ^ 64 - 1) }
-    requires empty { served.core.journal.entries ≡ [] }
-    requires nobody { (number : ℕ) → IsFalse (is_live number served.core.stored.clients) }
-    requires nodes { served.core.journal.nodes ≡ served.tree.now.nodes }
-    ensures run { IsRun R (device_of_sink J.takes J.fails) J.failures listener.now served.entry
-        journal.old journal.new result }
+    // The file was seen to, and the status is that of the first fault of a connection, or else of the file's.
+    ensures ended { (filed : Option Fault)
+        × IsFiled (device_of_sink J.takes J.fails) J.failures journal.old journal.new
+        core.now.journal filed
+        × (result ≡ status_of (option_or (first_fault_of connections.now) filed)) }
 {
-    let Served {
-        core,
-        tree,
-        connections,
-    } = served;
-    let Ok((core, ended)) = serve_on(alloc, rt, listener, core, tree, connections) else {
-        return exit_status(errors, Some(Fault::NoMemory));
-    };
     let filed = file_journal(alloc, core.journal(), journal);
-    exit_status(errors, first_fault(ended.as_slice()).or(filed))
+    exit_status(errors, first_fault(connections).or(filed))
 }

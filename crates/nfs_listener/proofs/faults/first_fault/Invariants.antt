@@ -1,5 +1,5 @@
 use Rattle.std.proofs.Common.{◌≡◌, drop}
-use Rattle.nfs_listener.specs.Runs.{first_fault_of}
+use Rattle.nfs_listener.specs.Faults.{first_fault_of}
 use Rattle.nfs_listener.proofs.faults.first_fault.Given as goal
 
 abbrev pub invariant-loop-ended : goal.invariant-loop-ended
