@@ -9,7 +9,7 @@ mod new_file;
 
 use crate::new_file::NewFile;
 use nfs_core::{Core, CoreError, LEASE_MAX, LEASE_MIN, Moment};
-use nfs_listener::{Served, run_serve};
+use nfs_listener::{end_run, serve_on};
 use nfs_options::{Declined, OnceOptions, ServeOptions, Subcommand, options};
 use nfs_server::{Counted, Fault, Sides, read_tree, run_audit, run_once};
 use nfs_tree::{DEFAULT_TREE, Tree};
@@ -75,7 +75,7 @@ fn once(rt: &HostRuntime, options: &OnceOptions<'_>) -> u8
 }
 
 // `nfs4state serve`: connections of a TCP listener, and the journal to its file at the end. `threads` is what threads are
-// started and waited for by.
+// started and waited for by; it is of a type parameter, since it goes to those threads.
 fn serve<R: Threads + Wait + Clock + Sync>(
     rt: &HostRuntime,
     threads: &R,
@@ -94,18 +94,17 @@ fn serve<R: Threads + Wait + Clock + Sync>(
         Ok(listener) => listener,
         Err(fault) => return report(rt, fault),
     };
-    let served = Served {
-        core,
-        tree: &tree,
-        connections: options.connections,
+    let alloc = rt.alloc();
+    let served = serve_on(alloc, threads, &listener, core, &tree, options.connections);
+    let Ok((core, connections)) = served else {
+        return report(rt, Fault::NoMemory);
     };
     let mut errors = rt.stderr();
     let mut journal = journal_file(rt, options.journal);
-    run_serve(
-        rt.alloc(),
-        threads,
-        &listener,
-        served,
+    end_run(
+        alloc,
+        &core,
+        connections.as_slice(),
         &mut errors,
         &mut journal,
     )

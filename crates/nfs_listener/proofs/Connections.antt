@@ -1,19 +1,22 @@
 -- What workers did, said of connections.
-use Rattle.std.proofs.Common.{◌≡◌, ℕ, zero, suc, ◌+◌, ◌<◌, ◌↔◌, List, [], ◌∷◌, ◌++◌, map, length, slice_get, Some, IsErrOf, refl, sym, ap, subst, ◌∙◌, arith}
+use Rattle.std.proofs.Common.{◌≡◌, ℕ, zero, suc, ◌+◌, ◌<◌, ◌↔◌, List, [], ◌∷◌, ◌++◌, map, length, slice_get, Some, None, Err, IsErrOf, refl, sym, ap, subst, ◌∙◌, arith}
 use Rattle.std.specs.List.{AllByRecursion}
 use Rattle.nfs_shared.specs.Ends.{AreFresh, IsKept}
 use Rattle.nfs_shared.specs.Seats.{SeatView, fresh}
 use Rattle.nfs_tree.specs.Tree.{Files}
 use Rattle.nfs_server.specs.Connection.{HasCourse, scene}
 use Rattle.nfs_server.specs.Exchange.{rules}
-use Rattle.nfs_server.specs.Holding.{AreAlikeButRoom, GivenBySeat}
+use Rattle.nfs_server.specs.Holding.{AreAlikeButRoom, GivenBySeat, Holding}
 use Rattle.nfs_server.specs.Working.{AreDone, IsDone, Linking, receipts_back, seats_of}
 use Rattle.nfs_server.specs.declared.done.Done.{Done}
 use Rattle.nfs_server.specs.declared.serve_error.ServeError.TheVariants as errors
+use Rattle.nfs_listener.proofs.Courses.{ends_unread}
 use Rattle.nfs_listener.specs.Links.{tcp}
 use Rattle.nfs_listener.specs.Serving.{AreConnections, IsConnection, receipts_of}
 use Rattle.nfs_listener.specs.declared.ended.Ended.{Ended}
+use Rattle.nfs_listener.specs.declared.socket.Socket.{Socket}
 use Rattle.nfs_listener.specs.declared.tcp_link.TcpLink.{TcpLink}
+use Rattle.nfs_listener.specs.declared.uptime.Uptime.{Uptime}
 
 -- one worker more is done
 pub one_more_done : {N L D C : Type 0} (linking : Linking L D C) (tree : Files) (links : List (L × SeatView)) (dones : List (Done N)) (link : L × SeatView) (done : Done N)
@@ -38,12 +41,12 @@ kept_unused seat none = record {
 pub is_refused : {N R : Type 0} (tree : Files) (link : TcpLink R) (seat : SeatView) (done : Done N) → seat.given ≡ 0
     → done.result ≡ Err errors.Memory → done.seat ≡ seat → done.receipts.items ≡ []
     → IsDone tcp tree link seat done
-is_refused tree link seat done none result same empty =
-    let socket = record { listener = link.listener; stream = None; read_failures = 0; write_failures = 0 } in
-    let clock = record { rt = link.rt; start = link.start; last = 0 } in
-    let desk = record { seat = seat; receipts = []; room = 0 } in
+is_refused {R = R} tree link seat done none result same empty =
+    let socket : Socket = record { listener = link.listener; stream = None; read_failures = 0; write_failures = 0 } in
+    let clock : Uptime R = record { rt = link.rt; start = link.start; last = 0 } in
+    let desk : Holding = record { seat = seat; receipts = []; room = 0 } in
     let here = scene socket desk clock in
-    let idle = record { piece = []; exchanges = []; unanswered = []; rest = [] } in record {
+    record {
       device = socket;
       clock = clock;
       opened = (refl, refl);
@@ -53,7 +56,7 @@ is_refused tree link seat done none result same empty =
       clock' = clock;
       desk' = desk;
       ended = (same, empty);
-      course = rw result (record { turns = []; last = idle }, (here, refl, omega arith, inl (refl, refl, refl, refl)));
+      course = subst (λ r. HasCourse tcp.device (rules tree GivenBySeat AreAlikeButRoom tcp.tells) here r here) (sym result) (ends_unread tcp.device tree tcp.tells here);
       read_failed = (λ is. absurd cc, λ less. absurd (omega arith));
       write_failed = (λ is. absurd cc, λ less. absurd (omega arith));
       kept = rw same (rw empty (kept_unused seat none));
@@ -73,9 +76,9 @@ of_done linking tree link seat done ended is result receipts = record {
   clock' = is.clock';
   desk' = is.desk';
   receipts = receipts ∙ is.ended.1;
-  course = rw result is.course;
-  read_failed = rw result is.read_failed;
-  write_failed = rw result is.write_failed;
+  course = subst (λ r. HasCourse linking.device (rules tree GivenBySeat AreAlikeButRoom linking.tells) (scene is.device is.desk is.clock) r (scene is.device' is.desk' is.clock')) (sym result) is.course;
+  read_failed = subst (λ r. IsErrOf r errors.Read ↔ linking.read_failures is.device < linking.read_failures is.device') (sym result) is.read_failed;
+  write_failed = subst (λ r. IsErrOf r errors.Write ↔ linking.write_failures is.device < linking.write_failures is.device') (sym result) is.write_failed;
 }
 
 -- these seats are unused, and their places go up from this one
@@ -85,7 +88,7 @@ FreshFrom place (seat ∷ seats) = (seat ≡ fresh place) × FreshFrom (suc plac
 
 fresh_from : (place : ℕ) (seats : List SeatView) → ((k : ℕ) (seat : SeatView) → slice_get seats k ≡ Some seat → seat ≡ fresh (k + place)) → FreshFrom place seats
 fresh_from place [] each = tt
-fresh_from place (seat ∷ seats) each = (each 0 seat refl, fresh_from (suc place) seats (λ k s at. each (suc k) s at ∙ ap fresh (omega arith)))
+fresh_from place (seat ∷ seats) each = (each 0 seat refl ∙ ap fresh (omega arith), fresh_from (suc place) seats (λ k s at. each (suc k) s at ∙ ap fresh (omega arith)))
 
 connected : {N L D C : Type 0} (linking : Linking L D C) (tree : Files) (link : L) (place : ℕ) (links : List (L × SeatView)) (dones : List (Done N)) (connections : List Ended)
     → FreshFrom place (seats_of links) → AllByRecursion (λ l. l.0 ≡ link) links → AreDone linking tree links dones
@@ -94,10 +97,14 @@ connected : {N L D C : Type 0} (linking : Linking L D C) (tree : Files) (link : 
 connected linking tree link place links dones [] new same are results receipts = tt
 connected linking tree link place links [] (e ∷ es) new same are results receipts = absurd cc
 connected linking tree link place [] (d ∷ dones) (e ∷ es) new same are results receipts = absurd are
-connected linking tree link place (l ∷ links) (d ∷ dones) (e ∷ es) new same are results receipts = (
-  of_done linking tree link (fresh place) d e (subst (λ x. IsDone linking tree x (fresh place) d) same.0 (subst (λ s. IsDone linking tree l.0 s d) new.0 are.0)) cc cc,
-  connected linking tree link (suc place) links dones es new.1 same.1 are.1 cc cc,
-)
+connected linking tree link place (l ∷ links) (d ∷ dones) (e ∷ es) new same are results receipts =
+    let result : e.result ≡ d.result = cc in
+    let more_results : map (λ x. x.result) es ≡ map (λ x. x.result) dones = cc in
+    let own : e.receipts.items ≡ d.receipts.items = cc in
+    let more_receipts : receipts_of es ≡ receipts_back dones = cc in (
+      of_done linking tree link (fresh place) d e (subst (λ x. IsDone linking tree x (fresh place) d) same.0 (subst (λ s. IsDone linking tree l.0 s d) new.0 are.0)) result own,
+      connected linking tree link (suc place) links dones es new.1 same.1 are.1 more_results more_receipts,
+    )
 
 -- the connections that workers served, one link at fresh seats
 pub connections_of : {N L D C : Type 0} (linking : Linking L D C) (tree : Files) (link : L) (count : ℕ) (links : List (L × SeatView)) (dones : List (Done N)) (connections : List Ended)

@@ -1,2 +1,3 @@
-pub mod Lists
+pub mod Rest
+pub mod Courses
 pub mod Connections

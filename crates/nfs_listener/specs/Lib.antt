@@ -2,5 +2,5 @@ pub mod Sockets
 pub mod Uptimes
 pub mod Links
 pub mod Serving
-pub mod Runs
-pub mod Lists
+pub mod Faults
+pub mod Rooms

@@ -7,8 +7,8 @@ use Rattle.nfs_listener.specs.declared.tcp_link.TcpLink.{TcpLink}
 use Rattle.nfs_listener.specs.declared.uptime.Uptime.{Uptime}
 use Rattle.nfs_server.specs.Working.{Linking}
 
--- The link gives a socket of its listener that has no connection yet and of which nothing failed, and a clock that shows
--- the moment 0 until it is read.
+-- The link gives a socket of its listener that has no connection yet and of which nothing failed, and a clock that counts
+-- from the link's start and has shown nothing yet.
 abbrev pub Opens : {R : Type 0} → TcpLink R → Socket → Uptime R → Type 0
 Opens link socket clock =
     (socket ≡ record {

@@ -50,10 +50,11 @@ AreConnections linking tree link place (ended ∷ rest) =
 abbrev pub receipts_of : List Ended → List (List Receipt)
 receipts_of connections = map (λ ended. ended.receipts.items) connections
 
--- The core `old` was shared by connections of the link, so many, and `new` is what they left.
+-- The core `old` was shared by connections of the link, so many, and `new` is what they left. Clients may have ended
+-- between them: of that is said only that it was lawful.
 pub record IsServed {R : Type 0} (link : TcpLink R) (tree : Files) (count : ℕ) (old new : Server)
     (connections : List Ended) : Type 0 where
-  pub count : length connections ≡ count
+  pub all : length connections ≡ count
   pub each : AreConnections tcp tree link 0 connections
   -- the journal began as that of the old core, and is lawful; and what is stored is safe
   pub start : start_of new.journal ≡ start_of old.journal

@@ -14,7 +14,8 @@ HasFailed reads writes old new =
     (new.read_failures ≡ old.read_failures + reads)
     × (new.write_failures ≡ old.write_failures + writes)
 
--- After a read that gave something there is a connection. A write takes bytes only where there is one.
+-- After a read that didn't fail there is a connection, also where it gave no bytes. A write takes bytes only where there
+-- is one.
 abbrev pub socket_device : Device Socket
 socket_device = record {
   gives = λ old piece new. KeepsConnection old new × IsSome new.stream × HasFailed 0 0 old new;

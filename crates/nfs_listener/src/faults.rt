@@ -1,5 +1,5 @@
 ghost use Rattle.std.specs.Prelude.{◌≡◌, map};
-ghost use Rattle.nfs_listener.specs.Runs.{first_fault_of};
+ghost use Rattle.nfs_listener.specs.Faults.{first_fault_of};
 
 use crate::Ended;
 use nfs_server::Fault;

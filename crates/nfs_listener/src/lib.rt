@@ -5,9 +5,9 @@
 mod bell;
 mod ended;
 mod faults;
+mod listening;
 mod lists;
-mod run_serve;
-mod serve_on;
+mod running;
 mod socket;
 mod sweeping;
 mod tcp_link;
@@ -15,8 +15,8 @@ mod uptime;
 
 pub use ended::Ended;
 pub use faults::first_fault;
-pub use run_serve::{Served, run_serve};
-pub use serve_on::serve_on;
+pub use listening::serve_on;
+pub use running::end_run;
 pub use socket::Socket;
 pub use tcp_link::TcpLink;
 pub use uptime::Uptime;

@@ -1,5 +1,5 @@
 ghost use Rattle.std.specs.Prelude.{◌≡◌, ◌≤◌, IfOk, List, length, map};
-ghost use Rattle.nfs_listener.specs.Lists.{AllHaveRoom, HaveRoom};
+ghost use Rattle.nfs_listener.specs.Rooms.{AllHaveRoom, HaveRoom};
 ghost use Rattle.nfs_server.specs.Working.{receipts_back, seats_back};
 
 use crate::{Ended, TcpLink};

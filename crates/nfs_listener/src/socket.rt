@@ -19,7 +19,7 @@ impl<'a> Socket<'a> {
     /// The next connection that comes to the listener.
     pub(crate) fn of(listener: &'a TcpListener) -> Socket<'a>
         ensures { result ≡ record {
-          listener = listener;
+          listener = listener.entry;
           stream = None;
           read_failures = 0;
           write_failures = 0;

@@ -12,7 +12,7 @@ const PERIOD: u64 = 1;
 pub(crate) fn sweep_until<N: Naming, R: Wait + Timer>(
     rt: &R,
     shared: &Shared<N>,
-    mut uptime: Uptime<'_, R>,
+    uptime: &mut Uptime<'_, R>,
     bell: &Bell,
 ) {
     for _ in rt.forever() {

@@ -16,7 +16,11 @@ pub struct TcpLink<'a, R> {
 impl<'a, R> TcpLink<'a, R> {
     /// `start` is what the monotonic clock showed when the service began.
     pub(crate) fn new(rt: &'a R, start: Duration, listener: &'a TcpListener) -> TcpLink<'a, R>
-        ensures { result ≡ record { rt = rt; start = start; listener = listener } }
+        ensures { result ≡ record {
+          rt = rt.entry;
+          start = start;
+          listener = listener.entry;
+        } }
     {
         TcpLink {
             rt,

@@ -15,7 +15,7 @@ pub struct Uptime<'a, R> {
 impl<'a, R: Timer> Uptime<'a, R> {
     /// Since this reading of the monotonic clock.
     pub(crate) fn since(rt: &'a R, start: Duration) -> Uptime<'a, R>
-        ensures { result ≡ record { rt = rt; start = start; last = 0 } }
+        ensures { result ≡ record { rt = rt.entry; start = start; last = 0 } }
     {
         Uptime {
             rt,

@@ -3,7 +3,7 @@ ghost use Rattle.std.specs.List.{AllByRecursion};
 ghost use Rattle.nfs_core.specs.Safe.{IsSafe};
 ghost use Rattle.nfs_core.specs.Server.{IsLawful};
 ghost use Rattle.nfs_listener.specs.Links.{tcp};
-ghost use Rattle.nfs_listener.specs.Lists.{HaveRoom};
+ghost use Rattle.nfs_listener.specs.Rooms.{HaveRoom};
 ghost use Rattle.nfs_listener.specs.Serving.{IsServed, receipts_of};
 ghost use Rattle.nfs_listener.specs.declared.tcp_link.TcpLink.{TcpLink};
 ghost use Rattle.nfs_owners.specs.Registry.{is_live};
@@ -31,7 +31,8 @@ use std::time::{Clock as Timer, Duration};
 
 /// Serves the next connections that come to the listener, as many as `connections` says, each in a thread of its own,
 /// and ends when all of them have ended. Meanwhile clients are removed whose leases are over. It returns the core as the
-/// connections left it, and how each of them ended. If memory is refused before anything begins, the core comes back.
+/// connections left it, and how each of them ended. If memory is refused for the state, the core comes back; if it is for
+/// the workers, each connection ends with the error `Memory`, and none is accepted.
 pub fn serve_on<R: Threads + Wait + Timer + Sync>(
     alloc: Global,
     rt: &R,
@@ -43,13 +44,14 @@ pub fn serve_on<R: Threads + Wait + Timer + Sync>(
     requires empty { core.journal.entries ≡ [] }
     requires nobody { (number : ℕ) → IsFalse (is_live number core.stored.clients) }
     requires nodes { core.journal.nodes ≡ tree.now.nodes }
-    ensures served { IfOk result (λ r. (link : TcpLink R) × (link.listener ≡ listener)
+    ensures served { IfOk result (λ r. (link : TcpLink R) × (link.listener.now ≡ listener.now)
         × IsServed link tree.now connections core r.0 r.1.items) }
     ensures back { IfErr result (λ back. back ≡ core) }
 {
     let Ok(opened) = Opened::new(alloc, connections) else {
         return Err(core);
     };
+    // Where the clock can't be read now and can be later, moments count from its own beginning.
     let start = rt.monotonic().unwrap_or(Duration::ZERO);
     let place = Place {
         alloc,
@@ -136,17 +138,20 @@ fn serve_swept<N: Naming + Send + Sync, R: Threads + Wait + Timer + Sync>(
     requires unused { AreUnused (seats_of links.items) }
     requires empty { spare.items ≡ [] }
     requires room { length links.items ≤ vec_capacity spare }
-    ensures { AreDone tcp place.now.tree.now links.items result.items }
+    ensures { AreDone tcp place.now.tree.now links.entry.items result.items }
 {
     let bell = &Bell::new();
     // Where no thread can be made, the first is called after the second, and finds the end told.
     let (_, all) = thread::join(
         place.rt,
-        move || sweep_until(place.rt, shared, Uptime::since(place.rt, place.start), bell),
+        move || {
+            let mut uptime = Uptime::since(place.rt, place.start);
+            sweep_until(place.rt, shared, &mut uptime, bell)
+        },
         move || -> Vec<Done<N>>
             requires { (N.start.nodes ≡ place.now.tree.now.nodes) × AreUnused (seats_of links.items)
                 × (spare.items ≡ []) × (length links.items ≤ vec_capacity spare) }
-            ensures { AreDone tcp place.entry.now.tree.now links.items result.items }
+            ensures { AreDone tcp place.entry.now.tree.now links.entry.items result.items }
         { serve_and_ring(place, shared, bell, links, spare) },
     );
     all
@@ -164,7 +169,7 @@ fn serve_and_ring<N: Naming + Send + Sync, R: Threads + Wait + Timer + Sync>(
     requires unused { AreUnused (seats_of links.items) }
     requires empty { spare.items ≡ [] }
     requires room { length links.items ≤ vec_capacity spare }
-    ensures { AreDone tcp place.now.tree.now links.items result.items }
+    ensures { AreDone tcp place.now.tree.now links.entry.items result.items }
 {
     let all = match serve_all(place.alloc, place.rt, shared, place.tree, links) {
         Ok(all) => all,
@@ -184,7 +189,7 @@ fn refuse_all<N: Naming, R>(
     requires unused { AreUnused (seats_of links.items) }
     requires empty { spare.items ≡ [] }
     requires room { vec_len links ≤ vec_capacity spare }
-    ensures { AreDone tcp tree.now links.items result.items }
+    ensures { AreDone tcp tree.now links.entry.items result.items }
 {
     let mut all = spare;
     for (_, seat) in links {

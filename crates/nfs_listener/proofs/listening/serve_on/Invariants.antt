@@ -1,5 +1,5 @@
 use Rattle.nfs_shared.specs.Naming.{start_of}
-use Rattle.nfs_listener.proofs.serve_on.serve_on.Given as goal
+use Rattle.nfs_listener.proofs.listening.serve_on.Given as goal
 
 abbrev pub ghosts-run-N-Naming : goal.ghosts-run-N-Naming
 ghosts-run-N-Naming g a = record { roll = a.opened.roll; start = start_of a.core.journal }

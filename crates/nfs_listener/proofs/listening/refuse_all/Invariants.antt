@@ -2,7 +2,7 @@ use Rattle.std.proofs.Common.{◌≡◌, ◌+◌, ◌≤◌, vec_capacity, vec_l
 use Rattle.std.specs.Vec.Iter.{into_iter_items, into_iter_len}
 use Rattle.nfs_server.specs.Working.{AreDone, AreUnused, seats_of}
 use Rattle.nfs_listener.specs.Links.{tcp}
-use Rattle.nfs_listener.proofs.serve_on.refuse_all.Given as goal
+use Rattle.nfs_listener.proofs.listening.refuse_all.Given as goal
 
 abbrev pub invariant-loop-seat : goal.invariant-loop-seat
 invariant-loop-seat g l = record {
@@ -10,5 +10,5 @@ invariant-loop-seat g l = record {
   finite : (goal.iterator-loop-seat g).is_finite l.seat-iterator;
   room : vec_len l.all + into_iter_len l.seat-iterator ≤ vec_capacity l.all;
   unused : AreUnused (seats_of (into_iter_items l.seat-iterator));
-  done : AreDone tcp l.tree.now l.yielded l.all.items;
+  done : AreDone tcp l.tree l.yielded l.all.items;
 }

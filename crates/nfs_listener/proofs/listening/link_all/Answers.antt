@@ -1,0 +1,12 @@
+use Rattle.std.proofs.Common.{◌≡◌, rules}
+use Rattle.nfs_listener.proofs.Rest.{all_and_one}
+use Rattle.nfs_listener.proofs.listening.link_all.Goals as goal
+
+pub loop-seat-preserved : goal.loop-seat-preserved
+loop-seat-preserved g c = record {
+  can = tt;
+  finite = tt;
+  room = search rules;
+  same = rw c.push_reserved.ensures.items (all_and_one (λ x. x.0 ≡ c.args.link.now) c.loop-seat.links.items (c.again.result, c.in-Some.seat) c.loop-seat.invariant.same c.again.ensures);
+  seats = search rules;
+}
