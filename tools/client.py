@@ -1,5 +1,5 @@
-"""A client with opens and locks of its own, on a connection: it knows each reply that it has to get, but for the numbers
-that the server gives it."""
+"""A client with opens and locks of its own, on a connection: it knows each reply that it has to get, but for the
+numbers that the server gives it."""
 from messages import *
 
 # Made known by `messages`.
@@ -33,6 +33,11 @@ def under(file, operation, result):
     return [(words(PUTFH) + handle(file), done(PUTFH)), (operation, result)]
 
 
+def expect(what, got, wanted):
+    if got != wanted:
+        raise Wrong(f"{what}: {got}, wanted {wanted}")
+
+
 class Client:
     """The user with this number, who is known to the server by a name that has it, too, and has one open owner with one
     open, and one lock owner."""
@@ -41,7 +46,7 @@ class Client:
         self.peer, self.uid, self.epoch = peer, uid, epoch
         self.name, self.owner, self.locker = (word + b" %d" % uid for word in (b"client", b"owner", b"locker"))
         self.sent, self.got = [], []
-        # The client's number; the open's file, the last sequence id of its owner; and numbers and seqids of the stateids.
+        # The numbers of the client, of the open's file, and of the stateids; and the last sequence ids and seqids.
         self.number = self.file = self.open = self.lock = None
         self.last, self.is_confirmed, self.open_seqid, self.lock_seqid, self.lock_last = 0, False, 0, 0, 0
 

@@ -16,8 +16,8 @@ LISTENING = re.compile(rb"listening on 127\.0\.0\.1:([0-9]+)\n")
 PATIENCE, REPLY_PATIENCE = 60, 20
 
 
-def is_at_end_of(stream, seconds):
-    """Whether nothing more comes from the stream, or nothing in so many seconds."""
+def is_silent(stream, seconds):
+    """Whether the stream neither brings a byte nor ends in so many seconds."""
     return not select.select([stream], [], [], seconds)[0]
 
 
@@ -36,7 +36,7 @@ class Served:
 
     def first_line(self):
         line, until = b"", time.monotonic() + PATIENCE
-        while not line.endswith(b"\n") and not is_at_end_of(self.program.stderr, max(0, until - time.monotonic())):
+        while not line.endswith(b"\n") and not is_silent(self.program.stderr, max(0, until - time.monotonic())):
             more = os.read(self.program.stderr.fileno(), 1)
             if not more:
                 break
