@@ -1,0 +1,157 @@
+"""A server that listens on TCP as a process, and connections to it, for the scripts beside this one. Nothing here waits
+without an end: a server that doesn't end is killed, and what doesn't come in time is a TimeoutError."""
+import os
+import re
+import select
+import signal
+import socket
+import struct
+import subprocess
+import time
+
+from messages import split
+
+LISTENING = re.compile(rb"listening on 127\.0\.0\.1:([0-9]+)\n")
+# The seconds that a server has to begin or to end, and those in which a reply has to come, on however busy a machine.
+PATIENCE, REPLY_PATIENCE = 60, 20
+
+
+def is_silent(stream, seconds):
+    """Whether the stream neither brings a byte nor ends in so many seconds."""
+    return not select.select([stream], [], [], seconds)[0]
+
+
+class Served:
+    """A server, from its start to its end: a command that prints `listening on 127.0.0.1:PORT` on standard error. Where
+    it prints another line, or ends before it has printed one, it has no port."""
+
+    def __init__(self, command, **how):
+        streams = {"stdin": subprocess.DEVNULL, "stdout": subprocess.PIPE, "stderr": subprocess.PIPE, "bufsize": 0}
+        self.program = subprocess.Popen(command, **streams, **how)
+        self.errors = self.first_line()
+        found = LISTENING.fullmatch(self.errors)
+        self.port = int(found[1]) if found else None
+        if found:
+            self.errors = b""
+
+    def first_line(self):
+        line, until = b"", time.monotonic() + PATIENCE
+        while not line.endswith(b"\n") and not is_silent(self.program.stderr, max(0, until - time.monotonic())):
+            more = os.read(self.program.stderr.fileno(), 1)
+            if not more:
+                break
+            line += more
+        return line
+
+    def __enter__(self):
+        return self
+
+    def __exit__(self, *_):
+        """However it comes to this, the server is gone then."""
+        if self.program.poll() is None:
+            self.program.kill()
+            self.program.wait()
+        self.program.stdout.close()
+        self.program.stderr.close()
+
+    def end(self, seconds=PATIENCE):
+        """How it ends by itself: its status, and what it has written on standard output and, behind the line with the
+        port, on standard error. The status is None where it doesn't end in time, and is killed."""
+        try:
+            output, errors = self.program.communicate(timeout=seconds)
+            status = self.program.returncode
+        except subprocess.TimeoutExpired:
+            self.program.kill()
+            output, errors = self.program.communicate()
+            status = None
+        return status, output, self.errors + errors
+
+    def is_running(self):
+        return self.program.poll() is None
+
+    def most_kilobytes(self, what):
+        """Of a server that runs: VmHWM, the most memory that it ever had in use, or VmPeak, its most addresses."""
+        with open(f"/proc/{self.program.pid}/status", encoding="utf-8") as source:
+            return int(re.search(rf"{what}:\s*([0-9]+) kB", source.read())[1])
+
+
+class Peer:
+    """A connection to a server on TCP. A connection that the server resets is one that it ends."""
+
+    def __init__(self, address, receive_buffer=None):
+        self.socket, self.rest = socket.socket(), b""
+        if receive_buffer is not None:
+            self.socket.setsockopt(socket.SOL_SOCKET, socket.SO_RCVBUF, receive_buffer)
+        self.socket.setsockopt(socket.IPPROTO_TCP, socket.TCP_NODELAY, 1)
+        self.socket.settimeout(REPLY_PATIENCE)
+        self.socket.connect(address)
+
+    def __enter__(self):
+        return self
+
+    def __exit__(self, *_):
+        self.socket.close()
+
+    def send(self, data):
+        self.socket.settimeout(REPLY_PATIENCE)
+        try:
+            self.socket.sendall(data)
+        except (BrokenPipeError, ConnectionResetError):
+            # What the server has sent before is still to be received.
+            pass
+
+    def receive(self, seconds=REPLY_PATIENCE):
+        """The next record; or what comes before the end of the connection, which may be nothing."""
+        while not (found := split(self.rest)[0]):
+            if not self.take_more(seconds):
+                found = [self.rest]
+                break
+        self.rest = self.rest[len(found[0]):]
+        return found[0]
+
+    def receive_all(self, seconds=REPLY_PATIENCE):
+        """All that comes up to the end of the connection."""
+        while self.take_more(seconds):
+            pass
+        got, self.rest = self.rest, b""
+        return got
+
+    def take_more(self, seconds):
+        """Whether more came; or the end of the connection."""
+        self.socket.settimeout(seconds)
+        try:
+            more = self.socket.recv(1 << 20)
+        except ConnectionResetError:
+            more = b""
+        self.rest += more
+        return bool(more)
+
+    def fill(self, data, seconds=0.3):
+        """Sends this again and again until, for so many seconds, nothing is taken any more: how many bytes were."""
+        sent, until = 0, time.monotonic() + REPLY_PATIENCE
+        self.socket.settimeout(seconds)
+        while time.monotonic() < until:
+            try:
+                sent += self.socket.send(data[sent % len(data):])
+            except TimeoutError:
+                return sent
+        raise TimeoutError("a server takes more and more of a peer that doesn't read")
+
+    def finish(self):
+        """Says that no more is sent, and goes on reading."""
+        try:
+            self.socket.shutdown(socket.SHUT_WR)
+        except OSError:
+            # It was reset.
+            pass
+
+    def reset(self):
+        """Ends the connection by a reset."""
+        self.socket.setsockopt(socket.SOL_SOCKET, socket.SO_LINGER, struct.pack("ii", 1, 0))
+        self.socket.close()
+
+
+def with_interrupts():
+    """In a new process: an interrupt ends it, also where the script itself was started without them, as a shell does in
+    the background."""
+    signal.signal(signal.SIGINT, signal.SIG_DFL)
