@@ -57,9 +57,9 @@ is_refused {R = R} tree link seat done none result same empty =
       desk' = desk;
       ended = (same, empty);
       course = subst (λ r. HasCourse tcp.device (rules tree GivenBySeat AreAlikeButRoom tcp.tells) here r here) (sym result) (ends_unread tcp.device tree tcp.tells here);
-      read_failed = (λ is. absurd cc, λ less. absurd (omega arith));
-      write_failed = (λ is. absurd cc, λ less. absurd (omega arith));
-      kept = rw same (rw empty (kept_unused seat none));
+      read_failed = subst (λ r. IsErrOf r errors.Read ↔ (0 < 0)) (sym result) (λ is. absurd cc, λ less. absurd (omega (arith, less)));
+      write_failed = subst (λ r. IsErrOf r errors.Write ↔ (0 < 0)) (sym result) (λ is. absurd cc, λ less. absurd (omega (arith, less)));
+      kept = subst (λ s. IsKept s done.receipts.items) (sym same) (subst (λ r. IsKept seat r) (sym empty) (kept_unused seat none));
     }
 
 -- the connection that a worker served
