@@ -12,6 +12,8 @@ use Rattle.nfs_server.specs.declared.done.Done.{Done}
 use Rattle.nfs_server.specs.declared.serve_error.ServeError.TheVariants as errors
 use Rattle.nfs_listener.proofs.Courses.{ends_unread}
 use Rattle.nfs_listener.specs.Links.{tcp}
+use Rattle.nfs_listener.specs.Sockets.{socket_device}
+use Rattle.nfs_listener.specs.Uptimes.{GoesOn}
 use Rattle.nfs_listener.specs.Serving.{AreConnections, IsConnection, receipts_of}
 use Rattle.nfs_listener.specs.declared.ended.Ended.{Ended}
 use Rattle.nfs_listener.specs.declared.socket.Socket.{Socket}
@@ -56,10 +58,10 @@ is_refused {R = R} tree link seat done none result same empty =
       clock' = clock;
       desk' = desk;
       ended = (same, empty);
-      course = subst (λ r. HasCourse tcp.device (rules tree GivenBySeat AreAlikeButRoom tcp.tells) here r here) (sym result) (ends_unread tcp.device tree tcp.tells here);
-      read_failed = (λ is. absurd cc, λ less. absurd (omega arith));
-      write_failed = (λ is. absurd cc, λ less. absurd (omega arith));
-      kept = rw same (rw empty (kept_unused seat none));
+      course = subst (λ r. HasCourse socket_device (rules tree GivenBySeat AreAlikeButRoom (GoesOn {R = R})) here r here) (sym result) (ends_unread socket_device tree (GoesOn {R = R}) here);
+      read_failed = subst (λ r. IsErrOf r errors.Read ↔ (0 < 0)) (sym result) (λ is. absurd cc, λ less. absurd (omega (arith, less)));
+      write_failed = subst (λ r. IsErrOf r errors.Write ↔ (0 < 0)) (sym result) (λ is. absurd cc, λ less. absurd (omega (arith, less)));
+      kept = subst (λ s. IsKept s done.receipts.items) (sym same) (subst (λ r. IsKept seat r) (sym empty) (kept_unused seat none));
     }
 
 -- the connection that a worker served

@@ -1,6 +1,6 @@
 -- The course of a connection that isn't begun.
-use Rattle.std.proofs.Common.{◌≡◌, ℕ, [], Err, refl, arith}
-use Rattle.nfs_server.specs.Connection.{HasCourse, Scene}
+use Rattle.std.proofs.Common.{◌≡◌, ℕ, [], Err, arith, inl, refl}
+use Rattle.nfs_server.specs.Connection.{HasCourse, Scene, Turn}
 use Rattle.nfs_server.specs.Device.{Device}
 use Rattle.nfs_server.specs.Exchange.{rules}
 use Rattle.nfs_server.specs.Holding.{AreAlikeButRoom, GivenBySeat, Holding}
@@ -11,5 +11,5 @@ use Rattle.nfs_server.specs.declared.serve_error.ServeError.TheVariants as error
 pub ends_unread : {D C : Type 0} (device : Device D) (tree : Files) (tells : C → ℕ → C → Type 0) (before : Scene D Holding C)
     → HasCourse device (rules tree GivenBySeat AreAlikeButRoom tells) before (Err errors.Memory) before
 ends_unread device tree tells before =
-    let idle = record { piece = []; exchanges = []; unanswered = []; rest = [] } in
+    let idle : Turn = record { piece = []; exchanges = []; unanswered = []; rest = [] } in
     (record { turns = []; last = idle }, (before, refl, omega arith, inl (refl, refl, refl, refl)))
