@@ -29,8 +29,13 @@ fn serve_two<R: Threads + Wait + Clock + Sync>(
     listener: &TcpListener,
     clients: (&TcpStream, &TcpStream),
 ) -> Option<Outcome> {
-    let tree = &Tree::from_toml(alloc, "file = [{ path = \"a\" }]").ok()?;
-    let core = Core::new(alloc, tree, 90, 7, tree.policy()).ok()?;
+    let Ok(tree) = Tree::from_toml(alloc, "file = [{ path = \"a\" }]") else {
+        return None;
+    };
+    let tree = &tree;
+    let Ok(core) = Core::new(alloc, tree, 90, 7, tree.policy()) else {
+        return None;
+    };
     let (first, second) = clients;
     let answered = &AtomicUsize::new(0);
     let (answered, served) = thread::join(
