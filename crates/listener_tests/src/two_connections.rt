@@ -81,10 +81,10 @@ fn connect(rt: &HostRuntime, listener: &TcpListener) -> io::Result<TcpStream> {
 }
 
 #[test]
-fn two_connections(rt: HostRuntime) {
-    let listener = TcpListener::bind(&rt, "127.0.0.1:0").unwrap();
-    let first = connect(&rt, &listener).unwrap();
-    let second = connect(&rt, &listener).unwrap();
+fn two_connections(rt: HostRuntime) -> io::Result<()> {
+    let listener = TcpListener::bind(&rt, "127.0.0.1:0")?;
+    let first = connect(&rt, &listener)?;
+    let second = connect(&rt, &listener)?;
     let outcome = serve_two(&rt, rt.alloc(), &listener, (&first, &second));
     assert_eq!(&rt;
         outcome,
@@ -94,4 +94,5 @@ fn two_connections(rt: HostRuntime) {
             entries: 2
         })
     );
+    Ok(())
 }
