@@ -21,6 +21,8 @@ pub data Names : Type 0 where
   Opener : OpenOwner → ℕ → Names
   -- a stateid, with the sequence id of the request of the state's owner
   Owned : Stateid → ℕ → Names
+  -- a stateid alone, of an operation that goes by no sequence id
+  State : Stateid → Names
 
 -- A LOCK for a new lock owner names an open, with the sequence id of the open's owner; one for a lock owner that is known
 -- names a lock state, with the sequence id of the lock owner.
@@ -38,7 +40,16 @@ names_of (ops.Locku args) = Owned args.stateid args.seqid
 names_of (ops.Lockt args) = Client args.owner.client
 names_of (ops.ReleaseLockowner args) = Client args.owner.client
 names_of (ops.Renew args) = Client args.client
-names_of op = Nothing
+names_of (ops.Access args) = Nothing
+names_of (ops.Getattr args) = Nothing
+names_of ops.Getfh = Nothing
+names_of (ops.Lookup args) = Nothing
+names_of (ops.Putfh args) = Nothing
+names_of ops.Putrootfh = Nothing
+names_of ops.Restorefh = Nothing
+names_of ops.Savefh = Nothing
+names_of (ops.Setclientid args) = Nothing
+names_of (ops.SetclientidConfirm args) = Nothing
 
 -- the sequence id by which the request goes
 abbrev pub seqid_in : Names → Option ℕ
@@ -46,6 +57,7 @@ seqid_in Nothing = None
 seqid_in (Client client) = None
 seqid_in (Opener owner seqid) = Some seqid
 seqid_in (Owned stateid seqid) = Some seqid
+seqid_in (State stateid) = None
 
 abbrev pub seqid_of : Op → Option ℕ
 seqid_of op = seqid_in (names_of op)
@@ -54,12 +66,17 @@ seqid_of op = seqid_in (names_of op)
 abbrev pub is_sequenced : Op → Bool
 is_sequenced op = is_some (seqid_of op)
 
--- the client that is named: by its clientid, as an owner's client or in a stateid; a special stateid names none
+-- the client in a stateid; a special stateid names none
+abbrev pub client_in_stateid : Stateid → Option ClientId
+client_in_stateid stateid = if is_special stateid then None else Some stateid.client
+
+-- the client that is named: by its clientid, as an owner's client or in a stateid
 abbrev pub client_in : Names → Option ClientId
 client_in Nothing = None
 client_in (Client client) = Some client
 client_in (Opener owner seqid) = Some owner.client
-client_in (Owned stateid seqid) = if is_special stateid then None else Some stateid.client
+client_in (Owned stateid seqid) = client_in_stateid stateid
+client_in (State stateid) = client_in_stateid stateid
 
 -- The number of the client whose lease the operation renews (section 9.5), in the server's run with this epoch: that of
 -- the client that it names, if that is one of this run.
@@ -72,3 +89,4 @@ names_seen lent.Nothing = Nothing
 names_seen (lent.Client client) = Client client
 names_seen (lent.Opener owner seqid) = Opener owner.now seqid
 names_seen (lent.Owned stateid seqid) = Owned stateid seqid
+names_seen (lent.State stateid) = State stateid

@@ -18,6 +18,8 @@ pub enum Names<'a> {
     Opener(&'a OpenOwner, u32),
     /// A stateid, with the sequence id of the request of the state's owner.
     Owned(Stateid, u32),
+    /// A stateid alone, of an operation that goes by no sequence id.
+    State(Stateid),
 }
 
 impl Names<'_> {
@@ -29,7 +31,9 @@ impl Names<'_> {
             Names::Nothing => None,
             Names::Client(client) => Some(client),
             Names::Opener(owner, _) => Some(owner.client),
-            Names::Owned(stateid, _) => (!stateid.is_special()).then_some(stateid.client),
+            Names::Owned(stateid, _) | Names::State(stateid) => {
+                (!stateid.is_special()).then_some(stateid.client)
+            }
         }
     }
 }
@@ -58,7 +62,16 @@ impl Op {
             Op::Lockt(args) => Names::Client(args.owner.client),
             Op::ReleaseLockowner(args) => Names::Client(args.owner.client),
             Op::Renew(args) => Names::Client(args.client),
-            _ => Names::Nothing,
+            Op::Access(_)
+            | Op::Getattr(_)
+            | Op::Getfh
+            | Op::Lookup(_)
+            | Op::Putfh(_)
+            | Op::Putrootfh
+            | Op::Restorefh
+            | Op::Savefh
+            | Op::Setclientid(_)
+            | Op::SetclientidConfirm(_) => Names::Nothing,
         }
     }
 }
