@@ -1,6 +1,5 @@
 -- What the arguments of an operation name of the state (RFC 7530, sections 9.1.4, 9.1.5, 9.1.7 and 9.5).
-use Rattle.std.specs.Prelude.{ℕ, Bool, true, false, Option, Some, None, is_some, option_and_then, if◌then◌else◌}
-use Rattle.nfs_forms.specs.ClientId.{number_in}
+use Rattle.std.specs.Prelude.{ℕ, Bool, Option, Some, None, is_some, if◌then◌else◌}
 use Rattle.nfs_forms.specs.Stateid.{is_special}
 use Rattle.nfs_forms.specs.declared.client_id.ClientId.{ClientId}
 use Rattle.nfs_forms.specs.declared.locker.Locker.{Locker}
@@ -77,11 +76,6 @@ client_in (Client client) = Some client
 client_in (Opener owner seqid) = Some owner.client
 client_in (Owned stateid seqid) = client_in_stateid stateid
 client_in (State stateid) = client_in_stateid stateid
-
--- The number of the client whose lease the operation renews (section 9.5), in the server's run with this epoch: that of
--- the client that it names, if that is one of this run.
-abbrev pub renewed_by : ℕ → Op → Option ℕ
-renewed_by epoch op = option_and_then (number_in epoch) (client_in (names_of op))
 
 -- the names that are lent
 abbrev pub names_seen : LentNames → Names

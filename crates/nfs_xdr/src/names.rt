@@ -1,7 +1,7 @@
 //! What operations name of the state: clients, owners and states.
 
 ghost use Rattle.std.specs.Prelude.{◌≡◌};
-ghost use Rattle.nfs_xdr.specs.Names.{client_in, locker_names, names_of, names_seen, renewed_by};
+ghost use Rattle.nfs_xdr.specs.Names.{client_in, locker_names, names_of, names_seen};
 
 use crate::Op;
 use nfs_forms::{ClientId, Locker, OpenOwner, Stateid};
@@ -39,15 +39,6 @@ impl Names<'_> {
 }
 
 impl Op {
-    /// The number of the client whose lease the operation renews, in the server's run with this epoch: that of the client
-    /// that it names, if that is one of this run (RFC 7530, section 9.5).
-    pub fn renewed_client(&self, epoch: u32) -> Option<u32>
-        ensures { result ≡ renewed_by epoch self.now }
-    {
-        let client = self.names().client()?;
-        client.number_in(epoch)
-    }
-
     /// What the operation's arguments name of the state.
     pub fn names(&self) -> Names<'_>
         ensures { names_seen result ≡ names_of self.now }
