@@ -2,7 +2,6 @@ pub mod Step
 pub mod Lawful
 pub mod Safe
 pub mod Server
-pub mod Entered
 pub mod CoreError
 pub mod Following
 pub mod Expiry

@@ -1,5 +1,4 @@
-ghost use Rattle.std.specs.Prelude.{◌≡◌, ◌≤◌, ◌<◌, [], IfErr, IfOk, IfSome, OnErr, OnOk, IsErrOf, IsTrue, length};
-ghost use Rattle.nfs_core.specs.Entered.{number_entered};
+ghost use Rattle.std.specs.Prelude.{◌≡◌, ◌≤◌, ◌<◌, [], IfErr, IfOk, OnErr, OnOk, IsErrOf, IsTrue, length};
 ghost use Rattle.nfs_core.specs.Expiry.{IsNotEndedFor, IsWithoutRoom, expire_of};
 ghost use Rattle.nfs_core.specs.LiveClients.{AreNumbered, AreOfOneRun};
 ghost use Rattle.nfs_core.specs.Safe.{IsSafe, KeepRequests};
@@ -15,7 +14,7 @@ ghost use Rattle.nfs_xdr.specs.Op.{has_entry, opnum_of};
 ghost use Rattle.nfs_xdr.specs.OpResult.{op_result};
 ghost use Rattle.nfs_xdr.specs.Opnum.{answer_limit};
 
-use crate::entered::{Entered, enter, enter_copied};
+use crate::answering::enter;
 use crate::expiry::enter_expiry;
 use crate::following::follow;
 use crate::laws::lawful_is_safe;
@@ -110,42 +109,6 @@ impl Core {
             Ok((answer, number)) => {
                 answer.fits();
                 (answer, Some(number))
-            }
-            Err(_) => (op.opnum().refusal(Refusal::Resource), None),
-        }
-    }
-
-    /// The same as `apply`, and returns a copy of the entry with its number. The copy is made before anything changes:
-    /// where memory runs out for it, the answer is NFS4ERR_RESOURCE.
-    pub fn apply_copied(
-        &mut self,
-        moment: Moment,
-        principal: Principal,
-        op: &Op,
-        filehandle: Option<u32>,
-    ) -> (OpResult, Option<Entered>)
-        requires entry { IsTrue (has_entry op.now) }
-        requires node { IsFilehandle self.old.journal filehandle }
-        ensures applies { Applies self.old self.new (request_of moment principal op.now filehandle)
-            result.0 (number_entered result.1) }
-        ensures copy { IfSome result.1 (λ e. e.call ≡ record {
-          request = request_of moment principal op.now filehandle;
-          answer = result.0;
-        }) }
-        ensures short { length (op_result.encoding result.0) ≤ answer_limit (opnum_of op.now) }
-        ensures form { op_result.Fits result.0 }
-        ensures lawful { IsLawful self.new }
-    {
-        lawful_is_safe();
-        let tables = &mut self.tables;
-        let journal = &mut self.journal;
-        let Ok(request) = Request::of_copy(moment, principal, op, filehandle) else {
-            return (op.opnum().refusal(Refusal::Resource), None);
-        };
-        match enter_copied(self.alloc, tables, journal, request) {
-            Ok((answer, entered)) => {
-                answer.fits();
-                (answer, Some(entered))
             }
             Err(_) => (op.opnum().refusal(Refusal::Resource), None),
         }

@@ -1,6 +1,6 @@
 use Rattle.std.proofs.Common.{◌∙◌, ap, subst, sym}
 use Rattle.nfs_core.proofs.Entering.{Step-next}
-use Rattle.nfs_core.proofs.entered.enter_decided.Goals as goal
+use Rattle.nfs_core.proofs.answering.enter_decided.Goals as goal
 use Rattle.nfs_state.specs.Entries.{entry_of, with_entry}
 use Rattle.nfs_state.specs.Room.{Fits, state_of}
 use Rattle.nfs_state.specs.declared.entry.Call.{Call}
