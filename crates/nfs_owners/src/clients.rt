@@ -234,10 +234,10 @@ fn next_among(records: &[ClientRecord], after: u32) -> Option<u32>
 }
 
 // The record's number instead, if it is above `after` and below the least so far.
-fn nearer(least: Option<u32>, record: &ClientRecord, after: u32) -> Option<u32>
-    ensures { result ≡ nearer_of after least record.now }
+fn nearer(least: Option<u32>, candidate: &ClientRecord, after: u32) -> Option<u32>
+    ensures { result ≡ nearer_of after least candidate.now }
 {
-    let number = record.state.client.number;
+    let number = candidate.state.client.number;
     match least {
         None if after < number => Some(number),
         Some(next) if after < number && number < next => Some(number),
