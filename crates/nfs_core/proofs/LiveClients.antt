@@ -406,6 +406,12 @@ epoch_changed epoch op (client_changes.Refreshes r) old ready is h = each_confir
 epoch_changed epoch op (client_changes.Replaces r client) old ready is h = each_confirmed (HasEpoch epoch) r old (epoch_of_record epoch r.state.client r.id old.unconfirmed ready.2 h.1) h
 epoch_changed epoch op change old ready is h = absurd is
 
+-- a client that is live is so by its number
+pub live_number : (client : ClientId) (records : List ClientRecord) → is_live_in records client ≡ true → list_any (is_of_client client.number) records ≡ true
+live_number client records found =
+    any_found_with (λ r. is_same_client r.state.client client) (is_of_client client.number) records
+    (λ r passes. (and_parts (r.state.client.epoch == client.epoch) (r.state.client.number == client.number) passes).1) found
+
 -- so a client is told by its number
 pub told_by_number : (epoch number : ℕ) (records : List ClientRecord) → AllByRecursion (HasEpoch epoch) records
     → is_live_in records (record { epoch = epoch; number = number }) ≡ list_any (is_of_client number) records
@@ -413,8 +419,7 @@ told_by_number epoch number records h =
     let client : ClientId = record { epoch = epoch; number = number } in
     let named : ClientRecord → Bool = λ r. is_same_client r.state.client client in
     bool_equal (is_some (find named records)) (list_any (is_of_client number) records)
-    (λ found. any_found_with named (is_of_client number) records
-    (λ r passes. (and_parts (r.state.client.epoch == epoch) (r.state.client.number == number) passes).1) found)
+    (live_number client records)
     (λ any. found_any named records
     (any_weaken (HasEpoch epoch) (is_of_client number) named
     (λ r of passes. and_from (r.state.client.epoch == epoch) (r.state.client.number == number) (eq-eqb r.state.client.epoch epoch of) passes) records h any))

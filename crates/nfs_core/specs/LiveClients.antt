@@ -9,7 +9,7 @@ use Rattle.nfs_owners.specs.declared.live_change.LiveChange.{LiveChange}
 use Rattle.nfs_owners.specs.declared.live_change.LiveChange.TheVariants as live_changes
 use Rattle.nfs_rules.specs.entries.Expire.{is_live as is_live_in}
 use Rattle.nfs_state.specs.Entries.{entry_of}
-use Rattle.nfs_state.specs.LiveChange.{live_change}
+use Rattle.nfs_state.specs.LiveChange.{live_change_of}
 use Rattle.nfs_state.specs.State.{State, History}
 use Rattle.nfs_state.specs.declared.entry.Entry.{Entry}
 use Rattle.nfs_state.specs.declared.entry.Entry.TheVariants as entries
@@ -54,7 +54,7 @@ EffectsFollow =
     (journal : History) (old new : State) (entry : Entry)
     → Lawful journal old
     → (step : Step journal old entry new)
-    → LiveFollows (live_change step.effect) old.clients new.clients
+    → LiveFollows (live_change_of step.effect.change) old.clients new.clients
 
 -- the client that the operation asks to confirm, by its number
 abbrev pub confirmed_by : Op → Option ℕ
