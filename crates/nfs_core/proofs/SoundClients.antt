@@ -236,8 +236,7 @@ own_number : (registry : Registry) (r : ClientRecord) → EachRecord (HasSameId 
 own_number registry r h =
     let n = r.state.client.number in
     let takes : ClientRecord → Bool = takes_number r.id n in
-    let none = each_weaken (HasSameId r) (λ s. takes s ≡ false) (λ s same. takes_none r s same) registry h.0 in
-    (
+    let none = each_weaken (HasSameId r) (λ s. takes s ≡ false) (λ s same. takes_none r s same) registry h.0 in (
       and_from (nat_le 1 n) (nat_le n registry.last_number) (le-leb 1 n h.1.0) (le-leb n registry.last_number h.1.1),
       none_any takes registry.confirmed none.0,
       none_any takes registry.unconfirmed none.1,

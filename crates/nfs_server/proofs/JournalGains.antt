@@ -1,13 +1,15 @@
 -- The entries that the journal of a core gains when the core is asked questions as a service.
-use Rattle.std.proofs.Common.{◌≡◌, ℕ, Option, Some, None, List, [], ◌∷◌, ◌++◌, refl, sym, ap, ◌∙◌, inl, inr, append_assoc, rules}
+use Rattle.std.proofs.Common.{◌≡◌, Option, Some, None, List, [], ◌∷◌, ◌++◌, refl, sym, ap, ◌∙◌, inl, inr, append_assoc}
 use Rattle.std.proofs.lemmas.List.{append-nil}
 use Rattle.nfs_state.specs.declared.entry.Entry.{Entry}
-use Rattle.nfs_core.specs.Server.{Server, Applies, AreAlike}
+use Rattle.nfs_core.specs.Entered.{Answers}
+use Rattle.nfs_core.specs.Server.{Server, AreAlike}
+use Rattle.nfs_core.specs.declared.entered.Entered.{Entered}
 use Rattle.nfs_state.specs.State.{History}
 use Rattle.nfs_state.specs.Entries.{entry_of}
 use Rattle.nfs_state.specs.declared.request.Request.{Request}
 use Rattle.nfs_tree.specs.Tree.{Files}
-use Rattle.nfs_server.specs.Asking.{GivenByCore, Operation, Question, Renewal}
+use Rattle.nfs_server.specs.Asking.{Operation, Question, Renewal}
 use Rattle.nfs_server.specs.CourseLaws.{GainsEntries}
 use Rattle.nfs_server.specs.Device.{Device}
 use Rattle.nfs_server.specs.Entries.{AreEntries, QuestionsAreEntries}
@@ -16,11 +18,6 @@ use Rattle.nfs_server.specs.LentAnswers.{IsGiven}
 use Rattle.nfs_server.specs.Leases.{LentCore}
 use Rattle.nfs_server.proofs.Gaining.{IsGain, asked_gain, course_gains}
 use Rattle.nfs_xdr.specs.declared.op_result.OpResult.{OpResult}
-
--- what a call of `apply` gives is given by the core
-pub given_by_core : (old new : Server) (request : Request) (answer : OpResult) (number : Option ℕ) → Applies old new request answer number → GivenByCore old request answer new
-given_by_core old new request answer (Some number) applies = inl (number, applies)
-given_by_core old new request answer None applies = inr (applies.0, (search (rules, applies.1), search (rules, applies.1)))
 
 -- Answering questions with these answers, the journal gained their entries and didn't change otherwise.
 abbrev pub Gains : List Question → List OpResult → History → History → Type 0
@@ -54,17 +51,17 @@ gains_alike old new alike =
     ([], refl, alike.0 ∙ ap (λ (es : List Entry). record old.journal { entries = es }) (sym (append-nil old.journal.entries)))
 
 -- an operation that was entered, or was answered NFS4ERR_RESOURCE
-gains_operation : (old new : Server) (request : Request) (answer : OpResult) → GivenByCore old request answer new → Gains (Operation request ∷ []) (answer ∷ []) old.journal new.journal
-gains_operation old new request answer (inl applied) =
-    (entry_of request answer ∷ [], inr (applied.1.2.allowed.other, [], refl, refl), applied.1.1)
-gains_operation old new request answer (inr refused) =
+gains_operation : (old new : Server) (request : Request) (answer : OpResult) (entered : Option Entered) → Answers old new request answer entered → Gains (Operation request ∷ []) (answer ∷ []) old.journal new.journal
+gains_operation old new request answer (Some entered) applied =
+    (entry_of request answer ∷ [], inr (applied.0.2.allowed.other, [], refl, refl), applied.0.1)
+gains_operation old new request answer None refused =
     let same = gains_alike old new refused.1 in
     (same.0, inl (refused.0, same.1), same.2)
 
 -- one question
 gains_one : (old new : LentCore) (question : Question) (answer : OpResult) → IsGiven old question answer new → Gains (question ∷ []) (answer ∷ []) old.core.journal new.core.journal
 gains_one old new (Operation request) answer given =
-    gains_operation old.core new.core request answer given.0
+    gains_operation old.core new.core request answer given.0 given.1
 gains_one old new (Renewal moment client) answer given =
     gains_alike old.core new.core (ap (λ (s : Server). s.journal) given.1, ap (λ (s : Server). s.stored) given.1)
 

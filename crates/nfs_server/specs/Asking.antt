@@ -1,12 +1,11 @@
 -- The questions that a service is asked, and its answers.
-use Rattle.std.specs.Prelude.{◌≡◌, ◌⊎◌, ℕ, List, [], ◌∷◌, Some}
+use Rattle.std.specs.Prelude.{◌≡◌, ℕ, List, [], ◌∷◌}
 use Rattle.nfs_forms.specs.declared.client_id.ClientId.{ClientId}
 use Rattle.nfs_forms.specs.declared.principal.Principal.{Principal}
 use Rattle.nfs_server.specs.Answering as asked
 use Rattle.nfs_server.specs.Answering.{Asked}
 use Rattle.nfs_state.specs.declared.request.Request.{Request}
-use Rattle.nfs_core.specs.Server.{Server, Applies, AreAlike}
-use Rattle.nfs_state.specs.Entries.{request_of, resource}
+use Rattle.nfs_state.specs.Entries.{request_of}
 use Rattle.nfs_xdr.specs.declared.op_result.OpResult.{OpResult}
 
 -- A question to a service: the request for an operation; or RENEW, that the lease of a client be renewed at this moment.
@@ -29,10 +28,3 @@ Asks {S = S} gives old (question ∷ questions) (answer ∷ answers) new =
     (mid : S) × gives old question answer mid × Asks gives mid questions answers new
 Asks gives old [] (answer ∷ answers) new = ⊥
 Asks gives old (question ∷ questions) [] new = ⊥
-
--- How a core answers the request for an operation: with its answer it becomes the journal's next entry, or the answer is
--- NFS4ERR_RESOURCE and nothing changes but room.
-abbrev pub GivenByCore : Server → Request → OpResult → Server → Type 0
-GivenByCore old request answer new =
-    ((number : ℕ) × Applies old new request answer (Some number))
-    ⊎ ((answer ≡ resource request.op) × AreAlike old new)

@@ -2,9 +2,11 @@
 use Rattle.std.specs.Prelude.{◌≡◌, ℕ, Bool, false, Option, Some, None}
 use Rattle.nfs_forms.specs.declared.client_id.ClientId.{ClientId}
 use Rattle.nfs_owners.specs.Registry.{Registry, is_live}
-use Rattle.nfs_server.specs.Asking.{GivenByCore, Operation, Question, Renewal}
+use Rattle.nfs_core.specs.Entered.{Answers}
+use Rattle.nfs_core.specs.declared.entered.Entered.{Entered}
+use Rattle.nfs_server.specs.Asking.{Operation, Question, Renewal}
 use Rattle.nfs_shared.specs.BookEvent.{Leads}
-use Rattle.nfs_shared.specs.BookOf.{events_of_call}
+use Rattle.nfs_shared.specs.BookOf.{events_entered}
 use Rattle.nfs_server.specs.Leases.{LentCore}
 use Rattle.nfs_shared.specs.PlainBook.{Happens, with_renewal}
 use Rattle.nfs_shared.specs.Renewals.{renewal_answer, renewed_by}
@@ -28,9 +30,10 @@ names_live clients (Some number) = is_live number clients
 abbrev pub IsGiven : LentCore → Question → OpResult → LentCore → Type 0
 IsGiven old (Operation request) answer new =
     let client = renewed_by old.core.journal.epoch request.op in
-    GivenByCore old.core request answer new.core
+    (entered : Option Entered)
+    × Answers old.core new.core request answer entered
     × Leads Happens (with_renewal client request.moment old.book)
-    (events_of_call request.op request.moment old.core new.core) new.book
+    (events_entered entered request.moment) new.book
 IsGiven old (Renewal moment client) answer new =
     let number = renewed_by old.core.journal.epoch (renewal_of client) in
     (answer ≡ results.Renew (renewal_answer (names_live old.core.stored.clients number)))

@@ -8,18 +8,15 @@ ghost use Rattle.nfs_shared.specs.Turn.{Turn};
 
 use crate::Service;
 use nfs_core::{Core, Moment};
-use nfs_shared::{
-    PlainLeases, Swept, call_core, renew_lease, renewal_answer, renewed_client, sweep_core,
-};
+use nfs_shared::{LeasedCore, PlainLeases, Swept, renewal_answer, renewed_client};
 use nfs_xdr::{ClientId, Op, OpResult, Principal};
 use std::alloc::{AllocError, Global};
 use std::marker::Model;
 
 /// A core that serves one connection after another, with the leases of its clients.
-#[derive(Debug, Drop)]
+#[derive(Drop)]
 pub struct Lent {
-    core: Core,
-    book: PlainLeases,
+    leased: LeasedCore<PlainLeases>,
 }
 
 impl Model for Lent {
@@ -27,9 +24,9 @@ impl Model for Lent {
 
     ghost Value = { LentCore };
 
-    ghost view = { λ l. record { core = l.core; book = l.book } };
+    ghost view = { λ l. record { core = l.leased.core; book = l.leased.book } };
 
-    ghost invariant = { λ l. IsLent l.core l.book };
+    ghost invariant = { λ l. IsLent l.leased.core l.leased.book };
 }
 
 impl Lent {
@@ -40,15 +37,17 @@ impl Lent {
         ensures leases { IfOk result (λ lent. IsLent core lent.book) }
     {
         let book = PlainLeases::new(alloc, core.journal().lease())?;
-        Ok(Lent { core, book })
+        Ok(Lent {
+            leased: LeasedCore::new(core, book),
+        })
     }
 
     /// Returns the core.
     pub fn into_core(self) -> Core
         ensures { result ≡ self.core }
     {
-        let Lent { core, .. } = self;
-        core
+        let Lent { leased } = self;
+        leased.into_core()
     }
 
     /// Removes each client whose lease is over at this moment, with all that it has.
@@ -58,7 +57,7 @@ impl Lent {
         ensures revoked { result.revoked ≡ 0 }
         ensures stopped { result.stopped ≡ false }
     {
-        sweep_core(&mut self.core, &mut self.book, now)
+        self.leased.sweep(now)
     }
 }
 
@@ -87,16 +86,15 @@ impl Service for Lent {
         op: &Op,
         filehandle: Option<u32>,
     ) -> OpResult {
-        let (core, book) = (&mut self.core, &mut self.book);
-        let client = renewed_client(op, core.journal().epoch());
-        renew_lease(book, client, moment);
-        let (answer, _) = call_core(core, book, moment, principal, op, filehandle);
+        let client = renewed_client(op, self.leased.core.journal().epoch());
+        self.leased.renew(client, moment);
+        let (answer, _) = self.leased.call(moment, principal, op, filehandle);
         answer
     }
 
     fn renew(&mut self, moment: Moment, client: ClientId) -> OpResult {
-        let client = client.number_in(self.core.journal().epoch());
-        let is_open = renew_lease(&mut self.book, client, moment);
+        let client = client.number_in(self.leased.core.journal().epoch());
+        let is_open = self.leased.renew(client, moment);
         let answer = OpResult::Renew(renewal_answer(is_open));
         answer.fits();
         answer

@@ -1,6 +1,6 @@
 pub mod Lists
 pub mod Comes
-pub mod Calls
+pub mod Books
 pub mod Prefixes
 pub mod Moves
 pub mod Receipts

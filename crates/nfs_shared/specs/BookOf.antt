@@ -1,11 +1,12 @@
 -- A book has the leases of a core's clients.
-use Rattle.std.specs.Prelude.{◌≡◌, ℕ, Bool, true, false, not, ◌&&◌, IsFalse, IsTrue, List, [], ◌∷◌, ◌++◌, Option, Some, None}
-use Rattle.nfs_core.specs.LiveClients.{confirmed_by, replaced_in}
+use Rattle.std.specs.Prelude.{◌≡◌, ℕ, ⊤, Bool, IsFalse, IsTrue, List, [], ◌∷◌, Option, Some, None}
 use Rattle.nfs_core.specs.Server.{Server}
+use Rattle.nfs_core.specs.declared.entered.Entered.{Entered}
 use Rattle.nfs_owners.specs.LiveClients.{can_become_live}
-use Rattle.nfs_owners.specs.Registry.{Registry, is_live}
+use Rattle.nfs_owners.specs.Registry.{IsClientNumber, is_live}
+use Rattle.nfs_owners.specs.declared.live_change.LiveChange.{LiveChange}
+use Rattle.nfs_owners.specs.declared.live_change.LiveChange.TheVariants as changes
 use Rattle.nfs_shared.specs.BookEvent.{BookEvent, Open, Retire}
-use Rattle.nfs_xdr.specs.declared.op.Op.{Op}
 
 -- A book with these open leases, these that were opened, and this lease in seconds is the book of this core's clients.
 pub record IsBookOf (is_open was_opened : ℕ → Bool) (lease : ℕ) (server : Server) : Type 0 where
@@ -16,29 +17,29 @@ pub record IsBookOf (is_open was_opened : ℕ → Bool) (lease : ℕ) (server : 
   pub past : (client : ℕ) → IsTrue (was_opened client)
       → IsFalse (can_become_live client server.stored.clients)
 
--- the lease of the client is opened at the moment, or nothing is done
-abbrev pub opening : Bool → ℕ → ℕ → List BookEvent
-opening true client moment = Open client moment ∷ []
-opening false client moment = []
+-- What is asked of the book at this moment when clients come and go: the lease of one that becomes live is opened, and
+-- that of one that isn't live any more is retired.
+abbrev pub events_of_change : LiveChange → ℕ → List BookEvent
+events_of_change changes.Same moment = []
+events_of_change (changes.Comes comes) moment = Open comes moment ∷ []
+events_of_change (changes.Replaces comes goes) moment = Open comes moment ∷ Retire goes ∷ []
+events_of_change (changes.Goes goes) moment = Retire goes ∷ []
 
--- the lease of the client is retired, or nothing is done
-abbrev pub retiring : Bool → ℕ → List BookEvent
-retiring true client = Retire client ∷ []
-retiring false client = []
+-- the same after an operation, if it made an entry
+abbrev pub events_entered : Option Entered → ℕ → List BookEvent
+events_entered None moment = []
+events_entered (Some entered) moment = events_of_change entered.live moment
 
--- The lease of a client that a call asks to confirm, if it does: it is opened where the client wasn't live and is.
-abbrev pub opening_of : Option ℕ → ℕ → Registry → Registry → List BookEvent
-opening_of None moment old new = []
-opening_of (Some client) moment old new =
-    opening (not (is_live client old) && is_live client new) client moment
+-- the lease of the client can be opened, as it never was; it can be retired, as it was opened
+abbrev pub CanOpen : (ℕ → Bool) → ℕ → Type 0
+CanOpen was_opened client = IsClientNumber client × IsFalse (was_opened client)
 
--- The lease of the client that this one replaces, if it does: it is retired where the client isn't live any more.
-abbrev pub retiring_of : Option ℕ → Registry → List BookEvent
-retiring_of None new = []
-retiring_of (Some client) new = retiring (not (is_live client new)) client
+abbrev pub CanRetire : (ℕ → Bool) → ℕ → Type 0
+CanRetire was_opened client = IsClientNumber client × IsTrue (was_opened client)
 
--- what is asked of the book after a call at this moment, by who was live before the call and is so now
-abbrev pub events_of_call : Op → ℕ → Server → Server → List BookEvent
-events_of_call op moment old new =
-    opening_of (confirmed_by op) moment old.stored.clients new.stored.clients
-    ++ retiring_of (replaced_in old.stored.clients op) new.stored.clients
+-- the book can be asked what a change wants
+abbrev pub CanFollow : (ℕ → Bool) → LiveChange → Type 0
+CanFollow was_opened changes.Same = ⊤
+CanFollow was_opened (changes.Comes comes) = CanOpen was_opened comes
+CanFollow was_opened (changes.Replaces comes goes) = CanOpen was_opened comes × CanRetire was_opened goes
+CanFollow was_opened (changes.Goes goes) = CanRetire was_opened goes

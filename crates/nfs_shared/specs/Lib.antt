@@ -1,6 +1,5 @@
 pub mod BookEvent
 pub mod BookOf
-pub mod Calling
 pub mod Ends
 pub mod Held
 pub mod Naming

@@ -1,9 +1,11 @@
 //! The value that the lock guards, and what is done to it.
-ghost use Rattle.std.specs.Prelude.{◌≡◌, ◌≤◌, ◌++◌, ◌∷◌, [], false, IfNone, IfSome, IsTrue, List, Some, length, slice_get};
+ghost use Rattle.std.specs.Prelude.{◌≡◌, ◌≤◌, ◌++◌, ◌∷◌, [], false, IfNone, IfSome, IsTrue, List, Option, Some, length, slice_get};
+ghost use Rattle.nfs_core.specs.Entered.{Answers, number_entered};
 ghost use Rattle.nfs_core.specs.Server.{Applies};
+ghost use Rattle.nfs_core.specs.declared.entered.Entered.{Entered};
 ghost use Rattle.nfs_forms.specs.ClientId.{number_in};
 ghost use Rattle.nfs_shared.specs.BookEvent.{Leads};
-ghost use Rattle.nfs_shared.specs.BookOf.{events_of_call};
+ghost use Rattle.nfs_shared.specs.BookOf.{events_entered};
 ghost use Rattle.nfs_shared.specs.PlainBook.{Happens, has_open_lease, with_renewal};
 ghost use Rattle.nfs_shared.specs.Renewals.{renewed_by};
 ghost use Rattle.nfs_shared.specs.Seats.{Gives, number_given};
@@ -16,24 +18,22 @@ ghost use Rattle.nfs_xdr.specs.Op.{has_entry, opnum_of};
 ghost use Rattle.nfs_xdr.specs.OpResult.{op_result};
 ghost use Rattle.nfs_xdr.specs.Opnum.{answer_limit};
 
-use crate::calling::call_core;
+use crate::leased_core::LeasedCore;
 use crate::naming::Naming;
 use crate::receipt::Receipt;
 use crate::register::{Register, give};
-use crate::renewing::{renew_lease, renewed_client};
+use crate::renewing::renewed_client;
 use crate::seat::Seat;
-use crate::sweeping::sweep_core;
 use crate::{PlainLeases, Swept};
 use nfs_core::{Core, Entry, Moment, lawful_is_safe};
 use nfs_state::SeenCall;
 use nfs_xdr::{ClientId, Op, OpResult, Principal, Refusal};
 use std::marker::Model;
 
-/// The core with its journal, the leases of its clients, and the register of the receipts for its entries.
+/// The core with its journal and the leases of its clients, and the register of the receipts for its entries.
 #[derive(Drop)]
 pub struct Held<N: Naming> {
-    pub(crate) core: Core,
-    pub(crate) leases: PlainLeases,
+    pub(crate) leased: LeasedCore<PlainLeases>,
     pub(crate) register: Register<N>,
 }
 
@@ -46,21 +46,21 @@ impl<N: Naming> Model for Held<N> {
     ghost Value = { HeldView };
 
     ghost view = { λ h. record {
-      server = h.core;
-      leases = h.leases;
+      server = h.leased.core;
+      leases = h.leased.book;
       places = h.register.places.items;
       receipts = list_of h.register.writer;
     } };
 
     ghost invariant = { λ h.
         IsHeld (record {
-          server = h.core;
-          leases = h.leases;
+          server = h.leased.core;
+          leases = h.leased.book;
           places = h.register.places.items;
           receipts = list_of h.register.writer;
         })
         × IsTied N.roll h.register.roll.shared.table_id h.register.writer h.register.count.total
-        × (start_of h.core.journal ≡ N.start)
+        × (start_of h.leased.core.journal ≡ N.start)
         × (h.register.rest.parts ≡ 0) × (h.register.rest.amount ≡ 0) };
 }
 
@@ -90,23 +90,25 @@ pub fn call_held<N: Naming>(
     ensures given { IfSome result.1 (λ r. Gives seat.old r seat.new) }
     ensures short { length (op_result.encoding result.0) ≤ answer_limit (opnum_of op.now) }
     ensures form { op_result.Fits result.0 }
-    ensures leases { Leads Happens
-        (with_renewal (renewed_by N.start.epoch op.now) moment held.old.leases)
-        (events_of_call op.now moment held.old.server held.new.server) held.new.leases }
+    ensures leases { (entered : Option Entered)
+        × Answers held.old.server held.new.server
+        (request_of moment principal op.now filehandle) result.0 entered
+        × (number_entered entered ≡ number_given result.1)
+        × Leads Happens (with_renewal (renewed_by N.start.epoch op.now) moment held.old.leases)
+        (events_entered entered moment) held.new.leases }
 {
     lawful_is_safe();
-    let client = renewed_client(op, held.core.journal().epoch());
-    renew_lease(&mut held.leases, client, moment);
+    let client = renewed_client(op, held.leased.core.journal().epoch());
+    held.leased.renew(client, moment);
     if held.register.places.reserve(1).is_err() {
         return (op.opnum().refusal(Refusal::Resource), None);
     }
-    let (core, leases) = (&mut held.core, &mut held.leases);
-    let (answer, entered) = call_core(core, leases, moment, principal, op, filehandle);
+    let (answer, entered) = held.leased.call(moment, principal, op, filehandle);
     match entered {
         None => (answer, None),
-        Some(number) => {
-            let call = call_at(&held.core, number);
-            let receipt = give(&mut held.register, seat, number, call);
+        Some(entered) => {
+            let call = call_at(&held.leased.core, entered.number);
+            let receipt = give(&mut held.register, seat, entered.number, call);
             (answer, Some(receipt))
         }
     }
@@ -134,7 +136,7 @@ pub fn sweep_held<N: Naming>(held: &mut Held<N>, now: Moment) -> Swept
     ensures receipts { held.new.receipts ≡ held.old.receipts }
 {
     lawful_is_safe();
-    sweep_core(&mut held.core, &mut held.leases, now)
+    held.leased.sweep(now)
 }
 
 /// Renews the lease of this client, if it is open, and returns whether it is.
@@ -144,6 +146,6 @@ pub(crate) fn renew_client<N: Naming>(held: &mut Held<N>, client: ClientId, mome
     } }
     ensures open { result ≡ has_open_lease held.old.leases (number_in N.start.epoch client) }
 {
-    let client = client.number_in(held.core.journal().epoch());
-    renew_lease(&mut held.leases, client, moment)
+    let client = client.number_in(held.leased.core.journal().epoch());
+    held.leased.renew(client, moment)
 }

@@ -3,13 +3,14 @@
 //! calls made.
 #![tactic(auto)]
 
-mod calling;
 mod case;
 mod closing;
+mod following;
 mod held;
 mod laws;
 mod lease_book;
 mod lease_state;
+mod leased_core;
 mod naming;
 mod opened;
 mod plain_leases;
@@ -23,19 +24,18 @@ mod shared;
 mod sweeping;
 mod swept;
 
-pub use calling::call_core;
 pub use closing::Closing;
 pub use held::{Held, call_held, sweep_held};
 pub use laws::seen_leases_close;
 pub use lease_book::LeaseBook;
 pub use lease_state::LeaseState;
+pub use leased_core::LeasedCore;
 pub use naming::Naming;
 pub use opened::Opened;
 pub use plain_leases::PlainLeases;
 pub use receipt::Receipt;
 pub use renewal::Renewal;
-pub use renewing::{renew_lease, renewal_answer, renewed_client};
+pub use renewing::{renewal_answer, renewed_client};
 pub use seat::Seat;
 pub use shared::Shared;
-pub use sweeping::sweep_core;
 pub use swept::Swept;

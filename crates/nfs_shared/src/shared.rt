@@ -15,6 +15,7 @@ ghost use Rattle.nfs_xdr.specs.OpResult.{op_result};
 ghost use Rattle.nfs_xdr.specs.Opnum.{answer_limit};
 
 use crate::held::{Held, call_held, renew_client, sweep_held};
+use crate::leased_core::LeasedCore;
 use crate::naming::Naming;
 use crate::opened::Opened;
 use crate::receipt::Receipt;
@@ -69,8 +70,7 @@ impl<N: Naming> Shared<N> {
             rest,
         };
         let held = Held {
-            core,
-            leases,
+            leased: LeasedCore::new(core, leases),
             register,
         };
         Ok((
@@ -137,11 +137,7 @@ impl<N: Naming> Shared<N> {
             ≡ receipts_in (map (λ v. v.items) receipts.now) }
     {
         let held = self.held.into_inner();
-        let Held {
-            core,
-            leases: _,
-            register,
-        } = held;
+        let Held { leased, register } = held;
         let Register {
             places: _,
             roll,
@@ -151,7 +147,7 @@ impl<N: Naming> Shared<N> {
         } = register;
         meet_each(&roll, &mut writer, &mut rest, seats);
         count.audit(&mut rest);
-        core
+        leased.into_core()
     }
 }
 

@@ -1,14 +1,12 @@
 //! A sweep between whose look and closing the lease is renewed. Its other answers are in rows.
 
 ghost use Rattle.std.specs.Prelude.{IfSome, IsTrue};
-ghost use Rattle.nfs_shared.specs.BookOf.{IsBookOf};
-ghost use Rattle.nfs_shared.specs.PlainBook.{is_open_in, was_opened_in};
 ghost use Rattle.nfs_xdr.specs.Op.{has_entry};
 
 use crate::renewing::Renewing;
 use nfs_core::Core;
 use nfs_operations::setclientid::Setclientid;
-use nfs_shared::{LeaseBook, PlainLeases, Swept, call_core, sweep_core};
+use nfs_shared::{LeaseBook, LeasedCore, PlainLeases, Swept};
 use nfs_state::Moment;
 use nfs_tree::Tree;
 use nfs_xdr::{Address, Answer, Callback, Op, OpResult, Principal, Verifier};
@@ -45,20 +43,18 @@ fn introduction(alloc: Global, id: &[u8]) -> Option<Op>
     Some(Op::Setclientid(arguments))
 }
 
-/// A core that no client has come to, with a book of leases; none where memory was refused.
-fn start(alloc: Global) -> Option<(Core, PlainLeases)>
-    ensures { IfSome result (λ s. IsBookOf (is_open_in s.1) (was_opened_in s.1) s.1.lease s.0) }
-{
+/// A core that no client has come to, with a book of leases that are renewed behind the sweep's back; none where memory
+/// was refused.
+fn start(alloc: Global) -> Option<LeasedCore<Renewing>> {
     let tree = Tree::from_toml(alloc, "file = [{ path = \"a\" }]").ok()?;
     let core = Core::new(alloc, &tree, 90, 7, tree.policy()).ok()?;
-    let book = PlainLeases::new(alloc, 90).ok()?;
-    Some((core, book))
+    let leases = PlainLeases::new(alloc, 90).ok()?;
+    let moment = Moment::new(100).unwrap();
+    Some(LeasedCore::new(core, Renewing { leases, moment }))
 }
 
 /// The same, asked for once more where memory was refused.
-fn started(alloc: Global) -> Option<(Core, PlainLeases)>
-    ensures { IfSome result (λ s. IsBookOf (is_open_in s.1) (was_opened_in s.1) s.1.lease s.0) }
-{
+fn started(alloc: Global) -> Option<LeasedCore<Renewing>> {
     match start(alloc) {
         None => start(alloc),
         some => some,
@@ -66,57 +62,36 @@ fn started(alloc: Global) -> Option<(Core, PlainLeases)>
 }
 
 /// The answer to the operation at the moment 100, which is asked once more where memory was refused.
-fn answer_to<B: LeaseBook>(core: &mut Core, book: &mut B, op: &Op) -> OpResult
+fn answer_to<B: LeaseBook>(leased: &mut LeasedCore<B>, op: &Op) -> OpResult
     requires entry { IsTrue (has_entry op.now) }
-    requires agrees { IsBookOf (B.is_open book.old) (B.was_opened book.old) (B.lease book.old)
-        core.old }
-    ensures agrees { IsBookOf (B.is_open book.new) (B.was_opened book.new) (B.lease book.new)
-        core.new }
 {
     let moment = Moment::new(100).unwrap();
     let principal = Principal::AuthSys(1);
-    match call_core(core, book, moment, principal, op, None) {
+    match leased.call(moment, principal, op, None) {
         (answer, Some(_)) => answer,
-        (_, None) => call_core(core, book, moment, principal, op, None).0,
+        (_, None) => leased.call(moment, principal, op, None).0,
     }
 }
 
 /// The client with this id becomes live.
-fn come<B: LeaseBook>(rt: &impl Abort, core: &mut Core, book: &mut B, introduction: &Op)
+fn come<B: LeaseBook>(rt: &impl Abort, leased: &mut LeasedCore<B>, introduction: &Op)
     requires entry { IsTrue (has_entry introduction.now) }
-    requires agrees { IsBookOf (B.is_open book.old) (B.was_opened book.old) (B.lease book.old)
-        core.old }
-    ensures agrees { IsBookOf (B.is_open book.new) (B.was_opened book.new) (B.lease book.new)
-        core.new }
 {
-    let OpResult::Setclientid(Answer::Done(args)) = answer_to(core, book, introduction) else {
+    let OpResult::Setclientid(Answer::Done(args)) = answer_to(leased, introduction) else {
         panic!(rt; "no client");
     };
-    let confirmation = answer_to(core, book, &Op::SetclientidConfirm(args));
+    let confirmation = answer_to(leased, &Op::SetclientidConfirm(args));
     assert!(rt; confirmation == OpResult::SetclientidConfirm(Answer::Done(())));
-}
-
-/// What a sweep at this moment comes to.
-fn sweep_at<B: LeaseBook>(core: &mut Core, book: &mut B, now: Moment) -> Swept
-    requires agrees { IsBookOf (B.is_open book.old) (B.was_opened book.old) (B.lease book.old)
-        core.old }
-    ensures agrees { IsBookOf (B.is_open book.new) (B.was_opened book.new) (B.lease book.new)
-        core.new }
-{
-    sweep_core(core, book, now)
 }
 
 /// The client's lease is renewed after the look, and so the client stays. Without room for its end it isn't asked to
 /// close, and the next sweep comes when the lease is over again.
-fn change(rt: &impl Abort, core: &mut Core, book: &mut Renewing)
-    requires agrees { IsBookOf (is_open_in book.old.leases) (was_opened_in book.old.leases)
-        book.old.leases.lease core.old }
-{
-    book.moment = Moment::new(150).unwrap();
-    let mut swept = sweep_at(core, book, Moment::new(191).unwrap());
+fn change(rt: &impl Abort, leased: &mut LeasedCore<Renewing>) {
+    leased.book.moment = Moment::new(150).unwrap();
+    let mut swept = leased.sweep(Moment::new(191).unwrap());
     if swept.refused == 1 {
-        book.moment = Moment::new(250).unwrap();
-        swept = sweep_at(core, book, Moment::new(300).unwrap());
+        leased.book.moment = Moment::new(250).unwrap();
+        swept = leased.sweep(Moment::new(300).unwrap());
     }
     assert!(rt;
         swept
@@ -125,16 +100,14 @@ fn change(rt: &impl Abort, core: &mut Core, book: &mut Renewing)
                 ..Swept::NONE
             }
     );
-    assert!(rt; core.live(1));
+    assert!(rt; leased.core.live(1));
 }
 
 #[test]
 fn a_renewal_between_look_and_close(rt: HostRuntime) -> Result<(), Fail> {
-    let (mut core, leases) = started(rt.alloc()).ok_or("a core")?;
+    let mut leased = started(rt.alloc()).ok_or("a core")?;
     let first = introduction(rt.alloc(), b"a").ok_or("a client")?;
-    let moment = Moment::new(100).unwrap();
-    let mut book = Renewing { leases, moment };
-    come(&rt, &mut core, &mut book, &first);
-    change(&rt, &mut core, &mut book);
+    come(&rt, &mut leased, &first);
+    change(&rt, &mut leased);
     Ok(())
 }

@@ -15,7 +15,10 @@ pub returns-clause-entered : goal.returns-clause-entered
 returns-clause-entered c =
     let journal = c.args.journal.now.history in
     let entered = c.in_ok-number.ensures in (
-      entered.number,
-      entered.entry ∙ ap (λ (answer : OpResult). with_entry (entry_of c.args.request answer) journal) c.in_ok-answer.ensures,
-      Step-next journal (state_of c.args.tables.now) _ (entry_of c.args.request c.args.decision.answer) c.args.decision.effect c.requires.next entered.state,
+      (
+        entered.number,
+        entered.entry ∙ ap (λ (answer : OpResult). with_entry (entry_of c.args.request answer) journal) c.in_ok-answer.ensures,
+        Step-next journal (state_of c.args.tables.now) _ (entry_of c.args.request c.args.decision.answer) c.args.decision.effect c.requires.next entered.state,
+      ),
+      c.live.ensures,
     )

@@ -2,8 +2,8 @@ use Rattle.std.proofs.Common.{rules}
 use Rattle.nfs_state.specs.Room.{state_of, stored_of}
 use Rattle.nfs_core.proofs.Journals.{Lawful-confirm, Lawful-entered, Lawful-same, Lawful-state}
 use Rattle.nfs_core.proofs.SoundNumbers.{given_numbers}
-use Rattle.nfs_core.proofs.core_state.Core.apply.Goals as goal
-use Rattle.nfs_core.proofs.core_state.Core.apply.Goals.{in-Ok-enter, in-Err}
+use Rattle.nfs_core.proofs.core_state.Core.answer.Goals as goal
+use Rattle.nfs_core.proofs.core_state.Core.answer.Goals.{in-Ok-enter, in-Err}
 
 pub enter-requires-clause-asked : goal.enter-requires-clause-asked
 enter-requires-clause-asked c = record { entry = search rules; node = search rules }
@@ -26,7 +26,7 @@ invariant_of-self-2 c =
     elim c.match-enter.branch [
       | in-Ok-enter w ↦
           let entered = w.in-Ok-enter.ensures.entered in
-          (Lawful-entered before.journal.history after.journal.history (state_of before.tables) (state_of after.tables) _ c.self.invariant.0 entered.1 entered.2, w.in-Ok-enter.ensures.kept)
+          (Lawful-entered before.journal.history after.journal.history (state_of before.tables) (state_of after.tables) _ c.self.invariant.0 entered.0.1 entered.0.2, w.in-Ok-enter.ensures.kept)
       | in-Err w ↦ (Lawful-same before.journal.history after.journal.history (stored_of before.tables) (stored_of after.tables) w.in-Err.ensures.same.0 w.in-Err.ensures.same.1 c.self.invariant.0, w.in-Err.ensures.kept)
     ]
 
