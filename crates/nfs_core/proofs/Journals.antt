@@ -27,7 +27,7 @@ use Rattle.nfs_state.specs.declared.entry.Entry.TheVariants as entries
 use Rattle.nfs_core.specs.Lawful.{AtMostOneState, Leads, Lawful}
 use Rattle.nfs_state.specs.State.{State, History, empty_server}
 use Rattle.nfs_core.specs.Step.{Allows, AtMostOneStateAfter, AtMostOneStep, Step}
-use Rattle.nfs_state.specs.Entries.{with_entry}
+use Rattle.nfs_state.specs.Entries.{entry_of, with_entry}
 use Rattle.nfs_state.specs.Kept.{Agrees}
 use Rattle.nfs_state.specs.Journal.{RoomyJournal}
 use Rattle.nfs_state.specs.Room.{state_of, stored_of}
@@ -83,7 +83,7 @@ Allows-once once journal old (entries.Expire expire) effect effect' a a' = a.rem
 -- an entry leads to at most one state
 pub Step-once : AtMostOneDecision → AtMostOneStateAfter
 Step-once once journal old entry new new' s s' =
-    s.state ∙ ap (λ (e : Effect). after (length journal.entries) e old) (Allows-once once journal old entry s.effect s'.effect s.allowed s'.allowed) ∙ sym s'.state
+    s.state ∙ ap (λ (e : Effect). after (length journal.entries) entry e old) (Allows-once once journal old entry s.effect s'.effect s.allowed s'.allowed) ∙ sym s'.state
 
 -- a request has at most one answer, and leads to at most one state
 pub Step-unique : AtMostOneDecision → AtMostOneStep
@@ -91,7 +91,7 @@ Step-unique once journal old request answer answer' new new' s s' =
     let d : Decision = record { answer = answer; effect = s.effect } in
     let d' : Decision = record { answer = answer'; effect = s'.effect } in
     let same = some_equal d d' (once journal old request (Some d) (Some d') s.allowed.rule s'.allowed.rule) in
-    (ap (λ (x : Decision). x.answer) same, s.state ∙ ap (λ (x : Decision). after (length journal.entries) x.effect old) same ∙ sym s'.state)
+    (ap (λ (x : Decision). x.answer) same, s.state ∙ ap (λ (x : Decision). after (length journal.entries) (entry_of request x.answer) x.effect old) same ∙ sym s'.state)
 
 Leads-once : AtMostOneDecision → (journal : History) (old new new' : State) (entries : List Entry) → Leads journal old entries new → Leads journal old entries new' → new ≡ new'
 Leads-once once journal old new new' [] leads leads' = leads ∙ sym leads'
