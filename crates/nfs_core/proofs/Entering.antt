@@ -182,7 +182,7 @@ expiry_next journal old expire effect below expiry = record {
 -- where a client isn't removed though there is memory, its end may not come next
 pub no_expiry : (server : Server) (expire : Expire) (error : CoreError) → error ≢ core_errors.Memory → IsNotEndedFor server expire error → HasNoStep server.journal (meaning server.stored) (entries.Expire expire)
 no_expiry server expire core_errors.NotLive other kept new step = absurd (cc (kept, step.allowed.live))
-no_expiry server expire core_errors.NotDue other kept new step = kept.1 step.allowed.due
+no_expiry server expire core_errors.NotDue other kept new step = absurd (cc (kept.1, step.allowed.due))
 no_expiry server expire core_errors.Full other kept new step = omega (arith, kept.1, step.below)
 no_expiry server expire core_errors.Memory other kept new step = absurd (other refl)
 
