@@ -11,12 +11,12 @@ use Rattle.nfs_state.specs.declared.entry.TheConstants.{JOURNAL_LIMIT}
 use Rattle.nfs_state.specs.declared.request.Request.{Request}
 use Rattle.nfs_state.specs.declared.shortage.Shortage.{Shortage}
 use Rattle.nfs_state.specs.declared.shortage.Shortage.TheVariants as shortages
-use Rattle.nfs_state.specs.Entries.{IsFilehandle}
+use Rattle.nfs_state.specs.Entries.{can_be_asked}
 use Rattle.nfs_state.specs.Kept.{Agrees}
 use Rattle.nfs_state.specs.Room.{Fits, HasGivenNumbers}
 use Rattle.nfs_state.specs.State.{State, History}
 use Rattle.nfs_state.specs.Stored.{Stored, meaning}
-use Rattle.nfs_xdr.specs.Op.{has_entry}
+use Rattle.nfs_tree.specs.Tree.{node_count}
 
 -- What is stored agrees with this journal as far as a decision and its effect need it: no more confirm values and no more
 -- numbers of states were given out than the journal has entries, each state has a number that was given, and what is
@@ -27,11 +27,9 @@ pub record IsStoredBy (journal : History) (stored : Stored) : Type 0 where
   pub given : HasGivenNumbers (meaning stored)
   pub owners : Agrees journal stored.owners
 
--- The request can be asked: its operation has an entry in the journal, and its filehandle, if there is one, is that of
--- a node.
-pub record CanBeAsked (journal : History) (request : Request) : Type 0 where
-  pub entry : IsTrue (has_entry request.op)
-  pub node : IsFilehandle journal request.filehandle
+-- the request can be asked of a server with the journal's tree
+abbrev pub CanBeAsked : History → Request → Type 0
+CanBeAsked journal request = IsTrue (can_be_asked (node_count journal.nodes) request)
 
 -- In the state old, after this journal, the entry may come next with this effect, and can be committed.
 pub record IsNext (journal : History) (old : State) (entry : Entry) (effect : Effect) : Type 0 where

@@ -1,6 +1,6 @@
 //! What may come next in a journal, and entering an entry that is handed in.
 
-ghost use Rattle.std.specs.Prelude.{◌≡◌, ◌≢◌, Err, IfOk, IsErrOf, MatchBool, OnErr};
+ghost use Rattle.std.specs.Prelude.{◌≡◌, ◌≢◌, Err, IfOk, IsErrOf, OnErr};
 ghost use Rattle.nfs_core.specs.Following.{CanBeAsked, IsNext, IsStoredBy, MayBeAnswered};
 ghost use Rattle.nfs_core.specs.Server.{Enters, server_of};
 ghost use Rattle.nfs_core.specs.Step.{HasNoAnswer, HasNoStep};
@@ -91,7 +91,7 @@ fn effect_of_call(
         → HasNoStep journal.now.history (state_of tables.now) (entries.Call call.now) }
 {
     at_most_one_decision();
-    if !can_be_asked(journal, &call.request) {
+    if !call.request.can_be_asked(journal.tree().len()) {
         return Err(FollowError::NotNext);
     }
     let decision = decide_next(alloc, tables, journal, &call.request)?;
@@ -117,18 +117,6 @@ fn effect_of_expire(
         Ok(effect) => Ok(effect),
         Err(_) => Err(FollowError::NotNext),
     }
-}
-
-// Whether the request's operation has an entry in the journal, and its filehandle, if there is one, is that of a node.
-fn can_be_asked(journal: &Journal, request: &Request) -> bool
-    ensures { MatchBool result (CanBeAsked journal.now.history request.now)
-        (CanBeAsked journal.now.history request.now → ⊥) }
-{
-    let is_node = match request.filehandle {
-        Some(node) => node < journal.tree().len(),
-        None => true,
-    };
-    is_node && request.op.has_entry()
 }
 
 /// Decides which answer to the request may come next, and its effect. Fails with Limit only if no answer may come next,
