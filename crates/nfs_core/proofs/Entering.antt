@@ -8,7 +8,7 @@ use Rattle.nfs_core.specs.Expiry.{IsNotEndedFor}
 use Rattle.nfs_core.specs.Server.{Server}
 use Rattle.nfs_core.specs.declared.core_error.CoreError.{CoreError}
 use Rattle.nfs_core.specs.declared.core_error.CoreError.TheVariants as core_errors
-use Rattle.nfs_core.specs.Following.{CanBeAsked, IsNext, MayBeAnswered, error_of}
+use Rattle.nfs_core.specs.Following.{CanBeAsked, IsNext, MayBeAnswered, MayFollow, error_of}
 use Rattle.nfs_core.specs.declared.following.FollowError.TheVariants as errors
 use Rattle.nfs_core.specs.Step.{HasNoAnswer, HasNoStep, IsAnswered, Step}
 use Rattle.nfs_rules.specs.Deciding.{Decides}
@@ -199,6 +199,18 @@ limit_not_next shortages.Memory is = absurd cc
 -- an entry that may come next, and leads to the state that its effect gives
 pub Step-next : (journal : History) (old new : State) (entry : Entry) (effect : Effect) → IsNext journal old entry effect → new ≡ after (length journal.entries) entry effect old → Step journal old entry new
 Step-next journal old new entry effect next state = record { below = next.below; effect = effect; allowed = next.allowed; state = state }
+
+-- where memory runs out for a decision, no limit would be passed
+pub memory_runs_out : (shortage : Shortage) → error_of shortage ≡ errors.Memory → shortage ≡ shortages.Memory
+memory_runs_out shortages.Memory is = refl
+memory_runs_out shortages.Limit is = absurd cc
+
+-- an entry that may come next may do so without a look at its answer
+pub next_follows : (server : Server) (entry : Entry) (effect : Effect) → IsNext server.journal (meaning server.stored) entry effect → MayFollow server entry
+next_follows server (entries.Call call) effect next =
+    let decision : Decision = record { answer = call.answer; effect = effect } in
+    (answered_asked server.journal (meaning server.stored) call effect next.allowed, (next.below, (decision, next.allowed.rule)))
+next_follows server (entries.Expire expire) effect next = ((next.allowed.live, next.allowed.due), next.below)
 
 -- a client's end may come next
 pub expiry_next : (journal : History) (old : State) (expire : Expire) (effect : Effect) → length journal.entries < JOURNAL_LIMIT → IsExpiry journal old expire effect → IsNext journal old (entries.Expire expire) effect

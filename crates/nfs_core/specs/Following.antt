@@ -1,5 +1,7 @@
 -- What may come next in a journal, as it is judged before it is entered.
 use Rattle.std.specs.Prelude.{◌<◌, ◌≤◌, IsTrue, length, Some}
+use Rattle.nfs_core.specs.Expiry.{MayEnd}
+use Rattle.nfs_core.specs.Server.{Server}
 use Rattle.nfs_core.specs.Step.{Allows}
 use Rattle.nfs_core.specs.declared.following.FollowError.{FollowError}
 use Rattle.nfs_core.specs.declared.following.FollowError.TheVariants as errors
@@ -7,6 +9,7 @@ use Rattle.nfs_rules.specs.declared.decision.Decision.{Decision}
 use Rattle.nfs_rules.specs.operations.{IsRuled}
 use Rattle.nfs_state.specs.declared.effect.Effect.{Effect}
 use Rattle.nfs_state.specs.declared.entry.Entry.{Entry}
+use Rattle.nfs_state.specs.declared.entry.Entry.TheVariants as entries
 use Rattle.nfs_state.specs.declared.entry.TheConstants.{JOURNAL_LIMIT}
 use Rattle.nfs_state.specs.declared.request.Request.{Request}
 use Rattle.nfs_state.specs.declared.shortage.Shortage.{Shortage}
@@ -42,6 +45,15 @@ abbrev pub MayBeAnswered : History → State → Request → Type 0
 MayBeAnswered journal old request =
     (length journal.entries < JOURNAL_LIMIT)
     × ((decision : Decision) × IsRuled request.op journal old request (Some decision))
+
+-- As far as an entry can be judged without the answer that it has, it may come next: a call can be asked, and may be
+-- answered; a client whose end it is may end, and the journal isn't full.
+abbrev pub MayFollow : Server → Entry → Type 0
+MayFollow server (entries.Call call) =
+    CanBeAsked server.journal call.request
+    × MayBeAnswered server.journal (meaning server.stored) call.request
+MayFollow server (entries.Expire expire) =
+    MayEnd server expire × (length server.journal.entries < JOURNAL_LIMIT)
 
 -- Where a limit would be passed, no entry may come next.
 abbrev pub error_of : Shortage → FollowError

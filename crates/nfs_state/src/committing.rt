@@ -1,4 +1,4 @@
-ghost use Rattle.std.specs.Prelude.{◌≡◌, ◌<◌, IfErr, IfOk, IsOk, OnErr, OnOk, length};
+ghost use Rattle.std.specs.Prelude.{◌≡◌, ◌<◌, ◌≤◌, IfErr, IfOk, IsOk, OnErr, OnOk, length};
 ghost use Rattle.nfs_state.specs.Changes.{after};
 ghost use Rattle.nfs_state.specs.Entries.{with_entry};
 ghost use Rattle.nfs_state.specs.Kept.{Agrees, kept_in, owners_after, update_by};
@@ -36,6 +36,7 @@ pub fn commit_entry(
     ensures ready { 0 < journal.old.room → TakesNoMemory entry effect tables.old → IsOk result }
     ensures same { OnErr result ((journal.new.history ≡ journal.old.history)
         × (stored_of tables.new ≡ stored_of tables.old)) }
+    ensures room { OnErr result (journal.old.room ≤ journal.new.room) }
 {
     journal.entries.reserve(1)?;
     let number = journal.entries.len() as u32;
