@@ -1,5 +1,5 @@
 -- What may come next in a journal, as it is judged before it is entered.
-use Rattle.std.specs.Prelude.{◌<◌, ◌≤◌, IsTrue, length, Some}
+use Rattle.std.specs.Prelude.{◌<◌, ◌≤◌, ◌*◌, IsTrue, length, Some}
 use Rattle.nfs_core.specs.Expiry.{MayEnd}
 use Rattle.nfs_core.specs.Server.{Server}
 use Rattle.nfs_core.specs.Step.{Allows}
@@ -21,12 +21,12 @@ use Rattle.nfs_state.specs.State.{State, History}
 use Rattle.nfs_state.specs.Stored.{Stored, meaning}
 use Rattle.nfs_tree.specs.Tree.{node_count}
 
--- What is stored agrees with this journal as far as a decision and its effect need it: no more confirm values and no more
--- numbers of states were given out than the journal has entries, each state has a number that was given, and what is
--- stored for each owner is what its entry has.
+-- What is stored agrees with this journal as far as a decision and its effect need it: no more confirm values were given
+-- out than the journal has entries, and of numbers of states no more than two an entry; each state has a number that was
+-- given; and what is stored for each owner is what its entry has.
 pub record IsStoredBy (journal : History) (stored : Stored) : Type 0 where
   pub confirms : stored.clients.last_confirm ≤ length journal.entries
-  pub states : stored.last_state ≤ length journal.entries
+  pub states : stored.last_state ≤ 2 * length journal.entries
   pub given : HasGivenNumbers (meaning stored)
   pub owners : Agrees journal stored.owners
 
