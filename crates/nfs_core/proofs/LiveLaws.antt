@@ -41,15 +41,15 @@ epoch_by_change epoch op (changes.Clients change) old ready is h = epoch_changed
 epoch_by_change epoch op (changes.Expires client) old ready is h = absurd is
 epoch_by_change epoch op change old ready is h = h
 
-live_by_effect : (epoch : ℕ) (op : Op) (number : ℕ) (effect : Effect) (old : State) → HasSingles old.clients → IsEffectReady number old effect → IsFor epoch old.clients op effect.change → LiveFollow op old.clients (after number effect old).clients
-live_by_effect epoch op number effect old singles ready is =
+live_by_effect : (epoch : ℕ) (op : Op) (number : ℕ) (entry : Entry) (effect : Effect) (old : State) → HasSingles old.clients → IsEffectReady number old effect → IsFor epoch old.clients op effect.change → LiveFollow op old.clients (after number entry effect old).clients
+live_by_effect epoch op number entry effect old singles ready is =
     let same = owned_clients effect.owner number old in
-    subst (λ (r : Registry). LiveFollow op r (after number effect old).clients) same
+    subst (λ (r : Registry). LiveFollow op r (after number entry effect old).clients) same
     (live_by_change epoch op effect.change (with_owner_change effect.owner number old) (singles_owned effect.owner number old singles) ready.1
     (subst (λ (r : Registry). IsFor epoch r op effect.change) (sym same) is))
 
-epoch_by_effect : (epoch : ℕ) (op : Op) (number : ℕ) (effect : Effect) (old : State) → IsEffectReady number old effect → IsFor epoch old.clients op effect.change → HaveEpoch epoch old.clients → HaveEpoch epoch (after number effect old).clients
-epoch_by_effect epoch op number effect old ready is h =
+epoch_by_effect : (epoch : ℕ) (op : Op) (number : ℕ) (entry : Entry) (effect : Effect) (old : State) → IsEffectReady number old effect → IsFor epoch old.clients op effect.change → HaveEpoch epoch old.clients → HaveEpoch epoch (after number entry effect old).clients
+epoch_by_effect epoch op number entry effect old ready is h =
     let same = sym (owned_clients effect.owner number old) in
     epoch_by_change epoch op effect.change (with_owner_change effect.owner number old) ready.1
     (subst (λ (r : Registry). IsFor epoch r op effect.change) same is) (subst (HaveEpoch epoch) same h)
@@ -64,12 +64,12 @@ call_for journal old call effect holds allowed =
 epoch_allowed : (journal : History) (old : State) (entry : Entry) (new : State) → Step journal old entry new → Holds old → HaveEpoch journal.epoch old.clients → HaveEpoch journal.epoch new.clients
 epoch_allowed journal old (entries.Call call) new step holds h =
     subst (λ (s : State). HaveEpoch journal.epoch s.clients) (sym step.state)
-    (epoch_by_effect journal.epoch call.request.op (length journal.entries) step.effect old
+    (epoch_by_effect journal.epoch call.request.op (length journal.entries) (entries.Call call) step.effect old
     (allowed_ready journal old (entries.Call call) step.effect holds.sound holds.singles step.allowed) (call_for journal old call step.effect holds step.allowed) h)
 epoch_allowed journal old (entries.Expire expire) new step holds h =
     let gone : ClientRecord → Bool = is_of_client expire.client in
     subst (λ (s : State). HaveEpoch journal.epoch s.clients) (sym step.state)
-    (subst (λ (e : Effect). HaveEpoch journal.epoch (after (length journal.entries) e old).clients) (sym step.allowed.removal)
+    (subst (λ (e : Effect). HaveEpoch journal.epoch (after (length journal.entries) (entries.Expire expire) e old).clients) (sym step.allowed.removal)
     (all_filter (HasEpoch journal.epoch) (HasEpoch journal.epoch) (λ r. not (gone r)) (λ r k _. k) old.clients.records h))
 
 epoch_leads : Laws → (journal : History) (old new : State) (entries : List Entry) → Leads journal old entries new → Holds old → HaveEpoch journal.epoch old.clients → HaveEpoch journal.epoch new.clients
@@ -102,7 +102,7 @@ Calls-follow laws journal old new request answer lawful step =
     let holds = lawful_holds laws journal old lawful in
     let call : Call = record { request = request; answer = answer } in
     subst (λ (s : State). LiveFollow request.op old.clients s.clients) (sym step.state)
-    (live_by_effect journal.epoch request.op (length journal.entries) step.effect old holds.singles
+    (live_by_effect journal.epoch request.op (length journal.entries) (entries.Call call) step.effect old holds.singles
     (allowed_ready journal old (entries.Call call) step.effect holds.sound holds.singles step.allowed) (call_for journal old call step.effect holds step.allowed))
 
 pub Ends-follow : Laws → EndsFollow
@@ -110,5 +110,5 @@ Ends-follow laws journal old new expire lawful step =
     let live : is_live expire.client old.clients ≡ true =
     sym (Lawful-run laws journal old lawful expire.client) ∙ step.allowed.live in
     subst (λ (s : State). LiveEnd expire.client old.clients s.clients) (sym step.state)
-    (subst (λ (e : Effect). LiveEnd expire.client old.clients (after (length journal.entries) e old).clients) (sym step.allowed.removal)
+    (subst (λ (e : Effect). LiveEnd expire.client old.clients (after (length journal.entries) (entries.Expire expire) e old).clients) (sym step.allowed.removal)
     (live_ended expire.client old.clients live))
