@@ -6,6 +6,7 @@ use Rattle.nfs_state.specs.declared.change.Change.{Change}
 use Rattle.nfs_state.specs.declared.change.Change.TheVariants as changes
 use Rattle.nfs_rules.specs.declared.decision.Decision.{Decision}
 use Rattle.nfs_state.specs.declared.effect.Effect.{Effect}
+use Rattle.nfs_state.specs.declared.entry.Entry.{Entry}
 use Rattle.nfs_state.specs.declared.owner_change.OwnerChange.{OwnerChange}
 use Rattle.nfs_state.specs.declared.owner_change.OwnerChange.TheVariants as owner_changes
 use Rattle.nfs_state.specs.Owners.{KnownOwner, has_name, is_confirmed, with_confirmation, with_kept_entry, with_record, without_owner}
@@ -285,7 +286,7 @@ sound_changed law lock_law (changes.Expires client) old ready sound = record {
 }
 
 -- an entry keeps the state sound
-pub sound_after : OpensStay → LocksStay → (number : ℕ) (effect : Effect) (old : State) → IsEffectReady number old effect → IsSound old → IsSound (after number effect old)
-sound_after law lock_law number effect old ready sound =
+pub sound_after : OpensStay → LocksStay → (number : ℕ) (entry : Entry) (effect : Effect) (old : State) → IsEffectReady number old effect → IsSound old → IsSound (after number entry effect old)
+sound_after law lock_law number entry effect old ready sound =
     sound_changed law lock_law effect.change (with_owner_change effect.owner number old) ready.1
     (sound_owner law effect.owner number old ready.0 sound)

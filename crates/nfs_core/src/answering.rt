@@ -1,6 +1,6 @@
 //! Answering a request, and entering it in the journal.
 
-ghost use Rattle.std.specs.Prelude.{◌≡◌, IfErr, IfOk, IsErrOf, OnErr};
+ghost use Rattle.std.specs.Prelude.{◌≡◌, ◌≤◌, IfErr, IfOk, IsErrOf, OnErr};
 ghost use Rattle.nfs_core.specs.Following.{CanBeAsked, IsNext, IsStoredBy, MayBeAnswered};
 ghost use Rattle.nfs_core.specs.Entered.{IsEntered};
 ghost use Rattle.nfs_core.specs.Server.{server_of};
@@ -36,6 +36,7 @@ pub(crate) fn enter(
         → MayBeAnswered journal.old.history (state_of tables.old) request }
     ensures same { OnErr result ((journal.new.history ≡ journal.old.history)
         × (stored_of tables.new ≡ stored_of tables.old)) }
+    ensures room { OnErr result (journal.old.room ≤ journal.new.room) }
 {
     at_most_one_decision();
     let decision = decide_next(alloc, tables, journal, &request)?;
@@ -61,6 +62,7 @@ fn enter_decided(
     ensures memory { IfErr result (λ e. e ≡ Shortage.Memory) }
     ensures same { OnErr result ((journal.new.history ≡ journal.old.history)
         × (stored_of tables.new ≡ stored_of tables.old)) }
+    ensures room { OnErr result (journal.old.room ≤ journal.new.room) }
 {
     let answer = copy_of_answer(&decision.answer)?;
     let live = decision.effect.live();

@@ -1,6 +1,7 @@
-ghost use Rattle.std.specs.Prelude.{◌≡◌, ◌≤◌, ◌<◌, [], IfErr, IfOk, OnErr, OnOk, IsErrOf, IsTrue, length};
+ghost use Rattle.std.specs.Prelude.{◌≡◌, ◌≤◌, ◌<◌, [], IfErr, IfNone, IfOk, OnErr, OnOk, IsErrOf, IsTrue, length};
 ghost use Rattle.nfs_core.specs.Entered.{Answers};
 ghost use Rattle.nfs_core.specs.Expiry.{IsNotEndedFor, IsWithoutRoom, expire_of};
+ghost use Rattle.nfs_core.specs.Following.{MayFollow};
 ghost use Rattle.nfs_core.specs.LiveClients.{AreNumbered, AreOfOneRun};
 ghost use Rattle.nfs_core.specs.Safe.{IsSafe, KeepRequests};
 ghost use Rattle.nfs_core.specs.Server.{Applies, AreAlike, Enters, IsLawful};
@@ -74,6 +75,7 @@ impl Core {
         }) }
         ensures stored { IfOk result (λ core. core.stored ≡ empty_store tree.now.nodes) }
         ensures lawful { IfOk result (λ core. IsLawful core) }
+        ensures error { IfErr result (λ e. e ≡ CoreError.Memory) }
     {
         Ok(Core {
             alloc,
@@ -83,8 +85,8 @@ impl Core {
     }
 
     /// Answers an operation that has an entry in the journal (`Op::has_entry`), and returns the entry's number. Without
-    /// a number the answer is NFS4ERR_RESOURCE and nothing has changed but room: the journal is full, memory ran out, or
-    /// a limit would be exceeded. `filehandle` has to be a node of the tree.
+    /// a number the answer is NFS4ERR_RESOURCE and nothing has changed but room, of which there isn't less: the journal
+    /// is full, memory ran out, or a limit would be exceeded. `filehandle` has to be a node of the tree.
     pub fn apply(
         &mut self,
         moment: Moment,
@@ -96,6 +98,7 @@ impl Core {
         requires node { IsFilehandle self.old.journal filehandle }
         ensures applies { Applies self.old self.new (request_of moment principal op.now filehandle)
             result.0 result.1 }
+        ensures room { IfNone result.1 (self.old.room ≤ self.new.room) }
         ensures short { length (op_result.encoding result.0) ≤ answer_limit (opnum_of op.now) }
         ensures form { op_result.Fits result.0 }
         ensures lawful { IsLawful self.new }
@@ -119,6 +122,7 @@ impl Core {
         requires node { IsFilehandle self.old.journal filehandle }
         ensures answers { Answers self.old self.new (request_of moment principal op.now filehandle)
             result.0 result.1 }
+        ensures room { IfNone result.1 (self.old.room ≤ self.new.room) }
         ensures short { length (op_result.encoding result.0) ≤ answer_limit (opnum_of op.now) }
         ensures form { op_result.Fits result.0 }
         ensures lawful { IsLawful self.new }
@@ -143,6 +147,7 @@ impl Core {
         ensures same { AreAlike self.old self.new }
         ensures room { OnOk result ((0 < self.new.room)
             × (length self.new.journal.entries < JOURNAL_LIMIT)) }
+        ensures grows { self.old.room ≤ self.new.room }
         ensures error { IfErr result (IsWithoutRoom self.old) }
         ensures lawful { IsLawful self.new }
     {
@@ -153,13 +158,14 @@ impl Core {
     }
 
     /// Removes the client with this number, whose lease was renewed last at `seen` and has run out at `now`, with all that
-    /// it has. Returns the entry's number. Fails, and changes nothing but room, if the client isn't live, its lease hasn't
-    /// run out, the journal is full, or memory ran out.
+    /// it has. Returns the entry's number. Fails, and changes nothing but room, of which there isn't less, if the client
+    /// isn't live, its lease hasn't run out, the journal is full, or memory ran out.
     pub fn expire(&mut self, client: u32, seen: Moment, now: Moment) -> Result<u32, CoreError>
         ensures expires { IfOk result (Enters self.old self.new
             (entries.Expire (expire_of client seen now))) }
         ensures error { IfErr result (IsNotEndedFor self.old (expire_of client seen now)) }
         ensures same { OnErr result (AreAlike self.old self.new) }
+        ensures room { OnErr result (self.old.room ≤ self.new.room) }
         ensures lawful { IsLawful self.new }
     {
         lawful_is_safe();
@@ -170,12 +176,15 @@ impl Core {
 
     /// Enters an entry that is handed in, such as one of another server's journal, if it may come next: it is judged as
     /// `apply` and `expire` would make it. Returns the entry's number. Fails with NotNext only if the entry may not come
-    /// next, and otherwise with Memory. What fails changes nothing but room.
+    /// next, and with Memory only if it may as far as it is judged without a call's answer. What fails changes nothing
+    /// but room, of which there isn't less.
     pub fn follow(&mut self, entry: Entry) -> Result<u32, FollowError>
         ensures entered { IfOk result (Enters self.old self.new entry) }
         ensures not_next { IsErrOf result FollowError.NotNext
             → HasNoStep self.old.journal (meaning self.old.stored) entry }
+        ensures memory { IsErrOf result FollowError.Memory → MayFollow self.old entry }
         ensures same { OnErr result (AreAlike self.old self.new) }
+        ensures room { OnErr result (self.old.room ≤ self.new.room) }
         ensures lawful { IsLawful self.new }
     {
         lawful_is_safe();

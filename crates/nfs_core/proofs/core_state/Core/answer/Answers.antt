@@ -1,12 +1,13 @@
 use Rattle.std.proofs.Common.{rules}
 use Rattle.nfs_state.specs.Room.{state_of, stored_of}
+use Rattle.nfs_core.proofs.Entering.{can_ask}
 use Rattle.nfs_core.proofs.Journals.{Lawful-confirm, Lawful-entered, Lawful-same, Lawful-state}
 use Rattle.nfs_core.proofs.SoundNumbers.{given_numbers}
 use Rattle.nfs_core.proofs.core_state.Core.answer.Goals as goal
 use Rattle.nfs_core.proofs.core_state.Core.answer.Goals.{in-Ok-enter, in-Err}
 
 pub enter-requires-clause-asked : goal.enter-requires-clause-asked
-enter-requires-clause-asked c = record { entry = search rules; node = search rules }
+enter-requires-clause-asked c = can_ask c.self.inside.journal.history _ (search rules) (search rules)
 
 pub enter-requires-clause-stored : goal.enter-requires-clause-stored
 enter-requires-clause-stored c =
