@@ -50,7 +50,6 @@ sound_empty journal =
       live = tt;
       known = all_replicate (AllByRecursion (IsKnownIn [])) [] tt count;
       compatible = all_replicate AllAreCompatible [] tt count;
-      single = tt;
       locks = no_locks count (empty_server journal.nodes).opens;
     }
 
@@ -59,7 +58,7 @@ pub allowed_ready : (journal : History) (old : State) (entry : Entry) (effect : 
 allowed_ready journal old (entries.Expire expire) effect sound singles allowed =
     subst (IsEffectReady (length journal.entries) old) (sym allowed.removal) (tt, (allowed.live, alone (client_of journal expire.client) old.clients allowed.live singles.same))
 allowed_ready journal old (entries.Call call) effect sound singles allowed =
-    ruled_ready (length journal.entries) journal old call.request.op call.request (record { answer = call.answer; effect = effect }) refl sound allowed.rule
+    ruled_ready (length journal.entries) journal old call.request.op call.request (record { answer = call.answer; effect = effect }) refl sound singles allowed.rule
 
 -- What holds of the state after each entry.
 pub record Holds (state : State) : Type 0 where
