@@ -2,6 +2,7 @@ pub mod Step
 pub mod Lawful
 pub mod Safe
 pub mod Server
+pub mod Entered
 pub mod CoreError
 pub mod Following
 pub mod Expiry

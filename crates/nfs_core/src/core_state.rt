@@ -1,4 +1,5 @@
 ghost use Rattle.std.specs.Prelude.{◌≡◌, ◌≤◌, ◌<◌, [], IfErr, IfNone, IfOk, OnErr, OnOk, IsErrOf, IsTrue, length};
+ghost use Rattle.nfs_core.specs.Entered.{Answers};
 ghost use Rattle.nfs_core.specs.Expiry.{IsNotEndedFor, IsWithoutRoom, expire_of};
 ghost use Rattle.nfs_core.specs.Following.{MayFollow};
 ghost use Rattle.nfs_core.specs.LiveClients.{AreNumbered, AreOfOneRun};
@@ -19,7 +20,7 @@ use crate::answering::enter;
 use crate::expiry::enter_expiry;
 use crate::following::follow;
 use crate::laws::lawful_is_safe;
-use crate::{CoreError, FollowError};
+use crate::{CoreError, Entered, FollowError};
 use nfs_state::{
     Entry, Expire, JOURNAL_LIMIT, Journal, LEASE_MAX, LEASE_MIN, Moment, Request, Tables,
 };
@@ -102,6 +103,30 @@ impl Core {
         ensures form { op_result.Fits result.0 }
         ensures lawful { IsLawful self.new }
     {
+        match self.answer(moment, principal, op, filehandle) {
+            (answer, Some(entered)) => (answer, Some(entered.number)),
+            (answer, None) => (answer, None),
+        }
+    }
+
+    /// The same as `apply`, and returns what came of the operation: with the entry's number who came to be live by it, or
+    /// is live no longer.
+    pub fn answer(
+        &mut self,
+        moment: Moment,
+        principal: Principal,
+        op: &Op,
+        filehandle: Option<u32>,
+    ) -> (OpResult, Option<Entered>)
+        requires entry { IsTrue (has_entry op.now) }
+        requires node { IsFilehandle self.old.journal filehandle }
+        ensures answers { Answers self.old self.new (request_of moment principal op.now filehandle)
+            result.0 result.1 }
+        ensures room { IfNone result.1 (self.old.room ≤ self.new.room) }
+        ensures short { length (op_result.encoding result.0) ≤ answer_limit (opnum_of op.now) }
+        ensures form { op_result.Fits result.0 }
+        ensures lawful { IsLawful self.new }
+    {
         lawful_is_safe();
         let tables = &mut self.tables;
         let journal = &mut self.journal;
@@ -109,9 +134,9 @@ impl Core {
             return (op.opnum().refusal(Refusal::Resource), None);
         };
         match enter(self.alloc, tables, journal, request) {
-            Ok((answer, number)) => {
+            Ok((answer, entered)) => {
                 answer.fits();
-                (answer, Some(number))
+                (answer, Some(entered))
             }
             Err(_) => (op.opnum().refusal(Refusal::Resource), None),
         }

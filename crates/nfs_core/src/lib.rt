@@ -4,12 +4,14 @@
 mod answering;
 mod core_error;
 mod core_state;
+mod entered;
 mod expiry;
 mod following;
 mod laws;
 
 pub use core_error::CoreError;
 pub use core_state::Core;
+pub use entered::Entered;
 pub use following::FollowError;
 pub use laws::{at_most_one_state, at_most_one_step, lawful_is_safe, live_clients_follow};
 pub use nfs_state::{
