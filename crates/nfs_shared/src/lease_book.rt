@@ -1,5 +1,5 @@
 ghost use Rattle.std.specs.Prelude.{◌≡◌, ◌≤◌, ℕ, Bool, IsTrue, true, false};
-ghost use Rattle.nfs_owners.specs.declared.client_record.TheConstants.{CLIENT_LIMIT};
+ghost use Rattle.nfs_owners.specs.Registry.{IsClientNumber};
 ghost use Rattle.nfs_shared.specs.BookEvent.{BookEvent, Look, Renew, Close, Open, Retire};
 ghost use Rattle.nfs_shared.specs.BookEvent.{is_done, is_known, is_renewed, shows_open, shows_opened};
 ghost use Rattle.nfs_shared.specs.BookEvent.{is_open_after, was_opened_after};
@@ -36,20 +36,20 @@ pub trait LeaseBook {
 
     /// Closes a client's lease that was seen to be open and renewed last at `seen`, where it is still so.
     fn close(&mut self, client: u32, seen: Moment, now: Moment) -> Closing
-        requires number { (1 ≤ client) × (client ≤ CLIENT_LIMIT) }
+        requires number { IsClientNumber client }
         requires due { IsTrue (is_over seen (lease self.old) now) }
         ensures happens { happens self.old (Close client seen now result) self.new }
         ensures was_open { is_done result ≡ true → is_open self.old client ≡ true };
 
     /// Opens the lease of a client that never had one.
     fn open(&mut self, client: u32, moment: Moment)
-        requires number { (1 ≤ client) × (client ≤ CLIENT_LIMIT) }
+        requires number { IsClientNumber client }
         requires fresh { was_opened self.old client ≡ false }
         ensures happens { happens self.old (Open client moment) self.new };
 
     /// Closes a client's lease, however late it was renewed.
     fn retire(&mut self, client: u32)
-        requires number { (1 ≤ client) × (client ≤ CLIENT_LIMIT) }
+        requires number { IsClientNumber client }
         requires opened { was_opened self.old client ≡ true }
         ensures happens { happens self.old (Retire client) self.new };
 

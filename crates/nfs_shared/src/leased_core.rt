@@ -56,6 +56,7 @@ impl<B: LeaseBook> LeasedCore<B> {
     {
         lawful_is_safe();
         live_clients_follow();
+        cores_are_lawful(&self.core);
         let (answer, entered) = self.core.answer(moment, principal, op, filehandle);
         if let Some(made) = entered {
             follow(&mut self.book, made.live, moment);
@@ -93,4 +94,11 @@ impl LeasedCore<PlainLeases> {
     {
         renew_lease(&mut self.book, client, moment)
     }
+}
+
+// The law that the journal of a core leads to what it stores.
+fn cores_are_lawful(core: &Core)
+    ensures { IsLawful core.now }
+{
+    let _ = core.journal();
 }

@@ -2,9 +2,11 @@
 ghost use Rattle.std.specs.Prelude.{◌≡◌, ◌+◌, ◌<◌, ◌≤◌, ◌↔◌, [], ℕ, false, IfOk, IfErr, IfSome, IfNone, IsFalse, IsNone, IsTrue, length, map};
 ghost use Rattle.nfs_core.specs.Safe.{IsSafe};
 ghost use Rattle.nfs_core.specs.Server.{IsLawful};
+ghost use Rattle.nfs_forms.specs.ClientId.{number_in};
 ghost use Rattle.nfs_owners.specs.Registry.{is_live};
 ghost use Rattle.nfs_shared.specs.Ends.{AreFresh, AreKept, AllStand, AllApart, AllBegin, receipts_in, given_in};
 ghost use Rattle.nfs_shared.specs.Naming.{start_of};
+ghost use Rattle.nfs_shared.specs.PlainBook.{PlainBook, has_open_lease};
 ghost use Rattle.nfs_shared.specs.Receipts.{calls_in};
 ghost use Rattle.nfs_shared.specs.Roll.{IsOf, IsWriter, list_of, writer_of};
 ghost use Rattle.nfs_shared.specs.Seats.{Gives, fresh};
@@ -109,7 +111,10 @@ impl<N: Naming> Shared<N> {
     }
 
     /// Renews the lease of this client in a hold of the lock, if it is open, and returns whether it is.
-    pub fn renew<R: Wait>(&self, rt: &R, moment: Moment, client: ClientId) -> bool {
+    pub fn renew<R: Wait>(&self, rt: &R, moment: Moment, client: ClientId) -> bool
+        ensures open { (leases : PlainBook)
+            × (result ≡ has_open_lease leases (number_in N.start.epoch client)) }
+    {
         let mut held = self.held.lock(rt);
         renew_client(&mut *held, client, moment)
     }

@@ -3,8 +3,7 @@
 ghost use Rattle.std.specs.Prelude.{◌≡◌, ◌<◌, ◌≤◌, ◌∷◌, [], ℕ, List, IsTrue, false, length};
 ghost use Rattle.nfs_core.specs.LiveClients.{AreOfOneRun};
 ghost use Rattle.nfs_core.specs.Server.{IsLawful};
-ghost use Rattle.nfs_owners.specs.Registry.{is_live};
-ghost use Rattle.nfs_owners.specs.declared.client_record.TheConstants.{CLIENT_LIMIT};
+ghost use Rattle.nfs_owners.specs.Registry.{IsClientNumber, is_live};
 ghost use Rattle.nfs_shared.specs.BookEvent.{Close, Leads};
 ghost use Rattle.nfs_shared.specs.BookOf.{IsBookOf};
 ghost use Rattle.nfs_shared.specs.Sweeps.{Sweeps};
@@ -45,7 +44,7 @@ pub fn sweep_core<B: LeaseBook>(core: &mut Core, book: &mut B, now: Moment) -> S
 // Treats one live client.
 fn turn_of<B: LeaseBook>(core: &mut Core, book: &mut B, client: u32, now: Moment) -> Case
     requires live { IsTrue (is_live client core.old.stored.clients) }
-    requires number { (1 ≤ client) × (client ≤ CLIENT_LIMIT) }
+    requires number { IsClientNumber client }
     requires run { AreOfOneRun core.old.journal (meaning core.old.stored) }
     requires agrees { IsBookOf (B.is_open book.old) (B.was_opened book.old) (B.lease book.old)
         core.old }
@@ -79,7 +78,7 @@ fn close_and_expire<B: LeaseBook>(
     now: Moment,
 ) -> Closing
     requires live { IsTrue (is_live client core.old.stored.clients) }
-    requires number { (1 ≤ client) × (client ≤ CLIENT_LIMIT) }
+    requires number { IsClientNumber client }
     requires run { AreOfOneRun core.old.journal (meaning core.old.stored) }
     requires lease { B.lease book.old ≡ core.old.journal.lease }
     requires due { IsTrue (is_over seen core.old.journal.lease now) }
