@@ -30,6 +30,7 @@ use Rattle.nfs_owners.specs.declared.clients.client_change.ClientChange.{ClientC
 use Rattle.nfs_ranges.specs.declared.range.Range.{Range}
 use Rattle.nfs_state.specs.Kept.{CanBeKept, kept_with}
 use Rattle.nfs_state.specs.declared.owner_change.OwnerChange.TheVariants as owner_changes
+use Rattle.nfs_xdr.specs.Names as names
 use Rattle.nfs_xdr.specs.Names.{Names, Nothing, Client, Opener, Owned, names_of, seqid_in}
 use Rattle.nfs_state.specs.Changes.{after}
 use Rattle.nfs_state.specs.Entries.{IsSendable, entry_of}
@@ -105,9 +106,10 @@ plain_owner (ops.ReleaseLockowner args) journal old request decision is =
 plain_owner op journal old request decision is = absurd cc
 
 -- so owners may keep what is decided
-can_be_kept : (names : Names) (call : Call) (journal : History) (old : State) (decision : Decision) → IsRuledBy names call.request.op journal old call.request (Some decision) → IsSendable call.request.op call.answer → CanBeKept (option_map (kept_with call) (seqid_in names)) decision.effect.owner
+can_be_kept : (named : Names) (call : Call) (journal : History) (old : State) (decision : Decision) → IsRuledBy named call.request.op journal old call.request (Some decision) → IsSendable call.request.op call.answer → CanBeKept (option_map (kept_with call) (seqid_in named)) decision.effect.owner
 can_be_kept Nothing call journal old decision ruled sendable = plain_owner call.request.op journal old call.request decision ruled
 can_be_kept (Client client) call journal old decision ruled sendable = plain_owner call.request.op journal old call.request decision ruled
+can_be_kept (names.State id) call journal old decision ruled sendable = plain_owner call.request.op journal old call.request decision ruled
 can_be_kept (Opener owner seqid) call journal old decision ruled sendable = λ kind. sendable
 can_be_kept (Owned id seqid) call journal old decision ruled sendable = λ kind. sendable
 

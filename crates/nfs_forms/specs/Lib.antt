@@ -6,6 +6,7 @@ pub mod LockOwner
 pub mod LockType
 pub mod LockDenied
 pub mod Locker
+pub mod MomentForm
 pub mod Verifier
 pub mod Callback
 pub mod Bitmap

@@ -1,5 +1,7 @@
-ghost use Rattle.std.specs.Prelude.{◌≡◌, ◌≤◌, length, IfOk, IsOk};
+ghost use Rattle.std.specs.Prelude.{◌≡◌, ◌≤◌, length, IfOk, IsErrOf, IsOk};
 ghost use Rattle.nfs_forms.specs.FileHandle as forms;
+ghost use Rattle.nfs_forms.specs.FileHandle.{IsLong};
+ghost use Rattle.xdr.specs.Reading.{Gives};
 
 use smallvec::SmallVec;
 use std::alloc::{AllocError, Global};
@@ -72,7 +74,11 @@ impl Clone for FileHandle {
 impl Wire for FileHandle {
     ghost form = { forms.file_handle };
 
-    fn read(alloc: Global, bytes: &[u8]) -> Result<(FileHandle, &[u8]), WireError> {
+    // A handle of up to 16 bytes takes no memory.
+    fn read(alloc: Global, bytes: &[u8]) -> Result<(FileHandle, &[u8]), WireError>
+        ensures reads { Gives (λ x. (x.0, x.1.now)) result (forms.file_handle.at bytes.now) }
+        ensures few { IsErrOf result WireError.Memory → IsLong (forms.file_handle.at bytes.now) }
+    {
         let (handle, rest) = read_opaque(bytes, FILE_HANDLE_LIMIT as u32)?;
         Ok((FileHandle::copy_of(alloc, handle)?, rest))
     }

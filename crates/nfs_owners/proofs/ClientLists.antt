@@ -1,8 +1,7 @@
 -- The clients' records: no two of one kind have one id, and each client number is that of one id.
-use Rattle.std.proofs.Common.{◌≡◌, ℕ, ◌≤◌, ◌+◌, Bool, true, false, Some, None, List, [], ◌∷◌, ◌++◌, refl, sym, ap, ◌∙◌, subst, arith, inl, inr}
-use Rattle.std.specs.Prelude.{⊤, ◌&&◌, ◌||◌, ◌==◌, nat_le, not, filter, find, IfOk, Option, Result, Ok, Err, option_map, if◌then◌else◌}
+use Rattle.std.proofs.Common.{◌≡◌, ◌⊎◌, ℕ, ◌+◌, Bool, true, false, Some, None, List, [], ◌∷◌, ◌++◌, refl, sym, ap, ◌∙◌, subst, arith, inl, inr}
+use Rattle.std.specs.Prelude.{◌&&◌, ◌==◌, nat_le, not, filter, find, IfOk, Option, Result, Ok, Err, option_map, if◌then◌else◌}
 use Rattle.std.specs.List.{AllByRecursion, IsDistinct, list_any}
-use Rattle.std.specs.Str.{bytes_eq}
 use Rattle.std.proofs.lemmas.Bool.{and_from, and_parts, cases_Bool, cond-false, cond-true, cond_both, eqb-true, false_from_ne_true, le-leb, leb-true, not-true}
 use Rattle.std.proofs.lemmas.Slice.Eq.{bytes_eq-Decides}
 use Rattle.nfs_forms.specs.ClientId.{is_same_client}
@@ -11,7 +10,7 @@ use Rattle.nfs_forms.specs.declared.client_id.ClientId.{ClientId}
 use Rattle.nfs_owners.specs.ClientChange.{with_change, with_confirmed, with_unconfirmed}
 use Rattle.nfs_owners.specs.ClientRoom.{FitsRecords}
 use Rattle.nfs_owners.specs.Confirmation.{Confirmation, InPlaceOf, InUse, Outcome, Update, confirmation_beside, confirmation_by}
-use Rattle.nfs_owners.specs.Registry.{AreRecords, HasOwnNumber, IsClientOf, IsNumberOf, Registry, confirmed_of, have_same_id, is_of, no_clients, record_state, takes_number, was_given, without_id}
+use Rattle.nfs_owners.specs.Registry.{AreRecords, HasOwnNumber, IsClientOf, IsNumberOf, Registry, confirmed_of, have_same_id, is_of, no_clients, record_state, takes_number, without_id}
 use Rattle.nfs_owners.specs.declared.client_record.ClientRecord.{ClientRecord}
 use Rattle.nfs_owners.specs.declared.client_record.ClientState.{ClientState}
 use Rattle.nfs_owners.specs.declared.client_record.PathMark.{PathMark}
@@ -197,6 +196,19 @@ records_changed (changes.Refreshes r) old are fits =
     records_confirmed r old are (own_of r old old.confirmed are.confirmed_numbers fits)
 records_changed (changes.Replaces r client) old are fits =
     records_confirmed r old are (own_of r old old.unconfirmed are.unconfirmed_numbers fits.1)
+
+-- the changes that add a confirmed record
+pub records_confirmed_by : (change : ClientChange) (r : ClientRecord) (old : Registry) → AreRecords old → FitsRecords change old
+    → (change ≡ changes.Confirms r) ⊎ (change ≡ changes.Refreshes r) ⊎ ((client : ClientId) × (change ≡ changes.Replaces r client)) → AreRecords (with_confirmed r old)
+records_confirmed_by change r old are fits by =
+    let fits_as : (c : ClientChange) → change ≡ c → FitsRecords c old = λ c is. subst (λ t. FitsRecords t old) is fits in
+    elim by [
+      | inl first ↦ records_changed (changes.Confirms r) old are (fits_as (changes.Confirms r) first)
+      | inr again ↦ elim again [
+        | inl anew ↦ records_changed (changes.Refreshes r) old are (fits_as (changes.Refreshes r) anew)
+        | inr other ↦ records_changed (changes.Replaces r other.0) old are (fits_as (changes.Replaces r other.0) other.1)
+      ]
+    ]
 
 pub records_empty : AreRecords no_clients
 records_empty = record {

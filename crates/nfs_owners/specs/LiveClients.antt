@@ -1,5 +1,5 @@
 -- Which clients are live, which come next, and which one a confirmation ends (RFC 7530, sections 9.1.1 and 16.34.5).
-use Rattle.std.specs.Prelude.{◌≡◌, ℕ, ◌<◌, ◌≤◌, nat_lt, Bool, ◌&&◌, ◌||◌, ◌==◌, not, IsTrue, List, find, Option, Some, None, option_and_then, if◌then◌else◌}
+use Rattle.std.specs.Prelude.{ℕ, ◌<◌, ◌≤◌, nat_lt, Bool, ◌&&◌, ◌||◌, ◌==◌, not, IsTrue, List, find, Option, Some, None, option_and_then, if◌then◌else◌}
 use Rattle.std.specs.List.{list_any}
 use Rattle.nfs_owners.specs.Registry.{Registry, confirmed_of, is_live, is_of_client, was_given}
 use Rattle.nfs_owners.specs.declared.client_record.ClientRecord.{ClientRecord}

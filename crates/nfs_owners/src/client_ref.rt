@@ -1,4 +1,5 @@
 ghost use Rattle.std.specs.Prelude.{◌≤◌, length};
+ghost use Rattle.nfs_operations.specs.declared.setclientid.TheConstants.{ID_LIMIT};
 
 use crate::ClientState;
 use nfs_operations::setclientid::ID_LIMIT;

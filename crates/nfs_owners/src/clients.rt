@@ -1,8 +1,8 @@
-ghost use Rattle.std.specs.Prelude.{◌≡◌, ◌<◌, ◌≤◌, ◌-◌, [], ◌∷◌, ◌++◌, IsOk, OnOk, option_map};
+ghost use Rattle.std.specs.Prelude.{◌≡◌, ◌<◌, ◌≤◌, ◌-◌, [], ◌∷◌, ◌++◌, IsOk, OnOk, find, option_map};
 ghost use Rattle.std.specs.Option.{option_copied};
 ghost use Rattle.std.specs.Vec.{vec_len, vec_capacity};
 ghost use Rattle.nfs_owners.specs.LiveClients.{IsNextAmong, nearer_of};
-ghost use Rattle.nfs_owners.specs.Registry.{client_seen, record_state, without_id, without_number};
+ghost use Rattle.nfs_owners.specs.Registry.{client_seen, is_named_by, is_of_client, record_state, without_id, without_number};
 
 mod client_change;
 mod confirmation;
@@ -56,7 +56,6 @@ impl Model for Clients {
 }
 
 impl Clients {
-    ghost use Rattle.std.specs.Option.{option_copied};
     ghost use Rattle.nfs_owners.specs.ClientChange.{with_change};
     ghost use Rattle.nfs_owners.specs.ClientRoom.{FitsRecords, HasNumbersFor, HasRoomFor};
     ghost use Rattle.nfs_owners.specs.LiveClients.{IsNextLive, replaced_by, unconfirmed_of_client};
@@ -124,7 +123,7 @@ impl Clients {
     fn unconfirmed_of_client(&self, number: u32) -> Option<ClientRef<'_>>
         ensures { option_map client_seen result ≡ unconfirmed_of_client number self.now.registry }
     {
-        lent(self.unconfirmed.iter().find(|r| r.is_of_client(number)))
+        lent(with_number(&self.unconfirmed, number))
     }
 
     /// Whether a client was given this number.
@@ -139,7 +138,7 @@ impl Clients {
         ensures { option_map client_seen result
             ≡ unconfirmed_named_by args.now self.now.registry }
     {
-        lent(self.unconfirmed.iter().find(|r| r.is_named_by(args)))
+        lent(named_by(&self.unconfirmed, args))
     }
 
     /// What the confirmed record has that the arguments of SETCLIENTID_CONFIRM name, if there is one.
@@ -147,7 +146,7 @@ impl Clients {
         ensures { option_copied result
             ≡ record_state (confirmed_named_by args.now self.now.registry) }
     {
-        state_of(self.confirmed.iter().find(|r| r.is_named_by(args)))
+        state_of(named_by(&self.confirmed, args))
     }
 
     /// Removes all records of the client with this number, also an unconfirmed one.
@@ -220,6 +219,20 @@ fn lent(found: Option<&ClientRecord>) -> Option<ClientRef<'_>>
         Some(record) => Some(record.as_ref()),
         None => None,
     }
+}
+
+// The record that the arguments of SETCLIENTID_CONFIRM name, if there is one.
+fn named_by<'a>(records: &'a [ClientRecord], args: &SetclientidConfirm) -> Option<&'a ClientRecord>
+    ensures { option_copied result ≡ find (is_named_by args.now) records.now }
+{
+    records.iter().find(|r| r.is_named_by(args))
+}
+
+// The record of the client with this number, if there is one.
+fn with_number(records: &[ClientRecord], number: u32) -> Option<&ClientRecord>
+    ensures { option_copied result ≡ find (is_of_client number) records.now }
+{
+    records.iter().find(|r| r.is_of_client(number))
 }
 
 // The least client number above this one that one of the records has, if there is one.

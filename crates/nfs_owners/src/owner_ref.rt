@@ -1,4 +1,5 @@
 ghost use Rattle.std.specs.Prelude.{◌≤◌, length};
+ghost use Rattle.nfs_forms.specs.declared.open_owner.TheConstants.{OWNER_NAME_LIMIT};
 
 use crate::copy_of_bytes::copy_of_bytes;
 use crate::{OwnerKind, StateOwner};

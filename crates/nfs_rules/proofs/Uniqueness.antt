@@ -44,6 +44,7 @@ use Rattle.nfs_operations.specs.declared.open_downgrade.OpenDowngrade.{OpenDowng
 use Rattle.nfs_forms.specs.declared.status.Refusal.{Refusal}
 use Rattle.nfs_share.specs.declared.share.Share.{Share}
 use Rattle.nfs_share.specs.Share.{share_of_numbers}
+use Rattle.nfs_xdr.specs.Names as names
 use Rattle.nfs_xdr.specs.Names.{Names, Nothing, Client, Opener, Owned, names_of}
 use Rattle.nfs_xdr.specs.declared.op.Op.{Op}
 use Rattle.nfs_xdr.specs.declared.op.Op.TheVariants as ops
@@ -199,13 +200,14 @@ plain_once laws (ops.Lockt args) journal state request d e a b =
     asked_once laws state args (lockt_file journal state request.filehandle args) d e a b
 plain_once laws op journal state request d e a b = a ∙ sym b
 
-ruled_by_once : LockLaws → (names : Names) (op : Op) (journal : History) (state : State) (request : Request) (d e : Option Decision) → IsRuledBy names op journal state request d → IsRuledBy names op journal state request e → d ≡ e
+ruled_by_once : LockLaws → (named : Names) (op : Op) (journal : History) (state : State) (request : Request) (d e : Option Decision) → IsRuledBy named op journal state request d → IsRuledBy named op journal state request e → d ≡ e
 ruled_by_once laws (Opener owner seqid) op journal state request d e a b =
     sequenced_once journal state (requester_of_open state owner seqid) (own_of op journal state) request.filehandle request (own_once laws op journal state request) d e a b
 ruled_by_once laws (Owned id seqid) op journal state request d e a b =
     sequenced_once journal state (requester_of_stateid journal state id seqid) (own_of op journal state) request.filehandle request (own_once laws op journal state request) d e a b
 ruled_by_once laws Nothing op journal state request d e a b = plain_once laws op journal state request d e a b
 ruled_by_once laws (Client client) op journal state request d e a b = plain_once laws op journal state request d e a b
+ruled_by_once laws (names.State id) op journal state request d e a b = plain_once laws op journal state request d e a b
 
 pub ruled_once : LockLaws → (op : Op) (journal : History) (state : State) (request : Request) (d e : Option Decision) → IsRuled op journal state request d → IsRuled op journal state request e → d ≡ e
 ruled_once laws op journal state request d e a b = ruled_by_once laws (names_of op) op journal state request d e a b

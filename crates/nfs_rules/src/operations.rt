@@ -53,7 +53,9 @@ pub fn decide(
             let requester = requester_of_target(tables, stateid, seqid, target);
             sequenced::decide(alloc, tables, journal, request, requester, target)
         }
-        Names::Nothing | Names::Client(_) => decide_plain(alloc, tables, journal, request),
+        Names::Nothing | Names::Client(_) | Names::State(_) => {
+            decide_plain(alloc, tables, journal, request)
+        }
     }
 }
 

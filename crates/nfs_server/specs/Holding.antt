@@ -5,7 +5,7 @@ use Rattle.nfs_shared.specs.declared.receipt.Receipt.{Receipt}
 use Rattle.nfs_state.specs.Entries.{resource}
 use Rattle.nfs_state.specs.declared.request.Request.{Request}
 use Rattle.nfs_server.specs.Asking.{Operation, Question, Renewal}
-use Rattle.nfs_server.specs.Leases.{renewal_answer}
+use Rattle.nfs_shared.specs.Renewals.{renewal_answer}
 use Rattle.nfs_xdr.specs.declared.op_result.OpResult.{OpResult}
 use Rattle.nfs_xdr.specs.declared.op_result.OpResult.TheVariants as results
 

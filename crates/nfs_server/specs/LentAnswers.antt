@@ -5,9 +5,9 @@ use Rattle.nfs_owners.specs.Registry.{Registry, is_live}
 use Rattle.nfs_server.specs.Asking.{GivenByCore, Operation, Question, Renewal}
 use Rattle.nfs_shared.specs.BookEvent.{Leads}
 use Rattle.nfs_shared.specs.BookOf.{events_of_call}
-use Rattle.nfs_server.specs.Leases.{LentCore, renewal_answer}
+use Rattle.nfs_server.specs.Leases.{LentCore}
 use Rattle.nfs_shared.specs.PlainBook.{Happens, with_renewal}
-use Rattle.nfs_xdr.specs.Names.{renewed_by}
+use Rattle.nfs_shared.specs.Renewals.{renewal_answer, renewed_by}
 use Rattle.nfs_xdr.specs.declared.op.Op.{Op}
 use Rattle.nfs_xdr.specs.declared.op.Op.TheVariants as ops
 use Rattle.nfs_xdr.specs.declared.op_result.OpResult.{OpResult}

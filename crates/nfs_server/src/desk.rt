@@ -3,9 +3,8 @@ ghost use Rattle.nfs_server.specs.Holding.{AreAlikeButRoom, GivenBySeat};
 ghost use Rattle.nfs_shared.specs.Ends.{IsKept};
 
 use crate::Service;
-use crate::lent::answer_of;
 use nfs_core::Moment;
-use nfs_shared::{Naming, Receipt, Seat, Shared};
+use nfs_shared::{Naming, Receipt, Seat, Shared, renewal_answer};
 use nfs_xdr::{ClientId, Op, OpResult, Principal};
 use std::alloc::{AllocError, Global};
 use std::marker::Model;
@@ -102,7 +101,7 @@ impl<'a, N: Naming, R: Wait> Service for Desk<'a, N, R> {
 
     fn renew(&mut self, moment: Moment, client: ClientId) -> OpResult {
         let is_open = self.shared.renew(self.rt, moment, client);
-        let answer = OpResult::Renew(answer_of(is_open));
+        let answer = OpResult::Renew(renewal_answer(is_open));
         answer.fits();
         answer
     }

@@ -1,15 +1,17 @@
 ghost use Rattle.std.specs.Prelude.{◌≡◌, ◌^◌, IfOk, IsFalse, List, ℕ, false, refl};
 ghost use Rattle.nfs_core.specs.Server.{AreAlike};
 ghost use Rattle.nfs_owners.specs.Registry.{is_live};
-ghost use Rattle.nfs_server.specs.Leases.{IsLent, renewal_answer};
+ghost use Rattle.nfs_server.specs.Leases.{IsLent};
 ghost use Rattle.nfs_shared.specs.PlainBook.{Happens};
 ghost use Rattle.nfs_shared.specs.Sweeps.{Sweeps};
 ghost use Rattle.nfs_shared.specs.Turn.{Turn};
 
 use crate::Service;
 use nfs_core::{Core, Moment};
-use nfs_shared::{PlainLeases, Swept, call_core, renew_lease, sweep_core};
-use nfs_xdr::{Answer, ClientId, Op, OpResult, Principal, Refusal};
+use nfs_shared::{
+    PlainLeases, Swept, call_core, renew_lease, renewal_answer, renewed_client, sweep_core,
+};
+use nfs_xdr::{ClientId, Op, OpResult, Principal};
 use std::alloc::{AllocError, Global};
 use std::marker::Model;
 
@@ -86,7 +88,7 @@ impl Service for Lent {
         filehandle: Option<u32>,
     ) -> OpResult {
         let (core, book) = (&mut self.core, &mut self.book);
-        let client = op.renewed_client(core.journal().epoch());
+        let client = renewed_client(op, core.journal().epoch());
         renew_lease(book, client, moment);
         let (answer, _) = call_core(core, book, moment, principal, op, filehandle);
         answer
@@ -95,19 +97,8 @@ impl Service for Lent {
     fn renew(&mut self, moment: Moment, client: ClientId) -> OpResult {
         let client = client.number_in(self.core.journal().epoch());
         let is_open = renew_lease(&mut self.book, client, moment);
-        let answer = OpResult::Renew(answer_of(is_open));
+        let answer = OpResult::Renew(renewal_answer(is_open));
         answer.fits();
         answer
-    }
-}
-
-/// What RENEW is answered, by whether the lease is open.
-pub(crate) fn answer_of(is_open: bool) -> Answer<()>
-    ensures { result ≡ renewal_answer is_open }
-{
-    if is_open {
-        Answer::Done(())
-    } else {
-        Answer::Refused(Refusal::StaleClientId)
     }
 }

@@ -6,7 +6,7 @@ use Rattle.nfs_shared.specs.BookOf.{events_of_call}
 use Rattle.nfs_shared.specs.Naming.{start_of}
 use Rattle.nfs_shared.specs.PlainBook.{Happens, PlainBook, with_renewal}
 use Rattle.nfs_state.specs.State.{History}
-use Rattle.nfs_xdr.specs.Names.{renewed_by}
+use Rattle.nfs_shared.specs.Renewals.{renewed_by}
 use Rattle.nfs_xdr.specs.declared.op.Op.{Op}
 
 -- the client that is renewed is the one that the operation names in a run that began so

@@ -7,6 +7,7 @@ pub mod Naming
 pub mod PlainBook
 pub mod PlainLaws
 pub mod Receipts
+pub mod Renewals
 pub mod Roll
 pub mod Seats
 pub mod Sweeps

@@ -1,11 +1,12 @@
 -- A book of leases that is a plain list.
-use Rattle.std.specs.Prelude.{◌≡◌, ◌≢◌, ℕ, ◌+◌, ◌<◌, Bool, true, false, nat_lt, if◌then◌else◌, List, length, slice_index_or, slice_set, Option, Some, None}
+use Rattle.std.specs.Prelude.{◌≡◌, ◌≢◌, ℕ, ◌+◌, ◌<◌, Bool, true, false, List, length, slice_index_or, slice_set, Option, Some, None}
 use Rattle.nfs_shared.specs.declared.lease_state.LeaseState.{LeaseState}
 use Rattle.nfs_shared.specs.declared.lease_state.LeaseState.TheVariants as lease_state
 use Rattle.nfs_shared.specs.declared.renewal.Renewal.{Renewal}
 use Rattle.nfs_shared.specs.declared.renewal.Renewal.TheVariants as renewal
 use Rattle.nfs_shared.specs.declared.closing.Closing.TheVariants as closing
 use Rattle.nfs_shared.specs.BookEvent.{BookEvent, Look, Renew, Close, Open, Retire, shows_open, shows_opened}
+use Rattle.nfs_shared.specs.Renewals.{renewed}
 
 -- how long a lease lasts, and each client's lease, at the place of its number
 pub record PlainBook : Type 0 where
@@ -32,12 +33,6 @@ abbrev pub renewal_of : LeaseState → Renewal
 renewal_of lease_state.Vacant = renewal.Unknown
 renewal_of (lease_state.Open last) = renewal.Renewed
 renewal_of lease_state.Closed = renewal.Closed
-
--- this lease after a renewal: of an open one the later of the two moments counts
-abbrev pub renewed : LeaseState → ℕ → LeaseState
-renewed lease_state.Vacant moment = lease_state.Vacant
-renewed (lease_state.Open last) moment = lease_state.Open (if nat_lt last moment then moment else last)
-renewed lease_state.Closed moment = lease_state.Closed
 
 -- the leases after a renewal, at this moment, of the client with this number, if there is one
 abbrev pub with_renewal : Option ℕ → ℕ → PlainBook → PlainBook

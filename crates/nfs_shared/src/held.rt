@@ -5,11 +5,11 @@ ghost use Rattle.nfs_forms.specs.ClientId.{number_in};
 ghost use Rattle.nfs_shared.specs.BookEvent.{Leads};
 ghost use Rattle.nfs_shared.specs.BookOf.{events_of_call};
 ghost use Rattle.nfs_shared.specs.PlainBook.{Happens, has_open_lease, with_renewal};
+ghost use Rattle.nfs_shared.specs.Renewals.{renewed_by};
 ghost use Rattle.nfs_shared.specs.Seats.{Gives, number_given};
 ghost use Rattle.nfs_shared.specs.Sweeps.{Sweeps};
 ghost use Rattle.nfs_shared.specs.Turn.{Turn};
 ghost use Rattle.nfs_state.specs.Entries.{IsFilehandle, request_of};
-ghost use Rattle.nfs_xdr.specs.Names.{renewed_by};
 ghost use Rattle.nfs_xdr.specs.Op.{has_entry, opnum_of};
 ghost use Rattle.nfs_xdr.specs.OpResult.{op_result};
 ghost use Rattle.nfs_xdr.specs.Opnum.{answer_limit};
@@ -18,7 +18,7 @@ use crate::calling::call_copied;
 use crate::naming::Naming;
 use crate::receipt::Receipt;
 use crate::register::{Register, give};
-use crate::renewing::renew_lease;
+use crate::renewing::{renew_lease, renewed_client};
 use crate::seat::Seat;
 use crate::sweeping::sweep_core;
 use crate::{PlainLeases, Swept};
@@ -92,7 +92,7 @@ pub fn call_held<N: Naming>(
         (events_of_call op.now moment held.old.server held.new.server) held.new.leases }
 {
     lawful_is_safe();
-    let client = op.renewed_client(held.core.journal().epoch());
+    let client = renewed_client(op, held.core.journal().epoch());
     renew_lease(&mut held.leases, client, moment);
     if held.register.places.reserve(1).is_err() {
         return (op.opnum().refusal(Refusal::Resource), None);

@@ -34,7 +34,7 @@ pub use opened::Opened;
 pub use plain_leases::PlainLeases;
 pub use receipt::Receipt;
 pub use renewal::Renewal;
-pub use renewing::renew_lease;
+pub use renewing::{renew_lease, renewal_answer, renewed_client};
 pub use seat::Seat;
 pub use shared::Shared;
 pub use sweeping::sweep_core;

@@ -9,5 +9,4 @@ pub mod LiveChange
 pub mod Places
 pub mod Room
 pub mod Shortage
-pub mod MomentForm
 pub mod EntryForm

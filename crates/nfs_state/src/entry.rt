@@ -45,7 +45,7 @@ impl Call {
     {
         match self.request.op.names() {
             Names::Opener(_, seqid) | Names::Owned(_, seqid) => Some(seqid),
-            Names::Nothing | Names::Client(_) => None,
+            Names::Nothing | Names::Client(_) | Names::State(_) => None,
         }
     }
 

@@ -1,6 +1,5 @@
 -- What the arguments of an operation name of the state (RFC 7530, sections 9.1.4, 9.1.5, 9.1.7 and 9.5).
-use Rattle.std.specs.Prelude.{ℕ, Bool, true, false, Option, Some, None, is_some, option_and_then, if◌then◌else◌}
-use Rattle.nfs_forms.specs.ClientId.{number_in}
+use Rattle.std.specs.Prelude.{ℕ, Bool, Option, Some, None, is_some, if◌then◌else◌}
 use Rattle.nfs_forms.specs.Stateid.{is_special}
 use Rattle.nfs_forms.specs.declared.client_id.ClientId.{ClientId}
 use Rattle.nfs_forms.specs.declared.locker.Locker.{Locker}
@@ -21,6 +20,8 @@ pub data Names : Type 0 where
   Opener : OpenOwner → ℕ → Names
   -- a stateid, with the sequence id of the request of the state's owner
   Owned : Stateid → ℕ → Names
+  -- a stateid alone, of an operation that goes by no sequence id
+  State : Stateid → Names
 
 -- A LOCK for a new lock owner names an open, with the sequence id of the open's owner; one for a lock owner that is known
 -- names a lock state, with the sequence id of the lock owner.
@@ -38,7 +39,16 @@ names_of (ops.Locku args) = Owned args.stateid args.seqid
 names_of (ops.Lockt args) = Client args.owner.client
 names_of (ops.ReleaseLockowner args) = Client args.owner.client
 names_of (ops.Renew args) = Client args.client
-names_of op = Nothing
+names_of (ops.Access args) = Nothing
+names_of (ops.Getattr args) = Nothing
+names_of ops.Getfh = Nothing
+names_of (ops.Lookup args) = Nothing
+names_of (ops.Putfh args) = Nothing
+names_of ops.Putrootfh = Nothing
+names_of ops.Restorefh = Nothing
+names_of ops.Savefh = Nothing
+names_of (ops.Setclientid args) = Nothing
+names_of (ops.SetclientidConfirm args) = Nothing
 
 -- the sequence id by which the request goes
 abbrev pub seqid_in : Names → Option ℕ
@@ -46,6 +56,7 @@ seqid_in Nothing = None
 seqid_in (Client client) = None
 seqid_in (Opener owner seqid) = Some seqid
 seqid_in (Owned stateid seqid) = Some seqid
+seqid_in (State stateid) = None
 
 abbrev pub seqid_of : Op → Option ℕ
 seqid_of op = seqid_in (names_of op)
@@ -54,17 +65,17 @@ seqid_of op = seqid_in (names_of op)
 abbrev pub is_sequenced : Op → Bool
 is_sequenced op = is_some (seqid_of op)
 
--- the client that is named: by its clientid, as an owner's client or in a stateid; a special stateid names none
+-- the client in a stateid; a special stateid names none
+abbrev pub client_in_stateid : Stateid → Option ClientId
+client_in_stateid stateid = if is_special stateid then None else Some stateid.client
+
+-- the client that is named: by its clientid, as an owner's client or in a stateid
 abbrev pub client_in : Names → Option ClientId
 client_in Nothing = None
 client_in (Client client) = Some client
 client_in (Opener owner seqid) = Some owner.client
-client_in (Owned stateid seqid) = if is_special stateid then None else Some stateid.client
-
--- The number of the client whose lease the operation renews (section 9.5), in the server's run with this epoch: that of
--- the client that it names, if that is one of this run.
-abbrev pub renewed_by : ℕ → Op → Option ℕ
-renewed_by epoch op = option_and_then (number_in epoch) (client_in (names_of op))
+client_in (Owned stateid seqid) = client_in_stateid stateid
+client_in (State stateid) = client_in_stateid stateid
 
 -- the names that are lent
 abbrev pub names_seen : LentNames → Names
@@ -72,3 +83,4 @@ names_seen lent.Nothing = Nothing
 names_seen (lent.Client client) = Client client
 names_seen (lent.Opener owner seqid) = Opener owner.now seqid
 names_seen (lent.Owned stateid seqid) = Owned stateid seqid
+names_seen (lent.State stateid) = State stateid

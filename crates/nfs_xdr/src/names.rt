@@ -1,7 +1,7 @@
 //! What operations name of the state: clients, owners and states.
 
 ghost use Rattle.std.specs.Prelude.{◌≡◌};
-ghost use Rattle.nfs_xdr.specs.Names.{client_in, locker_names, names_of, names_seen, renewed_by};
+ghost use Rattle.nfs_xdr.specs.Names.{client_in, locker_names, names_of, names_seen};
 
 use crate::Op;
 use nfs_forms::{ClientId, Locker, OpenOwner, Stateid};
@@ -18,6 +18,8 @@ pub enum Names<'a> {
     Opener(&'a OpenOwner, u32),
     /// A stateid, with the sequence id of the request of the state's owner.
     Owned(Stateid, u32),
+    /// A stateid alone, of an operation that goes by no sequence id.
+    State(Stateid),
 }
 
 impl Names<'_> {
@@ -29,21 +31,14 @@ impl Names<'_> {
             Names::Nothing => None,
             Names::Client(client) => Some(client),
             Names::Opener(owner, _) => Some(owner.client),
-            Names::Owned(stateid, _) => (!stateid.is_special()).then_some(stateid.client),
+            Names::Owned(stateid, _) | Names::State(stateid) => {
+                (!stateid.is_special()).then_some(stateid.client)
+            }
         }
     }
 }
 
 impl Op {
-    /// The number of the client whose lease the operation renews, in the server's run with this epoch: that of the client
-    /// that it names, if that is one of this run (RFC 7530, section 9.5).
-    pub fn renewed_client(&self, epoch: u32) -> Option<u32>
-        ensures { result ≡ renewed_by epoch self.now }
-    {
-        let client = self.names().client()?;
-        client.number_in(epoch)
-    }
-
     /// What the operation's arguments name of the state.
     pub fn names(&self) -> Names<'_>
         ensures { names_seen result ≡ names_of self.now }
@@ -58,7 +53,16 @@ impl Op {
             Op::Lockt(args) => Names::Client(args.owner.client),
             Op::ReleaseLockowner(args) => Names::Client(args.owner.client),
             Op::Renew(args) => Names::Client(args.client),
-            _ => Names::Nothing,
+            Op::Access(_)
+            | Op::Getattr(_)
+            | Op::Getfh
+            | Op::Lookup(_)
+            | Op::Putfh(_)
+            | Op::Putrootfh
+            | Op::Restorefh
+            | Op::Savefh
+            | Op::Setclientid(_)
+            | Op::SetclientidConfirm(_) => Names::Nothing,
         }
     }
 }

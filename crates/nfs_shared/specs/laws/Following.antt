@@ -6,7 +6,8 @@ use Rattle.nfs_shared.specs.declared.lease_state.LeaseState.{LeaseState}
 use Rattle.nfs_shared.specs.declared.lease_state.LeaseState.TheVariants as lease_state
 use Rattle.nfs_shared.specs.declared.closing.Closing.TheVariants as closing
 use Rattle.nfs_shared.specs.BookEvent.{BookEvent, Look, Renew, Close, Open, Retire, shows_open, shows_opened, is_open_after, was_opened_after}
-use Rattle.nfs_shared.specs.PlainBook.{PlainBook, lease_of, is_open_in, was_opened_in, renewed, Happens}
+use Rattle.nfs_shared.specs.PlainBook.{PlainBook, lease_of, is_open_in, was_opened_in, Happens}
+use Rattle.nfs_shared.specs.Renewals.{renewed}
 
 pub keeps_lease : (old : PlainBook) (event : BookEvent) (new : PlainBook) → Happens old event new
     → new.lease ≡ old.lease

@@ -19,7 +19,7 @@ use Rattle.nfs_state.specs.Entries.{IsFilehandle, entry_of, request_of}
 use Rattle.nfs_state.specs.State.{History}
 use Rattle.nfs_state.specs.declared.entry.Call.{Call}
 use Rattle.nfs_state.specs.declared.entry.Entry.TheVariants as entries
-use Rattle.nfs_xdr.specs.Names.{renewed_by}
+use Rattle.nfs_shared.specs.Renewals.{renewed_by}
 
 pub call_copied-answer-requires-clause-node : goal.call_copied-answer-requires-clause-node
 call_copied-answer-requires-clause-node g c =
