@@ -12,7 +12,7 @@ use Rattle.nfs_core.proofs.Sound.{HasRecord, IsOnlyOf, equal_clients, is_live_in
 use Rattle.nfs_core.proofs.SoundClients.{EachRecord, HasGivenNumber, HasSameId, HasSingles, each_confirmed, each_unconfirmed, singles_changed}
 use Rattle.nfs_core.proofs.SoundSequences.{never}
 use Rattle.nfs_core.proofs.SoundSteps.{IsClientReady}
-use Rattle.nfs_core.specs.LiveClients.{CanCome, IsPossible, LiveFollows}
+use Rattle.nfs_core.specs.LiveClients.{CanCome, Fits, LiveFollows}
 use Rattle.nfs_forms.specs.ClientId.{is_same_client}
 use Rattle.nfs_forms.specs.declared.client_id.ClientId.{ClientId}
 use Rattle.nfs_owners.specs.ClientChange.{with_change}
@@ -305,15 +305,15 @@ same_number r client id old singles there held number =
     let numbers = ap (λ (x : ClientId). x.number) u.client_is ∙ number ∙ sym (ap (λ (x : ClientId). x.number) t.client_is) in
     sym t.client_is ∙ sym (t.holds numbers).0 ∙ u.client_is
 
-possible_changed : (change : ClientChange) (old : Registry) → HasSingles old → old.last_number ≤ CLIENT_LIMIT → IsClientReady change old → IsPossible (live_change change) old
-possible_changed client_changes.Nothing old singles below ready = tt
-possible_changed (client_changes.Arrives r) old singles below ready = tt
-possible_changed (client_changes.Updates r) old singles below ready = tt
-possible_changed (client_changes.Confirms r) old singles below ready =
+fits_changed : (change : ClientChange) (old : Registry) → HasSingles old → old.last_number ≤ CLIENT_LIMIT → IsClientReady change old → Fits (live_change change) old
+fits_changed client_changes.Nothing old singles below ready = tt
+fits_changed (client_changes.Arrives r) old singles below ready = tt
+fits_changed (client_changes.Updates r) old singles below ready = tt
+fits_changed (client_changes.Confirms r) old singles below ready =
     can_come r.state.client r.id old singles below ready.1
     (sym (all_stay r.id old.confirmed r.state.client.number ready.0) ∙ own_id_before r.state.client r.id old singles ready.1)
-possible_changed (client_changes.Refreshes r) old singles below ready = tt
-possible_changed (client_changes.Replaces r client) old singles below ready =
+fits_changed (client_changes.Refreshes r) old singles below ready = tt
+fits_changed (client_changes.Replaces r client) old singles below ready =
     let n = r.state.client.number in (
       can_come r.state.client r.id old singles below ready.2
           (false_from_ne_true (is_live n old)
@@ -328,12 +328,12 @@ possible_changed (client_changes.Replaces r client) old singles below ready =
 -- So each change follows.
 
 pub follows_same : (registry : Registry) → HasSingles registry → LiveFollows Same registry registry
-follows_same registry singles = record { live = λ c. refl; possible = tt; once = λ c can. (can, not_yet registry singles c can) }
+follows_same registry singles = record { live = λ c. refl; fits = tt; once = λ c can. (can, not_yet registry singles c can) }
 
 pub follows_changed : (change : ClientChange) (old : Registry) → HasSingles old → old.last_number ≤ CLIENT_LIMIT → IsClientReady change old → LiveFollows (live_change change) old (with_change change old)
 follows_changed change old singles below ready = record {
   live = live_changed change old singles ready;
-  possible = possible_changed change old singles below ready;
+  fits = fits_changed change old singles below ready;
   once = λ c can. (can_changed change old singles ready c can, not_yet (with_change change old) (singles_changed change old ready singles) c can);
 }
 
@@ -380,7 +380,7 @@ can_ended client old c can =
 pub follows_ended : (client : ℕ) (old : Registry) → HasSingles (without_client client old) → is_live client old ≡ true → LiveFollows (Goes client) old (without_client client old)
 follows_ended client old singles live = record {
   live = live_ended client old;
-  possible = live;
+  fits = live;
   once = λ c can. (can_ended client old c can, not_yet (without_client client old) singles c can);
 }
 

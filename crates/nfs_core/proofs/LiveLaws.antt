@@ -10,7 +10,7 @@ use Rattle.nfs_core.proofs.SoundLimits.{limits_owned}
 use Rattle.nfs_core.proofs.SoundSequences.{never}
 use Rattle.nfs_core.proofs.SoundSteps.{IsChangeReady, IsEffectReady}
 use Rattle.nfs_core.specs.Lawful.{Lawful, Leads}
-use Rattle.nfs_core.specs.LiveClients.{AreNumbered, AreOfOneRun, CallsFollow, EffectsFollow, EndsFollow, IsPossible, LiveFollows, confirmed_by, replaced_in}
+use Rattle.nfs_core.specs.LiveClients.{AreNumbered, AreOfOneRun, CallsFollow, EffectsFollow, EndsFollow, Fits, LiveFollows, confirmed_by, replaced_in}
 use Rattle.nfs_core.specs.Safe.{KeepsLimits}
 use Rattle.nfs_core.specs.Step.{IsAnswered, Step}
 use Rattle.nfs_owners.specs.LiveChange.{is_live_after}
@@ -141,11 +141,11 @@ goer (Replaces comes goes) number old new is live dead = grind (arith, common_st
 goer (Goes goes) number old new is live dead = grind (arith, common_steps)
 
 -- who comes could become live
-comer_could : (change : LiveChange) (number : ℕ) (old : Registry) → IsPossible change old → IsComer change number → can_become_live number old ≡ true
-comer_could (Comes comes) number old possible is = subst (λ n. can_become_live n old ≡ true) (sym is) possible.0
-comer_could (Replaces comes goes) number old possible is = subst (λ n. can_become_live n old ≡ true) (sym is) possible.0.0
-comer_could Same number old possible is = absurd is
-comer_could (Goes goes) number old possible is = absurd is
+comer_could : (change : LiveChange) (number : ℕ) (old : Registry) → Fits change old → IsComer change number → can_become_live number old ≡ true
+comer_could (Comes comes) number old fits is = subst (λ n. can_become_live n old ≡ true) (sym is) fits.0
+comer_could (Replaces comes goes) number old fits is = subst (λ n. can_become_live n old ≡ true) (sym is) fits.0.0
+comer_could Same number old fits is = absurd is
+comer_could (Goes goes) number old fits is = absurd is
 
 -- by a change that an operation may make, the client that it names comes, and the one goes that this one replaces
 
@@ -181,7 +181,7 @@ Calls-follow laws journal old new request answer lawful step =
     record {
       comes = λ number dead live.
           let comes = comer (live_change_of change) number (is_live number old.clients) (is_live number new.clients) (follows.live number) dead live in
-          (comer_named journal.epoch old.clients op change number may comes, comer_could (live_change_of change) number old.clients follows.possible comes);
+          (comer_named journal.epoch old.clients op change number may comes, comer_could (live_change_of change) number old.clients follows.fits comes);
       goes = λ number live dead.
           goer_replaced journal.epoch old.clients op change number may
           (goer (live_change_of change) number (is_live number old.clients) (is_live number new.clients) (follows.live number) live dead);

@@ -34,16 +34,16 @@ abbrev pub CanCome : ℕ → Registry → Type 0
 CanCome number registry = IsTrue (can_become_live number registry) × IsClientNumber number
 
 -- who comes could become live before, and who goes was live
-abbrev pub IsPossible : LiveChange → Registry → Type 0
-IsPossible live_changes.Same old = ⊤
-IsPossible (live_changes.Comes comes) old = CanCome comes old
-IsPossible (live_changes.Replaces comes goes) old = CanCome comes old × IsTrue (is_live goes old)
-IsPossible (live_changes.Goes goes) old = IsTrue (is_live goes old)
+abbrev pub Fits : LiveChange → Registry → Type 0
+Fits live_changes.Same old = ⊤
+Fits (live_changes.Comes comes) old = CanCome comes old
+Fits (live_changes.Replaces comes goes) old = CanCome comes old × IsTrue (is_live goes old)
+Fits (live_changes.Goes goes) old = IsTrue (is_live goes old)
 
 -- An entry did this to who is live.
 pub record LiveFollows (change : LiveChange) (old new : Registry) : Type 0 where
   pub live : (number : ℕ) → is_live number new ≡ is_live_after change number (is_live number old)
-  pub possible : IsPossible change old
+  pub fits : Fits change old
   -- who can become live afterwards could before, and isn't live
   pub once : (number : ℕ) → IsTrue (can_become_live number new)
       → IsTrue (can_become_live number old) × IsFalse (is_live number new)
