@@ -44,14 +44,7 @@ live_by_change : (change : Change) (old : State) → HasSingles old.clients → 
     → LiveFollows (live_change_of change) old.clients (with_state_change change old).clients
 live_by_change (changes.Clients change) old singles after within ready = follows_changed change old.clients singles within.clients ready
 live_by_change (changes.Expires client) old singles after within ready = follows_ended client.number old.clients after (live_number client old.clients.confirmed ready.0)
-live_by_change changes.Nothing old singles after within ready = follows_same old.clients singles
-live_by_change (changes.Opens node owner share) old singles after within ready = follows_same old.clients singles
-live_by_change (changes.Confirms node number owner) old singles after within ready = follows_same old.clients singles
-live_by_change (changes.Downgrades node number share) old singles after within ready = follows_same old.clients singles
-live_by_change (changes.Closes node number) old singles after within ready = follows_same old.clients singles
-live_by_change (changes.Begins node first) old singles after within ready = follows_same old.clients singles
-live_by_change (changes.Locks node number change) old singles after within ready = follows_same old.clients singles
-live_by_change (changes.Releases owner) old singles after within ready = follows_same old.clients singles
+live_by_change change old singles after within ready = follows_same old.clients singles
 
 epoch_by_change : (epoch : ℕ) (op : Op) (change : Change) (old : State) → IsChangeReady change old → IsFor epoch old.clients op change → HaveEpoch epoch old.clients → HaveEpoch epoch (with_state_change change old).clients
 epoch_by_change epoch op (changes.Clients change) old ready is h = epoch_changed epoch op change old.clients ready is h
