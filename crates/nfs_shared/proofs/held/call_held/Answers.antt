@@ -1,23 +1,25 @@
 -- The receipt is for the entry that the call made, and the register has it.
 use Rattle.std.proofs.Common.{◌≡◌, ◌∙◌, ◌++◌, ◌∷◌, [], length, List, ℕ, ◌<◌, Option, None, Some, refl, ap, sym, subst, arith, length-append}
 use Rattle.nfs_core.specs.Entered.{Answers, IsEntered, number_entered}
-use Rattle.nfs_core.specs.Server.{Enters, Server}
+use Rattle.nfs_core.specs.Safe.{IsSafe}
+use Rattle.nfs_core.specs.Server.{IsLawful, Server}
 use Rattle.nfs_core.specs.declared.entered.Entered.{Entered}
 use Rattle.nfs_shared.proofs.Giving.{above_all, counted, last_entry, one_call}
 use Rattle.nfs_shared.proofs.Holding.{KeepsRules, held_call}
 use Rattle.nfs_shared.proofs.Receipts.{calls_in_length}
-use Rattle.nfs_shared.proofs.Renewals.{renewed_named}
+use Rattle.nfs_shared.proofs.Renewals.{renewed_named, told_named}
 use Rattle.nfs_shared.proofs.held.call_held.Goals as goal
 use Rattle.nfs_shared.specs.BookEvent.{Leads}
 use Rattle.nfs_shared.specs.BookOf.{events_entered}
 use Rattle.nfs_shared.specs.Held.{HeldView}
 use Rattle.nfs_shared.specs.Naming.{start_of}
 use Rattle.nfs_shared.specs.PlainBook.{Happens, PlainBook, with_renewal}
-use Rattle.nfs_shared.specs.Receipts.{receipts_of}
+use Rattle.nfs_shared.specs.Receipts.{calls_in, receipts_of}
 use Rattle.nfs_shared.specs.Renewals.{renewed_by}
 use Rattle.nfs_shared.specs.Roll.{list_of}
 use Rattle.nfs_state.specs.Entries.{IsFilehandle, entry_of, request_of}
 use Rattle.nfs_state.specs.State.{History}
+use Rattle.nfs_state.specs.Stored.{meaning}
 use Rattle.nfs_state.specs.declared.entry.Call.{Call}
 use Rattle.nfs_state.specs.declared.entry.Entry.TheVariants as entries
 use Rattle.nfs_state.specs.declared.entry.TheConstants.{JOURNAL_LIMIT}
@@ -106,3 +108,56 @@ invariant_of-held-in-Some g c =
       ap (λ s. s.parts) given.rest ∙ c.held.invariant.3,
       ap (λ s. s.amount) given.rest ∙ c.held.invariant.4,
     )
+
+-- what is told of the entry, and the calls on the book, from the value that the call began with
+pub returns-in-Some-clause-leases : goal.returns-in-Some-clause-leases
+returns-in-Some-clause-leases g c =
+    let held = c.held.inside in
+    let called = c.call-answer in
+    let request = request_of c.args.moment c.args.principal c.args.op.now c.args.filehandle in
+    let book : c.renew.new.self.book ≡ with_renewal (renewed_by g.N.Naming.start.epoch c.args.op.now) c.args.moment c.args.held.now.leases =
+    renewed_named g.N.Naming.start held.leased.core.journal c.journal.result.now.history c.epoch.result c.renewed_client-client.result c.args.op.now c.args.moment c.args.held.now.leases held.leased.book c.renew.new.self.book c.held.invariant.2 c.journal.ensures.journal c.epoch.ensures c.renewed_client-client.ensures (ap (λ (h : HeldView). h.leases) c.held.view_is) c.renew.ensures.book in
+    let server : c.renew.new.self.core ≡ c.args.held.now.server = c.renew.ensures.core ∙ ap (λ (h : HeldView). h.server) c.held.view_is in
+    let told = told_named request called.result.0 c.args.moment c.renew.new.self.core c.args.held.now.server called.new.self.core called.result.1 c.renew.new.self.book _ called.new.self.book called.ensures.answers called.ensures.leases server book in
+    (called.result.1, told.0, ap number_entered c.in-Some.is, told.1)
+
+pub returns-in-None-clause-leases : goal.returns-in-None-clause-leases
+returns-in-None-clause-leases g c =
+    let held = c.held.inside in
+    let called = c.call-answer in
+    let request = request_of c.args.moment c.args.principal c.args.op.now c.args.filehandle in
+    let book : c.renew.new.self.book ≡ with_renewal (renewed_by g.N.Naming.start.epoch c.args.op.now) c.args.moment c.args.held.now.leases =
+    renewed_named g.N.Naming.start held.leased.core.journal c.journal.result.now.history c.epoch.result c.renewed_client-client.result c.args.op.now c.args.moment c.args.held.now.leases held.leased.book c.renew.new.self.book c.held.invariant.2 c.journal.ensures.journal c.epoch.ensures c.renewed_client-client.ensures (ap (λ (h : HeldView). h.leases) c.held.view_is) c.renew.ensures.book in
+    let server : c.renew.new.self.core ≡ c.args.held.now.server = c.renew.ensures.core ∙ ap (λ (h : HeldView). h.server) c.held.view_is in
+    let told = told_named request called.result.0 c.args.moment c.renew.new.self.core c.args.held.now.server called.new.self.core called.result.1 c.renew.new.self.book _ called.new.self.book called.ensures.answers called.ensures.leases server book in
+    (called.result.1, told.0, ap number_entered c.in-None.is, told.1)
+
+-- where there is no room for a place, the lease is renewed, and nobody comes or goes
+pub invariant_of-held : goal.invariant_of-held
+invariant_of-held g c =
+    let held = c.held.inside in
+    let was = c.held.invariant.0 in
+    let same = c.renew.ensures.core in (
+      record {
+        lawful = subst (λ (s : Server). IsLawful s) (sym same) was.lawful;
+        safe = subst (λ (s : Server). IsSafe (meaning s.stored)) (sym same) was.safe;
+        agrees = c.renew.new.self.agrees;
+        places = ap length c.reserve.ensures.items ∙ was.places ∙ ap (λ (s : Server). calls_in s.journal.entries) (sym same);
+        receipts =
+            was.receipts
+            ∙ ap (λ (xs : List ℕ). receipts_of 0 held.leased.core.journal.entries xs) (sym {A = List ℕ} c.reserve.ensures.items)
+            ∙ ap (λ (s : Server). receipts_of 0 s.journal.entries c.reserve.new.self.items) (sym same);
+      },
+      c.held.invariant.1,
+      ap (λ (s : Server). start_of s.journal) same ∙ c.held.invariant.2,
+      c.held.invariant.3,
+      c.held.invariant.4,
+    )
+
+pub returns-then-is_err-clause-leases : goal.returns-then-is_err-clause-leases
+returns-then-is_err-clause-leases g c =
+    let held = c.held.inside in
+    let book : c.renew.new.self.book ≡ with_renewal (renewed_by g.N.Naming.start.epoch c.args.op.now) c.args.moment c.args.held.now.leases =
+    renewed_named g.N.Naming.start held.leased.core.journal c.journal.result.now.history c.epoch.result c.renewed_client-client.result c.args.op.now c.args.moment c.args.held.now.leases held.leased.book c.renew.new.self.book c.held.invariant.2 c.journal.ensures.journal c.epoch.ensures c.renewed_client-client.ensures (ap (λ (h : HeldView). h.leases) c.held.view_is) c.renew.ensures.book in
+    let server : c.renew.new.self.core ≡ c.args.held.now.server = c.renew.ensures.core ∙ ap (λ (h : HeldView). h.server) c.held.view_is in
+    (None, ?, refl, sym book)

@@ -12,23 +12,23 @@ use Rattle.nfs_shared.specs.Turn.{expiries}
 pub invariant_of-held : goal.invariant_of-held
 invariant_of-held g c =
     let held = c.held.inside in
-    let swept = c.sweep_core in
+    let swept = c.sweep in
     let old : HeldView = record {
-      server = held.core;
-      leases = held.leases;
+      server = held.leased.core;
+      leases = held.leased.book;
       places = held.register.places.items;
       receipts = list_of held.register.writer;
     } in
     let new : HeldView = record {
-      server = swept.new.core;
-      leases = swept.new.book;
+      server = swept.new.self.core;
+      leases = swept.new.self.book;
       places = held.register.places.items;
       receipts = list_of held.register.writer;
     } in
     let keeps : KeepsRules new.server new.leases = record {
       lawful = swept.ensures.lawful;
       safe = c.lawful_is_safe.ensures.safe _ _ swept.ensures.lawful;
-      agrees = swept.ensures.agrees;
+      agrees = swept.new.self.agrees;
     } in
     let events = events_of_all c.args.now swept.ensures.sweeps.0 in
     let gains = swept.ensures.sweeps.1.entries in (
