@@ -1,16 +1,16 @@
 -- Which entries may come next, and which may not, by what is decided.
 use Rattle.std.proofs.Common.{◌≡◌, ◌≢◌, ◌<◌, ◌≤◌, Option, Some, None, Result, Ok, Err, ℕ, length, refl, ap, ◌∙◌, arith, subst, sym}
-use Rattle.std.specs.Prelude.{IfOk, IsErrOf, IsTrue, is_some, not, option_map}
-use Rattle.std.proofs.lemmas.Bool.{cond_both}
+use Rattle.std.specs.Prelude.{Bool, true, false, ◌&&◌, IfOk, IfSome, IsErrOf, IsFalse, IsTrue, is_some, not, option_map}
+use Rattle.std.proofs.lemmas.Bool.{both_ways, cond_both, lt-ltb, ltb-true}
 use Rattle.nfs_core.proofs.Journals.{decides_something}
 use Rattle.nfs_core.proofs.SoundSequences.{some_equal}
 use Rattle.nfs_core.specs.Expiry.{IsNotEndedFor}
 use Rattle.nfs_core.specs.Server.{Server}
 use Rattle.nfs_core.specs.declared.core_error.CoreError.{CoreError}
 use Rattle.nfs_core.specs.declared.core_error.CoreError.TheVariants as core_errors
-use Rattle.nfs_core.specs.Following.{CanBeAsked, IsNext, MayBeAnswered, error_of}
+use Rattle.nfs_core.specs.Following.{CanBeAsked, IsNext, MayBeAnswered, MayFollow, error_of}
 use Rattle.nfs_core.specs.declared.following.FollowError.TheVariants as errors
-use Rattle.nfs_core.specs.Step.{HasNoAnswer, HasNoStep, Step}
+use Rattle.nfs_core.specs.Step.{HasNoAnswer, HasNoStep, IsAnswered, Step}
 use Rattle.nfs_rules.specs.Deciding.{Decides}
 use Rattle.nfs_rules.specs.declared.decision.Decision.{Decision}
 use Rattle.nfs_rules.specs.entries.Expire.{IsExpiry}
@@ -33,7 +33,7 @@ use Rattle.nfs_state.specs.declared.owner_change.OwnerChange.TheVariants as owne
 use Rattle.nfs_xdr.specs.Names as names
 use Rattle.nfs_xdr.specs.Names.{Names, Nothing, Client, Opener, Owned, names_of, seqid_in}
 use Rattle.nfs_state.specs.Changes.{after}
-use Rattle.nfs_state.specs.Entries.{IsSendable, entry_of}
+use Rattle.nfs_state.specs.Entries.{IsFilehandle, IsSendable, can_be_asked, entry_of, is_filehandle}
 use Rattle.nfs_state.specs.Room.{HasOwnerPlace, HasOwnerRoom, HasRoom, TakesNoMemory}
 use Rattle.nfs_state.specs.Room.{IsWithinLimits as IsWithinNumbers}
 use Rattle.nfs_state.specs.State.{State, History}
@@ -48,10 +48,37 @@ use Rattle.nfs_state.specs.declared.entry.TheConstants.{JOURNAL_LIMIT}
 use Rattle.nfs_state.specs.declared.request.Request.{Request}
 use Rattle.nfs_state.specs.declared.shortage.Shortage.{Shortage}
 use Rattle.nfs_state.specs.declared.shortage.Shortage.TheVariants as shortages
+use Rattle.nfs_tree.specs.Tree.{node_count}
 use Rattle.nfs_xdr.specs.Op.{has_entry}
 use Rattle.nfs_xdr.specs.declared.op.Op.{Op}
 use Rattle.nfs_xdr.specs.declared.op.Op.TheVariants as ops
 use Rattle.nfs_xdr.specs.declared.op_result.OpResult.{OpResult}
+
+-- the test of a filehandle says whether it is that of a node
+node_passes : (nodes : ℕ) (filehandle : Option ℕ) → IfSome filehandle (λ node. node < nodes) → IsTrue (is_filehandle nodes filehandle)
+node_passes nodes None is = refl
+node_passes nodes (Some node) is = lt-ltb node nodes is
+
+passes_node : (nodes : ℕ) (filehandle : Option ℕ) → IsTrue (is_filehandle nodes filehandle) → IfSome filehandle (λ node. node < nodes)
+passes_node nodes None is = tt
+passes_node nodes (Some node) is = ltb-true node nodes is
+
+both_true : (a b : Bool) → (a && b) ≡ true → (a ≡ true) × (b ≡ true)
+both_true true b is = (refl, is)
+both_true false b is = absurd cc
+
+-- a request can be asked exactly if its operation has an entry and its filehandle is that of a node
+pub can_ask : (journal : History) (request : Request) → IsTrue (has_entry request.op) → IsFilehandle journal request.filehandle → CanBeAsked journal request
+can_ask journal request entry node =
+    let is_node = node_passes (node_count journal.nodes) request.filehandle node in
+    cc (entry, is_node)
+
+pub asked_entry : (journal : History) (request : Request) → CanBeAsked journal request → IsTrue (has_entry request.op)
+asked_entry journal request asked = (both_true (has_entry request.op) (is_filehandle (node_count journal.nodes) request.filehandle) asked).0
+
+pub asked_node : (journal : History) (request : Request) → CanBeAsked journal request → IsFilehandle journal request.filehandle
+asked_node journal request asked =
+    passes_node (node_count journal.nodes) request.filehandle (both_true (has_entry request.op) (is_filehandle (node_count journal.nodes) request.filehandle) asked).1
 
 -- if the journal is full, no entry may come next
 pub full_follows : (journal : History) (old : State) (entry : Entry) → JOURNAL_LIMIT ≤ length journal.entries → HasNoStep journal old entry
@@ -117,7 +144,7 @@ can_be_kept (Owned id seqid) call journal old decision ruled sendable = λ kind.
 pub decided_next : (journal : History) (old : State) (request : Request) (result : Result Decision Shortage) → length journal.entries < JOURNAL_LIMIT → CanBeAsked journal request → Decides (IsRuled request.op journal old request) old request.op result → IfOk result (λ decision. IsNext journal old (entry_of request decision.answer) decision.effect)
 decided_next journal old request (Ok decision) below asked decides = record {
   below = below;
-  allowed = record { rule = decides.0; other = decides.1.not_resource; node = asked.node };
+  allowed = record { rule = decides.0; other = decides.1.not_resource; node = asked_node journal request asked };
   fits = record {
     kept = can_be_kept (names_of request.op) (record { request = request; answer = decision.answer }) journal old decision decides.0 decides.1;
     numbers = decides.2;
@@ -154,11 +181,15 @@ ruled_entry ops.Restorefh journal old request decision ruled = absurd cc
 ruled_entry ops.Savefh journal old request decision ruled = absurd cc
 ruled_entry op journal old request decision ruled = refl
 
+-- a request that is answered can be asked
+answered_asked : (journal : History) (old : State) (call : Call) (effect : Effect) → IsAnswered journal old call effect → CanBeAsked journal call.request
+answered_asked journal old call effect answered =
+    let decision : Decision = record { answer = call.answer; effect = effect } in
+    can_ask journal call.request (ruled_entry call.request.op journal old call.request decision answered.rule) answered.node
+
 -- a request that can't be asked isn't answered
-pub not_asked : (journal : History) (old : State) (call : Call) → (CanBeAsked journal call.request → ⊥) → HasNoStep journal old (entries.Call call)
-not_asked journal old call not new step =
-    let decision : Decision = record { answer = call.answer; effect = step.effect } in
-    not (record { entry = ruled_entry call.request.op journal old call.request decision step.allowed.rule; node = step.allowed.node })
+pub not_asked : (journal : History) (old : State) (call : Call) → IsFalse (can_be_asked (node_count journal.nodes) call.request) → HasNoStep journal old (entries.Call call)
+not_asked journal old call not new step = both_ways _ not (answered_asked journal old call step.effect step.allowed)
 
 -- where a decision fails because nothing may come next, a limit would be passed
 pub limit_not_next : (shortage : Shortage) → error_of shortage ≡ errors.NotNext → shortage ≡ shortages.Limit
@@ -166,8 +197,20 @@ limit_not_next shortages.Limit is = refl
 limit_not_next shortages.Memory is = absurd cc
 
 -- an entry that may come next, and leads to the state that its effect gives
-pub Step-next : (journal : History) (old new : State) (entry : Entry) (effect : Effect) → IsNext journal old entry effect → new ≡ after (length journal.entries) effect old → Step journal old entry new
+pub Step-next : (journal : History) (old new : State) (entry : Entry) (effect : Effect) → IsNext journal old entry effect → new ≡ after (length journal.entries) entry effect old → Step journal old entry new
 Step-next journal old new entry effect next state = record { below = next.below; effect = effect; allowed = next.allowed; state = state }
+
+-- where memory runs out for a decision, no limit would be passed
+pub memory_runs_out : (shortage : Shortage) → error_of shortage ≡ errors.Memory → shortage ≡ shortages.Memory
+memory_runs_out shortages.Memory is = refl
+memory_runs_out shortages.Limit is = absurd cc
+
+-- an entry that may come next may do so without a look at its answer
+pub next_follows : (server : Server) (entry : Entry) (effect : Effect) → IsNext server.journal (meaning server.stored) entry effect → MayFollow server entry
+next_follows server (entries.Call call) effect next =
+    let decision : Decision = record { answer = call.answer; effect = effect } in
+    (answered_asked server.journal (meaning server.stored) call effect next.allowed, (next.below, (decision, next.allowed.rule)))
+next_follows server (entries.Expire expire) effect next = ((next.allowed.live, next.allowed.due), next.below)
 
 -- a client's end may come next
 pub expiry_next : (journal : History) (old : State) (expire : Expire) (effect : Effect) → length journal.entries < JOURNAL_LIMIT → IsExpiry journal old expire effect → IsNext journal old (entries.Expire expire) effect
@@ -184,7 +227,7 @@ expiry_next journal old expire effect below expiry = record {
 -- where a client isn't removed though there is memory, its end may not come next
 pub no_expiry : (server : Server) (expire : Expire) (error : CoreError) → error ≢ core_errors.Memory → IsNotEndedFor server expire error → HasNoStep server.journal (meaning server.stored) (entries.Expire expire)
 no_expiry server expire core_errors.NotLive other kept new step = absurd (cc (kept, step.allowed.live))
-no_expiry server expire core_errors.NotDue other kept new step = kept.1 step.allowed.due
+no_expiry server expire core_errors.NotDue other kept new step = absurd (cc (kept.1, step.allowed.due))
 no_expiry server expire core_errors.Full other kept new step = omega (arith, kept.1, step.below)
 no_expiry server expire core_errors.Memory other kept new step = absurd (other refl)
 

@@ -1,5 +1,5 @@
 -- Lawful journals: those whose entries the rules allow.
-use Rattle.std.proofs.Common.{◌≡◌, Bool, true, false, ℕ, ◌≤◌, Some, None, List, [], ◌∷◌, ◌++◌, length, map, refl, sym, ap, ◌∙◌, ◌+◌, subst, append_assoc, append-nil, arith, Result, Ok, Err}
+use Rattle.std.proofs.Common.{◌≡◌, Bool, true, false, ℕ, ◌≤◌, Some, None, List, [], ◌∷◌, ◌++◌, length, map, refl, sym, ap, ◌∙◌, ◌+◌, ◌*◌, subst, append_assoc, append-nil, arith, Result, Ok, Err}
 use Rattle.nfs_state.specs.declared.effect.Effect.{Effect}
 use Rattle.nfs_state.specs.declared.entry.Call.{Call}
 use Rattle.std.specs.Prelude.{IfOk, OnErr, is_some}
@@ -27,7 +27,7 @@ use Rattle.nfs_state.specs.declared.entry.Entry.TheVariants as entries
 use Rattle.nfs_core.specs.Lawful.{AtMostOneState, Leads, Lawful}
 use Rattle.nfs_state.specs.State.{State, History, empty_server}
 use Rattle.nfs_core.specs.Step.{Allows, AtMostOneStateAfter, AtMostOneStep, Step}
-use Rattle.nfs_state.specs.Entries.{with_entry}
+use Rattle.nfs_state.specs.Entries.{entry_of, with_entry}
 use Rattle.nfs_state.specs.Kept.{Agrees}
 use Rattle.nfs_state.specs.Journal.{RoomyJournal}
 use Rattle.nfs_state.specs.Room.{state_of, stored_of}
@@ -83,7 +83,7 @@ Allows-once once journal old (entries.Expire expire) effect effect' a a' = a.rem
 -- an entry leads to at most one state
 pub Step-once : AtMostOneDecision → AtMostOneStateAfter
 Step-once once journal old entry new new' s s' =
-    s.state ∙ ap (λ (e : Effect). after (length journal.entries) e old) (Allows-once once journal old entry s.effect s'.effect s.allowed s'.allowed) ∙ sym s'.state
+    s.state ∙ ap (λ (e : Effect). after (length journal.entries) entry e old) (Allows-once once journal old entry s.effect s'.effect s.allowed s'.allowed) ∙ sym s'.state
 
 -- a request has at most one answer, and leads to at most one state
 pub Step-unique : AtMostOneDecision → AtMostOneStep
@@ -91,7 +91,7 @@ Step-unique once journal old request answer answer' new new' s s' =
     let d : Decision = record { answer = answer; effect = s.effect } in
     let d' : Decision = record { answer = answer'; effect = s'.effect } in
     let same = some_equal d d' (once journal old request (Some d) (Some d') s.allowed.rule s'.allowed.rule) in
-    (ap (λ (x : Decision). x.answer) same, s.state ∙ ap (λ (x : Decision). after (length journal.entries) x.effect old) same ∙ sym s'.state)
+    (ap (λ (x : Decision). x.answer) same, s.state ∙ ap (λ (x : Decision). after (length journal.entries) (entry_of request x.answer) x.effect old) same ∙ sym s'.state)
 
 Leads-once : AtMostOneDecision → (journal : History) (old new new' : State) (entries : List Entry) → Leads journal old entries new → Leads journal old entries new' → new ≡ new'
 Leads-once once journal old new new' [] leads leads' = leads ∙ sym leads'
@@ -146,12 +146,12 @@ Leads-confirm journal old new (entry ∷ entries) leads =
 pub Lawful-confirm : (journal : History) (state : State) → Lawful journal state → state.clients.last_confirm ≤ length journal.entries
 Lawful-confirm journal state lawful = omega (arith, Leads-confirm (record journal { entries = [] }) (empty_server journal.nodes) state journal.entries lawful)
 
--- a change uses at most one number of a state
-last_after : (has_open : Bool) (last : ℕ) → last_state_after has_open last ≤ last + 1
+-- a change uses at most two numbers of states
+last_after : (has_open : Bool) (last : ℕ) → last_state_after has_open last ≤ last + 2
 last_after true last = omega arith
 last_after false last = omega arith
 
-changed_state : (change : Change) (old : State) → (with_state_change change old).last_state ≤ old.last_state + 1
+changed_state : (change : Change) (old : State) → (with_state_change change old).last_state ≤ old.last_state + 2
 changed_state changes.Nothing old = omega arith
 changed_state (changes.Clients (client_changes.Replaces r client)) old = omega arith
 changed_state (changes.Clients change) old = omega arith
@@ -163,16 +163,16 @@ owner_change_state : (change : OwnerChange) (number : ℕ) (old : State) → (wi
 owner_change_state Nothing number old = refl
 owner_change_state change number old = refl
 
-Step-state : (journal : History) (old : State) (entry : Entry) (new : State) → Step journal old entry new → new.last_state ≤ old.last_state + 1
+Step-state : (journal : History) (old : State) (entry : Entry) (new : State) → Step journal old entry new → new.last_state ≤ old.last_state + 2
 Step-state journal old entry new step =
     let number = length journal.entries in
     omega (arith, changed_state step.effect.change (with_owner_change step.effect.owner number old), owner_change_state step.effect.owner number old, ap (λ (s : State). s.last_state) step.state)
 
-Leads-state : (journal : History) (old new : State) (entries : List Entry) → Leads journal old entries new → new.last_state ≤ old.last_state + length entries
+Leads-state : (journal : History) (old new : State) (entries : List Entry) → Leads journal old entries new → new.last_state ≤ old.last_state + 2 * length entries
 Leads-state journal old new [] leads = omega (arith, ap (λ (s : State). s.last_state) leads)
 Leads-state journal old new (entry ∷ entries) leads =
     omega (arith, Step-state journal old entry leads.0 leads.1, Leads-state (with_entry entry journal) leads.0 new entries leads.2)
 
--- no more numbers were given to states than the journal has entries
-pub Lawful-state : (journal : History) (state : State) → Lawful journal state → state.last_state ≤ length journal.entries
+-- no more numbers were given to states than two for each entry of the journal
+pub Lawful-state : (journal : History) (state : State) → Lawful journal state → state.last_state ≤ 2 * length journal.entries
 Lawful-state journal state lawful = omega (arith, Leads-state (record journal { entries = [] }) (empty_server journal.nodes) state journal.entries lawful)

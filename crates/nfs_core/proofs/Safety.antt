@@ -50,6 +50,7 @@ sound_empty journal =
       live = tt;
       known = all_replicate (AllByRecursion (IsKnownIn [])) [] tt count;
       compatible = all_replicate AllAreCompatible [] tt count;
+      single = tt;
       locks = no_locks count (empty_server journal.nodes).opens;
     }
 
@@ -58,7 +59,7 @@ pub allowed_ready : (journal : History) (old : State) (entry : Entry) (effect : 
 allowed_ready journal old (entries.Expire expire) effect sound singles allowed =
     subst (IsEffectReady (length journal.entries) old) (sym allowed.removal) (tt, (allowed.live, alone (client_of journal expire.client) old.clients allowed.live singles.same))
 allowed_ready journal old (entries.Call call) effect sound singles allowed =
-    ruled_ready (length journal.entries) journal old call.request.op call.request (record { answer = call.answer; effect = effect }) refl sound singles allowed.rule
+    ruled_ready (length journal.entries) journal old call.request.op call.request (record { answer = call.answer; effect = effect }) refl sound allowed.rule
 
 -- What holds of the state after each entry.
 pub record Holds (state : State) : Type 0 where
@@ -83,10 +84,10 @@ pub record Laws : Type 0 where
   pub locks : LocksStay
   pub runs : FirstRuns
 
-holds_after : Laws → (number : ℕ) (effect : Effect) (old : State) → IsEffectReady number old effect → Holds old → Holds (after number effect old)
-holds_after laws number effect old ready holds = record {
-  sound = sound_after laws.opens laws.locks number effect old ready holds.sound;
-  numbered = numbered_after number effect old holds.numbered;
+holds_after : Laws → (number : ℕ) (entry : Entry) (effect : Effect) (old : State) → IsEffectReady number old effect → Holds old → Holds (after number entry effect old)
+holds_after laws number entry effect old ready holds = record {
+  sound = sound_after laws.opens laws.locks number entry effect old ready holds.sound;
+  numbered = numbered_after number entry effect old holds.numbered;
   ones = ones_changed effect.change (with_owner_change effect.owner number old) ready.1 (ones_owned effect.owner number old holds.ones);
   singles = singles_after effect.change (with_owner_change effect.owner number old) ready.1 (singles_owned effect.owner number old holds.singles);
   within = limits_changed laws.runs effect.change (with_owner_change effect.owner number old) ready.1 (limits_owned effect.owner number old ready.0 holds.within);
@@ -95,7 +96,7 @@ holds_after laws number effect old ready holds = record {
 pub holds_step : Laws → (journal : History) (old : State) (entry : Entry) (new : State) → Step journal old entry new → Holds old → Holds new
 holds_step laws journal old entry new step holds =
     subst Holds (sym step.state)
-    (holds_after laws (length journal.entries) step.effect old (allowed_ready journal old entry step.effect holds.sound holds.singles step.allowed) holds)
+    (holds_after laws (length journal.entries) entry step.effect old (allowed_ready journal old entry step.effect holds.sound holds.singles step.allowed) holds)
 
 pub holds_leads : Laws → (journal : History) (old new : State) (entries : List Entry) → Leads journal old entries new → Holds old → Holds new
 holds_leads laws journal old new [] leads holds = subst Holds (sym leads) holds

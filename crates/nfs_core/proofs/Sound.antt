@@ -119,6 +119,13 @@ AreKnown owners opens = AllByRecursion (AllByRecursion (IsKnownIn owners)) opens
 abbrev pub AreCompatible : List (List OpenState) → Type 0
 AreCompatible opens = AllByRecursion AllAreCompatible opens
 
+-- confirmed records with one id are of one client
+abbrev pub HasSameClient : ClientRecord → ClientRecord → Type 0
+HasSameClient r s = is_of r.id s ≡ true → is_same_client s.state.client r.state.client ≡ true
+
+abbrev pub AreSingle : List ClientRecord → Type 0
+AreSingle records = AllByRecursion (λ r. AllByRecursion (HasSameClient r) records) records
+
 -- the record has this clientid and this id
 abbrev pub is_record_of : ClientId → List ℕ → ClientRecord → Bool
 is_record_of client id s = is_same_client s.state.client client && bytes_eq s.id id
@@ -153,6 +160,7 @@ pub record IsSound (state : State) : Type 0 where
   pub live : AreLive state.clients.confirmed state.owners
   pub known : AreKnown state.owners state.opens
   pub compatible : AreCompatible state.opens
+  pub single : AreSingle state.clients.confirmed
   pub locks : HasSoundLocks state.owners state.opens state.last_state state.locks
 
 -- Owners that change, none of them its name.
@@ -280,8 +288,27 @@ opening_known owners owner share number known xs h =
 
 -- The records of clients.
 
+-- A record is added, and of the others those stay that a test keeps.
+pub single_after : (q : ClientRecord → Bool) (r : ClientRecord) → HasSameClient r r → ((s : ClientRecord) → q s ≡ true → HasSameClient r s × HasSameClient s r) → (records : List ClientRecord) → AreSingle records → AreSingle (filter q records ++ r ∷ [])
+single_after q r self beside records single =
+    let new = filter q records ++ r ∷ [] in
+    all_push (λ a. AllByRecursion (HasSameClient a) new) (filter q records) r
+    (all_filter (λ a. AllByRecursion (HasSameClient a) records) (λ a. AllByRecursion (HasSameClient a) new) q
+    (λ a h kept. all_push (HasSameClient a) (filter q records) r
+    (all_filter (HasSameClient a) (HasSameClient a) q (λ b same _. same) records h) (beside a kept).1) records single)
+    (all_push (HasSameClient r) (filter q records) r
+    (all_filter (λ b. ⊤) (HasSameClient r) q (λ b _ kept. (beside b kept).0) records (all_always records)) self)
+
 never : (b : Bool) → b ≡ false → b ≡ true → ⊥
 never b unset is_set = cc
+
+pub single_confirmed : (r : ClientRecord) → (records : List ClientRecord) → AreSingle records → AreSingle (without_id r.id records ++ r ∷ [])
+single_confirmed r records single =
+    single_after (λ s. not (is_of r.id s)) r (λ _. same_client_self r.state.client)
+    (λ s other. (
+      (λ same. absurd (never (bytes_eq s.id r.id) (not-true (bytes_eq s.id r.id) other) same)),
+      (λ same. absurd (never (bytes_eq s.id r.id) (not-true (bytes_eq s.id r.id) other) ((bytes_eq-Decides s.id r.id).1 (sym ((bytes_eq-Decides r.id s.id).0 same))))),
+    )) records single
 
 -- each confirmed record with this id is one of the client
 abbrev pub IsOnlyOf : ClientId → List ℕ → ClientRecord → Type 0
@@ -318,6 +345,10 @@ live_replaced r client records owners only live =
 -- the record, if it has the client's number, is one of the client
 abbrev pub IsAloneOf : ClientId → ClientRecord → Type 0
 IsAloneOf client r = r.state.client.number ≡ client.number → r.state.client ≡ client
+
+-- the records without those that a test removes
+pub single_left : (p : ClientRecord → Bool) (records : List ClientRecord) → AreSingle records → AreSingle (filter (λ r. not (p r)) records)
+single_left p records single = pairs_filter HasSameClient (λ r. not (p r)) records single
 
 -- The records with the client's number, which are all its own, leave who else is live.
 pub live_expired : (client : ClientId) (records : List ClientRecord) (owners : List KnownOwner) → AllByRecursion (IsAloneOf client) records → AreLive records owners

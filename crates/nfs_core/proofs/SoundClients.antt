@@ -1,16 +1,16 @@
 -- The clients' records: an id has one confirmed and one unconfirmed one at most, a clientid one confirmed one at most, and
 -- each client number was given, to one id.
-use Rattle.std.proofs.Common.{◌≡◌, inl, inr, ℕ, Bool, Some, true, false, List, [], ◌∷◌, ◌++◌, filter, refl, sym, ap, ◌∙◌, subst, arith}
-use Rattle.std.specs.Prelude.{⊤, ◌+◌, ◌≤◌, ◌&&◌, find, nat_le, is_some, not}
+use Rattle.std.proofs.Common.{◌≡◌, ℕ, Bool, true, false, List, [], ◌∷◌, ◌++◌, filter, refl, sym, ap, ◌∙◌, subst, arith}
+use Rattle.std.specs.Prelude.{⊤, ◌+◌, ◌≤◌, ◌&&◌, nat_le, is_some, not}
 use Rattle.std.specs.List.{AllByRecursion, IsDistinct, list_any}
 use Rattle.std.specs.Str.{bytes_eq}
-use Rattle.std.proofs.lemmas.Bool.{and_from, and_parts, cases_Bool, cond-false, cond-true, eqb-true, false_from_ne_true, le-leb, not-true}
+use Rattle.std.proofs.lemmas.Bool.{and_from, and_parts, cases_Bool, eqb-true, false_from_ne_true, le-leb, not-true}
 use Rattle.std.proofs.lemmas.Slice.Eq.{bytes_eq-Decides}
 use Rattle.nfs_core.specs.Safe.{WasGiven, have_same_client}
 use Rattle.nfs_core.proofs.LiveLists.{none_any}
 use Rattle.nfs_core.proofs.SafeDistinct.{distinct_filter, distinct_none, distinct_push}
 use Rattle.nfs_core.proofs.SafeLists.{all_always, all_both, all_filter, all_push, all_weaken, found_holds}
-use Rattle.nfs_core.proofs.Sound.{HasRecord, IsAloneOf, IsOnlyOf, equal_clients, is_live_in, is_record_of, none_of, same_client_self}
+use Rattle.nfs_core.proofs.Sound.{HasRecord, IsAloneOf, equal_clients, is_live_in, is_record_of}
 use Rattle.nfs_core.proofs.SoundSequences.{never}
 use Rattle.nfs_core.proofs.SoundSteps.{IsChangeReady, IsClientReady}
 use Rattle.nfs_forms.specs.ClientId.{is_same_client}
@@ -70,28 +70,6 @@ pub record HasSingles (registry : Registry) : Type 0 where
   pub unconfirmed : IsDistinct have_same_id registry.unconfirmed
   pub same : HaveSameIds registry
   pub given : EachRecord (HasGivenNumber registry.last_number) registry
-
--- the record with an id is the only one with it
-pub only_of : (id : List ℕ) (records : List ClientRecord) (old : ClientRecord) → IsDistinct have_same_id records → find (is_of id) records ≡ Some old → AllByRecursion (IsOnlyOf old.state.client id) records
-unfolding IsDistinct
-only_of id [] old ids is = tt
-only_of id (r ∷ records) old ids is = elim (cases_Bool (is_of id r)) [
-  | inl here ↦
-      let same : Some r ≡ Some old = sym (cond-true (is_of id r) (Some r) (find (is_of id) records) here) ∙ is in
-      let equal : r ≡ old = search same in
-      (
-        λ _. subst (λ (s : ClientRecord). is_same_client r.state.client s.state.client ≡ true) equal (same_client_self r.state.client),
-        none_of old.state.client id records
-            (all_weaken (λ s. have_same_id r s ≡ false) (λ s. is_of id s ≡ false)
-            (λ s other. false_from_ne_true (is_of id s)
-            (λ of. never (have_same_id r s) other
-            ((bytes_eq-Decides r.id s.id).1 ((bytes_eq-Decides r.id id).0 here ∙ sym ((bytes_eq-Decides s.id id).0 of))))) records ids.0),
-      )
-  | inr other ↦ (
-      λ of. absurd (never (is_of id r) other of),
-      only_of id records old ids.1 (sym (cond-false (is_of id r) (Some r) (find (is_of id) records) other) ∙ is),
-    )
-]
 
 -- A record that is added has the id of all others of its client, and a number that was given.
 record Joins (last : ℕ) (registry : Registry) (r : ClientRecord) : Type 0 where
@@ -258,8 +236,7 @@ own_number : (registry : Registry) (r : ClientRecord) → EachRecord (HasSameId 
 own_number registry r h =
     let n = r.state.client.number in
     let takes : ClientRecord → Bool = takes_number r.id n in
-    let none = each_weaken (HasSameId r) (λ s. takes s ≡ false) (λ s same. takes_none r s same) registry h.0 in
-    (
+    let none = each_weaken (HasSameId r) (λ s. takes s ≡ false) (λ s same. takes_none r s same) registry h.0 in (
       and_from (nat_le 1 n) (nat_le n registry.last_number) (le-leb 1 n h.1.0) (le-leb n registry.last_number h.1.1),
       none_any takes registry.confirmed none.0,
       none_any takes registry.unconfirmed none.1,

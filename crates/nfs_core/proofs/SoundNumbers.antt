@@ -22,6 +22,7 @@ use Rattle.nfs_state.specs.State.{State, empty_server}
 use Rattle.nfs_state.specs.declared.change.Change.{Change}
 use Rattle.nfs_state.specs.declared.change.Change.TheVariants as changes
 use Rattle.nfs_state.specs.declared.effect.Effect.{Effect}
+use Rattle.nfs_state.specs.declared.entry.Entry.{Entry}
 use Rattle.nfs_state.specs.declared.owner_change.OwnerChange.{OwnerChange}
 use Rattle.nfs_state.specs.declared.owner_change.OwnerChange.TheVariants as owner_changes
 use Rattle.nfs_tree.specs.Tree.{node_count}
@@ -197,8 +198,8 @@ numbered_owned change number old h n =
     (once_less old.last_state n (weight (is_one n) old) (weight (is_one n) (with_owner_change change number old)) (weight_owned (is_one n) change number old) (h n))
 
 -- an entry with any effect
-pub numbered_after : (number : ℕ) (effect : Effect) (old : State) → HasNumbers old → HasNumbers (after number effect old)
-numbered_after number effect old h =
+pub numbered_after : (number : ℕ) (entry : Entry) (effect : Effect) (old : State) → HasNumbers old → HasNumbers (after number entry effect old)
+numbered_after number entry effect old h =
     numbered_changed effect.change (with_owner_change effect.owner number old) (numbered_owned effect.owner number old h)
 
 pub numbered_empty : (nodes : List Node) → HasNumbers (empty_server nodes)

@@ -32,8 +32,7 @@ use Rattle.nfs_rules.specs.Refusing.{◌>>=◌}
 use Rattle.nfs_rules.specs.Stateids.{any_open, as_open, confirmed_open, verdict}
 use Rattle.nfs_state.specs.State.{State, History, record_has_state}
 use Rattle.nfs_core.proofs.SafeLists.{all_always, all_find, all_none, all_weaken, found_last, found_some}
-use Rattle.nfs_core.proofs.Sound.{HasRecord, IsOnlyOf, IsSound, is_live_in, is_record_of, same_client_self, same_name_self}
-use Rattle.nfs_core.proofs.SoundClients.{HasSingles, only_of}
+use Rattle.nfs_core.proofs.Sound.{AreSingle, HasSameClient, HasRecord, IsOnlyOf, IsSound, is_live_in, is_record_of, same_client_self, same_name_self}
 use Rattle.nfs_core.proofs.SoundLocking.{lock_ready, lock_sequenced, locku_ready, stateid_of}
 use Rattle.nfs_core.proofs.SoundSequences.{IsFit, IsOf, IsOwnReady, as_decided, continues_ready, continuing, never, place_for_nobody, quiet_ready, sequenced_ready, some_equal}
 use Rattle.nfs_core.proofs.SoundSteps.{IsChangeReady, IsClientReady, IsOwnerReady, IsReady}
@@ -159,23 +158,26 @@ finding_fits registry (Some r) has_state principal args is =
 finding_fits registry None has_state principal args is = before_fits registry (record_state (confirmed_named_by args registry)) principal
 
 -- all confirmed records with the holder's id are of its client, and it is there
-held : (registry : Registry) (id : List ℕ) (state : ClientState) → HasSingles registry → IsHolder registry id state
+held : (registry : Registry) (id : List ℕ) (state : ClientState) → AreSingle registry.confirmed → IsHolder registry id state
     → AllByRecursion (IsOnlyOf state.client id) registry.confirmed × HasRecord state.client id registry.confirmed
-held registry id state singles holds =
+held registry id state single holds =
     let old = holds.0 in
+    let found = all_find (λ r. AllByRecursion (HasSameClient r) registry.confirmed) (is_of id) registry.confirmed old holds.1 single in
+    let ids : old.id ≡ id = (bytes_eq-Decides old.id id).0 found.1 in
     subst (λ (s : ClientState). AllByRecursion (IsOnlyOf s.client id) registry.confirmed × HasRecord s.client id registry.confirmed) holds.2 (
-      only_of id registry.confirmed old singles.confirmed holds.1,
-      found_record (is_of id) old.state.client id registry.confirmed old holds.1 (found_passes (is_of id) registry.confirmed old holds.1) (same_client_self old.state.client),
+      all_weaken (HasSameClient old) (IsOnlyOf old.state.client id)
+          (λ s same of. same (subst (λ i. bytes_eq s.id i ≡ true) (sym ids) of)) registry.confirmed found.0,
+      found_record (is_of id) old.state.client id registry.confirmed old holds.1 found.1 (same_client_self old.state.client),
     )
 
-pub confirms : (registry : Registry) (case : Confirmation) (path : PathMark) → HasSingles registry → IsFitting registry case → IsClientReady (confirmation_by case path).1 registry
-confirms registry Stale path singles fits = tt
-confirms registry InUse path singles fits = tt
-confirms registry Retransmission path singles fits = tt
-confirms registry (First r) path singles fits = (all_none (is_of r.id) registry.confirmed fits.0, fits.1)
-confirms registry (Update old r) path singles fits = held registry r.id old singles fits
-confirms registry (InPlaceOf old r) path singles fits =
-    let holds = held registry r.id old singles fits.0 in
+pub confirms : (registry : Registry) (case : Confirmation) (path : PathMark) → AreSingle registry.confirmed → IsFitting registry case → IsClientReady (confirmation_by case path).1 registry
+confirms registry Stale path single fits = tt
+confirms registry InUse path single fits = tt
+confirms registry Retransmission path single fits = tt
+confirms registry (First r) path single fits = (all_none (is_of r.id) registry.confirmed fits.0, fits.1)
+confirms registry (Update old r) path single fits = held registry r.id old single fits
+confirms registry (InPlaceOf old r) path single fits =
+    let holds = held registry r.id old single fits.0 in
     (holds.0, holds.1, fits.1, fits.2)
 
 -- OPEN_CONFIRM, OPEN_DOWNGRADE and CLOSE: what they change is always ready.
@@ -329,48 +331,48 @@ release_ready number state args =
     (λ _. cond_both (holds args.owner state.locks) (release.refusal_of refusals.LocksHeld) forgets (IsReady number state) (λ _. (tt, tt)) (λ _. (tt, tt)))
 
 -- what a rule decides is ready to keep the state sound
-pub ruled_ready : (number : ℕ) (journal : History) (state : State) (op : Op) (request : Request) (d : Decision) → request.op ≡ op → IsSound state → HasSingles state.clients → IsRuled op journal state request (Some d) → IsReady number state d
-ruled_ready number journal state (ops.Getattr mask) request d same sound singles is =
+pub ruled_ready : (number : ℕ) (journal : History) (state : State) (op : Op) (request : Request) (d : Decision) → request.op ≡ op → IsSound state → IsRuled op journal state request (Some d) → IsReady number state d
+ruled_ready number journal state (ops.Getattr mask) request d same sound is =
     as_decided number state d _ is (tt, tt)
-ruled_ready number journal state (ops.Setclientid args) request d same sound singles is =
+ruled_ready number journal state (ops.Setclientid args) request d same sound is =
     let holder = record_state (confirmed_of state.clients args.id) in
     let has_state = record_has_state state holder in
     registers number state d (registrations.registration journal.epoch has_state state.clients request.principal args)
     (registered (registrations.finding holder has_state request.principal args) journal.epoch state.clients request.principal args
     (finding_found state.clients args (confirmed_of state.clients args.id) has_state request.principal refl)) is
-ruled_ready number journal state (ops.SetclientidConfirm args) request d same sound singles is =
+ruled_ready number journal state (ops.SetclientidConfirm args) request d same sound is =
     let path = confirm.path_of journal.policy.callbacks in
     let named = unconfirmed_named_by args state.clients in
     let has_state = record_has_state state (record_state (confirmations.holder_of named state.clients)) in
     as_decided number state d _ is (
       tt,
-      confirms state.clients (confirmations.finding named state.clients has_state request.principal args) path singles
+      confirms state.clients (confirmations.finding named state.clients has_state request.principal args) path sound.single
           (finding_fits state.clients named has_state request.principal args refl),
     )
-ruled_ready number journal state (ops.Open args) request d same sound singles is =
+ruled_ready number journal state (ops.Open args) request d same sound is =
     sequenced_ready number journal state (requester_of_open state args.owner args.seqid) request (opening.own journal state args)
     (open_ready number journal state request.op args request sound same) d is
-ruled_ready number journal state (ops.OpenConfirm args) request d same sound singles is =
+ruled_ready number journal state (ops.OpenConfirm args) request d same sound is =
     sequenced_ready number journal state (requester_of_stateid journal state args.stateid args.seqid) request (open_confirm.own journal state args)
     (quiet_ready number journal state (requester_of_stateid journal state args.stateid args.seqid) request.op (open_confirm.own journal state args request) sound (ap is_open same) (λ client. ap (newcomer_of journal state client) same)
     (λ node passage ruling h. as_ruled ruling _ h (confirmation_quiet state (verdict (any_open node) journal.epoch state args.stateid >>= as_open)))) d is
-ruled_ready number journal state (ops.OpenDowngrade args) request d same sound singles is =
+ruled_ready number journal state (ops.OpenDowngrade args) request d same sound is =
     sequenced_ready number journal state (requester_of_stateid journal state args.stateid args.seqid) request (open_downgrade.own journal state args)
     (quiet_ready number journal state (requester_of_stateid journal state args.stateid args.seqid) request.op (open_downgrade.own journal state args request) sound (ap is_open same) (λ client. ap (newcomer_of journal state client) same)
     (λ node passage ruling h. found_quiet (verdict (confirmed_open node) journal.epoch state args.stateid >>= as_open) args ruling h)) d is
-ruled_ready number journal state (ops.Close args) request d same sound singles is =
+ruled_ready number journal state (ops.Close args) request d same sound is =
     sequenced_ready number journal state (requester_of_stateid journal state args.stateid args.seqid) request (close.own journal state args)
     (quiet_ready number journal state (requester_of_stateid journal state args.stateid args.seqid) request.op (close.own journal state args request) sound (ap is_open same) (λ client. ap (newcomer_of journal state client) same)
     (λ node passage ruling h. as_ruled ruling _ h (closing_quiet (verdict (confirmed_open node) journal.epoch state args.stateid >>= as_open)))) d is
-ruled_ready number journal state (ops.Lock args) request d same sound singles is =
+ruled_ready number journal state (ops.Lock args) request d same sound is =
     let sequenced = lock_sequenced args args.locker journal state request (Some d) is in
     sequenced_ready number journal state (requester_of_stateid journal state (stateid_of args.locker) sequenced.0) request (lock.own journal state args)
     (lock_ready number journal state request.op args request sequenced.0 sound same) d sequenced.1
-ruled_ready number journal state (ops.Lockt args) request d same sound singles is =
+ruled_ready number journal state (ops.Lockt args) request d same sound is =
     test_ready number state args (lockt.lockt_file journal state request.filehandle args) d is
-ruled_ready number journal state (ops.Locku args) request d same sound singles is =
+ruled_ready number journal state (ops.Locku args) request d same sound is =
     sequenced_ready number journal state (requester_of_stateid journal state args.stateid args.seqid) request (locku.own journal state args)
     (locku_ready number journal state request.op args request sound same) d is
-ruled_ready number journal state (ops.ReleaseLockowner args) request d same sound singles is =
+ruled_ready number journal state (ops.ReleaseLockowner args) request d same sound is =
     as_decided number state d _ is (release_ready number state args)
-ruled_ready number journal state op request d same sound singles is = absurd cc
+ruled_ready number journal state op request d same sound is = absurd cc

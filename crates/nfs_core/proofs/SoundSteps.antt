@@ -6,6 +6,7 @@ use Rattle.nfs_state.specs.declared.change.Change.{Change}
 use Rattle.nfs_state.specs.declared.change.Change.TheVariants as changes
 use Rattle.nfs_rules.specs.declared.decision.Decision.{Decision}
 use Rattle.nfs_state.specs.declared.effect.Effect.{Effect}
+use Rattle.nfs_state.specs.declared.entry.Entry.{Entry}
 use Rattle.nfs_state.specs.declared.owner_change.OwnerChange.{OwnerChange}
 use Rattle.nfs_state.specs.declared.owner_change.OwnerChange.TheVariants as owner_changes
 use Rattle.nfs_state.specs.Owners.{KnownOwner, has_name, is_confirmed, with_confirmation, with_kept_entry, with_record, without_owner}
@@ -15,7 +16,7 @@ use Rattle.nfs_state.specs.Places.{has_state_place}
 use Rattle.nfs_state.specs.State.{State}
 use Rattle.nfs_core.proofs.SafeFiles.{opens_at, set_opens}
 use Rattle.nfs_core.proofs.SafeLists.{all_filter, all_push, all_set}
-use Rattle.nfs_core.proofs.Sound.{AreLive, IsAloneOf, HasRecord, IsKnownIn, IsOnlyOf, IsSound, StandsUnder, KeepsOwner, KeepsOwners, OpensStay, dropped_compatible, dropped_known, dropped_live, each_known, is_known_in, is_live_in, keeps_mapped, keeps_recorded, keeps_tested, live_confirmed, live_expired, live_replaced, mapped_live, name_left, none_of, opening_known, renamed_known}
+use Rattle.nfs_core.proofs.Sound.{AreLive, IsAloneOf, HasRecord, IsKnownIn, IsOnlyOf, IsSound, StandsUnder, KeepsOwner, KeepsOwners, OpensStay, dropped_compatible, dropped_known, dropped_live, each_known, is_known_in, is_live_in, keeps_mapped, keeps_recorded, keeps_tested, live_confirmed, live_expired, live_replaced, mapped_live, name_left, none_of, opening_known, renamed_known, single_confirmed, single_left}
 use Rattle.nfs_core.proofs.SoundLocks.{LocksStay, locks_begun, locks_changed, locks_closed, locks_numbered, locks_owned, locks_released, locks_reopened, locks_without, locks_without_client, under_each, under_opening}
 use Rattle.nfs_forms.specs.ClientId.{is_same_client}
 use Rattle.nfs_forms.specs.OpenOwner.{is_same_owner}
@@ -102,6 +103,7 @@ sound_owners new old live keeps sound = record {
   live = live;
   known = renamed_known old.owners new (λ o found. keeps.known (open_owner o) found) old.opens sound.known;
   compatible = sound.compatible;
+  single = sound.single;
   locks = locks_owned old.owners new old.opens old.last_state old.locks keeps sound.locks;
 }
 
@@ -138,6 +140,7 @@ sound_dropped law name old unset sound =
       live = dropped_live t old.clients.confirmed old.owners sound.live;
       known = dropped_known t old.owners old.opens sound.known;
       compatible = dropped_compatible law (λ o. is_same_owner o.owner name) old.opens sound.compatible;
+      single = sound.single;
       locks = locks_without name old.owners old.opens old.last_state old.locks unset sound.locks;
     }
 
@@ -161,36 +164,42 @@ sound_clients law lock_law client_changes.Nothing old ready sound = record {
   live = sound.live;
   known = sound.known;
   compatible = sound.compatible;
+  single = sound.single;
   locks = sound.locks;
 }
 sound_clients law lock_law (client_changes.Arrives r) old ready sound = record {
   live = sound.live;
   known = sound.known;
   compatible = sound.compatible;
+  single = sound.single;
   locks = sound.locks;
 }
 sound_clients law lock_law (client_changes.Updates r) old ready sound = record {
   live = sound.live;
   known = sound.known;
   compatible = sound.compatible;
+  single = sound.single;
   locks = sound.locks;
 }
 sound_clients law lock_law (client_changes.Confirms r) old ready sound = record {
   live = live_confirmed r old.clients.confirmed old.owners (none_of r.state.client r.id old.clients.confirmed ready.0) sound.live;
   known = sound.known;
   compatible = sound.compatible;
+  single = single_confirmed r old.clients.confirmed sound.single;
   locks = sound.locks;
 }
 sound_clients law lock_law (client_changes.Refreshes r) old ready sound = record {
   live = live_confirmed r old.clients.confirmed old.owners ready.0 sound.live;
   known = sound.known;
   compatible = sound.compatible;
+  single = single_confirmed r old.clients.confirmed sound.single;
   locks = sound.locks;
 }
 sound_clients law lock_law (client_changes.Replaces r client) old ready sound = record {
   live = live_replaced r client old.clients.confirmed old.owners ready.0 sound.live;
   known = dropped_known (λ n. is_same_client n.client client) old.owners old.opens sound.known;
   compatible = dropped_compatible law (λ o. is_same_client o.owner.client client) old.opens sound.compatible;
+  single = single_confirmed r old.clients.confirmed sound.single;
   locks = locks_without_client lock_law client old.owners old.opens old.last_state old.locks sound.locks;
 }
 
@@ -212,6 +221,7 @@ sound_changed law lock_law (changes.Opens node owner share) old ready sound =
       known = set_opens (AllByRecursion (IsKnownIn old.owners)) tt change (opening_known old.owners owner share (old.last_state + 1) ready.0) node old.opens sound.known;
       compatible = all_set AllAreCompatible old.opens node (change here) sound.compatible
           (law.try_open owner share (old.last_state + 1) here (opens_at AllAreCompatible tt node old.opens sound.compatible) ready.1);
+      single = sound.single;
       locks = locks_reopened node change old.owners old.opens last old.locks (under_opening old.owners owner share (old.last_state + 1))
           (locks_numbered old.owners old.opens old.last_state last old.locks (rises (is_some (open_of owner here)) old.last_state) sound.locks);
     }
@@ -224,6 +234,7 @@ sound_changed law lock_law (changes.Confirms node number owner) old ready sound 
       known = set_opens (AllByRecursion (IsKnownIn owners)) tt (with_each (is_numbered number) with_next_seqid)
           (each_known owners (is_numbered number) with_next_seqid (λ o. refl)) node old.opens confirmed.known;
       compatible = set_opens AllAreCompatible tt (with_each (is_numbered number) with_next_seqid) (law.advance (is_numbered number)) node old.opens sound.compatible;
+      single = sound.single;
       locks = locks_reopened node (with_each (is_numbered number) with_next_seqid) owners old.opens old.last_state old.locks
           (under_each owners (is_numbered number) with_next_seqid (λ l o h. h)) confirmed.locks;
     }
@@ -232,6 +243,7 @@ sound_changed law lock_law (changes.Downgrades node number share) old ready soun
   known = set_opens (AllByRecursion (IsKnownIn old.owners)) tt (with_each (is_numbered number) (after_downgrade share))
       (each_known old.owners (is_numbered number) (after_downgrade share) (λ o. refl)) node old.opens sound.known;
   compatible = set_opens AllAreCompatible tt (with_each (is_numbered number) (after_downgrade share)) (law.downgrade (is_numbered number) share) node old.opens sound.compatible;
+  single = sound.single;
   locks = locks_reopened node (with_each (is_numbered number) (after_downgrade share)) old.owners old.opens old.last_state old.locks
       (under_each old.owners (is_numbered number) (after_downgrade share) (λ l o h. h)) sound.locks;
 }
@@ -240,18 +252,21 @@ sound_changed law lock_law (changes.Closes node number) old ready sound = record
   known = set_opens (AllByRecursion (IsKnownIn old.owners)) tt (without (is_numbered number))
       (λ xs h. all_filter (IsKnownIn old.owners) (IsKnownIn old.owners) (λ o. not (is_numbered number o)) (λ o known _. known) xs h) node old.opens sound.known;
   compatible = set_opens AllAreCompatible tt (without (is_numbered number)) (law.removal (is_numbered number)) node old.opens sound.compatible;
+  single = sound.single;
   locks = locks_closed lock_law node number old.owners old.opens old.last_state old.locks sound.locks;
 }
 sound_changed law lock_law (changes.Begins node first) old ready sound = record {
   live = sound.live;
   known = sound.known;
   compatible = sound.compatible;
+  single = sound.single;
   locks = locks_begun lock_law node first old.owners old.opens old.last_state old.locks ready.0 ready.1 ready.2 sound.locks;
 }
 sound_changed law lock_law (changes.Locks node number change) old ready sound = record {
   live = sound.live;
   known = sound.known;
   compatible = sound.compatible;
+  single = sound.single;
   locks = locks_changed lock_law node number change ready.0 old.owners old.opens old.last_state old.locks ready.1 ready.2 sound.locks;
 }
 sound_changed law lock_law (changes.Releases owner) old ready sound = record {
@@ -259,17 +274,19 @@ sound_changed law lock_law (changes.Releases owner) old ready sound = record {
   known = renamed_known old.owners (without_owner (lock_owner owner) old.owners)
       (λ o found. name_left (λ n. is_same_state_owner n (lock_owner owner)) old.owners (open_owner o) refl found) old.opens sound.known;
   compatible = sound.compatible;
+  single = sound.single;
   locks = locks_released lock_law owner old.owners old.opens old.last_state old.locks sound.locks;
 }
 sound_changed law lock_law (changes.Expires client) old ready sound = record {
   live = live_expired client old.clients.confirmed old.owners ready.1 sound.live;
   known = dropped_known (λ n. is_same_client n.client client) old.owners old.opens sound.known;
   compatible = dropped_compatible law (λ o. is_same_client o.owner.client client) old.opens sound.compatible;
+  single = single_left (is_of_client client.number) old.clients.confirmed sound.single;
   locks = locks_without_client lock_law client old.owners old.opens old.last_state old.locks sound.locks;
 }
 
 -- an entry keeps the state sound
-pub sound_after : OpensStay → LocksStay → (number : ℕ) (effect : Effect) (old : State) → IsEffectReady number old effect → IsSound old → IsSound (after number effect old)
-sound_after law lock_law number effect old ready sound =
+pub sound_after : OpensStay → LocksStay → (number : ℕ) (entry : Entry) (effect : Effect) (old : State) → IsEffectReady number old effect → IsSound old → IsSound (after number entry effect old)
+sound_after law lock_law number entry effect old ready sound =
     sound_changed law lock_law effect.change (with_owner_change effect.owner number old) ready.1
     (sound_owner law effect.owner number old ready.0 sound)

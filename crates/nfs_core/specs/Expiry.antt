@@ -3,7 +3,7 @@ use Rattle.std.specs.Prelude.{◌≡◌, ℕ, ◌<◌, ◌≤◌, IsFalse, IsTru
 use Rattle.nfs_core.specs.Server.{Server}
 use Rattle.nfs_core.specs.declared.core_error.CoreError.{CoreError}
 use Rattle.nfs_core.specs.declared.core_error.CoreError.TheVariants as errors
-use Rattle.nfs_rules.specs.entries.Expire.{IsDue, is_live}
+use Rattle.nfs_rules.specs.entries.Expire.{is_due, is_live}
 use Rattle.nfs_state.specs.Stored.{meaning}
 use Rattle.nfs_state.specs.declared.entry.Expire.{Expire}
 use Rattle.nfs_state.specs.declared.entry.TheConstants.{JOURNAL_LIMIT}
@@ -16,7 +16,7 @@ expire_of client seen now = record { client = client; seen = seen; now = now }
 abbrev pub MayEnd : Server → Expire → Type 0
 MayEnd server expire =
     IsTrue (is_live server.journal (meaning server.stored) expire.client)
-    × IsDue server.journal expire
+    × IsTrue (is_due server.journal expire)
 
 -- The client doesn't end for the first of these reasons that there is: it isn't live, its lease hasn't run out, the
 -- journal is full, or it has no room for an entry.
@@ -25,7 +25,7 @@ IsNotEndedFor server expire errors.NotLive =
     IsFalse (is_live server.journal (meaning server.stored) expire.client)
 IsNotEndedFor server expire errors.NotDue =
     IsTrue (is_live server.journal (meaning server.stored) expire.client)
-    × (IsDue server.journal expire → ⊥)
+    × IsFalse (is_due server.journal expire)
 IsNotEndedFor server expire errors.Full =
     MayEnd server expire × (JOURNAL_LIMIT ≤ length server.journal.entries)
 IsNotEndedFor server expire errors.Memory =

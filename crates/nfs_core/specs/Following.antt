@@ -1,5 +1,7 @@
 -- What may come next in a journal, as it is judged before it is entered.
-use Rattle.std.specs.Prelude.{◌<◌, ◌≤◌, IsTrue, length, Some}
+use Rattle.std.specs.Prelude.{◌<◌, ◌≤◌, ◌*◌, IsTrue, length, Some}
+use Rattle.nfs_core.specs.Expiry.{MayEnd}
+use Rattle.nfs_core.specs.Server.{Server}
 use Rattle.nfs_core.specs.Step.{Allows}
 use Rattle.nfs_core.specs.declared.following.FollowError.{FollowError}
 use Rattle.nfs_core.specs.declared.following.FollowError.TheVariants as errors
@@ -7,31 +9,30 @@ use Rattle.nfs_rules.specs.declared.decision.Decision.{Decision}
 use Rattle.nfs_rules.specs.operations.{IsRuled}
 use Rattle.nfs_state.specs.declared.effect.Effect.{Effect}
 use Rattle.nfs_state.specs.declared.entry.Entry.{Entry}
+use Rattle.nfs_state.specs.declared.entry.Entry.TheVariants as entries
 use Rattle.nfs_state.specs.declared.entry.TheConstants.{JOURNAL_LIMIT}
 use Rattle.nfs_state.specs.declared.request.Request.{Request}
 use Rattle.nfs_state.specs.declared.shortage.Shortage.{Shortage}
 use Rattle.nfs_state.specs.declared.shortage.Shortage.TheVariants as shortages
-use Rattle.nfs_state.specs.Entries.{IsFilehandle}
+use Rattle.nfs_state.specs.Entries.{can_be_asked}
 use Rattle.nfs_state.specs.Kept.{Agrees}
 use Rattle.nfs_state.specs.Room.{Fits, HasGivenNumbers}
 use Rattle.nfs_state.specs.State.{State, History}
 use Rattle.nfs_state.specs.Stored.{Stored, meaning}
-use Rattle.nfs_xdr.specs.Op.{has_entry}
+use Rattle.nfs_tree.specs.Tree.{node_count}
 
--- What is stored agrees with this journal as far as a decision and its effect need it: no more confirm values and no more
--- numbers of states were given out than the journal has entries, each state has a number that was given, and what is
--- stored for each owner is what its entry has.
+-- What is stored agrees with this journal as far as a decision and its effect need it: no more confirm values were given
+-- out than the journal has entries, and of numbers of states no more than two an entry; each state has a number that was
+-- given; and what is stored for each owner is what its entry has.
 pub record IsStoredBy (journal : History) (stored : Stored) : Type 0 where
   pub confirms : stored.clients.last_confirm ≤ length journal.entries
-  pub states : stored.last_state ≤ length journal.entries
+  pub states : stored.last_state ≤ 2 * length journal.entries
   pub given : HasGivenNumbers (meaning stored)
   pub owners : Agrees journal stored.owners
 
--- The request can be asked: its operation has an entry in the journal, and its filehandle, if there is one, is that of
--- a node.
-pub record CanBeAsked (journal : History) (request : Request) : Type 0 where
-  pub entry : IsTrue (has_entry request.op)
-  pub node : IsFilehandle journal request.filehandle
+-- the request can be asked of a server with the journal's tree
+abbrev pub CanBeAsked : History → Request → Type 0
+CanBeAsked journal request = IsTrue (can_be_asked (node_count journal.nodes) request)
 
 -- In the state old, after this journal, the entry may come next with this effect, and can be committed.
 pub record IsNext (journal : History) (old : State) (entry : Entry) (effect : Effect) : Type 0 where
@@ -44,6 +45,15 @@ abbrev pub MayBeAnswered : History → State → Request → Type 0
 MayBeAnswered journal old request =
     (length journal.entries < JOURNAL_LIMIT)
     × ((decision : Decision) × IsRuled request.op journal old request (Some decision))
+
+-- As far as an entry can be judged without the answer that it has, it may come next: a call can be asked, and may be
+-- answered; a client whose end it is may end, and the journal isn't full.
+abbrev pub MayFollow : Server → Entry → Type 0
+MayFollow server (entries.Call call) =
+    CanBeAsked server.journal call.request
+    × MayBeAnswered server.journal (meaning server.stored) call.request
+MayFollow server (entries.Expire expire) =
+    MayEnd server expire × (length server.journal.entries < JOURNAL_LIMIT)
 
 -- Where a limit would be passed, no entry may come next.
 abbrev pub error_of : Shortage → FollowError

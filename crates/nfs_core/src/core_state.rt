@@ -1,6 +1,7 @@
-ghost use Rattle.std.specs.Prelude.{◌≡◌, ◌≤◌, ◌<◌, [], IfErr, IfOk, IfSome, OnErr, OnOk, IsErrOf, IsTrue, length};
-ghost use Rattle.nfs_core.specs.Entered.{number_entered};
+ghost use Rattle.std.specs.Prelude.{◌≡◌, ◌≤◌, ◌<◌, [], IfErr, IfNone, IfOk, OnErr, OnOk, IsErrOf, IsTrue, length};
+ghost use Rattle.nfs_core.specs.Entered.{Answers};
 ghost use Rattle.nfs_core.specs.Expiry.{IsNotEndedFor, IsWithoutRoom, expire_of};
+ghost use Rattle.nfs_core.specs.Following.{MayFollow};
 ghost use Rattle.nfs_core.specs.LiveClients.{AreNumbered, AreOfOneRun};
 ghost use Rattle.nfs_core.specs.Safe.{IsSafe, KeepRequests};
 ghost use Rattle.nfs_core.specs.Server.{Applies, AreAlike, Enters, IsLawful};
@@ -15,11 +16,11 @@ ghost use Rattle.nfs_xdr.specs.Op.{has_entry, opnum_of};
 ghost use Rattle.nfs_xdr.specs.OpResult.{op_result};
 ghost use Rattle.nfs_xdr.specs.Opnum.{answer_limit};
 
-use crate::entered::{Entered, enter, enter_copied};
+use crate::answering::enter;
 use crate::expiry::enter_expiry;
 use crate::following::follow;
 use crate::laws::lawful_is_safe;
-use crate::{CoreError, FollowError};
+use crate::{CoreError, Entered, FollowError};
 use nfs_state::{
     Entry, Expire, JOURNAL_LIMIT, Journal, LEASE_MAX, LEASE_MIN, Moment, Request, Tables,
 };
@@ -74,6 +75,7 @@ impl Core {
         }) }
         ensures stored { IfOk result (λ core. core.stored ≡ empty_store tree.now.nodes) }
         ensures lawful { IfOk result (λ core. IsLawful core) }
+        ensures error { IfErr result (λ e. e ≡ CoreError.Memory) }
     {
         Ok(Core {
             alloc,
@@ -83,8 +85,8 @@ impl Core {
     }
 
     /// Answers an operation that has an entry in the journal (`Op::has_entry`), and returns the entry's number. Without
-    /// a number the answer is NFS4ERR_RESOURCE and nothing has changed but room: the journal is full, memory ran out, or
-    /// a limit would be exceeded. `filehandle` has to be a node of the tree.
+    /// a number the answer is NFS4ERR_RESOURCE and nothing has changed but room, of which there isn't less: the journal
+    /// is full, memory ran out, or a limit would be exceeded. `filehandle` has to be a node of the tree.
     pub fn apply(
         &mut self,
         moment: Moment,
@@ -96,6 +98,31 @@ impl Core {
         requires node { IsFilehandle self.old.journal filehandle }
         ensures applies { Applies self.old self.new (request_of moment principal op.now filehandle)
             result.0 result.1 }
+        ensures room { IfNone result.1 (self.old.room ≤ self.new.room) }
+        ensures short { length (op_result.encoding result.0) ≤ answer_limit (opnum_of op.now) }
+        ensures form { op_result.Fits result.0 }
+        ensures lawful { IsLawful self.new }
+    {
+        match self.answer(moment, principal, op, filehandle) {
+            (answer, Some(entered)) => (answer, Some(entered.number)),
+            (answer, None) => (answer, None),
+        }
+    }
+
+    /// The same as `apply`, and returns what came of the operation: with the entry's number who came to be live by it, or
+    /// is live no longer.
+    pub fn answer(
+        &mut self,
+        moment: Moment,
+        principal: Principal,
+        op: &Op,
+        filehandle: Option<u32>,
+    ) -> (OpResult, Option<Entered>)
+        requires entry { IsTrue (has_entry op.now) }
+        requires node { IsFilehandle self.old.journal filehandle }
+        ensures answers { Answers self.old self.new (request_of moment principal op.now filehandle)
+            result.0 result.1 }
+        ensures room { IfNone result.1 (self.old.room ≤ self.new.room) }
         ensures short { length (op_result.encoding result.0) ≤ answer_limit (opnum_of op.now) }
         ensures form { op_result.Fits result.0 }
         ensures lawful { IsLawful self.new }
@@ -107,42 +134,6 @@ impl Core {
             return (op.opnum().refusal(Refusal::Resource), None);
         };
         match enter(self.alloc, tables, journal, request) {
-            Ok((answer, number)) => {
-                answer.fits();
-                (answer, Some(number))
-            }
-            Err(_) => (op.opnum().refusal(Refusal::Resource), None),
-        }
-    }
-
-    /// The same as `apply`, and returns a copy of the entry with its number. The copy is made before anything changes:
-    /// where memory runs out for it, the answer is NFS4ERR_RESOURCE.
-    pub fn apply_copied(
-        &mut self,
-        moment: Moment,
-        principal: Principal,
-        op: &Op,
-        filehandle: Option<u32>,
-    ) -> (OpResult, Option<Entered>)
-        requires entry { IsTrue (has_entry op.now) }
-        requires node { IsFilehandle self.old.journal filehandle }
-        ensures applies { Applies self.old self.new (request_of moment principal op.now filehandle)
-            result.0 (number_entered result.1) }
-        ensures copy { IfSome result.1 (λ e. e.call ≡ record {
-          request = request_of moment principal op.now filehandle;
-          answer = result.0;
-        }) }
-        ensures short { length (op_result.encoding result.0) ≤ answer_limit (opnum_of op.now) }
-        ensures form { op_result.Fits result.0 }
-        ensures lawful { IsLawful self.new }
-    {
-        lawful_is_safe();
-        let tables = &mut self.tables;
-        let journal = &mut self.journal;
-        let Ok(request) = Request::of_copy(moment, principal, op, filehandle) else {
-            return (op.opnum().refusal(Refusal::Resource), None);
-        };
-        match enter_copied(self.alloc, tables, journal, request) {
             Ok((answer, entered)) => {
                 answer.fits();
                 (answer, Some(entered))
@@ -156,6 +147,7 @@ impl Core {
         ensures same { AreAlike self.old self.new }
         ensures room { OnOk result ((0 < self.new.room)
             × (length self.new.journal.entries < JOURNAL_LIMIT)) }
+        ensures grows { self.old.room ≤ self.new.room }
         ensures error { IfErr result (IsWithoutRoom self.old) }
         ensures lawful { IsLawful self.new }
     {
@@ -166,13 +158,14 @@ impl Core {
     }
 
     /// Removes the client with this number, whose lease was renewed last at `seen` and has run out at `now`, with all that
-    /// it has. Returns the entry's number. Fails, and changes nothing but room, if the client isn't live, its lease hasn't
-    /// run out, the journal is full, or memory ran out.
+    /// it has. Returns the entry's number. Fails, and changes nothing but room, of which there isn't less, if the client
+    /// isn't live, its lease hasn't run out, the journal is full, or memory ran out.
     pub fn expire(&mut self, client: u32, seen: Moment, now: Moment) -> Result<u32, CoreError>
         ensures expires { IfOk result (Enters self.old self.new
             (entries.Expire (expire_of client seen now))) }
         ensures error { IfErr result (IsNotEndedFor self.old (expire_of client seen now)) }
         ensures same { OnErr result (AreAlike self.old self.new) }
+        ensures room { OnErr result (self.old.room ≤ self.new.room) }
         ensures lawful { IsLawful self.new }
     {
         lawful_is_safe();
@@ -183,12 +176,15 @@ impl Core {
 
     /// Enters an entry that is handed in, such as one of another server's journal, if it may come next: it is judged as
     /// `apply` and `expire` would make it. Returns the entry's number. Fails with NotNext only if the entry may not come
-    /// next, and otherwise with Memory. What fails changes nothing but room.
+    /// next, and with Memory only if it may as far as it is judged without a call's answer. What fails changes nothing
+    /// but room, of which there isn't less.
     pub fn follow(&mut self, entry: Entry) -> Result<u32, FollowError>
         ensures entered { IfOk result (Enters self.old self.new entry) }
         ensures not_next { IsErrOf result FollowError.NotNext
             → HasNoStep self.old.journal (meaning self.old.stored) entry }
+        ensures memory { IsErrOf result FollowError.Memory → MayFollow self.old entry }
         ensures same { OnErr result (AreAlike self.old self.new) }
+        ensures room { OnErr result (self.old.room ≤ self.new.room) }
         ensures lawful { IsLawful self.new }
     {
         lawful_is_safe();

@@ -1,6 +1,6 @@
 //! The end of a client whose lease has run out.
 
-ghost use Rattle.std.specs.Prelude.{◌≡◌, ◌≢◌, ◌<◌, Err, IfErr, IfOk, OnErr, length};
+ghost use Rattle.std.specs.Prelude.{◌≡◌, ◌≢◌, ◌<◌, ◌≤◌, Err, IfErr, IfOk, OnErr, length};
 ghost use Rattle.nfs_core.specs.Expiry.{IsNotEndedFor};
 ghost use Rattle.nfs_core.specs.Following.{IsNext, IsStoredBy};
 ghost use Rattle.nfs_core.specs.Server.{AreAlike, Enters, server_of};
@@ -13,7 +13,7 @@ use nfs_state::{Effect, Entry, Expire, Journal, Tables, commit_entry};
 use std::alloc::Global;
 
 /// Removes the client, if that may come next, and enters it in the journal. Returns the entry's number. What fails
-/// changes nothing.
+/// changes nothing but room, of which there isn't less.
 pub(crate) fn enter_expiry(
     alloc: Global,
     tables: &mut Tables,
@@ -27,6 +27,7 @@ pub(crate) fn enter_expiry(
     ensures error { IfErr result (IsNotEndedFor (server_of journal.old tables.old) expire) }
     ensures same { OnErr result (AreAlike (server_of journal.old tables.old)
         (server_of journal.new tables.new)) }
+    ensures room { OnErr result (journal.old.room ≤ journal.new.room) }
 {
     let effect = decide_expiry(tables, journal, &expire)?;
     match commit_entry(alloc, tables, journal, Entry::Expire(expire), effect) {

@@ -1,7 +1,7 @@
 //! What may come next in a journal, and entering an entry that is handed in.
 
-ghost use Rattle.std.specs.Prelude.{◌≡◌, ◌≢◌, Err, IfOk, IsErrOf, MatchBool, OnErr};
-ghost use Rattle.nfs_core.specs.Following.{CanBeAsked, IsNext, IsStoredBy, MayBeAnswered};
+ghost use Rattle.std.specs.Prelude.{◌≡◌, ◌≢◌, ◌≤◌, Err, IfOk, IsErrOf, OnErr};
+ghost use Rattle.nfs_core.specs.Following.{CanBeAsked, IsNext, IsStoredBy, MayBeAnswered, MayFollow};
 ghost use Rattle.nfs_core.specs.Server.{Enters, server_of};
 ghost use Rattle.nfs_core.specs.Step.{HasNoAnswer, HasNoStep};
 ghost use Rattle.nfs_state.specs.Entries.{IsSendable, entry_of};
@@ -38,7 +38,8 @@ impl From<Shortage> for FollowError {
 }
 
 /// Enters an entry that is handed in, if it may come next, and returns its number. Fails with NotNext only if it may
-/// not. What fails changes nothing.
+/// not, and with Memory only if it may as far as it is judged without a call's answer. What fails changes nothing but
+/// room, of which there isn't less.
 pub(crate) fn follow(
     alloc: Global,
     tables: &mut Tables,
@@ -51,8 +52,11 @@ pub(crate) fn follow(
     ensures kept { Agrees journal.new.history tables.new.owners.owners }
     ensures not_next { IsErrOf result FollowError.NotNext
         → HasNoStep journal.old.history (state_of tables.old) entry }
+    ensures memory { IsErrOf result FollowError.Memory
+        → MayFollow (server_of journal.old tables.old) entry }
     ensures same { OnErr result ((journal.new.history ≡ journal.old.history)
         × (stored_of tables.new ≡ stored_of tables.old)) }
+    ensures room { OnErr result (journal.old.room ≤ journal.new.room) }
 {
     let effect = effect_of(alloc, tables, journal, &entry)?;
     Ok(commit_entry(alloc, tables, journal, entry, effect)?)
@@ -70,6 +74,8 @@ fn effect_of(
         (λ effect. IsNext journal.now.history (state_of tables.now) entry.now effect) }
     ensures not_next { IsErrOf result FollowError.NotNext
         → HasNoStep journal.now.history (state_of tables.now) entry.now }
+    ensures memory { IsErrOf result FollowError.Memory
+        → MayFollow (server_of journal.now tables.now) entry.now }
 {
     match entry {
         Entry::Call(call) => effect_of_call(alloc, tables, journal, call),
@@ -89,9 +95,11 @@ fn effect_of_call(
         IsNext journal.now.history (state_of tables.now) (entries.Call call.now) effect) }
     ensures not_next { IsErrOf result FollowError.NotNext
         → HasNoStep journal.now.history (state_of tables.now) (entries.Call call.now) }
+    ensures memory { IsErrOf result FollowError.Memory
+        → MayFollow (server_of journal.now tables.now) (entries.Call call.now) }
 {
     at_most_one_decision();
-    if !can_be_asked(journal, &call.request) {
+    if !call.request.can_be_asked(journal.tree().len()) {
         return Err(FollowError::NotNext);
     }
     let decision = decide_next(alloc, tables, journal, &call.request)?;
@@ -117,18 +125,6 @@ fn effect_of_expire(
         Ok(effect) => Ok(effect),
         Err(_) => Err(FollowError::NotNext),
     }
-}
-
-// Whether the request's operation has an entry in the journal, and its filehandle, if there is one, is that of a node.
-fn can_be_asked(journal: &Journal, request: &Request) -> bool
-    ensures { MatchBool result (CanBeAsked journal.now.history request.now)
-        (CanBeAsked journal.now.history request.now → ⊥) }
-{
-    let is_node = match request.filehandle {
-        Some(node) => node < journal.tree().len(),
-        None => true,
-    };
-    is_node && request.op.has_entry()
 }
 
 /// Decides which answer to the request may come next, and its effect. Fails with Limit only if no answer may come next,

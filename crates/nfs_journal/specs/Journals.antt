@@ -1,5 +1,5 @@
 -- Which bytes are the file of which journal.
-use Rattle.std.specs.Prelude.{◌≡◌, ℕ, ◌<◌, ◌+◌, ◌++◌, nat_le, nat_lt, Bool, true, false, ◌&&◌, List, length, Option, Some, None, Result, Ok, Err, OnOk, OnErr, vec_len, vec_capacity, IsErrOf}
+use Rattle.std.specs.Prelude.{◌≡◌, ℕ, ◌<◌, ◌+◌, ◌++◌, nat_le, Bool, true, false, ◌&&◌, List, length, Result, Ok, Err, OnOk, OnErr, vec_len, vec_capacity, IsErrOf}
 use Rattle.std.specs.Global.{Vec}
 use Rattle.std.specs.List.{list_all}
 use Rattle.nfs_journal.specs.declared.audit_error.AuditError.{AuditError}
@@ -10,26 +10,20 @@ use Rattle.nfs_journal.specs.File.{file}
 use Rattle.nfs_state.specs.declared.entry.Entry.{Entry}
 use Rattle.nfs_state.specs.declared.entry.Entry.TheVariants as entries
 use Rattle.nfs_state.specs.declared.journal.TheConstants.{LEASE_MIN, LEASE_MAX}
+use Rattle.nfs_state.specs.Entries.{can_be_asked}
 use Rattle.nfs_state.specs.Journal.{RoomyJournal}
 use Rattle.nfs_state.specs.State.{History}
 use Rattle.nfs_tree.specs.DocumentNodes.{are_of_a_document}
 use Rattle.nfs_tree.specs.Tree.{node_count}
-use Rattle.nfs_xdr.specs.Op.{has_entry}
 
 abbrev pub number_of : AuditError → ℕ
 number_of errors.Format = 1
 number_of (errors.WrongAnswer number) = 2
 number_of errors.Memory = 3
 
--- the node of a filehandle, if there is one, is one of so many
-abbrev pub is_filehandle : ℕ → Option ℕ → Bool
-is_filehandle nodes None = true
-is_filehandle nodes (Some node) = nat_lt node nodes
-
 -- an entry that a journal can have whose tree has so many nodes
 abbrev pub is_entry : ℕ → Entry → Bool
-is_entry nodes (entries.Call call) =
-    has_entry call.request.op && is_filehandle nodes call.request.filehandle
+is_entry nodes (entries.Call call) = can_be_asked nodes call.request
 is_entry nodes (entries.Expire expire) = true
 
 -- The lease is within its limits, some document gives the nodes, and each entry is one that the journal can have.

@@ -1,6 +1,6 @@
 ghost use Rattle.std.specs.Prelude.{◌≡◌};
 ghost use Rattle.std.specs.List.{list_all};
-ghost use Rattle.nfs_journal.specs.Journals.{Accepts, Reads, WritesFile, is_entry, is_filehandle};
+ghost use Rattle.nfs_journal.specs.Journals.{Accepts, Reads, WritesFile, is_entry};
 
 use crate::exact::read_exact;
 use crate::file::write_parts;
@@ -76,19 +76,7 @@ fn is_entry(nodes: u32, entry: &Entry) -> bool
     ensures { result ≡ is_entry nodes entry.now }
 {
     match entry {
-        Entry::Call(call) => {
-            call.request.op.has_entry() && is_filehandle(nodes, call.request.filehandle)
-        }
+        Entry::Call(call) => call.request.can_be_asked(nodes),
         Entry::Expire(_) => true,
-    }
-}
-
-// Whether the node of a filehandle, if there is one, is one of so many.
-fn is_filehandle(nodes: u32, filehandle: Option<u32>) -> bool
-    ensures { result ≡ is_filehandle nodes filehandle }
-{
-    match filehandle {
-        None => true,
-        Some(node) => node < nodes,
     }
 }

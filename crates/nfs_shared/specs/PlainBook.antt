@@ -1,5 +1,5 @@
 -- A book of leases that is a plain list.
-use Rattle.std.specs.Prelude.{◌≡◌, ◌≢◌, ℕ, ◌+◌, ◌<◌, Bool, true, false, List, length, slice_index_or, slice_set, Option, Some, None}
+use Rattle.std.specs.Prelude.{◌≡◌, ◌≢◌, ℕ, ◌<◌, Bool, IsTrue, true, false, List, length, slice_index_or, slice_set, Option, Some, None}
 use Rattle.nfs_shared.specs.declared.lease_state.LeaseState.{LeaseState}
 use Rattle.nfs_shared.specs.declared.lease_state.LeaseState.TheVariants as lease_state
 use Rattle.nfs_shared.specs.declared.renewal.Renewal.{Renewal}
@@ -7,6 +7,7 @@ use Rattle.nfs_shared.specs.declared.renewal.Renewal.TheVariants as renewal
 use Rattle.nfs_shared.specs.declared.closing.Closing.TheVariants as closing
 use Rattle.nfs_shared.specs.BookEvent.{BookEvent, Look, Renew, Close, Open, Retire, shows_open, shows_opened}
 use Rattle.nfs_shared.specs.Renewals.{renewed}
+use Rattle.nfs_state.specs.Lease.{is_over}
 
 -- how long a lease lasts, and each client's lease, at the place of its number
 pub record PlainBook : Type 0 where
@@ -52,7 +53,7 @@ Happens old (Renew client moment answer) new =
     (answer ≡ renewal_of (lease_of old client))
     × (new ≡ with_lease old client (renewed (lease_of old client) moment))
 Happens old (Close client seen now closing.Closed) new =
-    (seen + old.lease < now)
+    IsTrue (is_over seen old.lease now)
     × (lease_of old client ≡ lease_state.Open seen)
     × (new ≡ with_lease old client lease_state.Closed)
 Happens old (Close client seen now closing.Changed) new =

@@ -1,5 +1,5 @@
 -- What a sweep does with one client.
-use Rattle.std.specs.Prelude.{◌≡◌, ℕ, ◌+◌, ◌<◌, ◌≤◌, List, [], ◌∷◌, ◌++◌}
+use Rattle.std.specs.Prelude.{◌≡◌, ℕ, ◌+◌, IsFalse, IsTrue, List, [], ◌∷◌, ◌++◌}
 use Rattle.nfs_core.specs.Expiry.{IsWithoutRoom, expire_of}
 use Rattle.nfs_core.specs.Lawful as lawful
 use Rattle.nfs_core.specs.Server.{Server}
@@ -10,6 +10,7 @@ use Rattle.nfs_shared.specs.declared.case.Case.TheVariants as cases
 use Rattle.nfs_shared.specs.declared.closing.Closing.TheVariants as closing
 use Rattle.nfs_shared.specs.declared.lease_state.LeaseState.TheVariants as lease_state
 use Rattle.nfs_shared.specs.declared.swept.Swept.{Swept}
+use Rattle.nfs_state.specs.Lease.{is_over}
 use Rattle.nfs_state.specs.State.{History}
 use Rattle.nfs_state.specs.Stored.{meaning}
 use Rattle.nfs_state.specs.declared.entry.Entry.{Entry}
@@ -49,18 +50,15 @@ pub record Gains (more : List Entry) (old new : Server) : Type 0 where
   pub journal : new.journal ≡ with_entries more old.journal
   pub leads : lawful.Leads old.journal (meaning old.stored) more (meaning new.stored)
 
--- the lease was over: it lasts so many seconds from when it was renewed last
-abbrev pub IsOver : ℕ → ℕ → Server → Type 0
-IsOver seen now server = seen + server.journal.lease < now
-
 -- The client fell in this case for a reason: the lease isn't over in the case Kept, and is over in all others. In the
 -- case Refused the server that the turn found had no room for an entry.
 abbrev pub IsRightBy : Case → ℕ → ℕ → Server → Type 0
-IsRightBy cases.Expired seen now server = IsOver seen now server
-IsRightBy cases.Kept seen now server = now ≤ seen + server.journal.lease
-IsRightBy cases.Changed seen now server = IsOver seen now server
+IsRightBy cases.Expired seen now server = IsTrue (is_over seen server.journal.lease now)
+IsRightBy cases.Kept seen now server = IsFalse (is_over seen server.journal.lease now)
+IsRightBy cases.Changed seen now server = IsTrue (is_over seen server.journal.lease now)
 IsRightBy cases.Refused seen now server =
-    IsOver seen now server × ((error : CoreError) × IsWithoutRoom server error)
+    IsTrue (is_over seen server.journal.lease now)
+    × ((error : CoreError) × IsWithoutRoom server error)
 
 -- one client more in the count of this case
 abbrev pub with_case : Swept → Case → Swept

@@ -1,8 +1,9 @@
-ghost use Rattle.std.specs.Prelude.{◌≡◌, ◌<◌, ◌≤◌, ◌+◌, ℕ, Bool, true, false};
+ghost use Rattle.std.specs.Prelude.{◌≡◌, ◌≤◌, ℕ, Bool, IsTrue, true, false};
 ghost use Rattle.nfs_owners.specs.declared.client_record.TheConstants.{CLIENT_LIMIT};
 ghost use Rattle.nfs_shared.specs.BookEvent.{BookEvent, Look, Renew, Close, Open, Retire};
 ghost use Rattle.nfs_shared.specs.BookEvent.{is_done, is_known, is_renewed, shows_open, shows_opened};
 ghost use Rattle.nfs_shared.specs.BookEvent.{is_open_after, was_opened_after};
+ghost use Rattle.nfs_state.specs.Lease.{is_over};
 
 use crate::{Closing, LeaseState, Renewal};
 use nfs_state::Moment;
@@ -36,7 +37,7 @@ pub trait LeaseBook {
     /// Closes a client's lease that was seen to be open and renewed last at `seen`, where it is still so.
     fn close(&mut self, client: u32, seen: Moment, now: Moment) -> Closing
         requires number { (1 ≤ client) × (client ≤ CLIENT_LIMIT) }
-        requires due { seen + lease self.old < now }
+        requires due { IsTrue (is_over seen (lease self.old) now) }
         ensures happens { happens self.old (Close client seen now result) self.new }
         ensures was_open { is_done result ≡ true → is_open self.old client ≡ true };
 

@@ -1,6 +1,6 @@
 //! The sweep through the leases of all live clients.
 
-ghost use Rattle.std.specs.Prelude.{◌≡◌, ◌+◌, ◌<◌, ◌≤◌, ◌∷◌, [], ℕ, List, IsTrue, false, length};
+ghost use Rattle.std.specs.Prelude.{◌≡◌, ◌<◌, ◌≤◌, ◌∷◌, [], ℕ, List, IsTrue, false, length};
 ghost use Rattle.nfs_core.specs.LiveClients.{AreOfOneRun};
 ghost use Rattle.nfs_core.specs.Server.{IsLawful};
 ghost use Rattle.nfs_owners.specs.Registry.{is_live};
@@ -9,13 +9,14 @@ ghost use Rattle.nfs_shared.specs.BookEvent.{Close, Leads};
 ghost use Rattle.nfs_shared.specs.BookOf.{IsBookOf};
 ghost use Rattle.nfs_shared.specs.Sweeps.{Sweeps};
 ghost use Rattle.nfs_shared.specs.Turn.{Gains, IsRightBy, Turn, events_by, expiries};
+ghost use Rattle.nfs_state.specs.Lease.{is_over};
 ghost use Rattle.nfs_state.specs.Stored.{meaning};
 ghost use Rattle.nfs_state.specs.declared.entry.TheConstants.{JOURNAL_LIMIT};
 
 use crate::case::Case;
 use crate::{Closing, LeaseBook, LeaseState, Swept};
 use nfs_core::{Core, live_clients_follow};
-use nfs_state::Moment;
+use nfs_state::{Moment, is_over};
 
 /// Goes through the live clients, by rising numbers, and removes each whose lease is over at `now`: from the book, where
 /// the lease is still as it was seen, and then from the core. A client whose lease isn't over stays, and so does one
@@ -56,7 +57,7 @@ fn turn_of<B: LeaseBook>(core: &mut Core, book: &mut B, client: u32, now: Moment
     let LeaseState::Open(seen) = book.look(client) else {
         unreachable!()
     };
-    if now.seconds() <= seen.seconds() + u64::from(core.journal().lease()) {
+    if !is_over(seen, core.journal().lease(), now) {
         return Case::Kept;
     }
     if core.prepare().is_err() {
@@ -81,7 +82,7 @@ fn close_and_expire<B: LeaseBook>(
     requires number { (1 ≤ client) × (client ≤ CLIENT_LIMIT) }
     requires run { AreOfOneRun core.old.journal (meaning core.old.stored) }
     requires lease { B.lease book.old ≡ core.old.journal.lease }
-    requires due { seen + core.old.journal.lease < now }
+    requires due { IsTrue (is_over seen core.old.journal.lease now) }
     requires room { 0 < core.old.room }
     requires below { length core.old.journal.entries < JOURNAL_LIMIT }
     ensures book { B.happens book.old (Close client seen now result) book.new }

@@ -1,5 +1,5 @@
--- What an entry of the journal changes in the state: first what it means for an owner, and then the operation's own
--- change.
+-- What an entry of the journal changes in the state: first what it means for an owner, then the operation's own change,
+-- and then what the entry tells of that.
 use Rattle.std.specs.Prelude.{ℕ, ◌+◌, Bool, not, filter, map, is_some, if◌then◌else◌}
 use Rattle.nfs_forms.specs.ClientId.{is_same_client}
 use Rattle.nfs_forms.specs.OpenOwner.{is_same_owner}
@@ -21,6 +21,7 @@ use Rattle.nfs_state.specs.State.{State}
 use Rattle.nfs_state.specs.declared.change.Change.{Change}
 use Rattle.nfs_state.specs.declared.change.Change.TheVariants as changes
 use Rattle.nfs_state.specs.declared.effect.Effect.{Effect}
+use Rattle.nfs_state.specs.declared.entry.Entry.{Entry}
 use Rattle.nfs_state.specs.declared.owner_change.OwnerChange.{OwnerChange}
 use Rattle.nfs_state.specs.declared.owner_change.OwnerChange.TheVariants.{Nothing, Keeps, KeepsBoth, Introduces, Records, Restarts, Drops}
 
@@ -106,8 +107,13 @@ with_state_change (changes.Expires client) old =
 abbrev pub change_alone : Change → Effect
 change_alone change = record { owner = Nothing; change = change }
 
--- The state after an entry with this number that has this effect: first what it means for the owners, and then the
--- change.
-abbrev pub after : ℕ → Effect → State → State
-after number effect old =
-    with_state_change effect.change (with_owner_change effect.owner number old)
+-- The state after what the entry itself tells of its change, beyond what the change has: no entry tells any of that yet.
+abbrev pub with_entry_told : Entry → Change → State → State
+with_entry_told entry change old = old
+
+-- The state after this entry, with this number, where it has this effect: first what it means for the owners, then the
+-- change, and then what the entry tells of the change.
+abbrev pub after : ℕ → Entry → Effect → State → State
+after number entry effect old =
+    with_entry_told entry effect.change
+    (with_state_change effect.change (with_owner_change effect.owner number old))

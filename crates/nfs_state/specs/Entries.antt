@@ -1,5 +1,5 @@
 -- Requests and answers as the journal records them.
-use Rattle.std.specs.Prelude.{◌≡◌, ◌≢◌, ℕ, ◌<◌, [], ◌∷◌, ◌++◌, Option, Some, None, IfSome}
+use Rattle.std.specs.Prelude.{◌≡◌, ◌≢◌, ℕ, ◌<◌, nat_lt, Bool, true, ◌&&◌, [], ◌∷◌, ◌++◌, Option, Some, None, IfSome}
 use Rattle.nfs_forms.specs.declared.principal.Principal.{Principal}
 use Rattle.nfs_forms.specs.declared.status.Refusal.TheVariants.{Resource}
 use Rattle.nfs_state.specs.State.{History}
@@ -8,7 +8,7 @@ use Rattle.nfs_state.specs.declared.entry.Entry.{Entry}
 use Rattle.nfs_state.specs.declared.entry.Entry.TheVariants as entries
 use Rattle.nfs_state.specs.declared.request.Request.{Request}
 use Rattle.nfs_tree.specs.Tree.{node_count}
-use Rattle.nfs_xdr.specs.Op.{opnum_of}
+use Rattle.nfs_xdr.specs.Op.{has_entry, opnum_of}
 use Rattle.nfs_xdr.specs.OpResult as results
 use Rattle.nfs_xdr.specs.OpResult.{refusal_of}
 use Rattle.nfs_xdr.specs.Short.{IsShort}
@@ -22,6 +22,16 @@ resource op = refusal_of (opnum_of op) Resource
 -- the current filehandle, if there is one, is that of a node of the tree
 abbrev pub IsFilehandle : History → Option ℕ → Type 0
 IsFilehandle journal filehandle = IfSome filehandle (λ node. node < node_count journal.nodes)
+
+-- the same as a test, where the tree has so many nodes
+abbrev pub is_filehandle : ℕ → Option ℕ → Bool
+is_filehandle nodes None = true
+is_filehandle nodes (Some node) = nat_lt node nodes
+
+-- The request can be asked where the tree has so many nodes: its operation has an entry in the journal, and its
+-- filehandle, if there is one, is that of a node.
+abbrev pub can_be_asked : ℕ → Request → Bool
+can_be_asked nodes request = has_entry request.op && is_filehandle nodes request.filehandle
 
 -- a request for an operation
 abbrev pub request_of : ℕ → Principal → Op → Option ℕ → Request

@@ -1,6 +1,7 @@
 pub mod Owners
 pub mod State
 pub mod Journal
+pub mod Lease
 pub mod Stored
 pub mod Entries
 pub mod Kept

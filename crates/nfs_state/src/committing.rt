@@ -1,4 +1,4 @@
-ghost use Rattle.std.specs.Prelude.{◌≡◌, ◌<◌, IfErr, IfOk, IsOk, OnErr, OnOk, length};
+ghost use Rattle.std.specs.Prelude.{◌≡◌, ◌<◌, ◌≤◌, IfErr, IfOk, IsOk, OnErr, OnOk, length};
 ghost use Rattle.nfs_state.specs.Changes.{after};
 ghost use Rattle.nfs_state.specs.Entries.{with_entry};
 ghost use Rattle.nfs_state.specs.Kept.{Agrees, kept_in, owners_after, update_by};
@@ -30,12 +30,13 @@ pub fn commit_entry(
     ensures number { IfOk result (λ n. n ≡ length journal.old.history.entries) }
     ensures entry { OnOk result (journal.new.history ≡ with_entry entry journal.old.history) }
     ensures state { OnOk result (state_of tables.new
-        ≡ after (length journal.old.history.entries) effect (state_of tables.old)) }
+        ≡ after (length journal.old.history.entries) entry effect (state_of tables.old)) }
     ensures kept { OnOk result (Agrees journal.new.history tables.new.owners.owners) }
     ensures memory { IfErr result (λ e. e ≡ Shortage.Memory) }
     ensures ready { 0 < journal.old.room → TakesNoMemory entry effect tables.old → IsOk result }
     ensures same { OnErr result ((journal.new.history ≡ journal.old.history)
         × (stored_of tables.new ≡ stored_of tables.old)) }
+    ensures room { OnErr result (journal.old.room ≤ journal.new.room) }
 {
     journal.entries.reserve(1)?;
     let number = journal.entries.len() as u32;
@@ -54,7 +55,7 @@ fn make_changes(
     requires fits { Fits entry.now effect (state_of tables.old) }
     requires given { HasGivenNumbers (state_of tables.old) }
     ensures state { OnOk result (state_of tables.new
-        ≡ after number effect (state_of tables.old)) }
+        ≡ after number entry.now effect (state_of tables.old)) }
     ensures kept { OnOk result ((journal : History) → Agrees journal (owners_after
         (update_by effect.owner (kept_in entry.now)) number tables.old.owners.owners)
         → Agrees journal tables.new.owners.owners) }

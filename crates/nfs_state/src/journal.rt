@@ -133,6 +133,7 @@ impl Journal {
     pub fn reserve(&mut self) -> Result<(), AllocError>
         ensures same { self.new.history ≡ self.old.history }
         ensures room { OnOk result (0 < self.new.room) }
+        ensures grows { self.old.room ≤ self.new.room }
         ensures ready { 0 < self.old.room → IsOk result }
     {
         self.entries.reserve(1)

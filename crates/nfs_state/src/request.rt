@@ -1,4 +1,5 @@
 ghost use Rattle.std.specs.Prelude.{◌≡◌, IfOk};
+ghost use Rattle.nfs_state.specs.Entries.{is_filehandle};
 
 use crate::Moment;
 use nfs_xdr::{Op, Principal};
@@ -15,7 +16,7 @@ pub struct Request {
 }
 
 impl Request {
-    ghost use Rattle.nfs_state.specs.Entries.{request_of};
+    ghost use Rattle.nfs_state.specs.Entries.{can_be_asked, request_of};
 
     /// A request for a copy of the operation.
     pub fn of_copy(
@@ -32,5 +33,23 @@ impl Request {
             op: op.clone()?,
             filehandle,
         })
+    }
+
+    /// Whether the request can be asked where the tree has so many nodes: its operation has an entry in the journal, and
+    /// its filehandle, if there is one, is that of a node.
+    pub fn can_be_asked(&self, nodes: u32) -> bool
+        ensures { result ≡ can_be_asked nodes self.now }
+    {
+        self.op.has_entry() && is_filehandle(nodes, self.filehandle)
+    }
+}
+
+// Whether the node of a filehandle, if there is one, is one of so many.
+fn is_filehandle(nodes: u32, filehandle: Option<u32>) -> bool
+    ensures { result ≡ is_filehandle nodes filehandle }
+{
+    match filehandle {
+        None => true,
+        Some(node) => node < nodes,
     }
 }

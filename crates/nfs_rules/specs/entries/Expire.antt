@@ -1,8 +1,9 @@
 -- The end of a client whose lease has run out (RFC 7530, section 9.6).
-use Rattle.std.specs.Prelude.{◌≡◌, ℕ, ◌+◌, ◌<◌, Bool, IsTrue, is_some}
+use Rattle.std.specs.Prelude.{◌≡◌, ℕ, Bool, IsTrue, is_some}
 use Rattle.nfs_forms.specs.declared.client_id.ClientId.{ClientId}
 use Rattle.nfs_owners.specs.Registry.{record_of}
 use Rattle.nfs_state.specs.Changes.{change_alone}
+use Rattle.nfs_state.specs.Lease.{is_over}
 use Rattle.nfs_state.specs.State.{State, History}
 use Rattle.nfs_state.specs.declared.change.Change.TheVariants as changes
 use Rattle.nfs_state.specs.declared.effect.Effect.{Effect}
@@ -16,13 +17,13 @@ client_of journal number = record { epoch = journal.epoch; number = number }
 abbrev pub is_live : History → State → ℕ → Bool
 is_live journal state number = is_some (record_of (client_of journal number) state.clients)
 
--- the lease had run out: it lasts so many seconds from when it was renewed last
-abbrev pub IsDue : History → Expire → Type 0
-IsDue journal expire = expire.seen + journal.lease < expire.now
+-- the client's lease had run out
+abbrev pub is_due : History → Expire → Bool
+is_due journal expire = is_over expire.seen journal.lease expire.now
 
 -- In this state, after this journal, the client may be removed, with this effect.
 pub record IsExpiry (journal : History) (state : State) (expire : Expire)
     (effect : Effect) : Type 0 where
   pub live : IsTrue (is_live journal state expire.client)
-  pub due : IsDue journal expire
+  pub due : IsTrue (is_due journal expire)
   pub removal : effect ≡ change_alone (changes.Expires (client_of journal expire.client))

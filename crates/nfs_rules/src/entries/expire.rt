@@ -1,10 +1,10 @@
 //! The end of a client whose lease has run out (RFC 7530, section 9.6).
 
 ghost use Rattle.std.specs.Prelude.{◌≡◌, ◌↔◌, Err, IfOk, IsFalse, IsTrue};
-ghost use Rattle.nfs_rules.specs.entries.Expire.{IsDue, IsExpiry, is_live};
+ghost use Rattle.nfs_rules.specs.entries.Expire.{IsExpiry, is_due, is_live};
 ghost use Rattle.nfs_state.specs.Room.{state_of};
 
-use nfs_state::{Change, Effect, Expire, Journal, Tables};
+use nfs_state::{Change, Effect, Expire, Journal, Tables, is_over};
 use nfs_xdr::ClientId;
 
 /// Why a client isn't removed.
@@ -24,7 +24,7 @@ pub fn expire(tables: &Tables, journal: &Journal, expire: &Expire) -> Result<Eff
         ↔ IsFalse (is_live journal.now.history (state_of tables.now) expire.entry.now.client) }
     ensures not_due { result ≡ Err NotExpired.NotDue
         ↔ IsTrue (is_live journal.now.history (state_of tables.now) expire.entry.now.client)
-        × (IsDue journal.now.history expire.entry.now → ⊥) }
+        × IsFalse (is_due journal.now.history expire.entry.now) }
 {
     let client = ClientId {
         epoch: journal.epoch(),
@@ -33,7 +33,7 @@ pub fn expire(tables: &Tables, journal: &Journal, expire: &Expire) -> Result<Eff
     if tables.clients.of(client).is_none() {
         return Err(NotExpired::NotLive);
     }
-    if expire.now.seconds() <= expire.seen.seconds() + u64::from(journal.lease()) {
+    if !is_over(expire.seen, journal.lease(), expire.now) {
         return Err(NotExpired::NotDue);
     }
     Ok(Effect::change_alone(Change::Expires(client)))

@@ -1,7 +1,13 @@
 use Rattle.std.proofs.Common.{rules}
-use Rattle.nfs_core.proofs.Entering.{decided_next, decided_sendable, no_answer, within_limits}
+use Rattle.nfs_core.proofs.Entering.{asked_entry, asked_node, decided_next, decided_sendable, no_answer, within_limits}
 use Rattle.nfs_core.proofs.following.decide_next.Goals as goal
 use Rattle.nfs_state.specs.Room.{state_of}
+
+pub decide-requires-clause-entry : goal.decide-requires-clause-entry
+decide-requires-clause-entry c = asked_entry c.args.journal.now.history c.args.request.now c.requires.asked
+
+pub decide-requires-clause-node : goal.decide-requires-clause-node
+decide-requires-clause-node c = asked_node c.args.journal.now.history c.args.request.now c.requires.asked
 
 pub returns-clause-next : goal.returns-clause-next
 returns-clause-next c = decided_next c.args.journal.now.history (state_of c.args.tables.now) c.args.request.now c.decide.result (search rules) c.requires.asked c.decide.ensures

@@ -1,5 +1,7 @@
 use Rattle.std.proofs.Common.{rules, subst}
 use Rattle.nfs_core.proofs.following.effect_of.Goals as goal
+use Rattle.nfs_core.specs.Following.{MayFollow}
+use Rattle.nfs_core.specs.Server.{server_of}
 use Rattle.nfs_core.specs.Step.{Step}
 use Rattle.nfs_state.specs.Room.{state_of}
 use Rattle.nfs_state.specs.declared.entry.Entry.{Entry}
@@ -8,6 +10,10 @@ pub returns-in-Call-clause-not_next : goal.returns-in-Call-clause-not_next
 returns-in-Call-clause-not_next c is new step =
     let before : Entry → Type 0 = λ e. Step c.args.journal.now.history (state_of c.args.tables.now) e new in
     c.effect_of_call.ensures.not_next is new (subst before (search rules) step)
+
+pub returns-in-Call-clause-memory : goal.returns-in-Call-clause-memory
+returns-in-Call-clause-memory c is =
+    subst (λ (e : Entry). MayFollow (server_of c.args.journal.now c.args.tables.now) e) (search rules) (c.effect_of_call.ensures.memory is)
 
 pub returns-in-Expire-clause-not_next : goal.returns-in-Expire-clause-not_next
 returns-in-Expire-clause-not_next c is new step =

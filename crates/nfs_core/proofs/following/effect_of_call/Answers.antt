@@ -1,6 +1,6 @@
 use Rattle.std.proofs.Common.{◌≡◌, Err, ap, rules}
 use Rattle.std.proofs.lemmas.Result.{err_from_is_err_and}
-use Rattle.nfs_core.proofs.Entering.{limit_not_next, with_same_answer}
+use Rattle.nfs_core.proofs.Entering.{limit_not_next, memory_runs_out, with_same_answer}
 use Rattle.nfs_core.specs.Following.{error_of}
 use Rattle.nfs_core.specs.declared.following.FollowError.TheVariants as errors
 use Rattle.nfs_state.specs.declared.shortage.Shortage.{Shortage}
@@ -20,3 +20,11 @@ returns-in_err-decision-clause-not_next c not_next =
     let is : failed.0 ≡ error_of shortage = failed.2 in
     let limit : error_of shortage ≡ errors.NotNext = cc (failed.1, is, not_next) in
     c.in_err-decision.ensures.limit (ap (λ (s : Shortage). Err s) (limit_not_next shortage limit)) c.args.call.now.answer
+
+pub returns-in_err-decision-clause-memory : goal.returns-in_err-decision-clause-memory
+returns-in_err-decision-clause-memory c is_memory =
+    let shortage = c.in_err-decision.field-0.0 in
+    let failed = err_from_is_err_and c.from_residual.result c.from_residual.ensures.1 in
+    let is : failed.0 ≡ error_of shortage = failed.2 in
+    let memory : error_of shortage ≡ errors.Memory = cc (failed.1, is, is_memory) in
+    (search rules, c.in_err-decision.ensures.memory (ap (λ (s : Shortage). Err s) (memory_runs_out shortage memory)))

@@ -41,7 +41,7 @@ returns-clause-state c =
     let place = subst has_place (sym c.in_ok-make_room.ensures.same) c.requires.fits.place in
     let changed = owners_changed c.in_ok-update.update effect.owner (kept_in c.args.entry.now) c.args.number (state_of roomy) (state_of c.commit_owner.new.self) c.in_ok-update.ensures.update c.requires.fits.kept c.commit_owner.ensures.state c.commit_owner.ensures.nothing place in
     c.commit.ensures.state ∙ ap (with_state_change effect.change) changed
-    ∙ ap (λ (s : Stored). after c.args.number effect (meaning s)) c.in_ok-make_room.ensures.same
+    ∙ ap (λ (s : Stored). after c.args.number c.args.entry.now effect (meaning s)) c.in_ok-make_room.ensures.same
 
 pub returns-clause-kept : goal.returns-clause-kept
 returns-clause-kept c = λ journal agrees.

@@ -2,6 +2,7 @@ use Rattle.std.proofs.Common.{subst}
 use Rattle.nfs_core.proofs.Journals.{Lawful-confirm, Lawful-state, Lawful-tried}
 use Rattle.nfs_core.proofs.SoundNumbers.{given_numbers}
 use Rattle.nfs_core.proofs.core_state.Core.follow.Goals as goal
+use Rattle.nfs_core.specs.Following.{MayFollow}
 use Rattle.nfs_core.specs.Server.{Server}
 use Rattle.nfs_core.specs.Step.{HasNoStep}
 use Rattle.nfs_state.specs.Room.{state_of}
@@ -30,3 +31,7 @@ returns-clause-lawful c = (invariant_of-self c).0
 pub returns-clause-not_next : goal.returns-clause-not_next
 returns-clause-not_next c not_next =
     subst (λ (s : Server). HasNoStep s.journal (meaning s.stored) c.args.entry) c.self.view_is (c.follow.ensures.not_next not_next)
+
+pub returns-clause-memory : goal.returns-clause-memory
+returns-clause-memory c is_memory =
+    subst (λ (s : Server). MayFollow s c.args.entry) c.self.view_is (c.follow.ensures.memory is_memory)
