@@ -286,8 +286,7 @@ can_come : (client : ClientId) (id : List ℕ) (old : Registry) → HasSingles o
 can_come client id old singles below there dead =
     let n = client.number in
     let found = find_record (HasGivenNumber old.last_number) client id old.unconfirmed there singles.given.1 in
-    let given : (1 ≤ n) × (n ≤ old.last_number) = subst (λ (x : ClientId). (1 ≤ x.number) × (x.number ≤ old.last_number)) found.client_is found.holds in
-    (
+    let given : (1 ≤ n) × (n ≤ old.last_number) = subst (λ (x : ClientId). (1 ≤ x.number) × (x.number ≤ old.last_number)) found.client_is found.holds in (
       can_of_known (was_given n old) (is_live n old) (list_any (is_of_client n) old.unconfirmed) dead (of_record client id old.unconfirmed n there (eq-eqb n n refl)),
       (given.0, omega (arith, given.1, below)),
     )
