@@ -1,11 +1,11 @@
 -- What the rule of an operation may change in the clients' records: SETCLIENTID and SETCLIENTID_CONFIRM alone change them.
 use Rattle.std.proofs.Common.{◌≡◌, inl, inr, ℕ, Bool, true, false, Option, Some, None, Result, Ok, Err, refl, sym, ap, ◌∙◌, subst}
-use Rattle.std.specs.Prelude.{⊤, ◌&&◌, ◌==◌, find, is_some, not, IfSome, option_and_then, option_map, if◌then◌else◌}
+use Rattle.std.specs.Prelude.{⊤, ◌&&◌, ◌==◌, is_some, not, IfSome, option_and_then, option_map, if◌then◌else◌}
 use Rattle.std.specs.List.{AllByRecursion}
-use Rattle.std.proofs.lemmas.Bool.{and_from, and_parts, cond-false, cond_both, eq-eqb, eqb-true, false_from_ne_true}
+use Rattle.std.proofs.lemmas.Bool.{and_parts, cond-false, cond_both, eq-eqb, eqb-true, false_from_ne_true}
 use Rattle.nfs_core.proofs.SafeLists.{all_always, all_find, found_some}
 use Rattle.nfs_core.proofs.Sound.{equal_clients, same_client_self}
-use Rattle.nfs_core.proofs.SoundClients.{HasSameId, HasSingles}
+use Rattle.nfs_core.proofs.SoundClients.{EachRecord, HasSameId, HasSingles}
 use Rattle.nfs_core.proofs.SoundLocking.{lock_sequenced, placed, stateid_of, unless}
 use Rattle.nfs_core.proofs.SoundSequences.{never, some_equal}
 use Rattle.nfs_forms.specs.ClientId.{is_same_client}
@@ -28,12 +28,13 @@ use Rattle.nfs_operations.specs.declared.setclientid_confirm.SetclientidConfirm.
 use Rattle.nfs_owners.specs.Addresses.{is_within_limit}
 use Rattle.nfs_owners.specs.Confirmation as confirmations
 use Rattle.nfs_owners.specs.Confirmation.{Confirmation, InPlaceOf, InUse, Retransmission, Update, confirmation_before, confirmation_beside, confirmation_by}
-use Rattle.nfs_owners.specs.LiveClients.{other_number, replaced_by}
+use Rattle.nfs_owners.specs.LiveClients.{other_number, replaced_by, unconfirmed_of_client}
 use Rattle.nfs_owners.specs.Registration as registrations
 use Rattle.nfs_owners.specs.Registration.{has_number_left, registration_by}
-use Rattle.nfs_owners.specs.Registry.{Registry, confirmed_named_by, confirmed_of, is_confirmed_of, is_named_by, is_of_client, record_of, unconfirmed_named_by}
+use Rattle.nfs_owners.specs.Registry.{Registry, confirmed_named_by, confirmed_of, is_named_by, is_of, is_of_client, record_of, record_state, unconfirmed_named_by}
 use Rattle.nfs_owners.specs.StateOwner.{lock_owner, open_owner}
 use Rattle.nfs_owners.specs.declared.client_record.ClientRecord.{ClientRecord}
+use Rattle.nfs_owners.specs.declared.client_record.ClientState.{ClientState}
 use Rattle.nfs_owners.specs.declared.client_record.PathMark.{PathMark}
 use Rattle.nfs_owners.specs.declared.clients.client_change.ClientChange.{ClientChange}
 use Rattle.nfs_owners.specs.declared.clients.client_change.ClientChange.TheVariants as client_changes
@@ -81,9 +82,10 @@ KeepsClients change = ⊤
 -- SETCLIENTID confirms nobody, and a new client is one of this epoch.
 abbrev pub IsArrival : ℕ → ClientChange → Type 0
 IsArrival epoch client_changes.Nothing = ⊤
-IsArrival epoch (client_changes.Arrives r) = r.client.epoch ≡ epoch
+IsArrival epoch (client_changes.Arrives r) = r.state.client.epoch ≡ epoch
 IsArrival epoch (client_changes.Updates r) = ⊤
 IsArrival epoch (client_changes.Confirms r) = ⊥
+IsArrival epoch (client_changes.Refreshes r) = ⊥
 IsArrival epoch (client_changes.Replaces r client) = ⊥
 
 -- SETCLIENTID_CONFIRM confirms the client that it names, and may replace one client.
@@ -91,9 +93,10 @@ abbrev pub IsConfirmation : Registry → SetclientidConfirm → ClientChange →
 IsConfirmation registry args client_changes.Nothing = ⊤
 IsConfirmation registry args (client_changes.Arrives r) = ⊥
 IsConfirmation registry args (client_changes.Updates r) = ⊥
-IsConfirmation registry args (client_changes.Confirms r) = r.client.number ≡ args.client.number
+IsConfirmation registry args (client_changes.Confirms r) = r.state.client.number ≡ args.client.number
+IsConfirmation registry args (client_changes.Refreshes r) = ⊤
 IsConfirmation registry args (client_changes.Replaces r client) =
-    (r.client.number ≡ args.client.number) × (r.confirmed ≡ true) × (replaced_by args.client.number registry ≡ Some client.number)
+    (r.state.client.number ≡ args.client.number) × (replaced_by args.client.number registry ≡ Some client.number)
 
 abbrev pub IsClientsFor : ℕ → Registry → Op → ClientChange → Type 0
 IsClientsFor epoch registry (ops.Setclientid args) change = IsArrival epoch change
@@ -238,77 +241,74 @@ number_of_client : (a b : ClientId) → is_same_client a b ≡ true → a.number
 number_of_client a b same = ap (λ (c : ClientId). c.number) (equal_clients a b same)
 
 -- the confirmed record of another client is the one that is replaced
-replaces : (registry : Registry) (args : SetclientidConfirm) (r old : ClientRecord) → HasSingles registry → unconfirmed_named_by args registry ≡ Some r → confirmed_of registry r.id ≡ Some old → is_same_client old.client r.client ≡ false
-    → replaced_by args.client.number registry ≡ Some old.client.number
+replaces : (registry : Registry) (args : SetclientidConfirm) (r old : ClientRecord) → HasSingles registry → unconfirmed_named_by args registry ≡ Some r → confirmed_of registry r.id ≡ Some old → is_same_client old.state.client r.state.client ≡ false
+    → replaced_by args.client.number registry ≡ Some old.state.client.number
 replaces registry args r old singles named held other =
     let n = args.client.number in
-    let test : ClientRecord → Bool = λ s. not s.confirmed && is_of_client n s in
-    let own = all_find (λ s. AllByRecursion (HasSameId s) registry.records) (λ s. not s.confirmed && is_named_by args s) registry.records r named singles.same in
-    let parts = and_parts (not r.confirmed) (is_named_by args r) own.1 in
-    let number : r.client.number ≡ n = number_of_client r.client args.client (and_parts (is_same_client r.client args.client) (r.confirm == args.confirm) parts.1).0 in
-    let there : is_some (find test registry.records) ≡ true =
-    found_some (λ s. not s.confirmed && is_named_by args s) test registry.records r named
-    (and_from (not r.confirmed) (is_of_client n r) parts.0 (eq-eqb r.client.number n number)) in
-    let row = all_find (HasSameId r) (is_confirmed_of r.id) registry.records old held own.0 in
-    let apart : (old.client.number == n) ≡ false =
-    false_from_ne_true (old.client.number == n)
-    (λ same. never (is_same_client old.client r.client) other
-    (subst (λ c. is_same_client c r.client ≡ true) (row.0 (number ∙ sym (eqb-true old.client.number n same))).0 (same_client_self r.client))) in
-    by (find test registry.records) refl there number own.0 apart
+    let own = all_find (λ s. EachRecord (HasSameId s) registry) (is_named_by args) registry.unconfirmed r named singles.same.1 in
+    let number : r.state.client.number ≡ n = number_of_client r.state.client args.client (and_parts (is_same_client r.state.client args.client) (r.state.confirm == args.confirm) own.1).0 in
+    let there : is_some (unconfirmed_of_client n registry) ≡ true =
+    found_some (is_named_by args) (is_of_client n) registry.unconfirmed r named (eq-eqb r.state.client.number n number) in
+    let row = all_find (HasSameId r) (is_of r.id) registry.confirmed old held own.0.0 in
+    let apart : (old.state.client.number == n) ≡ false =
+    false_from_ne_true (old.state.client.number == n)
+    (λ same. never (is_same_client old.state.client r.state.client) other
+    (subst (λ c. is_same_client c r.state.client ≡ true) (row.0 (number ∙ sym (eqb-true old.state.client.number n same))).0 (same_client_self r.state.client))) in
+    by (unconfirmed_of_client n registry) refl there number own.0.1 apart
   where
-    by : (found : Option ClientRecord) → find (λ s. not s.confirmed && is_of_client args.client.number s) registry.records ≡ found → is_some found ≡ true → r.client.number ≡ args.client.number
-        → AllByRecursion (HasSameId r) registry.records → (old.client.number == args.client.number) ≡ false → replaced_by args.client.number registry ≡ Some old.client.number
+    by : (found : Option ClientRecord) → unconfirmed_of_client args.client.number registry ≡ found → is_some found ≡ true → r.state.client.number ≡ args.client.number
+        → AllByRecursion (HasSameId r) registry.unconfirmed → (old.state.client.number == args.client.number) ≡ false → replaced_by args.client.number registry ≡ Some old.state.client.number
     by None is some number row apart = absurd cc
     by (Some s) is some number row apart =
         let n = args.client.number in
-        let held_by = all_find (HasSameId r) (λ s. not s.confirmed && is_of_client n s) registry.records s is row in
-        let of = (and_parts (not s.confirmed) (is_of_client n s) held_by.1).1 in
-        let id : r.id ≡ s.id = (held_by.0 (number ∙ sym (eqb-true s.client.number n of))).1 in
+        let held_by = all_find (HasSameId r) (is_of_client n) registry.unconfirmed s is row in
+        let id : r.id ≡ s.id = (held_by.0 (number ∙ sym (eqb-true s.state.client.number n held_by.1))).1 in
         let after : ClientRecord → Option ℕ = λ x. option_and_then (other_number n) (confirmed_of registry x.id) in
         ap (option_and_then after) is
         ∙ ap (λ i. option_and_then (other_number n) (confirmed_of registry i)) (sym id)
         ∙ ap (option_and_then (other_number n)) held
-        ∙ cond-false (old.client.number == n) None (Some old.client.number) apart
+        ∙ cond-false (old.state.client.number == n) None (Some old.state.client.number) apart
 
-beside_for : (registry : Registry) (args : SetclientidConfirm) (r : ClientRecord) (found : Option ClientRecord) (has_state : Bool) (path : PathMark) → HasSingles registry → unconfirmed_named_by args registry ≡ Some r → r.client.number ≡ args.client.number → confirmed_of registry r.id ≡ found
-    → IsConfirmation registry args (confirmation_by (confirmation_beside found r has_state) path).1
+beside_for : (registry : Registry) (args : SetclientidConfirm) (r : ClientRecord) (found : Option ClientRecord) (has_state : Bool) (path : PathMark) → HasSingles registry → unconfirmed_named_by args registry ≡ Some r → r.state.client.number ≡ args.client.number → confirmed_of registry r.id ≡ found
+    → IsConfirmation registry args (confirmation_by (confirmation_beside (record_state found) r has_state) path).1
 beside_for registry args r None has_state path singles named number held = number
 beside_for registry args r (Some old) has_state path singles named number held =
     let P : Confirmation → Type 0 = λ c. IsConfirmation registry args (confirmation_by c path).1 in
-    cond_both (is_same_client old.client r.client) (Update old r)
-    (if not (is_same_principal old.principal r.principal) && has_state then InUse else InPlaceOf old r) P
-    (λ same. number_of_client old.client r.client same ∙ number)
-    (λ other. cond_both (not (is_same_principal old.principal r.principal) && has_state) InUse (InPlaceOf old r) P (λ _. tt)
-    (λ _. (number, refl, replaces registry args r old singles named held other)))
+    cond_both (is_same_client old.state.client r.state.client) (Update old.state r)
+    (if not (is_same_principal old.state.principal r.state.principal) && has_state then InUse else InPlaceOf old.state r) P
+    (λ _. tt)
+    (λ other. cond_both (not (is_same_principal old.state.principal r.state.principal) && has_state) InUse (InPlaceOf old.state r) P (λ _. tt)
+    (λ _. (number, replaces registry args r old singles named held other)))
 
-before_for : (registry : Registry) (args : SetclientidConfirm) (found : Option ClientRecord) (principal : Principal) (path : PathMark) → IsConfirmation registry args (confirmation_by (confirmation_before found principal) path).1
+before_for : (registry : Registry) (args : SetclientidConfirm) (found : Option ClientState) (principal : Principal) (path : PathMark) → IsConfirmation registry args (confirmation_by (confirmation_before found principal) path).1
 before_for registry args None principal path = tt
-before_for registry args (Some r) principal path =
+before_for registry args (Some s) principal path =
     let P : Confirmation → Type 0 = λ c. IsConfirmation registry args (confirmation_by c path).1 in
-    cond_both (is_same_principal r.principal principal) Retransmission InUse P (λ _. tt) (λ _. tt)
+    cond_both (is_same_principal s.principal principal) Retransmission InUse P (λ _. tt) (λ _. tt)
 
 confirms_for : (registry : Registry) (args : SetclientidConfirm) (named : Option ClientRecord) (has_state : Bool) (principal : Principal) (path : PathMark) → HasSingles registry → unconfirmed_named_by args registry ≡ named
     → IsConfirmation registry args (confirmation_by (confirmations.finding named registry has_state principal args) path).1
-confirms_for registry args None has_state principal path singles is = before_for registry args (confirmed_named_by args registry) principal path
+confirms_for registry args None has_state principal path singles is = before_for registry args (record_state (confirmed_named_by args registry)) principal path
 confirms_for registry args (Some r) has_state principal path singles is =
     let P : Confirmation → Type 0 = λ c. IsConfirmation registry args (confirmation_by c path).1 in
-    let passes = (all_find (λ s. ⊤) (λ s. not s.confirmed && is_named_by args s) registry.records r is (all_always registry.records)).1 in
-    let named = and_parts (is_same_client r.client args.client) (r.confirm == args.confirm) (and_parts (not r.confirmed) (is_named_by args r) passes).1 in
-    cond_both (is_same_principal r.principal principal) (confirmation_beside (confirmed_of registry r.id) r has_state) InUse P
-    (λ _. beside_for registry args r (confirmed_of registry r.id) has_state path singles is (number_of_client r.client args.client named.0) refl) (λ _. tt)
+    let passes = (all_find (λ s. ⊤) (is_named_by args) registry.unconfirmed r is (all_always registry.unconfirmed)).1 in
+    let named = and_parts (is_same_client r.state.client args.client) (r.state.confirm == args.confirm) passes in
+    cond_both (is_same_principal r.state.principal principal) (confirmation_beside (record_state (confirmed_of registry r.id)) r has_state) InUse P
+    (λ _. beside_for registry args r (confirmed_of registry r.id) has_state path singles is (number_of_client r.state.client args.client named.0) refl) (λ _. tt)
 
 -- what the rule of a request may change in the clients' records
 pub ruled_for : (journal : History) (state : State) (op : Op) (request : Request) (d : Decision) → HasSingles state.clients → IsRuled op journal state request (Some d) → IsFor journal.epoch state.clients op d.effect.change
 ruled_for journal state (ops.Getattr mask) request d singles is =
     decided_for journal.epoch state.clients (ops.Getattr mask) d _ is tt
 ruled_for journal state (ops.Setclientid args) request d singles is =
-    let has_state = record_has_state state (confirmed_of state.clients args.id) in
+    let holder = record_state (confirmed_of state.clients args.id) in
+    let has_state = record_has_state state holder in
     registers_for journal.epoch state.clients args d (registrations.registration journal.epoch has_state state.clients request.principal args)
-    (arrives (registrations.finding (confirmed_of state.clients args.id) has_state request.principal args) journal.epoch state.clients request.principal args) is
+    (arrives (registrations.finding holder has_state request.principal args) journal.epoch state.clients request.principal args) is
 ruled_for journal state (ops.SetclientidConfirm args) request d singles is =
     let path = confirm.path_of journal.policy.callbacks in
     let named = unconfirmed_named_by args state.clients in
-    let has_state = record_has_state state (confirmations.holder_of named state.clients) in
+    let has_state = record_has_state state (record_state (confirmations.holder_of named state.clients)) in
     decided_for journal.epoch state.clients (ops.SetclientidConfirm args) d _ is
     (confirms_for state.clients args named has_state request.principal path singles refl)
 ruled_for journal state (ops.Open args) request d singles is =

@@ -1,38 +1,164 @@
--- How a change of the clients' records changes which clients are live, and which epoch their clientids are of.
-use Rattle.std.proofs.Common.{◌≡◌, ◌⊎◌, inl, inr, ℕ, Bool, true, false, Some, List, [], ◌∷◌, ◌++◌, filter, refl, sym, ap, ◌∙◌, subst, arith}
+-- What a change of the clients' records does to who is live, and which epoch their clientids are of.
+use Rattle.std.proofs.Common.{◌≡◌, ◌⊎◌, inl, inr, ℕ, Bool, true, false, List, [], ◌∷◌, ◌++◌, filter, refl, sym, ap, ◌∙◌, subst, arith}
 use Rattle.std.specs.Prelude.{⊤, ◌+◌, ◌≤◌, ◌&&◌, ◌||◌, ◌==◌, nat_le, find, is_some, not}
 use Rattle.std.specs.List.{AllByRecursion, list_any}
 use Rattle.std.specs.Str.{bytes_eq}
-use Rattle.std.proofs.lemmas.Bool.{and_from, and_parts, cases_Bool, eq-eqb, eqb-true, false_from_ne_true, le-leb, leb-true, not-true, not_from_false}
-use Rattle.nfs_core.proofs.ClientChanges.{IsClientsFor, IsConfirmation}
-use Rattle.nfs_core.proofs.LiveLists.{any_after, any_before, any_found_with, any_holds, any_kept, any_last, any_of_kept, any_split, any_weaken, bool_equal, found_any}
-use Rattle.nfs_core.proofs.SafeLists.{all_always, all_filter, all_push, found_holds}
-use Rattle.nfs_core.proofs.Sound.{IsOfRecord, IsOnlyOf, equal_clients}
-use Rattle.nfs_core.proofs.SoundClients.{HasSameId, HasSingles}
+use Rattle.std.proofs.lemmas.Bool.{and_from, and_parts, cases_Bool, eq-eqb, eqb-true, false_from_ne_true, le-leb, leb-true, not-true, not_from_false, or_cases, or_left, or_right}
+use Rattle.std.proofs.lemmas.Slice.Eq.{bytes_eq-Decides}
+use Rattle.nfs_core.proofs.ClientChanges.{IsClientsFor}
+use Rattle.nfs_core.proofs.LiveLists.{any_found_with, any_holds, any_kept, any_of_kept, any_put, any_split, any_weaken, bool_equal, found_any, none_any}
+use Rattle.nfs_core.proofs.SafeLists.{all_always, all_both, all_weaken, found_holds}
+use Rattle.nfs_core.proofs.Sound.{HasRecord, IsOnlyOf, equal_clients, is_live_in, is_record_of, same_client_self}
+use Rattle.nfs_core.proofs.SoundClients.{EachRecord, HasGivenNumber, HasSameId, HasSingles, each_confirmed, each_unconfirmed, singles_changed}
 use Rattle.nfs_core.proofs.SoundSequences.{never}
 use Rattle.nfs_core.proofs.SoundSteps.{IsClientReady}
-use Rattle.nfs_core.specs.LiveClients.{LiveEnd, LiveFollow}
-use Rattle.nfs_core.specs.Safe.{HasGivenNumber}
+use Rattle.nfs_core.specs.LiveClients.{CanCome, Fits, LiveFollows}
 use Rattle.nfs_forms.specs.ClientId.{is_same_client}
 use Rattle.nfs_forms.specs.declared.client_id.ClientId.{ClientId}
-use Rattle.nfs_operations.specs.declared.setclientid.Setclientid.{Setclientid}
-use Rattle.nfs_operations.specs.declared.setclientid_confirm.SetclientidConfirm.{SetclientidConfirm}
-use Rattle.nfs_owners.specs.ClientChange.{with_change, with_confirmed, with_unconfirmed}
+use Rattle.nfs_owners.specs.ClientChange.{with_change}
+use Rattle.nfs_owners.specs.LiveChange.{is_live_after, live_change}
 use Rattle.nfs_owners.specs.LiveClients.{can_become_live}
-use Rattle.nfs_owners.specs.Registry.{Registry, is_live, is_of, is_of_client, is_unconfirmed_of, was_given, without_client}
+use Rattle.nfs_owners.specs.Registry.{Registry, is_live, is_of, is_of_client, was_given, without_client, without_id, without_number}
 use Rattle.nfs_owners.specs.declared.client_record.ClientRecord.{ClientRecord}
+use Rattle.nfs_owners.specs.declared.client_record.TheConstants.{CLIENT_LIMIT}
 use Rattle.nfs_owners.specs.declared.clients.client_change.ClientChange.{ClientChange}
 use Rattle.nfs_owners.specs.declared.clients.client_change.ClientChange.TheVariants as client_changes
+use Rattle.nfs_owners.specs.declared.live_change.LiveChange.TheVariants.{Same, Goes}
 use Rattle.nfs_xdr.specs.declared.op.Op.{Op}
 use Rattle.nfs_xdr.specs.declared.op.Op.TheVariants as ops
 
--- the record is the confirmed one of the client with this number
-abbrev lives : ℕ → ClientRecord → Bool
-lives c r = r.confirmed && is_of_client c r
+-- A record with a clientid and an id, among these records.
+
+-- what holds of each record holds of one of this client and this id
+record Found (P : ClientRecord → Type 0) (client : ClientId) (id : List ℕ) : Type 0 where
+  one : ClientRecord
+  holds : P one
+  client_is : one.state.client ≡ client
+  id_is : one.id ≡ id
+
+find_record : (P : ClientRecord → Type 0) (client : ClientId) (id : List ℕ) (records : List ClientRecord) → HasRecord client id records → AllByRecursion P records → Found P client id
+find_record P client id records there all =
+    let held = found_holds P (is_record_of client id) records there all in
+    let both = and_parts (is_same_client held.0.state.client client) (bytes_eq held.0.id id) held.2 in
+    record {
+      one = held.0;
+      holds = held.1;
+      client_is = equal_clients held.0.state.client client both.0;
+      id_is = (bytes_eq-Decides held.0.id id).0 both.1;
+    }
+
+-- the client is among them
+of_record : (client : ClientId) (id : List ℕ) (records : List ClientRecord) (c : ℕ) → HasRecord client id records → (c == client.number) ≡ true → list_any (is_of_client c) records ≡ true
+of_record client id records c there is =
+    any_found_with (is_record_of client id) (is_of_client c) records
+    (λ s passes.
+    let same = equal_clients s.state.client client (and_parts (is_same_client s.state.client client) (bytes_eq s.id id) passes).0 in
+    eq-eqb s.state.client.number c (ap (λ (x : ClientId). x.number) same ∙ sym (eqb-true c client.number is))) there
+
+turned : (a b : ℕ) → (a == b) ≡ (b == a)
+turned a b = bool_equal (a == b) (b == a) (λ is. eq-eqb b a (sym (eqb-true a b is))) (λ is. eq-eqb a b (sym (eqb-true b a is)))
+
+-- Who is live once a record is put in place of those of its id: its client, and those with a record of another id.
+live_put : (r : ClientRecord) (records : List ClientRecord) (c : ℕ)
+    → list_any (is_of_client c) (without_id r.id records ++ r ∷ []) ≡ ((c == r.state.client.number) || list_any (λ s. is_of_client c s && not (is_of r.id s)) records)
+live_put r records c =
+    any_put (is_of_client c) (λ s. not (is_of r.id s)) records r
+    ∙ ap (λ b. b || list_any (λ s. is_of_client c s && not (is_of r.id s)) records) (turned r.state.client.number c)
+
+kept_is : (p q : ClientRecord → Bool) (records : List ClientRecord) → list_any (λ s. p s && q s) records ≡ true → list_any p records ≡ true
+kept_is p q records any = any_weaken (λ s. ⊤) (λ s. p s && q s) p (λ s _ both. (and_parts (p s) (q s) both).0) records (all_always records) any
+
+-- where no record has the id, all stay
+all_stay : (id : List ℕ) (records : List ClientRecord) (c : ℕ) → AllByRecursion (λ s. is_of id s ≡ false) records → list_any (λ s. is_of_client c s && not (is_of id s)) records ≡ list_any (is_of_client c) records
+all_stay id records c none =
+    bool_equal (list_any (λ s. is_of_client c s && not (is_of id s)) records) (list_any (is_of_client c) records) (kept_is (is_of_client c) (λ s. not (is_of id s)) records)
+    (λ any. any_weaken (λ s. is_of id s ≡ false) (is_of_client c) (λ s. is_of_client c s && not (is_of id s))
+    (λ s other is. and_from (is_of_client c s) (not (is_of id s)) is (not_from_false (is_of id s) other)) records none any)
+
+-- where all records with the id are of one client, those of other clients stay
+others_stay : (client : ClientId) (id : List ℕ) (records : List ClientRecord) (c : ℕ) → AllByRecursion (IsOnlyOf client id) records → list_any (is_of_client c) records ≡ true
+    → (list_any (λ s. is_of_client c s && not (is_of id s)) records ≡ true) ⊎ ((c == client.number) ≡ true)
+others_stay client id records c only live =
+    any_split (IsOnlyOf client id) (is_of_client c) (λ s. is_of_client c s && not (is_of id s)) ((c == client.number) ≡ true)
+    (λ s is_only passes. elim (cases_Bool (is_of id s)) [
+      | inl same ↦ inr (eq-eqb c client.number (sym (eqb-true s.state.client.number c passes) ∙ ap (λ (x : ClientId). x.number) (equal_clients s.state.client client (is_only same))))
+      | inr other ↦ inl (and_from (is_of_client c s) (not (is_of id s)) passes (not_from_false (is_of id s) other))
+    ]) records only live
+
+-- The client of a record has no record of another id.
+own_id : (c : ℕ) (s : ClientRecord) (id : List ℕ) (records : List ClientRecord) → s.state.client.number ≡ c → s.id ≡ id → AllByRecursion (HasSameId s) records → list_any (λ t. is_of_client c t && not (is_of id t)) records ≡ false
+own_id c s id records number ids same =
+    none_any (λ t. is_of_client c t && not (is_of id t)) records
+    (all_weaken (HasSameId s) (λ t. (is_of_client c t && not (is_of id t)) ≡ false)
+    (λ t same_id. false_from_ne_true (is_of_client c t && not (is_of id t))
+    (λ passes.
+    let both = and_parts (is_of_client c t) (not (is_of id t)) passes in
+    let is : t.id ≡ id = sym (same_id (number ∙ sym (eqb-true t.state.client.number c both.0))).1 ∙ ids in
+    never (is_of id t) (not-true (is_of id t) both.1) ((bytes_eq-Decides t.id id).1 is))) records same)
+
+-- the same of a client that has a record of the id among some of the registry
+own_id_of : (client : ClientId) (id : List ℕ) (some others : List ClientRecord) (c : ℕ) → HasRecord client id some → AllByRecursion (λ s. AllByRecursion (HasSameId s) others) some → (c == client.number) ≡ true
+    → list_any (λ t. is_of_client c t && not (is_of id t)) others ≡ false
+own_id_of client id some others c there same is =
+    let found = find_record (λ s. AllByRecursion (HasSameId s) others) client id some there same in
+    own_id c found.one id others (ap (λ (x : ClientId). x.number) found.client_is ∙ sym (eqb-true c client.number is)) found.id_is found.holds
+
+-- Who is live after each change.
+
+or_same : (a b c : Bool) → b ≡ c → (a || b) ≡ (a || c)
+or_same a b c same = ap (λ x. a || x) same
+
+-- the client was live, and is
+absorbed : (a b was : Bool) → (a ≡ true → was ≡ true) → (b ≡ true → was ≡ true) → (was ≡ true → (b ≡ true) ⊎ (a ≡ true)) → (a || b) ≡ was
+absorbed a b was from_a from_b cases =
+    bool_equal (a || b) was
+    (λ either. elim (or_cases a b either) [
+      | inl is ↦ from_a is
+      | inr is ↦ from_b is
+    ])
+    (λ is. elim (cases is) [
+      | inl kept ↦ or_right a b kept
+      | inr own ↦ or_left a b own
+    ])
+
+-- all but one stay
+but_one : (b was gone : Bool) → (b ≡ true → was ≡ true) → (gone ≡ true → b ≡ false) → (was ≡ true → (b ≡ true) ⊎ (gone ≡ true)) → b ≡ (was && not gone)
+but_one b was gone from_b none cases =
+    bool_equal b (was && not gone)
+    (λ is. and_from was (not gone) (from_b is) (not_from_false gone (false_from_ne_true gone (λ g. never b (none g) is))))
+    (λ both. elim (cases (and_parts was (not gone) both).0) [
+      | inl kept ↦ kept
+      | inr g ↦ absurd (never gone (not-true gone (and_parts was (not gone) both).1) g)
+    ])
+
+-- records of the rows of one list, in each of the two
+rows_confirmed : (records : List ClientRecord) (registry : Registry) → AllByRecursion (λ r. EachRecord (HasSameId r) registry) records → AllByRecursion (λ r. AllByRecursion (HasSameId r) registry.confirmed) records
+rows_confirmed records registry rows = all_weaken (λ r. EachRecord (HasSameId r) registry) (λ r. AllByRecursion (HasSameId r) registry.confirmed) (λ r row. row.0) records rows
+
+rows_unconfirmed : (records : List ClientRecord) (registry : Registry) → AllByRecursion (λ r. EachRecord (HasSameId r) registry) records → AllByRecursion (λ r. AllByRecursion (HasSameId r) registry.unconfirmed) records
+rows_unconfirmed records registry rows = all_weaken (λ r. EachRecord (HasSameId r) registry) (λ r. AllByRecursion (HasSameId r) registry.unconfirmed) (λ r row. row.1) records rows
+
+live_changed : (change : ClientChange) (old : Registry) → HasSingles old → IsClientReady change old → (c : ℕ) → is_live c (with_change change old) ≡ is_live_after (live_change change) c (is_live c old)
+live_changed client_changes.Nothing old singles ready c = refl
+live_changed (client_changes.Arrives r) old singles ready c = refl
+live_changed (client_changes.Updates r) old singles ready c = refl
+live_changed (client_changes.Confirms r) old singles ready c =
+    live_put r old.confirmed c ∙ or_same (c == r.state.client.number) _ _ (all_stay r.id old.confirmed c ready.0)
+live_changed (client_changes.Refreshes r) old singles ready c =
+    live_put r old.confirmed c
+    ∙ absorbed (c == r.state.client.number) (list_any (λ s. is_of_client c s && not (is_of r.id s)) old.confirmed) (is_live c old)
+    (λ is. of_record r.state.client r.id old.confirmed c ready.1 is) (kept_is (is_of_client c) (λ s. not (is_of r.id s)) old.confirmed)
+    (λ live. others_stay r.state.client r.id old.confirmed c ready.0 live)
+live_changed (client_changes.Replaces r client) old singles ready c =
+    live_put r old.confirmed c
+    ∙ or_same (c == r.state.client.number) _ _
+    (but_one (list_any (λ s. is_of_client c s && not (is_of r.id s)) old.confirmed) (is_live c old) (c == client.number) (kept_is (is_of_client c) (λ s. not (is_of r.id s)) old.confirmed)
+    (λ is. own_id_of client r.id old.confirmed old.confirmed c ready.1 (rows_confirmed old.confirmed old singles.same.0) is)
+    (λ live. others_stay client r.id old.confirmed c ready.0 live))
 
 -- Who can become live.
 
--- by whether a number was given, whether its client is live, and whether it has a record
+-- by whether a number was given, whether its client is live, and whether it has an unconfirmed record
 cases_of_can : (given live known : Bool) → (not given || (not live && known)) ≡ true → (given ≡ false) ⊎ ((live ≡ false) × (known ≡ true))
 cases_of_can false live known can = inl refl
 cases_of_can true false known can = inr (refl, can)
@@ -47,19 +173,16 @@ can_of_known false live known dead there = refl
 can_of_known true false known dead there = there
 can_of_known true true known dead there = absurd cc
 
-pub known_can : (c : ℕ) (registry : Registry) → is_live c registry ≡ false → list_any (is_of_client c) registry.records ≡ true → can_become_live c registry ≡ true
-known_can c registry dead there = can_of_known (was_given c registry) (is_live c registry) (list_any (is_of_client c) registry.records) dead there
-
 -- Whoever can become live afterwards could before, if numbers stay given, and a client that was given a number and isn't live
--- but has a record was so before.
+-- but has an unconfirmed record was so before.
 once_by : (c : ℕ) (old new : Registry) → (was_given c old ≡ true → was_given c new ≡ true)
-    → (was_given c old ≡ true → is_live c new ≡ false → list_any (is_of_client c) new.records ≡ true → (is_live c old ≡ false) × (list_any (is_of_client c) old.records ≡ true))
+    → (was_given c old ≡ true → is_live c new ≡ false → list_any (is_of_client c) new.unconfirmed ≡ true → (is_live c old ≡ false) × (list_any (is_of_client c) old.unconfirmed ≡ true))
     → can_become_live c new ≡ true → can_become_live c old ≡ true
 once_by c old new stays before can =
     let live = is_live c old in
-    let known = list_any (is_of_client c) old.records in
+    let known = list_any (is_of_client c) old.unconfirmed in
     elim (cases_Bool (was_given c old)) [
-      | inl given ↦ elim (cases_of_can (was_given c new) (is_live c new) (list_any (is_of_client c) new.records) can) [
+      | inl given ↦ elim (cases_of_can (was_given c new) (is_live c new) (list_any (is_of_client c) new.unconfirmed) can) [
         | inl new_one ↦ absurd (never (was_given c new) new_one (stays given))
         | inr is ↦
             let was = before given is.0 is.1 in
@@ -68,299 +191,235 @@ once_by c old new stays before can =
       | inr new_one ↦ can_of_new (was_given c old) live known new_one
     ]
 
--- one that was live would be so still
-not_before : (a b : Bool) → (a ≡ true → b ≡ true) → b ≡ false → a ≡ false
-not_before a b stays dead = false_from_ne_true a (λ live. never b dead (stays live))
+-- each live client was given a number
+pub numbered : (registry : Registry) → HasSingles registry → (number : ℕ) → is_live number registry ≡ true → (1 ≤ number) × (number ≤ registry.last_number)
+numbered registry singles number live =
+    let held = any_holds (HasGivenNumber registry.last_number) (is_of_client number) registry.confirmed live singles.given.0 in
+    subst (λ n. (1 ≤ n) × (n ≤ registry.last_number)) (eqb-true held.0.state.client.number number held.2) held.1
 
--- Records of which some are removed and one is added.
-
-kept_or_new : (p q : ClientRecord → Bool) (records : List ClientRecord) (r : ClientRecord) → list_any p (filter q records ++ r ∷ []) ≡ true → (list_any p records ≡ true) ⊎ (p r ≡ true)
-kept_or_new p q records r any = elim (any_after p q records r any) [
-  | inl kept ↦ inl (any_weaken (λ s. ⊤) (λ s. p s && q s) p (λ s _ both. (and_parts (p s) (q s) both).0) records (all_always records) kept)
-  | inr new ↦ inr new
+-- who can become live isn't
+not_yet : (registry : Registry) → HasSingles registry → (c : ℕ) → can_become_live c registry ≡ true → is_live c registry ≡ false
+not_yet registry singles c can = elim (cases_of_can (was_given c registry) (is_live c registry) (list_any (is_of_client c) registry.unconfirmed) can) [
+  | inl new_one ↦ false_from_ne_true (is_live c registry)
+      (λ live.
+      let given = numbered registry singles c live in
+      never (was_given c registry) new_one (and_from (nat_le 1 c) (nat_le c registry.last_number) (le-leb 1 c given.0) (le-leb c registry.last_number given.1)))
+  | inr is ↦ is.0
 ]
-
-kept_still : (p q : ClientRecord → Bool) (records : List ClientRecord) (r : ClientRecord) → ((s : ClientRecord) → p s ≡ true → q s ≡ true) → list_any p records ≡ true → list_any p (filter q records ++ r ∷ []) ≡ true
-kept_still p q records r keeps any =
-    any_before p (filter q records) r
-    (any_kept p q records (any_weaken (λ s. ⊤) p (λ s. p s && q s) (λ s _ passes. and_from (p s) (q s) passes (keeps s passes)) records (all_always records) any))
-
--- a record of the client is there
-of_record : (r : ClientRecord) (records : List ClientRecord) (c : ℕ) → IsOfRecord r records → is_of_client c r ≡ true → list_any (is_of_client c) records ≡ true
-of_record r records c of is =
-    any_found_with (λ s. is_same_client s.client r.client && bytes_eq s.id r.id) (is_of_client c) records
-    (λ s same.
-    let client = equal_clients s.client r.client (and_parts (is_same_client s.client r.client) (bytes_eq s.id r.id) same).0 in
-    subst (λ (x : ClientId). (x.number == c) ≡ true) (sym client) is) of
-
--- An unconfirmed record is added.
-
-confirmed_stays : (id : List ℕ) (c : ℕ) (s : ClientRecord) → lives c s ≡ true → not (is_unconfirmed_of id s) ≡ true
-confirmed_stays id c s live = by s.confirmed (bytes_eq s.id id) (and_parts s.confirmed (is_of_client c s) live).0
-  where
-    by : (a b : Bool) → a ≡ true → not (not a && b) ≡ true
-    by true b is_set = refl
-    by false b is_set = absurd cc
-
-unconfirmed_live : (r : ClientRecord) (records : List ClientRecord) (c : ℕ) → r.confirmed ≡ false → list_any (lives c) (with_unconfirmed r records) ≡ list_any (lives c) records
-unconfirmed_live r records c unset =
-    let q : ClientRecord → Bool = λ s. not (is_unconfirmed_of r.id s) in
-    bool_equal (list_any (lives c) (with_unconfirmed r records)) (list_any (lives c) records)
-    (λ live. elim (kept_or_new (lives c) q records r live) [
-      | inl before ↦ before
-      | inr new ↦ absurd (never r.confirmed unset (and_parts r.confirmed (is_of_client c r) new).0)
-    ])
-    (λ live. kept_still (lives c) q records r (confirmed_stays r.id c) live)
-
--- A record is confirmed in place of those of its id, which are all of one client.
-
-stays_or_is : (r : ClientRecord) (client : ClientId) (records : List ClientRecord) (c : ℕ) → AllByRecursion (IsOnlyOf client r.id) records → list_any (lives c) records ≡ true
-    → (list_any (lives c) (with_confirmed r records) ≡ true) ⊎ (client.number ≡ c)
-stays_or_is r client records c only live =
-    let q : ClientRecord → Bool = λ s. not (is_of r.id s) in
-    elim (any_split (IsOnlyOf client r.id) (lives c) (λ s. lives c s && q s) (client.number ≡ c)
-    (λ s is_only passes.
-    let both = and_parts s.confirmed (is_of_client c s) passes in
-    elim (cases_Bool (is_of r.id s)) [
-      | inl same ↦ inr (sym (ap (λ (x : ClientId). x.number) (equal_clients s.client client (is_only both.0 same))) ∙ eqb-true s.client.number c both.1)
-      | inr other ↦ inl (and_from (lives c s) (q s) passes (not_from_false (is_of r.id s) other))
-    ]) records only live) [
-      | inl kept ↦ inl (any_before (lives c) (filter q records) r (any_kept (lives c) q records kept))
-      | inr is ↦ inr is
-    ]
-
--- Where no confirmed record of a client that was live stays, none of its records stays: they all have one id.
-none_stays : (r : ClientRecord) (records : List ClientRecord) (c : ℕ) → AllByRecursion (λ s. AllByRecursion (HasSameId s) records) records → list_any (lives c) records ≡ true
-    → list_any (lives c) (with_confirmed r records) ≡ false → list_any (λ s. is_of_client c s && not (is_of r.id s)) records ≡ true → ⊥
-none_stays r records c same live dead kept =
-    let q : ClientRecord → Bool = λ s. not (is_of r.id s) in
-    let held = any_holds (λ s. AllByRecursion (HasSameId s) records) (λ s. is_of_client c s && q s) records kept same in
-    let s = held.0 in
-    let both = and_parts (is_of_client c s) (q s) held.2 in
-    let number = eqb-true s.client.number c both.0 in
-    never (list_any (lives c) (with_confirmed r records)) dead
-    (any_before (lives c) (filter q records) r
-    (any_kept (lives c) q records
-    (any_weaken (HasSameId s) (lives c) (λ t. lives c t && q t)
-    (λ t same_id passes.
-    let of = eqb-true t.client.number c (and_parts t.confirmed (is_of_client c t) passes).1 in
-    let id : s.id ≡ t.id = (same_id (number ∙ sym of)).1 in
-    and_from (lives c t) (q t) passes (subst (λ i. not (bytes_eq i r.id) ≡ true) id both.1)) records held.1 live)))
-
--- What follows of each change.
 
 given_still : (c last : ℕ) → (nat_le 1 c && nat_le c last) ≡ true → (nat_le 1 c && nat_le c (last + 1)) ≡ true
 given_still c last given =
     let both = and_parts (nat_le 1 c) (nat_le c last) given in
     and_from (nat_le 1 c) (nat_le c (last + 1)) both.0 (le-leb c (last + 1) (omega (arith, leb-true c last both.1)))
 
-not_next : (c number last : ℕ) → (nat_le 1 c && nat_le c last) ≡ true → number ≡ last + 1 → (number == c) ≡ true → ⊥
+not_next : (c number last : ℕ) → (nat_le 1 c && nat_le c last) ≡ true → number ≡ last + 1 → (c == number) ≡ true → ⊥
 not_next c number last given next is =
     let both = and_parts (nat_le 1 c) (nat_le c last) given in
-    omega (arith, leb-true c last both.1, next, eqb-true number c is)
+    omega (arith, leb-true c last both.1, next, eqb-true c number is)
 
--- nobody comes and nobody goes
-pub unmoved : (op : Op) (old new : Registry) → ((c : ℕ) → is_live c new ≡ is_live c old) → ((c : ℕ) → can_become_live c new ≡ true → can_become_live c old ≡ true) → LiveFollow op old new
-unmoved op old new same once = record {
-  comes = λ c dead live. absurd (never (is_live c old) dead (sym (same c) ∙ live));
-  goes = λ c live dead. absurd (never (is_live c new) dead (same c ∙ live));
-  once = once;
-}
-
-arrived : (op : Op) (r : ClientRecord) (old : Registry) → r.confirmed ≡ false → r.client.number ≡ old.last_number + 1 → LiveFollow op old (with_change (client_changes.Arrives r) old)
-arrived op r old unset next =
-    let new = with_change (client_changes.Arrives r) old in
-    unmoved op old new (λ c. unconfirmed_live r old.records c unset)
-    (λ c. once_by c old new (given_still c old.last_number)
-    (λ given dead there. (
-      sym (unconfirmed_live r old.records c unset) ∙ dead,
-      elim (kept_or_new (is_of_client c) (λ s. not (is_unconfirmed_of r.id s)) old.records r there) [
-        | inl before ↦ before
-        | inr is ↦ absurd (not_next c r.client.number old.last_number given next is)
-      ],
-    )))
-
-updated : (op : Op) (r : ClientRecord) (old : Registry) → r.confirmed ≡ false → IsOfRecord r old.records → LiveFollow op old (with_change (client_changes.Updates r) old)
-updated op r old unset of =
-    let new = with_change (client_changes.Updates r) old in
-    unmoved op old new (λ c. unconfirmed_live r old.records c unset)
-    (λ c. once_by c old new (λ given. given)
-    (λ given dead there. (
-      sym (unconfirmed_live r old.records c unset) ∙ dead,
-      elim (kept_or_new (is_of_client c) (λ s. not (is_unconfirmed_of r.id s)) old.records r there) [
-        | inl before ↦ before
-        | inr is ↦ of_record r old.records c of is
-      ],
-    )))
-
--- a client has become live: it is the one that was confirmed, and has a record
-came : (args : SetclientidConfirm) (r : ClientRecord) (old : Registry) (c : ℕ) → r.client.number ≡ args.client.number → IsOfRecord r old.records → is_live c old ≡ false → list_any (lives c) (with_confirmed r old.records) ≡ true
-    → (Some args.client.number ≡ Some c) × (can_become_live c old ≡ true)
-came args r old c number of dead live =
-    elim (kept_or_new (lives c) (λ s. not (is_of r.id s)) old.records r live) [
-      | inl before ↦ absurd (never (is_live c old) dead before)
-      | inr new ↦
-          let is = (and_parts r.confirmed (is_of_client c r) new).1 in
-          (ap Some (sym number ∙ eqb-true r.client.number c is), known_can c old dead (of_record r old.records c of is))
+-- where a record is put among the unconfirmed ones, its client or one that was there is among them
+known_put : (r : ClientRecord) (records : List ClientRecord) (c : ℕ) → list_any (is_of_client c) (without_id r.id records ++ r ∷ []) ≡ true → ((c == r.state.client.number) ≡ true) ⊎ (list_any (is_of_client c) records ≡ true)
+known_put r records c there =
+    elim (or_cases (c == r.state.client.number) (list_any (λ s. is_of_client c s && not (is_of r.id s)) records) (sym (live_put r records c) ∙ there)) [
+      | inl own ↦ inl own
+      | inr kept ↦ inr (kept_is (is_of_client c) (λ s. not (is_of r.id s)) records kept)
     ]
 
--- a record of a client that isn't live after the confirmation of another: the client wasn't live before either, if it has lost
--- no record
-was_known : (r : ClientRecord) (old : Registry) (c : ℕ) → IsOfRecord r old.records → list_any (is_of_client c) (with_confirmed r old.records) ≡ true → list_any (is_of_client c) old.records ≡ true
-was_known r old c of there = elim (kept_or_new (is_of_client c) (λ s. not (is_of r.id s)) old.records r there) [
-  | inl before ↦ before
-  | inr is ↦ of_record r old.records c of is
-]
+-- where records with an id are removed, one of the client that stays was there, and has another id
+known_left : (id : List ℕ) (records : List ClientRecord) (c : ℕ) → list_any (is_of_client c) (without_id id records) ≡ true → list_any (λ s. is_of_client c s && not (is_of id s)) records ≡ true
+known_left id records c there = any_of_kept (is_of_client c) (λ s. not (is_of id s)) records there
 
--- the record that is confirmed makes its client live
-lives_itself : (r : ClientRecord) (records : List ClientRecord) (c : ℕ) → r.confirmed ≡ true → is_of_client c r ≡ true → list_any (lives c) (with_confirmed r records) ≡ true
-lives_itself r records c is_set is = any_last (lives c) (filter (λ s. not (is_of r.id s)) records) r (and_from r.confirmed (is_of_client c r) is_set is)
-
-confirmed : (args : SetclientidConfirm) (r : ClientRecord) (old : Registry) → IsClientReady (client_changes.Confirms r) old → r.client.number ≡ args.client.number
-    → LiveFollow (ops.SetclientidConfirm args) old (with_change (client_changes.Confirms r) old)
-confirmed args r old ready number =
+can_changed : (change : ClientChange) (old : Registry) → HasSingles old → IsClientReady change old → (c : ℕ) → can_become_live c (with_change change old) ≡ true → can_become_live c old ≡ true
+can_changed client_changes.Nothing old singles ready c can = can
+can_changed (client_changes.Arrives r) old singles ready c can =
+    once_by c old (with_change (client_changes.Arrives r) old) (given_still c old.last_number)
+    (λ given dead there. (
+      dead,
+      elim (known_put r old.unconfirmed c there) [
+        | inl own ↦ absurd (not_next c r.state.client.number old.last_number given ready.0 own)
+        | inr was ↦ was
+      ],
+    )) can
+can_changed (client_changes.Updates r) old singles ready c can =
+    once_by c old (with_change (client_changes.Updates r) old) (λ given. given)
+    (λ given dead there. (
+      dead,
+      elim (known_put r old.unconfirmed c there) [
+        | inl own ↦ absurd (never (is_live c old) dead (of_record r.state.client r.id old.confirmed c ready own))
+        | inr was ↦ was
+      ],
+    )) can
+can_changed (client_changes.Confirms r) old singles ready c can =
     let new = with_change (client_changes.Confirms r) old in
-    let still : (c : ℕ) → is_live c old ≡ true → is_live c new ≡ true =
-    λ c live. elim (stays_or_is r r.client old.records c ready.1 live) [
-      | inl stays ↦ stays
-      | inr is ↦ lives_itself r old.records c ready.0 (eq-eqb r.client.number c is)
-    ] in
-    record {
-      comes = λ c dead live. came args r old c number ready.2 dead live;
-      goes = λ c live dead. absurd (never (is_live c new) dead (still c live));
-      once = λ c. once_by c old new (λ given. given)
-          (λ given dead there. (not_before (is_live c old) (is_live c new) (still c) dead, was_known r old c ready.2 there));
-    }
-
-replaced : (args : SetclientidConfirm) (r : ClientRecord) (client : ClientId) (old : Registry) → HasSingles old → IsClientReady (client_changes.Replaces r client) old
-    → IsConfirmation old args (client_changes.Replaces r client) → LiveFollow (ops.SetclientidConfirm args) old (with_change (client_changes.Replaces r client) old)
-replaced args r client old singles ready is =
+    once_by c old new (λ given. given)
+    (λ given dead there. (
+      false_from_ne_true (is_live c old)
+          (λ live. never (is_live c new) dead (live_changed (client_changes.Confirms r) old singles ready c ∙ or_right (c == r.state.client.number) (is_live c old) live)),
+      kept_is (is_of_client c) (λ s. not (is_of r.id s)) old.unconfirmed (known_left r.id old.unconfirmed c there),
+    )) can
+can_changed (client_changes.Refreshes r) old singles ready c can =
+    let new = with_change (client_changes.Refreshes r) old in
+    once_by c old new (λ given. given)
+    (λ given dead there. (
+      sym (live_changed (client_changes.Refreshes r) old singles ready c) ∙ dead,
+      kept_is (is_of_client c) (λ s. not (is_of r.id s)) old.unconfirmed (known_left r.id old.unconfirmed c there),
+    )) can
+can_changed (client_changes.Replaces r client) old singles ready c can =
     let new = with_change (client_changes.Replaces r client) old in
-    let q : ClientRecord → Bool = λ s. not (is_of r.id s) in
-    record {
-      comes = λ c dead live. came args r old c is.0 ready.1 dead live;
-      goes = λ c live dead. elim (stays_or_is r client old.records c ready.0 live) [
-        | inl stays ↦ absurd (never (is_live c new) dead stays)
-        | inr gone ↦ is.2 ∙ ap Some gone
-      ];
-      once = λ c. once_by c old new (λ given. given)
-          (λ given dead there. (
-            false_from_ne_true (is_live c old)
-                (λ live. elim (any_after (is_of_client c) q old.records r there) [
-                  | inl kept ↦ none_stays r old.records c singles.same live dead kept
-                  | inr own ↦ never (is_live c new) dead (lives_itself r old.records c is.1 own)
-                ]),
-            was_known r old c ready.1 there,
-          ));
-    }
+    once_by c old new (λ given. given)
+    (λ given dead there.
+    let kept = known_left r.id old.unconfirmed c there in (
+      false_from_ne_true (is_live c old)
+          (λ live. elim (cases_Bool (c == client.number)) [
+            | inl goes ↦ never (list_any (λ s. is_of_client c s && not (is_of r.id s)) old.unconfirmed)
+                (own_id_of client r.id old.confirmed old.unconfirmed c ready.1 (rows_unconfirmed old.confirmed old singles.same.0) goes) kept
+            | inr other ↦ never (is_live c new) dead
+                (live_changed (client_changes.Replaces r client) old singles ready c
+                ∙ or_right (c == r.state.client.number) (is_live c old && not (c == client.number)) (and_from (is_live c old) (not (c == client.number)) live (not_from_false (c == client.number) other)))
+          ]),
+      kept_is (is_of_client c) (λ s. not (is_of r.id s)) old.unconfirmed kept,
+    )) can
 
-pub live_changed : (epoch : ℕ) (op : Op) (change : ClientChange) (old : Registry) → HasSingles old → IsClientReady change old → IsClientsFor epoch old op change → LiveFollow op old (with_change change old)
-live_changed epoch (ops.Setclientid args) client_changes.Nothing old singles ready is = unmoved (ops.Setclientid args) old old (λ c. refl) (λ c can. can)
-live_changed epoch (ops.Setclientid args) (client_changes.Arrives r) old singles ready is = arrived (ops.Setclientid args) r old ready.0 ready.1
-live_changed epoch (ops.Setclientid args) (client_changes.Updates r) old singles ready is = updated (ops.Setclientid args) r old ready.0 ready.1
-live_changed epoch (ops.Setclientid args) (client_changes.Confirms r) old singles ready is = absurd is
-live_changed epoch (ops.Setclientid args) (client_changes.Replaces r client) old singles ready is = absurd is
-live_changed epoch (ops.SetclientidConfirm args) client_changes.Nothing old singles ready is = unmoved (ops.SetclientidConfirm args) old old (λ c. refl) (λ c can. can)
-live_changed epoch (ops.SetclientidConfirm args) (client_changes.Arrives r) old singles ready is = absurd is
-live_changed epoch (ops.SetclientidConfirm args) (client_changes.Updates r) old singles ready is = absurd is
-live_changed epoch (ops.SetclientidConfirm args) (client_changes.Confirms r) old singles ready is = confirmed args r old ready is
-live_changed epoch (ops.SetclientidConfirm args) (client_changes.Replaces r client) old singles ready is = replaced args r client old singles ready is
-live_changed epoch op change old singles ready is = absurd is
+-- Who comes could become live, and who goes was live.
+
+can_come : (client : ClientId) (id : List ℕ) (old : Registry) → HasSingles old → old.last_number ≤ CLIENT_LIMIT → HasRecord client id old.unconfirmed → is_live client.number old ≡ false → CanCome client.number old
+can_come client id old singles below there dead =
+    let n = client.number in
+    let found = find_record (HasGivenNumber old.last_number) client id old.unconfirmed there singles.given.1 in
+    let given : (1 ≤ n) × (n ≤ old.last_number) = subst (λ (x : ClientId). (1 ≤ x.number) × (x.number ≤ old.last_number)) found.client_is found.holds in
+    (
+      can_of_known (was_given n old) (is_live n old) (list_any (is_of_client n) old.unconfirmed) dead (of_record client id old.unconfirmed n there (eq-eqb n n refl)),
+      (given.0, omega (arith, given.1, below)),
+    )
+
+-- a client that has an unconfirmed record of an id has no confirmed record of another
+own_id_before : (client : ClientId) (id : List ℕ) (old : Registry) → HasSingles old → HasRecord client id old.unconfirmed → list_any (λ t. is_of_client client.number t && not (is_of id t)) old.confirmed ≡ false
+own_id_before client id old singles there =
+    own_id_of client id old.unconfirmed old.confirmed client.number there (rows_confirmed old.unconfirmed old singles.same.1) (eq-eqb client.number client.number refl)
+
+-- two records of one id, an unconfirmed and a confirmed one, that have one client number have one client
+same_number : (r client : ClientId) (id : List ℕ) (old : Registry) → HasSingles old → HasRecord r id old.unconfirmed → HasRecord client id old.confirmed → r.number ≡ client.number → client ≡ r
+same_number r client id old singles there held number =
+    let u = find_record (λ s. EachRecord (HasSameId s) old) r id old.unconfirmed there singles.same.1 in
+    let t = find_record (HasSameId u.one) client id old.confirmed held u.holds.0 in
+    let numbers = ap (λ (x : ClientId). x.number) u.client_is ∙ number ∙ sym (ap (λ (x : ClientId). x.number) t.client_is) in
+    sym t.client_is ∙ sym (t.holds numbers).0 ∙ u.client_is
+
+fits_changed : (change : ClientChange) (old : Registry) → HasSingles old → old.last_number ≤ CLIENT_LIMIT → IsClientReady change old → Fits (live_change change) old
+fits_changed client_changes.Nothing old singles below ready = tt
+fits_changed (client_changes.Arrives r) old singles below ready = tt
+fits_changed (client_changes.Updates r) old singles below ready = tt
+fits_changed (client_changes.Confirms r) old singles below ready =
+    can_come r.state.client r.id old singles below ready.1
+    (sym (all_stay r.id old.confirmed r.state.client.number ready.0) ∙ own_id_before r.state.client r.id old singles ready.1)
+fits_changed (client_changes.Refreshes r) old singles below ready = tt
+fits_changed (client_changes.Replaces r client) old singles below ready =
+    let n = r.state.client.number in (
+      can_come r.state.client r.id old singles below ready.2
+          (false_from_ne_true (is_live n old)
+          (λ live. elim (others_stay client r.id old.confirmed n ready.0 live) [
+            | inl kept ↦ never (list_any (λ s. is_of_client n s && not (is_of r.id s)) old.confirmed) (own_id_before r.state.client r.id old singles ready.2) kept
+            | inr goes ↦ never (is_same_client client r.state.client) ready.3
+                (subst (λ x. is_same_client x r.state.client ≡ true) (sym (same_number r.state.client client r.id old singles ready.2 ready.1 (eqb-true n client.number goes))) (same_client_self r.state.client))
+          ])),
+      of_record client r.id old.confirmed client.number ready.1 (eq-eqb client.number client.number refl),
+    )
+
+-- So each change follows.
+
+pub follows_same : (registry : Registry) → HasSingles registry → LiveFollows Same registry registry
+follows_same registry singles = record { live = λ c. refl; fits = tt; once = λ c can. (can, not_yet registry singles c can) }
+
+pub follows_changed : (change : ClientChange) (old : Registry) → HasSingles old → old.last_number ≤ CLIENT_LIMIT → IsClientReady change old → LiveFollows (live_change change) old (with_change change old)
+follows_changed change old singles below ready = record {
+  live = live_changed change old singles ready;
+  fits = fits_changed change old singles below ready;
+  once = λ c can. (can_changed change old singles ready c can, not_yet (with_change change old) (singles_changed change old ready singles) c can);
+}
 
 -- A client ends.
 
-pub live_ended : (client : ℕ) (old : Registry) → is_live client old ≡ true → LiveEnd client old (without_client client old)
-live_ended client old live =
-    let new = without_client client old in
-    let q : ClientRecord → Bool = λ r. not (is_of_client client r) in
-    let same : (c : ℕ) → is_live c new ≡ (is_live c old && not (c == client)) = λ c. ended c in
-    record {
-      ends = same;
-      once = λ c. once_by c old new (λ given. given)
-          (λ given dead there.
-          let kept = any_of_kept (is_of_client c) q old.records there in (
-            false_from_ne_true (is_live c old)
-                (λ is. elim (cases_Bool (c == client)) [
-                  | inl own ↦ nobody c own kept
-                  | inr other ↦ never (is_live c new) dead (same c ∙ and_from (is_live c old) (not (c == client)) is (not_from_false (c == client) other))
-                ]),
-            any_weaken (λ s. ⊤) (λ s. is_of_client c s && q s) (is_of_client c) (λ s _ both. (and_parts (is_of_client c s) (q s) both).0) old.records (all_always old.records) kept,
-          ));
-    }
-  where
-    nobody : (c : ℕ) → (c == client) ≡ true → list_any (λ s. is_of_client c s && not (is_of_client client s)) old.records ≡ true → ⊥
-    nobody c own kept =
-        let held = any_holds (λ s. ⊤) (λ s. is_of_client c s && not (is_of_client client s)) old.records kept (all_always old.records) in
-        let both = and_parts (is_of_client c held.0) (not (is_of_client client held.0)) held.2 in
-        never (is_of_client client held.0) (not-true (is_of_client client held.0) both.1)
-        (subst (λ n. (held.0.client.number == n) ≡ true) (eqb-true c client own) both.0)
+-- where the records of a client are removed, none of its own stays
+none_left : (client : ℕ) (records : List ClientRecord) (c : ℕ) → (c == client) ≡ true → list_any (is_of_client c) (without_number client records) ≡ false
+none_left client records c same =
+    false_from_ne_true (list_any (is_of_client c) (without_number client records))
+    (λ any.
+    let held = any_holds (λ s. ⊤) (λ s. is_of_client c s && not (is_of_client client s)) records (any_of_kept (is_of_client c) (λ s. not (is_of_client client s)) records any) (all_always records) in
+    let n = held.0.state.client.number in
+    let both = and_parts (n == c) (not (n == client)) held.2 in
+    never (n == client) (not-true (n == client) both.1) (eq-eqb n client (eqb-true n c both.0 ∙ eqb-true c client same)))
 
-    ended : (c : ℕ) → list_any (lives c) (filter (λ r. not (is_of_client client r)) old.records) ≡ (list_any (lives c) old.records && not (c == client))
-    ended c =
-        let q : ClientRecord → Bool = λ r. not (is_of_client client r) in
-        bool_equal (list_any (lives c) (filter q old.records)) (list_any (lives c) old.records && not (c == client))
-        (λ any.
-        let kept = any_of_kept (lives c) q old.records any in
-        let held = any_holds (λ s. ⊤) (λ s. lives c s && q s) old.records kept (all_always old.records) in
-        let both = and_parts (lives c held.0) (q held.0) held.2 in
-        let of = eqb-true held.0.client.number c (and_parts held.0.confirmed (is_of_client c held.0) both.0).1 in
-        and_from (list_any (lives c) old.records) (not (c == client))
-        (any_weaken (λ s. ⊤) (λ s. lives c s && q s) (lives c) (λ s _ pair. (and_parts (lives c s) (q s) pair).0) old.records (all_always old.records) kept)
-        (subst (λ n. not (n == client) ≡ true) of both.1))
-        (λ pair.
-        let parts = and_parts (list_any (lives c) old.records) (not (c == client)) pair in
-        any_kept (lives c) q old.records
-        (any_weaken (λ s. ⊤) (lives c) (λ s. lives c s && q s)
-        (λ s _ passes. and_from (lives c s) (q s) passes
-        (subst (λ n. not (n == client) ≡ true) (sym (eqb-true s.client.number c (and_parts s.confirmed (is_of_client c s) passes).1)) parts.1))
-        old.records (all_always old.records) parts.0))
+live_ended : (client : ℕ) (old : Registry) (c : ℕ) → is_live c (without_client client old) ≡ (is_live c old && not (c == client))
+live_ended client old c =
+    let q : ClientRecord → Bool = λ s. not (is_of_client client s) in
+    but_one (is_live c (without_client client old)) (is_live c old) (c == client) (λ any. kept_is (is_of_client c) q old.confirmed (any_of_kept (is_of_client c) q old.confirmed any))
+    (none_left client old.confirmed c)
+    (λ live. elim (cases_Bool (c == client)) [
+      | inl same ↦ inr same
+      | inr other ↦ inl (any_kept (is_of_client c) q old.confirmed
+          (any_weaken (λ s. ⊤) (is_of_client c) (λ s. is_of_client c s && q s)
+          (λ s _ is. and_from (is_of_client c s) (q s) is (not_from_false (is_of_client client s) (ap (λ n. n == client) (eqb-true s.state.client.number c is) ∙ other)))
+          old.confirmed (all_always old.confirmed) live))
+    ])
+
+can_ended : (client : ℕ) (old : Registry) (c : ℕ) → can_become_live c (without_client client old) ≡ true → can_become_live c old ≡ true
+can_ended client old c can =
+    let new = without_client client old in
+    let q : ClientRecord → Bool = λ s. not (is_of_client client s) in
+    once_by c old new (λ given. given)
+    (λ given dead there. (
+      false_from_ne_true (is_live c old)
+          (λ live. elim (cases_Bool (c == client)) [
+            | inl same ↦ never (list_any (is_of_client c) new.unconfirmed) (none_left client old.unconfirmed c same) there
+            | inr other ↦ never (is_live c new) dead
+                (live_ended client old c ∙ and_from (is_live c old) (not (c == client)) live (not_from_false (c == client) other))
+          ]),
+      kept_is (is_of_client c) q old.unconfirmed (any_of_kept (is_of_client c) q old.unconfirmed there),
+    )) can
+
+pub follows_ended : (client : ℕ) (old : Registry) → HasSingles (without_client client old) → is_live client old ≡ true → LiveFollows (Goes client) old (without_client client old)
+follows_ended client old singles live = record {
+  live = live_ended client old;
+  fits = live;
+  once = λ c can. (can_ended client old c can, not_yet (without_client client old) singles c can);
+}
 
 -- Clientids are of one epoch.
 
 abbrev pub HasEpoch : ℕ → ClientRecord → Type 0
-HasEpoch epoch r = r.client.epoch ≡ epoch
+HasEpoch epoch r = r.state.client.epoch ≡ epoch
 
 abbrev pub HaveEpoch : ℕ → Registry → Type 0
-HaveEpoch epoch registry = AllByRecursion (HasEpoch epoch) registry.records
+HaveEpoch epoch registry = EachRecord (HasEpoch epoch) registry
 
-epoch_after : (epoch : ℕ) (q : ClientRecord → Bool) (records : List ClientRecord) (r : ClientRecord) → HasEpoch epoch r → AllByRecursion (HasEpoch epoch) records → AllByRecursion (HasEpoch epoch) (filter q records ++ r ∷ [])
-epoch_after epoch q records r new h = all_push (HasEpoch epoch) (filter q records) r (all_filter (HasEpoch epoch) (HasEpoch epoch) q (λ s k _. k) records h) new
-
-epoch_of_record : (epoch : ℕ) (r : ClientRecord) (records : List ClientRecord) → IsOfRecord r records → AllByRecursion (HasEpoch epoch) records → HasEpoch epoch r
-epoch_of_record epoch r records of h =
-    let held = found_holds (HasEpoch epoch) (λ s. is_same_client s.client r.client && bytes_eq s.id r.id) records of h in
-    let client = equal_clients held.0.client r.client (and_parts (is_same_client held.0.client r.client) (bytes_eq held.0.id r.id) held.2).0 in
-    subst (λ (x : ClientId). x.epoch ≡ epoch) client held.1
+epoch_of_record : (epoch : ℕ) (client : ClientId) (id : List ℕ) (records : List ClientRecord) → HasRecord client id records → AllByRecursion (HasEpoch epoch) records → client.epoch ≡ epoch
+epoch_of_record epoch client id records of h =
+    let found = find_record (HasEpoch epoch) client id records of h in
+    sym (ap (λ (x : ClientId). x.epoch) found.client_is) ∙ found.holds
 
 pub epoch_changed : (epoch : ℕ) (op : Op) (change : ClientChange) (old : Registry) → IsClientReady change old → IsClientsFor epoch old op change → HaveEpoch epoch old → HaveEpoch epoch (with_change change old)
 epoch_changed epoch op client_changes.Nothing old ready is h = h
-epoch_changed epoch (ops.Setclientid args) (client_changes.Arrives r) old ready is h = epoch_after epoch (λ s. not (is_unconfirmed_of r.id s)) old.records r is h
-epoch_changed epoch op (client_changes.Updates r) old ready is h = epoch_after epoch (λ s. not (is_unconfirmed_of r.id s)) old.records r (epoch_of_record epoch r old.records ready.1 h) h
-epoch_changed epoch op (client_changes.Confirms r) old ready is h = epoch_after epoch (λ s. not (is_of r.id s)) old.records r (epoch_of_record epoch r old.records ready.2 h) h
-epoch_changed epoch op (client_changes.Replaces r client) old ready is h = epoch_after epoch (λ s. not (is_of r.id s)) old.records r (epoch_of_record epoch r old.records ready.1 h) h
+epoch_changed epoch (ops.Setclientid args) (client_changes.Arrives r) old ready is h = each_unconfirmed (HasEpoch epoch) r old is h
+epoch_changed epoch op (client_changes.Updates r) old ready is h = each_unconfirmed (HasEpoch epoch) r old (epoch_of_record epoch r.state.client r.id old.confirmed ready h.0) h
+epoch_changed epoch op (client_changes.Confirms r) old ready is h = each_confirmed (HasEpoch epoch) r old (epoch_of_record epoch r.state.client r.id old.unconfirmed ready.1 h.1) h
+epoch_changed epoch op (client_changes.Refreshes r) old ready is h = each_confirmed (HasEpoch epoch) r old (epoch_of_record epoch r.state.client r.id old.confirmed ready.1 h.0) h
+epoch_changed epoch op (client_changes.Replaces r client) old ready is h = each_confirmed (HasEpoch epoch) r old (epoch_of_record epoch r.state.client r.id old.unconfirmed ready.2 h.1) h
 epoch_changed epoch op change old ready is h = absurd is
+
+-- a client that is live is so by its number
+pub live_number : (client : ClientId) (records : List ClientRecord) → is_live_in records client ≡ true → list_any (is_of_client client.number) records ≡ true
+live_number client records found =
+    any_found_with (λ r. is_same_client r.state.client client) (is_of_client client.number) records
+    (λ r passes. (and_parts (r.state.client.epoch == client.epoch) (r.state.client.number == client.number) passes).1) found
 
 -- so a client is told by its number
 pub told_by_number : (epoch number : ℕ) (records : List ClientRecord) → AllByRecursion (HasEpoch epoch) records
-    → is_some (find (λ r. r.confirmed && is_same_client r.client (record { epoch = epoch; number = number })) records) ≡ list_any (lives number) records
+    → is_live_in records (record { epoch = epoch; number = number }) ≡ list_any (is_of_client number) records
 told_by_number epoch number records h =
     let client : ClientId = record { epoch = epoch; number = number } in
-    let named : ClientRecord → Bool = λ r. r.confirmed && is_same_client r.client client in
-    bool_equal (is_some (find named records)) (list_any (lives number) records)
-    (λ found. any_found_with named (lives number) records
-    (λ r passes.
-    let both = and_parts r.confirmed (is_same_client r.client client) passes in
-    and_from r.confirmed (is_of_client number r) both.0 (and_parts (r.client.epoch == epoch) (r.client.number == number) both.1).1) found)
+    let named : ClientRecord → Bool = λ r. is_same_client r.state.client client in
+    bool_equal (is_some (find named records)) (list_any (is_of_client number) records)
+    (live_number client records)
     (λ any. found_any named records
-    (any_weaken (HasEpoch epoch) (lives number) named
-    (λ r of passes.
-    let both = and_parts r.confirmed (is_of_client number r) passes in
-    and_from r.confirmed (is_same_client r.client client) both.0
-    (and_from (r.client.epoch == epoch) (r.client.number == number) (eq-eqb r.client.epoch epoch of) both.1)) records h any))
-
--- each live client was given a number
-pub numbered : (registry : Registry) → AllByRecursion (HasGivenNumber registry.last_number) registry.records → (number : ℕ) → is_live number registry ≡ true → (1 ≤ number) × (number ≤ registry.last_number)
-numbered registry given number live =
-    let held = any_holds (HasGivenNumber registry.last_number) (lives number) registry.records live given in
-    let is = eqb-true held.0.client.number number (and_parts held.0.confirmed (is_of_client number held.0) held.2).1 in
-    subst (λ n. (1 ≤ n) × (n ≤ registry.last_number)) is held.1
+    (any_weaken (HasEpoch epoch) (is_of_client number) named
+    (λ r of passes. and_from (r.state.client.epoch == epoch) (r.state.client.number == number) (eq-eqb r.state.client.epoch epoch of) passes) records h any))

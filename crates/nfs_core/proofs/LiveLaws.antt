@@ -1,19 +1,27 @@
 -- Who is live along a lawful journal.
-use Rattle.std.proofs.Common.{◌≡◌, ℕ, Bool, true, List, [], ◌∷◌, length, refl, sym, ◌∙◌, subst, arith}
-use Rattle.std.specs.Prelude.{not}
+use Rattle.std.proofs.Common.{◌≡◌, ℕ, Bool, true, false, Some, List, [], ◌∷◌, length, refl, sym, ap, ◌∙◌, subst, arith}
+use Rattle.std.specs.Prelude.{⊤, ◌&&◌, ◌||◌, ◌==◌, not}
+use Rattle.std.proofs.lemmas.Grind.{common_steps}
 use Rattle.nfs_core.proofs.ClientChanges.{IsFor, ruled_for}
-use Rattle.nfs_core.proofs.LiveClients.{HasEpoch, HaveEpoch, epoch_changed, live_changed, live_ended, numbered, told_by_number, unmoved}
-use Rattle.nfs_core.proofs.SafeLists.{all_filter}
+use Rattle.nfs_core.proofs.LiveClients.{HasEpoch, HaveEpoch, epoch_changed, follows_changed, follows_ended, follows_same, live_number, numbered, told_by_number}
 use Rattle.nfs_core.proofs.Safety.{Holds, Laws, allowed_ready, holds_empty, holds_leads, holds_step}
-use Rattle.nfs_core.proofs.SoundClients.{HasSingles, singles_owned}
+use Rattle.nfs_core.proofs.SoundClients.{HasSingles, each_left, singles_owned}
+use Rattle.nfs_core.proofs.SoundLimits.{limits_owned}
+use Rattle.nfs_core.proofs.SoundSequences.{never}
 use Rattle.nfs_core.proofs.SoundSteps.{IsChangeReady, IsEffectReady}
 use Rattle.nfs_core.specs.Lawful.{Lawful, Leads}
-use Rattle.nfs_core.specs.LiveClients.{AreNumbered, AreOfOneRun, CallsFollow, EndsFollow, LiveEnd, LiveFollow}
+use Rattle.nfs_core.specs.LiveClients.{AreNumbered, AreOfOneRun, CallsFollow, EffectsFollow, EndsFollow, Fits, LiveFollows, confirmed_by, replaced_in}
+use Rattle.nfs_core.specs.Safe.{KeepsLimits}
 use Rattle.nfs_core.specs.Step.{IsAnswered, Step}
-use Rattle.nfs_owners.specs.Registry.{Registry, is_live, is_of_client}
-use Rattle.nfs_owners.specs.declared.client_record.ClientRecord.{ClientRecord}
+use Rattle.nfs_owners.specs.LiveChange.{is_live_after}
+use Rattle.nfs_owners.specs.LiveClients.{can_become_live}
+use Rattle.nfs_owners.specs.Registry.{Registry, is_live}
+use Rattle.nfs_owners.specs.declared.clients.client_change.ClientChange.TheVariants as client_changes
+use Rattle.nfs_owners.specs.declared.live_change.LiveChange.{LiveChange}
+use Rattle.nfs_owners.specs.declared.live_change.LiveChange.TheVariants.{Same, Comes, Replaces, Goes}
 use Rattle.nfs_state.specs.Changes.{after, with_owner_change, with_state_change}
 use Rattle.nfs_state.specs.Entries.{with_entry}
+use Rattle.nfs_state.specs.LiveChange.{live_change_of}
 use Rattle.nfs_state.specs.State.{History, State, empty_server}
 use Rattle.nfs_state.specs.declared.change.Change.{Change}
 use Rattle.nfs_state.specs.declared.change.Change.TheVariants as changes
@@ -25,28 +33,29 @@ use Rattle.nfs_state.specs.declared.entry.Expire.{Expire}
 use Rattle.nfs_state.specs.declared.owner_change.OwnerChange.{OwnerChange}
 use Rattle.nfs_state.specs.declared.owner_change.OwnerChange.TheVariants as owner_changes
 use Rattle.nfs_xdr.specs.declared.op.Op.{Op}
+use Rattle.nfs_xdr.specs.declared.op.Op.TheVariants as ops
 
 -- what an entry means for an owner leaves the clients' records as they are
 owned_clients : (change : OwnerChange) (number : ℕ) (old : State) → (with_owner_change change number old).clients ≡ old.clients
 owned_clients owner_changes.Nothing number old = refl
 owned_clients change number old = refl
 
-live_by_change : (epoch : ℕ) (op : Op) (change : Change) (old : State) → HasSingles old.clients → IsChangeReady change old → IsFor epoch old.clients op change → LiveFollow op old.clients (with_state_change change old).clients
-live_by_change epoch op (changes.Clients change) old singles ready is = live_changed epoch op change old.clients singles ready is
-live_by_change epoch op (changes.Expires client) old singles ready is = absurd is
-live_by_change epoch op change old singles ready is = unmoved op old.clients old.clients (λ c. refl) (λ c can. can)
+live_by_change : (change : Change) (old : State) → HasSingles old.clients → HasSingles (with_state_change change old).clients → KeepsLimits old → IsChangeReady change old
+    → LiveFollows (live_change_of change) old.clients (with_state_change change old).clients
+live_by_change (changes.Clients change) old singles after within ready = follows_changed change old.clients singles within.clients ready
+live_by_change (changes.Expires client) old singles after within ready = follows_ended client.number old.clients after (live_number client old.clients.confirmed ready.0)
+live_by_change change old singles after within ready = follows_same old.clients singles
 
 epoch_by_change : (epoch : ℕ) (op : Op) (change : Change) (old : State) → IsChangeReady change old → IsFor epoch old.clients op change → HaveEpoch epoch old.clients → HaveEpoch epoch (with_state_change change old).clients
 epoch_by_change epoch op (changes.Clients change) old ready is h = epoch_changed epoch op change old.clients ready is h
 epoch_by_change epoch op (changes.Expires client) old ready is h = absurd is
 epoch_by_change epoch op change old ready is h = h
 
-live_by_effect : (epoch : ℕ) (op : Op) (number : ℕ) (entry : Entry) (effect : Effect) (old : State) → HasSingles old.clients → IsEffectReady number old effect → IsFor epoch old.clients op effect.change → LiveFollow op old.clients (after number entry effect old).clients
-live_by_effect epoch op number entry effect old singles ready is =
-    let same = owned_clients effect.owner number old in
-    subst (λ (r : Registry). LiveFollow op r (after number entry effect old).clients) same
-    (live_by_change epoch op effect.change (with_owner_change effect.owner number old) (singles_owned effect.owner number old singles) ready.1
-    (subst (λ (r : Registry). IsFor epoch r op effect.change) (sym same) is))
+live_by_effect : (number : ℕ) (entry : Entry) (effect : Effect) (old : State) → Holds old → Holds (after number entry effect old) → IsEffectReady number old effect → LiveFollows (live_change_of effect.change) old.clients (after number entry effect old).clients
+live_by_effect number entry effect old holds then ready =
+    let mid = with_owner_change effect.owner number old in
+    subst (λ (r : Registry). LiveFollows (live_change_of effect.change) r (after number entry effect old).clients) (owned_clients effect.owner number old)
+    (live_by_change effect.change mid (singles_owned effect.owner number old holds.singles) then.singles (limits_owned effect.owner number old ready.0 holds.within) ready.1)
 
 epoch_by_effect : (epoch : ℕ) (op : Op) (number : ℕ) (entry : Entry) (effect : Effect) (old : State) → IsEffectReady number old effect → IsFor epoch old.clients op effect.change → HaveEpoch epoch old.clients → HaveEpoch epoch (after number entry effect old).clients
 epoch_by_effect epoch op number entry effect old ready is h =
@@ -67,10 +76,9 @@ epoch_allowed journal old (entries.Call call) new step holds h =
     (epoch_by_effect journal.epoch call.request.op (length journal.entries) (entries.Call call) step.effect old
     (allowed_ready journal old (entries.Call call) step.effect holds.sound holds.singles step.allowed) (call_for journal old call step.effect holds step.allowed) h)
 epoch_allowed journal old (entries.Expire expire) new step holds h =
-    let gone : ClientRecord → Bool = is_of_client expire.client in
     subst (λ (s : State). HaveEpoch journal.epoch s.clients) (sym step.state)
     (subst (λ (e : Effect). HaveEpoch journal.epoch (after (length journal.entries) (entries.Expire expire) e old).clients) (sym step.allowed.removal)
-    (all_filter (HasEpoch journal.epoch) (HasEpoch journal.epoch) (λ r. not (gone r)) (λ r k _. k) old.clients.records h))
+    (each_left (HasEpoch journal.epoch) expire.client old.clients h))
 
 epoch_leads : Laws → (journal : History) (old new : State) (entries : List Entry) → Leads journal old entries new → Holds old → HaveEpoch journal.epoch old.clients → HaveEpoch journal.epoch new.clients
 epoch_leads laws journal old new [] leads holds h = subst (λ (s : State). HaveEpoch journal.epoch s.clients) (sym leads) h
@@ -84,31 +92,106 @@ lawful_holds laws journal state lawful =
 
 lawful_epoch : Laws → (journal : History) (state : State) → Lawful journal state → HaveEpoch journal.epoch state.clients
 lawful_epoch laws journal state lawful =
-    epoch_leads laws (record journal { entries = [] }) (empty_server journal.nodes) state journal.entries lawful (holds_empty journal) tt
+    epoch_leads laws (record journal { entries = [] }) (empty_server journal.nodes) state journal.entries lawful (holds_empty journal) (tt, tt)
 
 pub Lawful-run : Laws → (journal : History) (state : State) → Lawful journal state → AreOfOneRun journal state
-Lawful-run laws journal state lawful = λ number. told_by_number journal.epoch number state.clients.records (lawful_epoch laws journal state lawful)
+Lawful-run laws journal state lawful = λ number. told_by_number journal.epoch number state.clients.confirmed (lawful_epoch laws journal state lawful).0
 
 pub Lawful-numbered : Laws → (journal : History) (state : State) → Lawful journal state → AreNumbered state.clients
 Lawful-numbered laws journal state lawful = λ number live.
     let holds = lawful_holds laws journal state lawful in
-    let given = numbered state.clients holds.singles.given number live in
+    let given = numbered state.clients holds.singles number live in
     (given.0, omega (arith, given.1, holds.within.clients))
 
 -- How entries change who is live.
+
+pub Effects-follow : Laws → EffectsFollow
+Effects-follow laws journal old new entry lawful step =
+    let holds = lawful_holds laws journal old lawful in
+    let then : Holds (after (length journal.entries) entry step.effect old) = subst Holds step.state (holds_step laws journal old entry new step holds) in
+    subst (λ (s : State). LiveFollows (live_change_of step.effect.change) old.clients s.clients) (sym step.state)
+    (live_by_effect (length journal.entries) entry step.effect old holds then
+    (allowed_ready journal old entry step.effect holds.sound holds.singles step.allowed))
+
+-- So do calls: one that confirms a client, by the client that it names.
+
+-- the client comes by the change, or goes
+abbrev IsComer : LiveChange → ℕ → Type 0
+IsComer Same number = ⊥
+IsComer (Comes comes) number = number ≡ comes
+IsComer (Replaces comes goes) number = number ≡ comes
+IsComer (Goes goes) number = ⊥
+
+abbrev IsGoer : LiveChange → ℕ → Type 0
+IsGoer Same number = ⊥
+IsGoer (Comes comes) number = ⊥
+IsGoer (Replaces comes goes) number = number ≡ goes
+IsGoer (Goes goes) number = number ≡ goes
+
+comer : (change : LiveChange) (number : ℕ) (old new : Bool) → new ≡ is_live_after change number old → old ≡ false → new ≡ true → IsComer change number
+comer Same number old new is dead live = absurd (never old dead (sym is ∙ live))
+comer (Comes comes) number old new is dead live = grind (arith, common_steps)
+comer (Replaces comes goes) number old new is dead live = grind (arith, common_steps)
+comer (Goes goes) number old new is dead live = grind (arith, common_steps)
+
+goer : (change : LiveChange) (number : ℕ) (old new : Bool) → new ≡ is_live_after change number old → old ≡ true → new ≡ false → IsGoer change number
+goer Same number old new is live dead = absurd (never new dead (is ∙ live))
+goer (Comes comes) number old new is live dead = grind (arith, common_steps)
+goer (Replaces comes goes) number old new is live dead = grind (arith, common_steps)
+goer (Goes goes) number old new is live dead = grind (arith, common_steps)
+
+-- who comes could become live
+comer_could : (change : LiveChange) (number : ℕ) (old : Registry) → Fits change old → IsComer change number → can_become_live number old ≡ true
+comer_could (Comes comes) number old fits is = subst (λ n. can_become_live n old ≡ true) (sym is) fits.0
+comer_could (Replaces comes goes) number old fits is = subst (λ n. can_become_live n old ≡ true) (sym is) fits.0.0
+comer_could Same number old fits is = absurd is
+comer_could (Goes goes) number old fits is = absurd is
+
+-- by a change that an operation may make, the client that it names comes, and the one goes that this one replaces
+
+comer_named : (epoch : ℕ) (registry : Registry) (op : Op) (change : Change) (number : ℕ) → IsFor epoch registry op change → IsComer (live_change_of change) number → confirmed_by op ≡ Some number
+comer_named epoch registry (ops.SetclientidConfirm args) (changes.Clients (client_changes.Confirms r)) number is comes = ap Some (sym (comes ∙ is))
+comer_named epoch registry (ops.SetclientidConfirm args) (changes.Clients (client_changes.Replaces r client)) number is comes = ap Some (sym (comes ∙ is.0))
+comer_named epoch registry op (changes.Clients client_changes.Nothing) number is comes = absurd comes
+comer_named epoch registry op (changes.Clients (client_changes.Arrives r)) number is comes = absurd comes
+comer_named epoch registry op (changes.Clients (client_changes.Updates r)) number is comes = absurd comes
+comer_named epoch registry op (changes.Clients (client_changes.Refreshes r)) number is comes = absurd comes
+comer_named epoch registry op (changes.Clients change) number is comes = absurd is
+comer_named epoch registry op change number is comes = absurd comes
+
+goer_replaced : (epoch : ℕ) (registry : Registry) (op : Op) (change : Change) (number : ℕ) → IsFor epoch registry op change → IsGoer (live_change_of change) number → replaced_in registry op ≡ Some number
+goer_replaced epoch registry (ops.SetclientidConfirm args) (changes.Clients (client_changes.Replaces r client)) number is goes = is.1 ∙ ap Some (sym goes)
+goer_replaced epoch registry op (changes.Expires client) number is goes = absurd is
+goer_replaced epoch registry op (changes.Clients client_changes.Nothing) number is goes = absurd goes
+goer_replaced epoch registry op (changes.Clients (client_changes.Arrives r)) number is goes = absurd goes
+goer_replaced epoch registry op (changes.Clients (client_changes.Updates r)) number is goes = absurd goes
+goer_replaced epoch registry op (changes.Clients (client_changes.Refreshes r)) number is goes = absurd goes
+goer_replaced epoch registry op (changes.Clients (client_changes.Confirms r)) number is goes = absurd goes
+goer_replaced epoch registry op (changes.Clients change) number is goes = absurd is
+goer_replaced epoch registry op change number is goes = absurd goes
 
 pub Calls-follow : Laws → CallsFollow
 Calls-follow laws journal old new request answer lawful step =
     let holds = lawful_holds laws journal old lawful in
     let call : Call = record { request = request; answer = answer } in
-    subst (λ (s : State). LiveFollow request.op old.clients s.clients) (sym step.state)
-    (live_by_effect journal.epoch request.op (length journal.entries) (entries.Call call) step.effect old holds.singles
-    (allowed_ready journal old (entries.Call call) step.effect holds.sound holds.singles step.allowed) (call_for journal old call step.effect holds step.allowed))
+    let change = step.effect.change in
+    let follows = Effects-follow laws journal old new (entries.Call call) lawful step in
+    let may = call_for journal old call step.effect holds step.allowed in
+    let op = request.op in
+    record {
+      comes = λ number dead live.
+          let comes = comer (live_change_of change) number (is_live number old.clients) (is_live number new.clients) (follows.live number) dead live in
+          (comer_named journal.epoch old.clients op change number may comes, comer_could (live_change_of change) number old.clients follows.fits comes);
+      goes = λ number live dead.
+          goer_replaced journal.epoch old.clients op change number may
+          (goer (live_change_of change) number (is_live number old.clients) (is_live number new.clients) (follows.live number) live dead);
+      once = λ number can. (follows.once number can).0;
+    }
 
+-- And ends, whose effect says who goes.
 pub Ends-follow : Laws → EndsFollow
 Ends-follow laws journal old new expire lawful step =
-    let live : is_live expire.client old.clients ≡ true =
-    sym (Lawful-run laws journal old lawful expire.client) ∙ step.allowed.live in
-    subst (λ (s : State). LiveEnd expire.client old.clients s.clients) (sym step.state)
-    (subst (λ (e : Effect). LiveEnd expire.client old.clients (after (length journal.entries) (entries.Expire expire) e old).clients) (sym step.allowed.removal)
-    (live_ended expire.client old.clients live))
+    let follows : LiveFollows (Goes expire.client) old.clients new.clients =
+    subst (λ (e : Effect). LiveFollows (live_change_of e.change) old.clients new.clients) step.allowed.removal
+    (Effects-follow laws journal old new (entries.Expire expire) lawful step) in
+    record { ends = follows.live; once = λ number can. (follows.once number can).0 }

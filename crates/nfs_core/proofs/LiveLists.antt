@@ -1,6 +1,6 @@
 -- Lists: whether an element passes a test, before and after others are removed and one is added.
 use Rattle.std.proofs.Common.{◌≡◌, ◌⊎◌, inl, inr, Bool, true, false, Some, List, [], ◌∷◌, ◌++◌, filter, refl, sym, ap, ◌∙◌}
-use Rattle.std.specs.Prelude.{⊤, ◌&&◌, find, is_some}
+use Rattle.std.specs.Prelude.{⊤, ◌&&◌, ◌||◌, find, is_some}
 use Rattle.std.specs.List.{AllByRecursion, list_any}
 use Rattle.std.proofs.lemmas.Bool.{and_from, and_parts, cases_Bool, cond-false, cond-true, or_cases, or_left, or_right}
 use Rattle.std.proofs.lemmas.List.Folds.{list_any-append}
@@ -11,6 +11,11 @@ pub bool_equal : (a b : Bool) → (a ≡ true → b ≡ true) → (b ≡ true �
 bool_equal true b to from = sym (to refl)
 bool_equal false true to from = from refl
 bool_equal false false to from = refl
+
+-- none passes
+pub none_any : {X : Type 0} (p : X → Bool) (xs : List X) → AllByRecursion (λ x. p x ≡ false) xs → list_any p xs ≡ false
+none_any p [] none = refl
+none_any p (x ∷ xs) none = ap (λ b. b || list_any p xs) none.0 ∙ none_any p xs none.1
 
 -- the element that passes
 pub any_holds : {X : Type 0} (P : X → Type 0) (p : X → Bool) (xs : List X) → list_any p xs ≡ true → AllByRecursion P xs → (x : X) × P x × (p x ≡ true)
@@ -98,6 +103,19 @@ any_after p q xs y any = elim (any_pushed p (filter q xs) y any) [
   | inl there ↦ inl (any_of_kept p q xs there)
   | inr last ↦ inr last
 ]
+
+-- some are removed and one is added
+pub any_put : {X : Type 0} (p q : X → Bool) (xs : List X) (y : X) → list_any p (filter q xs ++ y ∷ []) ≡ (p y || list_any (λ x. p x && q x) xs)
+any_put p q xs y =
+    bool_equal (list_any p (filter q xs ++ y ∷ [])) (p y || list_any (λ x. p x && q x) xs)
+    (λ any. elim (any_after p q xs y any) [
+      | inl kept ↦ or_right (p y) (list_any (λ x. p x && q x) xs) kept
+      | inr last ↦ or_left (p y) (list_any (λ x. p x && q x) xs) last
+    ])
+    (λ either. elim (or_cases (p y) (list_any (λ x. p x && q x) xs) either) [
+      | inl last ↦ any_last p (filter q xs) y last
+      | inr kept ↦ any_before p (filter q xs) y (any_kept p q xs kept)
+    ])
 
 -- a search finds one
 pub found_any : {X : Type 0} (p : X → Bool) (xs : List X) → list_any p xs ≡ true → is_some (find p xs) ≡ true

@@ -15,7 +15,7 @@ use Rattle.nfs_state.specs.Entries.{with_entry}
 use Rattle.nfs_core.proofs.SafeFiles.{locks_at}
 use Rattle.nfs_core.proofs.SafeLists.{all_replicate, all_weaken, any_found}
 use Rattle.nfs_core.proofs.Sound.{AreNumbered, HasSoundLocks, IsKnownIn, IsLockerKnownIn, IsSound, StandsUnder, OpensStay}
-use Rattle.nfs_core.proofs.SoundClients.{HasSingles, alone, one_of_client, singles_after, singles_empty, singles_owned}
+use Rattle.nfs_core.proofs.SoundClients.{HasSingles, alone, are_records, one_of_client, singles_after, singles_empty, singles_owned}
 use Rattle.nfs_core.proofs.SoundLimits.{FirstRuns, limits_changed, limits_empty, limits_owned}
 use Rattle.nfs_core.proofs.SoundLocks.{LocksStay}
 use Rattle.nfs_core.proofs.SoundNumbers.{HasNumbers, numbered_after, numbered_empty, numbers_differ, numbers_given}
@@ -57,7 +57,7 @@ sound_empty journal =
 -- what an entry may do is ready to keep the state sound
 pub allowed_ready : (journal : History) (old : State) (entry : Entry) (effect : Effect) → IsSound old → HasSingles old.clients → Allows journal old entry effect → IsEffectReady (length journal.entries) old effect
 allowed_ready journal old (entries.Expire expire) effect sound singles allowed =
-    subst (IsEffectReady (length journal.entries) old) (sym allowed.removal) (tt, alone (client_of journal expire.client) old.clients.records allowed.live singles.same)
+    subst (IsEffectReady (length journal.entries) old) (sym allowed.removal) (tt, (allowed.live, alone (client_of journal expire.client) old.clients allowed.live singles.same))
 allowed_ready journal old (entries.Call call) effect sound singles allowed =
     ruled_ready (length journal.entries) journal old call.request.op call.request (record { answer = call.answer; effect = effect }) refl sound allowed.rule
 
@@ -124,9 +124,8 @@ safe state holds =
       numbers_given = numbers_given state holds.numbered;
       one_open = holds.ones.opens;
       one_lock = holds.ones.locks;
-      one_of_id = holds.singles.ids;
-      one_of_client = one_of_client state.clients.records holds.singles.ids holds.singles.same;
-      clients_given = holds.singles.given;
+      records = are_records state.clients holds.singles;
+      one_of_client = one_of_client state.clients holds.singles;
       within = holds.within;
     }
 

@@ -19,8 +19,7 @@ use Rattle.nfs_locks.specs.AllLocks.{locks_of}
 use Rattle.nfs_locks.specs.Laws.{AllLocksAreCompatible}
 use Rattle.nfs_locks.specs.Locks.{ByteLocks, is_lock_of}
 use Rattle.nfs_locks.specs.Locks as locks
-use Rattle.nfs_owners.specs.ClientChange.{with_confirmed, with_unconfirmed}
-use Rattle.nfs_owners.specs.Registry.{is_of, is_of_client, is_unconfirmed_of}
+use Rattle.nfs_owners.specs.Registry.{is_of, is_of_client, without_id}
 use Rattle.nfs_owners.specs.StateOwner.{is_same_kind, is_same_state_owner, lock_owner, open_owner}
 use Rattle.nfs_owners.specs.declared.client_record.ClientRecord.{ClientRecord}
 use Rattle.nfs_owners.specs.declared.state_owner.OwnerKind.{OwnerKind}
@@ -99,7 +98,7 @@ same_name_self a =
 
 -- the client has a confirmed record
 abbrev pub is_live_in : List ClientRecord → ClientId → Bool
-is_live_in records client = is_some (find (λ r. r.confirmed && is_same_client r.client client) records)
+is_live_in records client = is_some (find (λ r. is_same_client r.state.client client) records)
 
 -- each owner's client is live
 abbrev pub AreLive : List ClientRecord → List KnownOwner → Type 0
@@ -122,14 +121,18 @@ AreCompatible opens = AllByRecursion AllAreCompatible opens
 
 -- confirmed records with one id are of one client
 abbrev pub HasSameClient : ClientRecord → ClientRecord → Type 0
-HasSameClient r s = r.confirmed ≡ true → s.confirmed ≡ true → is_of r.id s ≡ true → is_same_client s.client r.client ≡ true
+HasSameClient r s = is_of r.id s ≡ true → is_same_client s.state.client r.state.client ≡ true
 
 abbrev pub AreSingle : List ClientRecord → Type 0
 AreSingle records = AllByRecursion (λ r. AllByRecursion (HasSameClient r) records) records
 
--- a record that is there has the clientid and the id of this one
-abbrev pub IsOfRecord : ClientRecord → List ClientRecord → Type 0
-IsOfRecord r records = is_some (find (λ s. is_same_client s.client r.client && bytes_eq s.id r.id) records) ≡ true
+-- the record has this clientid and this id
+abbrev pub is_record_of : ClientId → List ℕ → ClientRecord → Bool
+is_record_of client id s = is_same_client s.state.client client && bytes_eq s.id id
+
+-- one of the records is such a one
+abbrev pub HasRecord : ClientId → List ℕ → List ClientRecord → Type 0
+HasRecord client id records = is_some (find (is_record_of client id) records) ≡ true
 
 abbrev pub IsLockerKnownIn : List KnownOwner → ByteLocks → Type 0
 IsLockerKnownIn owners l = is_known_in owners (lock_owner l.owner) ≡ true
@@ -154,10 +157,10 @@ pub record HasSoundLocks (owners : List KnownOwner) (opens : List (List OpenStat
   pub numbered : AllByRecursion (AreNumbered last) locks
 
 pub record IsSound (state : State) : Type 0 where
-  pub live : AreLive state.clients.records state.owners
+  pub live : AreLive state.clients.confirmed state.owners
   pub known : AreKnown state.owners state.opens
   pub compatible : AreCompatible state.opens
-  pub single : AreSingle state.clients.records
+  pub single : AreSingle state.clients.confirmed
   pub locks : HasSoundLocks state.owners state.opens state.last_state state.locks
 
 -- Owners that change, none of them its name.
@@ -299,58 +302,41 @@ single_after q r self beside records single =
 never : (b : Bool) → b ≡ false → b ≡ true → ⊥
 never b unset is_set = cc
 
-pub single_unconfirmed : (r : ClientRecord) → r.confirmed ≡ false → (records : List ClientRecord) → AreSingle records → AreSingle (with_unconfirmed r records)
-single_unconfirmed r unset records single =
-    single_after (λ s. not (is_unconfirmed_of r.id s)) r (λ is_set _ _. absurd (never r.confirmed unset is_set))
-    (λ s _. ((λ is_set _ _. absurd (never r.confirmed unset is_set)), (λ _ is_set _. absurd (never r.confirmed unset is_set)))) records single
-
-pub single_confirmed : (r : ClientRecord) → (records : List ClientRecord) → AreSingle records → AreSingle (with_confirmed r records)
+pub single_confirmed : (r : ClientRecord) → (records : List ClientRecord) → AreSingle records → AreSingle (without_id r.id records ++ r ∷ [])
 single_confirmed r records single =
-    single_after (λ s. not (is_of r.id s)) r (λ _ _ _. same_client_self r.client)
+    single_after (λ s. not (is_of r.id s)) r (λ _. same_client_self r.state.client)
     (λ s other. (
-      (λ _ _ same. absurd (never (bytes_eq s.id r.id) (not-true (bytes_eq s.id r.id) other) same)),
-      (λ _ _ same. absurd (never (bytes_eq s.id r.id) (not-true (bytes_eq s.id r.id) other) ((bytes_eq-Decides s.id r.id).1 (sym ((bytes_eq-Decides r.id s.id).0 same))))),
+      (λ same. absurd (never (bytes_eq s.id r.id) (not-true (bytes_eq s.id r.id) other) same)),
+      (λ same. absurd (never (bytes_eq s.id r.id) (not-true (bytes_eq s.id r.id) other) ((bytes_eq-Decides s.id r.id).1 (sym ((bytes_eq-Decides r.id s.id).0 same))))),
     )) records single
-
--- An unconfirmed record that comes or goes leaves who is live.
-
-unconfirmed_goes : (confirmed of : Bool) → confirmed ≡ true → not (not confirmed && of) ≡ true
-unconfirmed_goes true of is_set = refl
-unconfirmed_goes false of is_set = absurd cc
-
-pub live_unconfirmed : (r : ClientRecord) (records : List ClientRecord) (owners : List KnownOwner) → AreLive records owners → AreLive (with_unconfirmed r records) owners
-live_unconfirmed r records owners live =
-    all_weaken (λ o. is_live_in records o.name.client ≡ true) (λ o. is_live_in (with_unconfirmed r records) o.name.client ≡ true)
-    (λ o h. found_kept (λ s. ⊤) (λ s. s.confirmed && is_same_client s.client o.name.client) (λ s. not (is_unconfirmed_of r.id s)) r
-    (λ s _ passes. inl (unconfirmed_goes s.confirmed (is_of r.id s) (and_parts s.confirmed (is_same_client s.client o.name.client) passes).0)) records (all_always records) h) owners live
 
 -- each confirmed record with this id is one of the client
 abbrev pub IsOnlyOf : ClientId → List ℕ → ClientRecord → Type 0
-IsOnlyOf client id s = s.confirmed ≡ true → is_of id s ≡ true → is_same_client s.client client ≡ true
+IsOnlyOf client id s = is_of id s ≡ true → is_same_client s.state.client client ≡ true
+
+-- where none has the id, whatever the client
+pub none_of : (client : ClientId) (id : List ℕ) (records : List ClientRecord) → AllByRecursion (λ s. is_of id s ≡ false) records → AllByRecursion (IsOnlyOf client id) records
+none_of client id records none =
+    all_weaken (λ s. is_of id s ≡ false) (IsOnlyOf client id) (λ s other same. absurd (never (is_of id s) other same)) records none
 
 -- A record that is confirmed in place of those of its id, which are all of its client, leaves who is live.
-pub live_confirmed : (r : ClientRecord) (records : List ClientRecord) (owners : List KnownOwner) → r.confirmed ≡ true → AllByRecursion (IsOnlyOf r.client r.id) records → AreLive records owners → AreLive (with_confirmed r records) owners
-live_confirmed r records owners is_set only live =
-    all_weaken (λ o. is_live_in records o.name.client ≡ true) (λ o. is_live_in (with_confirmed r records) o.name.client ≡ true)
-    (λ o h. found_kept (IsOnlyOf r.client r.id) (λ s. s.confirmed && is_same_client s.client o.name.client) (λ s. not (is_of r.id s)) r
-    (λ s is_only passes.
-    let both = and_parts s.confirmed (is_same_client s.client o.name.client) passes in
-    elim (cases_Bool (is_of r.id s)) [
-      | inl same ↦ inr (and_from r.confirmed (is_same_client r.client o.name.client) is_set
-          (subst (λ c. is_same_client c o.name.client ≡ true) (equal_clients s.client r.client (is_only both.0 same)) both.1))
+pub live_confirmed : (r : ClientRecord) (records : List ClientRecord) (owners : List KnownOwner) → AllByRecursion (IsOnlyOf r.state.client r.id) records → AreLive records owners → AreLive (without_id r.id records ++ r ∷ []) owners
+live_confirmed r records owners only live =
+    all_weaken (λ o. is_live_in records o.name.client ≡ true) (λ o. is_live_in (without_id r.id records ++ r ∷ []) o.name.client ≡ true)
+    (λ o h. found_kept (IsOnlyOf r.state.client r.id) (λ s. is_same_client s.state.client o.name.client) (λ s. not (is_of r.id s)) r
+    (λ s is_only passes. elim (cases_Bool (is_of r.id s)) [
+      | inl same ↦ inr (subst (λ c. is_same_client c o.name.client ≡ true) (equal_clients s.state.client r.state.client (is_only same)) passes)
       | inr other ↦ inl (not_from_false (is_of r.id s) other)
     ]) records only h) owners live
 
 -- A record that is confirmed in place of those of its id, which are all of another client, leaves who else is live.
-pub live_replaced : (r : ClientRecord) (client : ClientId) (records : List ClientRecord) (owners : List KnownOwner) → AllByRecursion (IsOnlyOf client r.id) records → AreLive records owners → AreLive (with_confirmed r records) (filter (λ o. not (is_same_client o.name.client client)) owners)
+pub live_replaced : (r : ClientRecord) (client : ClientId) (records : List ClientRecord) (owners : List KnownOwner) → AllByRecursion (IsOnlyOf client r.id) records → AreLive records owners → AreLive (without_id r.id records ++ r ∷ []) (filter (λ o. not (is_same_client o.name.client client)) owners)
 live_replaced r client records owners only live =
-    all_filter (λ o. is_live_in records o.name.client ≡ true) (λ o. is_live_in (with_confirmed r records) o.name.client ≡ true) (λ o. not (is_same_client o.name.client client))
-    (λ o h others. found_kept (IsOnlyOf client r.id) (λ s. s.confirmed && is_same_client s.client o.name.client) (λ s. not (is_of r.id s)) r
-    (λ s is_only passes.
-    let both = and_parts s.confirmed (is_same_client s.client o.name.client) passes in
-    elim (cases_Bool (is_of r.id s)) [
+    all_filter (λ o. is_live_in records o.name.client ≡ true) (λ o. is_live_in (without_id r.id records ++ r ∷ []) o.name.client ≡ true) (λ o. not (is_same_client o.name.client client))
+    (λ o h others. found_kept (IsOnlyOf client r.id) (λ s. is_same_client s.state.client o.name.client) (λ s. not (is_of r.id s)) r
+    (λ s is_only passes. elim (cases_Bool (is_of r.id s)) [
       | inl same ↦ absurd (never (is_same_client o.name.client client) (not-true (is_same_client o.name.client client) others)
-          (subst (λ c. is_same_client c client ≡ true) (equal_clients s.client o.name.client both.1) (is_only both.0 same)))
+          (subst (λ c. is_same_client c client ≡ true) (equal_clients s.state.client o.name.client passes) (is_only same)))
       | inr other ↦ inl (not_from_false (is_of r.id s) other)
     ]) records only h) owners live
 
@@ -358,7 +344,7 @@ live_replaced r client records owners only live =
 
 -- the record, if it has the client's number, is one of the client
 abbrev pub IsAloneOf : ClientId → ClientRecord → Type 0
-IsAloneOf client r = r.client.number ≡ client.number → r.client ≡ client
+IsAloneOf client r = r.state.client.number ≡ client.number → r.state.client ≡ client
 
 -- the records without those that a test removes
 pub single_left : (p : ClientRecord → Bool) (records : List ClientRecord) → AreSingle records → AreSingle (filter (λ r. not (p r)) records)
@@ -370,14 +356,12 @@ pub live_expired : (client : ClientId) (records : List ClientRecord) (owners : L
 live_expired client records owners alone live =
     let gone : ClientRecord → Bool = is_of_client client.number in
     all_filter {X = KnownOwner} (λ o. is_live_in records o.name.client ≡ true) (λ o. is_live_in (filter (λ r. not (gone r)) records) o.name.client ≡ true) (λ o. not (is_same_client o.name.client client))
-    (λ o h others. found_filtered (IsAloneOf client) (λ s. s.confirmed && is_same_client s.client o.name.client) (λ r. not (gone r))
-    (λ s is_alone passes.
-    let both = and_parts s.confirmed (is_same_client s.client o.name.client) passes in
-    elim (cases_Bool (gone s)) [
+    (λ o h others. found_filtered (IsAloneOf client) (λ s. is_same_client s.state.client o.name.client) (λ r. not (gone r))
+    (λ s is_alone passes. elim (cases_Bool (gone s)) [
       | inl same ↦
-          let is : s.client ≡ client = is_alone (eqb-true s.client.number client.number same) in
-          let of_owner : is_same_client s.client client ≡ true = subst (λ c. is_same_client c client ≡ true) (sym is) (same_client_self client) in
+          let is : s.state.client ≡ client = is_alone (eqb-true s.state.client.number client.number same) in
+          let of_owner : is_same_client s.state.client client ≡ true = subst (λ c. is_same_client c client ≡ true) (sym is) (same_client_self client) in
           absurd (never (is_same_client o.name.client client) (not-true (is_same_client o.name.client client) others)
-          (subst (λ c. is_same_client c client ≡ true) (equal_clients s.client o.name.client both.1) of_owner))
+          (subst (λ c. is_same_client c client ≡ true) (equal_clients s.state.client o.name.client passes) of_owner))
       | inr other ↦ not_from_false (gone s) other
     ]) records alone h) owners live

@@ -1,19 +1,22 @@
--- An id has one confirmed record at most, and so has a clientid, whose number was given.
+-- The clients' records: an id has one confirmed and one unconfirmed one at most, a clientid one confirmed one at most, and
+-- each client number was given, to one id.
 use Rattle.std.proofs.Common.{◌≡◌, ℕ, Bool, true, false, List, [], ◌∷◌, ◌++◌, filter, refl, sym, ap, ◌∙◌, subst, arith}
-use Rattle.std.specs.Prelude.{⊤, ◌+◌, ◌≤◌, ◌&&◌, find, is_some, not}
-use Rattle.std.specs.List.{AllByRecursion, IsDistinct}
+use Rattle.std.specs.Prelude.{⊤, ◌+◌, ◌≤◌, ◌&&◌, nat_le, is_some, not}
+use Rattle.std.specs.List.{AllByRecursion, IsDistinct, list_any}
 use Rattle.std.specs.Str.{bytes_eq}
-use Rattle.std.proofs.lemmas.Bool.{and_parts, not-true}
+use Rattle.std.proofs.lemmas.Bool.{and_from, and_parts, cases_Bool, eqb-true, false_from_ne_true, le-leb, not-true}
 use Rattle.std.proofs.lemmas.Slice.Eq.{bytes_eq-Decides}
-use Rattle.nfs_core.specs.Safe.{HasGivenNumber, have_same_client, have_same_id}
+use Rattle.nfs_core.specs.Safe.{WasGiven, have_same_client}
+use Rattle.nfs_core.proofs.LiveLists.{none_any}
 use Rattle.nfs_core.proofs.SafeDistinct.{distinct_filter, distinct_none, distinct_push}
-use Rattle.nfs_core.proofs.SafeLists.{all_always, all_both, all_filter, all_push, all_weaken, found_holds, pairs_filter, pairs_push}
-use Rattle.nfs_core.proofs.Sound.{IsAloneOf, IsOfRecord, equal_clients}
+use Rattle.nfs_core.proofs.SafeLists.{all_always, all_both, all_filter, all_push, all_weaken, found_holds}
+use Rattle.nfs_core.proofs.Sound.{HasRecord, IsAloneOf, equal_clients, is_live_in, is_record_of}
+use Rattle.nfs_core.proofs.SoundSequences.{never}
 use Rattle.nfs_core.proofs.SoundSteps.{IsChangeReady, IsClientReady}
 use Rattle.nfs_forms.specs.ClientId.{is_same_client}
 use Rattle.nfs_forms.specs.declared.client_id.ClientId.{ClientId}
 use Rattle.nfs_owners.specs.ClientChange.{with_change, with_confirmed, with_unconfirmed}
-use Rattle.nfs_owners.specs.Registry.{Registry, is_of, is_of_client, is_unconfirmed_of, no_clients}
+use Rattle.nfs_owners.specs.Registry.{AreRecords, HasOwnNumber, Registry, have_same_id, is_of, is_of_client, no_clients, takes_number, without_client, without_id}
 use Rattle.nfs_owners.specs.declared.client_record.ClientRecord.{ClientRecord}
 use Rattle.nfs_owners.specs.declared.clients.client_change.ClientChange.{ClientChange}
 use Rattle.nfs_owners.specs.declared.clients.client_change.ClientChange.TheVariants as client_changes
@@ -24,38 +27,71 @@ use Rattle.nfs_state.specs.declared.change.Change.TheVariants as changes
 use Rattle.nfs_state.specs.declared.owner_change.OwnerChange.{OwnerChange}
 use Rattle.nfs_state.specs.declared.owner_change.OwnerChange.TheVariants as owner_changes
 
+-- it holds of each record, confirmed or not
+abbrev pub EachRecord : (ClientRecord → Type 0) → Registry → Type 0
+EachRecord P registry = AllByRecursion P registry.confirmed × AllByRecursion P registry.unconfirmed
+
+pub each_weaken : (P Q : ClientRecord → Type 0) → ((r : ClientRecord) → P r → Q r) → (registry : Registry) → EachRecord P registry → EachRecord Q registry
+each_weaken P Q weaken registry h = (all_weaken P Q weaken registry.confirmed h.0, all_weaken P Q weaken registry.unconfirmed h.1)
+
+each_both : (P Q : ClientRecord → Type 0) (registry : Registry) → EachRecord P registry → EachRecord Q registry → EachRecord (λ r. P r × Q r) registry
+each_both P Q registry h k = (all_both P Q registry.confirmed h.0 k.0, all_both P Q registry.unconfirmed h.1 k.1)
+
+-- with one more record, in place of others of its id, and without those that a test doesn't keep
+
+all_put : (P : ClientRecord → Type 0) (r : ClientRecord) (records : List ClientRecord) → P r → AllByRecursion P records → AllByRecursion P (without_id r.id records ++ r ∷ [])
+all_put P r records new h = all_push P (without_id r.id records) r (all_filter P P (λ s. not (is_of r.id s)) (λ s k _. k) records h) new
+
+pub each_unconfirmed : (P : ClientRecord → Type 0) (r : ClientRecord) (old : Registry) → P r → EachRecord P old → EachRecord P (with_unconfirmed r old)
+each_unconfirmed P r old new h = (h.0, all_put P r old.unconfirmed new h.1)
+
+pub each_confirmed : (P : ClientRecord → Type 0) (r : ClientRecord) (old : Registry) → P r → EachRecord P old → EachRecord P (with_confirmed r old)
+each_confirmed P r old new h = (all_put P r old.confirmed new h.0, all_filter P P (λ s. not (is_of r.id s)) (λ s k _. k) old.unconfirmed h.1)
+
+pub each_left : (P : ClientRecord → Type 0) (client : ℕ) (old : Registry) → EachRecord P old → EachRecord P (without_client client old)
+each_left P client old h =
+    let q : ClientRecord → Bool = λ r. not (is_of_client client r) in
+    (all_filter P P q (λ r k _. k) old.confirmed h.0, all_filter P P q (λ r k _. k) old.unconfirmed h.1)
+
 -- records with one client number have one client and one id
 abbrev pub HasSameId : ClientRecord → ClientRecord → Type 0
-HasSameId r s = r.client.number ≡ s.client.number → (r.client ≡ s.client) × (r.id ≡ s.id)
+HasSameId r s = r.state.client.number ≡ s.state.client.number → (r.state.client ≡ s.state.client) × (r.id ≡ s.id)
 
-abbrev HaveSameIds : List ClientRecord → Type 0
-HaveSameIds records = AllByRecursion (λ r. AllByRecursion (HasSameId r) records) records
+abbrev pub HaveSameIds : Registry → Type 0
+HaveSameIds registry = EachRecord (λ r. EachRecord (HasSameId r) registry) registry
+
+-- the record's client number was given, where this one was the last
+abbrev pub HasGivenNumber : ℕ → ClientRecord → Type 0
+HasGivenNumber last r = WasGiven last r.state.client.number
 
 -- what holds of the clients' records
 pub record HasSingles (registry : Registry) : Type 0 where
-  pub ids : IsDistinct have_same_id registry.records
-  pub same : HaveSameIds registry.records
-  pub given : AllByRecursion (HasGivenNumber registry.last_number) registry.records
+  pub confirmed : IsDistinct have_same_id registry.confirmed
+  pub unconfirmed : IsDistinct have_same_id registry.unconfirmed
+  pub same : HaveSameIds registry
+  pub given : EachRecord (HasGivenNumber registry.last_number) registry
 
 -- A record that is added has the id of all others of its client, and a number that was given.
-record Joins (last : ℕ) (records : List ClientRecord) (r : ClientRecord) : Type 0 where
-  before : AllByRecursion (λ s. HasSameId s r) records
-  after : AllByRecursion (HasSameId r) records
+record Joins (last : ℕ) (registry : Registry) (r : ClientRecord) : Type 0 where
+  before : EachRecord (λ s. HasSameId s r) registry
+  after : EachRecord (HasSameId r) registry
   given : HasGivenNumber last r
 
--- the record has the clientid and the id of one that is there
-joins_of_record : (last : ℕ) (records : List ClientRecord) (r : ClientRecord) → IsOfRecord r records → HaveSameIds records → AllByRecursion (HasGivenNumber last) records → Joins last records r
-joins_of_record last records r of same given =
-    let held = found_holds (λ s. AllByRecursion (HasSameId s) records × HasGivenNumber last s) (λ s. is_same_client s.client r.client && bytes_eq s.id r.id) records of
-    (all_both (λ s. AllByRecursion (HasSameId s) records) (HasGivenNumber last) records same given) in
+-- the record has the clientid and the id of one of these that are there
+joins_of_record : (r : ClientRecord) (records : List ClientRecord) (registry : Registry) → HasRecord r.state.client r.id records
+    → AllByRecursion (λ s. EachRecord (HasSameId s) registry) records → AllByRecursion (HasGivenNumber registry.last_number) records → Joins registry.last_number registry r
+joins_of_record r records registry of same given =
+    let last = registry.last_number in
+    let held = found_holds (λ s. EachRecord (HasSameId s) registry × HasGivenNumber last s) (is_record_of r.state.client r.id) records of
+    (all_both (λ s. EachRecord (HasSameId s) registry) (HasGivenNumber last) records same given) in
     let s = held.0 in
-    let both = and_parts (is_same_client s.client r.client) (bytes_eq s.id r.id) held.2 in
-    let client : s.client ≡ r.client = equal_clients s.client r.client both.0 in
+    let both = and_parts (is_same_client s.state.client r.state.client) (bytes_eq s.id r.id) held.2 in
+    let client : s.state.client ≡ r.state.client = equal_clients s.state.client r.state.client both.0 in
     let id : s.id ≡ r.id = (bytes_eq-Decides s.id r.id).0 both.1 in
-    let number : s.client.number ≡ r.client.number = ap (λ (c : ClientId). c.number) client in
+    let number : s.state.client.number ≡ r.state.client.number = ap (λ (c : ClientId). c.number) client in
     record {
-      before = all_weaken (HasSameId s) (λ b. HasSameId b r) (λ b row is. (sym (row (number ∙ sym is)).0 ∙ client, sym (row (number ∙ sym is)).1 ∙ id)) records held.1.0;
-      after = all_weaken (HasSameId s) (HasSameId r) (λ b row is. (sym client ∙ (row (number ∙ is)).0, sym id ∙ (row (number ∙ is)).1)) records held.1.0;
+      before = each_weaken (HasSameId s) (λ b. HasSameId b r) (λ b row is. (sym (row (number ∙ sym is)).0 ∙ client, sym (row (number ∙ sym is)).1 ∙ id)) registry held.1.0;
+      after = each_weaken (HasSameId s) (HasSameId r) (λ b row is. (sym client ∙ (row (number ∙ is)).0, sym id ∙ (row (number ∙ is)).1)) registry held.1.0;
       given = subst (λ (c : ClientId). (1 ≤ c.number) × (c.number ≤ last)) client held.1.1;
     }
 
@@ -63,99 +99,88 @@ fresh : (last a b : ℕ) → a ≤ last → b ≡ last + 1 → a ≡ b → ⊥
 fresh last a b below is same = omega (arith, below, is, same)
 
 -- the record has the next number
-joins_fresh : (last : ℕ) (records : List ClientRecord) (r : ClientRecord) → r.client.number ≡ last + 1 → AllByRecursion (HasGivenNumber last) records → Joins (last + 1) records r
-joins_fresh last records r next given = record {
-  before = all_weaken (HasGivenNumber last) (λ s. HasSameId s r)
-      (λ s k is. absurd (fresh last s.client.number r.client.number k.1 next is)) records given;
-  after = all_weaken (HasGivenNumber last) (HasSameId r)
-      (λ s k is. absurd (fresh last s.client.number r.client.number k.1 next (sym is))) records given;
-  given = (omega (arith, next), omega (arith, next));
-}
+joins_fresh : (registry : Registry) (r : ClientRecord) → r.state.client.number ≡ registry.last_number + 1 → EachRecord (HasGivenNumber registry.last_number) registry → Joins (registry.last_number + 1) registry r
+joins_fresh registry r next given =
+    let last = registry.last_number in
+    record {
+      before = each_weaken (HasGivenNumber last) (λ s. HasSameId s r)
+          (λ s k is. absurd (fresh last s.state.client.number r.state.client.number k.1 next is)) registry given;
+      after = each_weaken (HasGivenNumber last) (HasSameId r)
+          (λ s k is. absurd (fresh last s.state.client.number r.state.client.number k.1 next (sym is))) registry given;
+      given = (omega (arith, next), omega (arith, next));
+    }
 
--- Of the records those stay that a test keeps, and one is added.
-same_after : (q : ClientRecord → Bool) (last : ℕ) (records : List ClientRecord) (r : ClientRecord) → Joins last records r → HaveSameIds records → HaveSameIds (filter q records ++ r ∷ [])
-same_after q last records r joins same =
-    pairs_push HasSameId (filter q records) r (pairs_filter HasSameId q records same)
-    (all_filter (λ s. HasSameId s r) (λ s. HasSameId s r) q (λ s k _. k) records joins.before)
-    (all_filter (HasSameId r) (HasSameId r) q (λ s k _. k) records joins.after)
-    (λ _. (refl, refl))
+-- one record is added
 
-given_after : (q : ClientRecord → Bool) (last : ℕ) (records : List ClientRecord) (r : ClientRecord) → HasGivenNumber last r → AllByRecursion (HasGivenNumber last) records
-    → AllByRecursion (HasGivenNumber last) (filter q records ++ r ∷ [])
-given_after q last records r new given =
-    all_push (HasGivenNumber last) (filter q records) r (all_filter (HasGivenNumber last) (HasGivenNumber last) q (λ s k _. k) records given) new
+same_unconfirmed : (last : ℕ) (r : ClientRecord) (old : Registry) → Joins last old r → HaveSameIds old → HaveSameIds (with_unconfirmed r old)
+same_unconfirmed last r old joins same =
+    let new = with_unconfirmed r old in
+    each_unconfirmed (λ a. EachRecord (HasSameId a) new) r old (each_unconfirmed (HasSameId r) r old (λ _. (refl, refl)) joins.after)
+    (each_weaken (λ a. EachRecord (HasSameId a) old × HasSameId a r) (λ a. EachRecord (HasSameId a) new) (λ a h. each_unconfirmed (HasSameId a) r old h.1 h.0) old
+    (each_both (λ a. EachRecord (HasSameId a) old) (λ a. HasSameId a r) old same joins.before))
 
--- an unconfirmed record has the id of no confirmed one
-unconfirmed_differs : (a b c : Bool) → b ≡ false → (a && b && c) ≡ false
-unconfirmed_differs true b c unset = ap (λ x. x && c) unset
-unconfirmed_differs false b c unset = refl
+same_confirmed : (last : ℕ) (r : ClientRecord) (old : Registry) → Joins last old r → HaveSameIds old → HaveSameIds (with_confirmed r old)
+same_confirmed last r old joins same =
+    let new = with_confirmed r old in
+    each_confirmed (λ a. EachRecord (HasSameId a) new) r old (each_confirmed (HasSameId r) r old (λ _. (refl, refl)) joins.after)
+    (each_weaken (λ a. EachRecord (HasSameId a) old × HasSameId a r) (λ a. EachRecord (HasSameId a) new) (λ a h. each_confirmed (HasSameId a) r old h.1 h.0) old
+    (each_both (λ a. EachRecord (HasSameId a) old) (λ a. HasSameId a r) old same joins.before))
 
-other_differs : (a c : Bool) → c ≡ false → (a && c) ≡ false
-other_differs true c unset = unset
-other_differs false c unset = refl
-
-ids_unconfirmed : (r : ClientRecord) (records : List ClientRecord) → r.confirmed ≡ false → IsDistinct have_same_id records → IsDistinct have_same_id (with_unconfirmed r records)
-ids_unconfirmed r records unset ids =
-    let q : ClientRecord → Bool = λ s. not (is_unconfirmed_of r.id s) in
-    distinct_push have_same_id (filter q records) r (distinct_filter have_same_id q records ids)
-    (all_weaken (λ s. ⊤) (λ s. have_same_id s r ≡ false) (λ s _. unconfirmed_differs s.confirmed r.confirmed (bytes_eq s.id r.id) unset) (filter q records) (all_always (filter q records)))
-
-ids_confirmed : (r : ClientRecord) (records : List ClientRecord) → IsDistinct have_same_id records → IsDistinct have_same_id (with_confirmed r records)
-ids_confirmed r records ids =
+ids_put : (r : ClientRecord) (records : List ClientRecord) → IsDistinct have_same_id records → IsDistinct have_same_id (without_id r.id records ++ r ∷ [])
+ids_put r records ids =
     let q : ClientRecord → Bool = λ s. not (is_of r.id s) in
     distinct_push have_same_id (filter q records) r (distinct_filter have_same_id q records ids)
-    (all_filter (λ s. ⊤) (λ s. have_same_id s r ≡ false) q
-    (λ s _ kept. other_differs (s.confirmed && r.confirmed) (bytes_eq s.id r.id) (not-true (bytes_eq s.id r.id) kept)) records (all_always records))
+    (all_filter (λ s. ⊤) (λ s. have_same_id s r ≡ false) q (λ s _ kept. not-true (bytes_eq s.id r.id) kept) records (all_always records))
 
-rises : (last : ℕ) (records : List ClientRecord) → AllByRecursion (HasGivenNumber last) records → AllByRecursion (HasGivenNumber (last + 1)) records
-rises last records given =
-    all_weaken (HasGivenNumber last) (HasGivenNumber (last + 1)) (λ s k. (k.0, omega (arith, k.1))) records given
+singles_unconfirmed : (last confirm : ℕ) (r : ClientRecord) (old : Registry) → Joins last old r → EachRecord (HasGivenNumber last) old → HasSingles old
+    → HasSingles (record (with_unconfirmed r old) { last_number = last; last_confirm = confirm })
+singles_unconfirmed last confirm r old joins given h = record {
+  confirmed = h.confirmed;
+  unconfirmed = ids_put r old.unconfirmed h.unconfirmed;
+  same = same_unconfirmed last r old joins h.same;
+  given = each_unconfirmed (HasGivenNumber last) r old joins.given given;
+}
+
+singles_confirmed : (r : ClientRecord) (old : Registry) → Joins old.last_number old r → HasSingles old → HasSingles (with_confirmed r old)
+singles_confirmed r old joins h = record {
+  confirmed = ids_put r old.confirmed h.confirmed;
+  unconfirmed = distinct_filter have_same_id (λ s. not (is_of r.id s)) old.unconfirmed h.unconfirmed;
+  same = same_confirmed old.last_number r old joins h.same;
+  given = each_confirmed (HasGivenNumber old.last_number) r old joins.given h.given;
+}
+
+rises : (registry : Registry) → EachRecord (HasGivenNumber registry.last_number) registry → EachRecord (HasGivenNumber (registry.last_number + 1)) registry
+rises registry given =
+    let last = registry.last_number in
+    each_weaken (HasGivenNumber last) (HasGivenNumber (last + 1)) (λ s k. (k.0, omega (arith, k.1))) registry given
 
 -- A change that is ready keeps the records single.
 pub singles_changed : (change : ClientChange) (old : Registry) → IsClientReady change old → HasSingles old → HasSingles (with_change change old)
 singles_changed client_changes.Nothing old ready h = h
 singles_changed (client_changes.Arrives r) old ready h =
-    let joins = joins_fresh old.last_number old.records r ready.1 h.given in
-    let q : ClientRecord → Bool = λ s. not (is_unconfirmed_of r.id s) in
-    record {
-      ids = ids_unconfirmed r old.records ready.0 h.ids;
-      same = same_after q (old.last_number + 1) old.records r joins h.same;
-      given = given_after q (old.last_number + 1) old.records r joins.given (rises old.last_number old.records h.given);
-    }
+    singles_unconfirmed (old.last_number + 1) (old.last_confirm + 1) r old (joins_fresh old r ready.0 h.given) (rises old h.given) h
 singles_changed (client_changes.Updates r) old ready h =
-    let joins = joins_of_record old.last_number old.records r ready.1 h.same h.given in
-    let q : ClientRecord → Bool = λ s. not (is_unconfirmed_of r.id s) in
-    record {
-      ids = ids_unconfirmed r old.records ready.0 h.ids;
-      same = same_after q old.last_number old.records r joins h.same;
-      given = given_after q old.last_number old.records r joins.given h.given;
-    }
+    singles_unconfirmed old.last_number (old.last_confirm + 1) r old (joins_of_record r old.confirmed old ready h.same.0 h.given.0) h.given h
 singles_changed (client_changes.Confirms r) old ready h =
-    let joins = joins_of_record old.last_number old.records r ready.2 h.same h.given in
-    let q : ClientRecord → Bool = λ s. not (is_of r.id s) in
-    record {
-      ids = ids_confirmed r old.records h.ids;
-      same = same_after q old.last_number old.records r joins h.same;
-      given = given_after q old.last_number old.records r joins.given h.given;
-    }
+    singles_confirmed r old (joins_of_record r old.unconfirmed old ready.1 h.same.1 h.given.1) h
+singles_changed (client_changes.Refreshes r) old ready h =
+    singles_confirmed r old (joins_of_record r old.confirmed old ready.1 h.same.0 h.given.0) h
 singles_changed (client_changes.Replaces r client) old ready h =
-    let joins = joins_of_record old.last_number old.records r ready.1 h.same h.given in
-    let q : ClientRecord → Bool = λ s. not (is_of r.id s) in
-    record {
-      ids = ids_confirmed r old.records h.ids;
-      same = same_after q old.last_number old.records r joins h.same;
-      given = given_after q old.last_number old.records r joins.given h.given;
-    }
+    singles_confirmed r old (joins_of_record r old.unconfirmed old ready.2 h.same.1 h.given.1) h
 
 pub singles_after : (change : Change) (old : State) → IsChangeReady change old → HasSingles old.clients → HasSingles (with_state_change change old).clients
 singles_after changes.Nothing old ready h = h
 singles_after (changes.Clients change) old ready h = singles_changed change old.clients ready h
 singles_after (changes.Expires client) old ready h =
+    let registry = old.clients in
     let q : ClientRecord → Bool = λ r. not (is_of_client client.number r) in
+    let new = without_client client.number registry in
     record {
-      ids = distinct_filter have_same_id q old.clients.records h.ids;
-      same = pairs_filter HasSameId q old.clients.records h.same;
-      given = all_filter (HasGivenNumber old.clients.last_number) (HasGivenNumber old.clients.last_number) q (λ r k _. k) old.clients.records h.given;
+      confirmed = distinct_filter have_same_id q registry.confirmed h.confirmed;
+      unconfirmed = distinct_filter have_same_id q registry.unconfirmed h.unconfirmed;
+      same = each_left (λ a. EachRecord (HasSameId a) new) client.number registry
+          (each_weaken (λ a. EachRecord (HasSameId a) registry) (λ a. EachRecord (HasSameId a) new) (λ a row. each_left (HasSameId a) client.number registry row) registry h.same);
+      given = each_left (HasGivenNumber registry.last_number) client.number registry h.given;
     }
 singles_after change old ready h = h
 
@@ -164,34 +189,66 @@ singles_owned owner_changes.Nothing number old h = h
 singles_owned change number old h = h
 
 pub singles_empty : HasSingles no_clients
-singles_empty = record { ids = distinct_none have_same_id; same = tt; given = tt }
+singles_empty = record { confirmed = distinct_none have_same_id; unconfirmed = distinct_none have_same_id; same = (tt, tt); given = (tt, tt) }
 
--- All records with the number of a client that is live are its own.
-pub alone : (client : ClientId) (records : List ClientRecord) → is_some (find (λ r. r.confirmed && is_same_client r.client client) records) ≡ true → HaveSameIds records → AllByRecursion (IsAloneOf client) records
-alone client records live same =
-    let held = found_holds (λ s. AllByRecursion (HasSameId s) records) (λ r. r.confirmed && is_same_client r.client client) records live same in
+-- All confirmed records with the number of a client that is live are its own.
+pub alone : (client : ClientId) (registry : Registry) → is_live_in registry.confirmed client ≡ true → HaveSameIds registry → AllByRecursion (IsAloneOf client) registry.confirmed
+alone client registry live same =
+    let held = found_holds (λ s. EachRecord (HasSameId s) registry) (λ r. is_same_client r.state.client client) registry.confirmed live same.0 in
     let s = held.0 in
-    let is : s.client ≡ client = equal_clients s.client client (and_parts s.confirmed (is_same_client s.client client) held.2).1 in
-    all_weaken (HasSameId s) (IsAloneOf client) (λ b row number. sym (row (ap (λ (c : ClientId). c.number) is ∙ sym number)).0 ∙ is) records held.1
+    let is : s.state.client ≡ client = equal_clients s.state.client client held.2 in
+    all_weaken (HasSameId s) (IsAloneOf client) (λ b row number. sym (row (ap (λ (c : ClientId). c.number) is ∙ sym number)).0 ∙ is) registry.confirmed held.1.0
 
 -- So a clientid has one confirmed record at most.
 
-weaker : (x c d : Bool) → (c ≡ true → d ≡ true) → (x && d) ≡ false → (x && c) ≡ false
-weaker false c d implies none = refl
-weaker true true d implies none = sym (implies refl) ∙ none
-weaker true false d implies none = refl
-
 client_differs : (r s : ClientRecord) → (have_same_id r s ≡ false) × HasSameId r s → have_same_client r s ≡ false
 client_differs r s h =
-    weaker (r.confirmed && s.confirmed) (is_same_client r.client s.client) (bytes_eq r.id s.id)
-    (λ same. (bytes_eq-Decides r.id s.id).1 (h.1 (ap (λ (c : ClientId). c.number) (equal_clients r.client s.client same))).1) h.0
+    false_from_ne_true (have_same_client r s)
+    (λ same. never (have_same_id r s) h.0
+    ((bytes_eq-Decides r.id s.id).1 (h.1 (ap (λ (c : ClientId). c.number) (equal_clients r.state.client s.state.client same))).1))
 
-pub one_of_client : (records : List ClientRecord) → IsDistinct have_same_id records → HaveSameIds records → IsDistinct have_same_client records
+distinct_clients : (records : List ClientRecord) → IsDistinct have_same_id records → AllByRecursion (λ r. AllByRecursion (HasSameId r) records) records → IsDistinct have_same_client records
 unfolding IsDistinct
-one_of_client [] ids same = tt
-one_of_client (r ∷ records) ids same = (
+distinct_clients [] ids same = tt
+distinct_clients (r ∷ records) ids same = (
   all_weaken (λ s. (have_same_id r s ≡ false) × HasSameId r s) (λ s. have_same_client r s ≡ false) (λ s h. client_differs r s h) records
       (all_both (λ s. have_same_id r s ≡ false) (HasSameId r) records ids.0 same.0.1),
-  one_of_client records ids.1
+  distinct_clients records ids.1
       (all_weaken (λ s. AllByRecursion (HasSameId s) (r ∷ records)) (λ s. AllByRecursion (HasSameId s) records) (λ s h. h.1) records same.1),
 )
+
+pub one_of_client : (registry : Registry) → HasSingles registry → IsDistinct have_same_client registry.confirmed
+one_of_client registry h =
+    distinct_clients registry.confirmed h.confirmed
+    (all_weaken (λ r. EachRecord (HasSameId r) registry) (λ r. AllByRecursion (HasSameId r) registry.confirmed) (λ r row. row.0) registry.confirmed h.same.0)
+
+-- And each client number is of one id.
+
+takes_none : (r s : ClientRecord) → HasSameId r s → takes_number r.id r.state.client.number s ≡ false
+takes_none r s same =
+    false_from_ne_true (takes_number r.id r.state.client.number s)
+    (λ takes.
+    let both = and_parts (is_of_client r.state.client.number s) (not (is_of r.id s)) takes in
+    let ids = (same (sym (eqb-true s.state.client.number r.state.client.number both.0))).1 in
+    never (is_of r.id s) (not-true (is_of r.id s) both.1) ((bytes_eq-Decides s.id r.id).1 (sym ids)))
+
+own_number : (registry : Registry) (r : ClientRecord) → EachRecord (HasSameId r) registry × HasGivenNumber registry.last_number r → HasOwnNumber registry r
+own_number registry r h =
+    let n = r.state.client.number in
+    let takes : ClientRecord → Bool = takes_number r.id n in
+    let none = each_weaken (HasSameId r) (λ s. takes s ≡ false) (λ s same. takes_none r s same) registry h.0 in (
+      and_from (nat_le 1 n) (nat_le n registry.last_number) (le-leb 1 n h.1.0) (le-leb n registry.last_number h.1.1),
+      none_any takes registry.confirmed none.0,
+      none_any takes registry.unconfirmed none.1,
+    )
+
+pub are_records : (registry : Registry) → HasSingles registry → AreRecords registry
+are_records registry h =
+    let own = each_weaken (λ r. EachRecord (HasSameId r) registry × HasGivenNumber registry.last_number r) (HasOwnNumber registry) (own_number registry) registry
+    (each_both (λ r. EachRecord (HasSameId r) registry) (HasGivenNumber registry.last_number) registry h.same h.given) in
+    record {
+      confirmed = h.confirmed;
+      unconfirmed = h.unconfirmed;
+      confirmed_numbers = own.0;
+      unconfirmed_numbers = own.1;
+    }

@@ -17,7 +17,7 @@ use Rattle.nfs_locks.specs.AllLocks.{holds}
 use Rattle.nfs_operations.specs.declared.lockt.Lockt.{Lockt}
 use Rattle.nfs_operations.specs.declared.release_lockowner.ReleaseLockowner.{ReleaseLockowner}
 use Rattle.nfs_owners.specs.Registration as registrations
-use Rattle.nfs_owners.specs.Registry.{confirmed_of, record_of}
+use Rattle.nfs_owners.specs.Registry.{confirmed_of, record_of, record_state}
 use Rattle.nfs_owners.specs.StateOwner.{as_open_owner, lock_owner, open_owner}
 use Rattle.nfs_owners.specs.declared.clients.client_change.ClientChange.{ClientChange}
 use Rattle.nfs_owners.specs.declared.clients.client_change.ClientChange.TheVariants as client_changes
@@ -127,7 +127,7 @@ releases_none state args =
 plain_none : (op : Op) (journal : History) (state : State) (request : Request) (d : Decision) → IsPlain op journal state request (Some d) → keeps d.effect.owner ≡ false
 plain_none (ops.Getattr mask) journal state request d is = not_kept d _ is refl
 plain_none (ops.Setclientid args) journal state request d is =
-    registers_none d (registrations.registration journal.epoch (record_has_state state (confirmed_of state.clients args.id)) state.clients request.principal args) is
+    registers_none d (registrations.registration journal.epoch (record_has_state state (record_state (confirmed_of state.clients args.id))) state.clients request.principal args) is
 plain_none (ops.SetclientidConfirm args) journal state request d is = not_kept d _ is refl
 plain_none (ops.Lockt args) journal state request d is = tests_none state args (lockt.lockt_file journal state request.filehandle args) d is
 plain_none (ops.ReleaseLockowner args) journal state request d is = not_kept d (release.decision_of state args) is (releases_none state args)

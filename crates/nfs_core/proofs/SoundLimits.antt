@@ -123,7 +123,7 @@ owners_changed change old below = below
 
 numbers_changed : (change : ClientChange) (old : Registry) → IsClientReady change old → old.last_number ≤ CLIENT_LIMIT → (with_change change old).last_number ≤ CLIENT_LIMIT
 numbers_changed client_changes.Nothing old ready below = below
-numbers_changed (client_changes.Arrives r) old ready below = omega (arith, ltb-true old.last_number CLIENT_LIMIT ready.2)
+numbers_changed (client_changes.Arrives r) old ready below = omega (arith, ltb-true old.last_number CLIENT_LIMIT ready.1)
 numbers_changed change old ready below = below
 
 clients_changed : (change : Change) (old : State) → IsChangeReady change old → old.clients.last_number ≤ CLIENT_LIMIT → (with_state_change change old).clients.last_number ≤ CLIENT_LIMIT

@@ -32,12 +32,13 @@ use Rattle.nfs_rules.specs.Refusing.{◌>>=◌}
 use Rattle.nfs_rules.specs.Stateids.{any_open, as_open, confirmed_open, verdict}
 use Rattle.nfs_state.specs.State.{State, History, record_has_state}
 use Rattle.nfs_core.proofs.SafeLists.{all_always, all_find, all_none, all_weaken, found_last, found_some}
-use Rattle.nfs_core.proofs.Sound.{AreSingle, HasSameClient, IsOfRecord, IsOnlyOf, IsSound, is_live_in, same_client_self, same_name_self}
+use Rattle.nfs_core.proofs.Sound.{AreSingle, HasSameClient, HasRecord, IsOnlyOf, IsSound, is_live_in, is_record_of, same_client_self, same_name_self}
 use Rattle.nfs_core.proofs.SoundLocking.{lock_ready, lock_sequenced, locku_ready, stateid_of}
 use Rattle.nfs_core.proofs.SoundSequences.{IsFit, IsOf, IsOwnReady, as_decided, continues_ready, continuing, never, place_for_nobody, quiet_ready, sequenced_ready, some_equal}
 use Rattle.nfs_core.proofs.SoundSteps.{IsChangeReady, IsClientReady, IsOwnerReady, IsReady}
 use Rattle.nfs_core.proofs.SoundTargets.{bound, ok_equal, unrefused}
 use Rattle.nfs_forms.specs.ClientId.{is_same_client}
+use Rattle.nfs_forms.specs.declared.client_id.ClientId.{ClientId}
 use Rattle.nfs_forms.specs.declared.answer.Answer.TheVariants as answers
 use Rattle.nfs_forms.specs.declared.answer.Answer.TheVariants.{Done}
 use Rattle.nfs_xdr.specs.declared.op_result.OpResult.TheVariants as results
@@ -54,9 +55,10 @@ use Rattle.nfs_owners.specs.Confirmation as confirmations
 use Rattle.nfs_owners.specs.Confirmation.{Confirmation, Stale, InUse, Retransmission, First, Update, InPlaceOf, confirmation_before, confirmation_beside, confirmation_by}
 use Rattle.nfs_owners.specs.Registration as registrations
 use Rattle.nfs_owners.specs.Registration.{has_number_left, registration_by}
-use Rattle.nfs_owners.specs.Registry.{Registry, confirmed_named_by, confirmed_of, is_confirmed_of, is_named_by, is_of, record_of, unconfirmed_named_by}
+use Rattle.nfs_owners.specs.Registry.{Registry, confirmed_named_by, confirmed_of, is_named_by, is_of, record_of, record_state, unconfirmed_named_by}
 use Rattle.nfs_owners.specs.StateOwner.{as_open_owner, open_owner}
 use Rattle.nfs_owners.specs.declared.client_record.ClientRecord.{ClientRecord}
+use Rattle.nfs_owners.specs.declared.client_record.ClientState.{ClientState}
 use Rattle.nfs_owners.specs.declared.client_record.PathMark.{PathMark}
 use Rattle.nfs_owners.specs.declared.clients.client_change.ClientChange.{ClientChange}
 use Rattle.nfs_owners.specs.declared.state_owner.StateOwner.{StateOwner}
@@ -77,34 +79,40 @@ use Rattle.nfs_xdr.specs.declared.op.Op.TheVariants as ops
 
 -- SETCLIENTID
 
+-- what is found passes the test
+found_passes : {X : Type 0} (test : X → Bool) (xs : List X) (x : X) → find test xs ≡ Some x → test x ≡ true
+found_passes test xs x is = (all_find (λ y. ⊤) test xs x is (all_always xs)).1
+
+-- a record that is found, of this client and this id, is there
+found_record : (test : ClientRecord → Bool) (client : ClientId) (id : List ℕ) (records : List ClientRecord) (r : ClientRecord) → find test records ≡ Some r → bytes_eq r.id id ≡ true → is_same_client r.state.client client ≡ true → HasRecord client id records
+found_record test client id records r is of same =
+    found_some test (is_record_of client id) records r is (and_from (is_same_client r.state.client client) (bytes_eq r.id id) same of)
+
 -- a record that is there has the id and the clientid that is updated
 abbrev IsFound : Registry → Setclientid → registrations.Finding → Type 0
 IsFound registry args (registrations.Update client) =
-    is_some (find (λ s. is_same_client s.client client && bytes_eq s.id args.id) registry.records) ≡ true
+    HasRecord client args.id registry.confirmed
 IsFound registry args found = ⊤
 
-finding_found : (registry : Registry) (args : Setclientid) (found : Option ClientRecord) (has_state : Bool) (principal : Principal) → confirmed_of registry args.id ≡ found → IsFound registry args (registrations.finding found has_state principal args)
+finding_found : (registry : Registry) (args : Setclientid) (found : Option ClientRecord) (has_state : Bool) (principal : Principal) → confirmed_of registry args.id ≡ found → IsFound registry args (registrations.finding (record_state found) has_state principal args)
 finding_found registry args None has_state principal is = tt
 finding_found registry args (Some r) has_state principal is =
     let P : registrations.Finding → Type 0 = IsFound registry args in
-    let passes = (all_find (λ s. ⊤) (is_confirmed_of args.id) registry.records r is (all_always registry.records)).1 in
-    let of = (and_parts r.confirmed (is_of args.id r) passes).1 in
-    let there : P (registrations.Update r.client) =
-    found_some (is_confirmed_of args.id) (λ s. is_same_client s.client r.client && bytes_eq s.id args.id) registry.records r is
-    (and_from (is_same_client r.client r.client) (bytes_eq r.id args.id) (same_client_self r.client) of) in
-    cond_both (is_same_principal r.principal principal) (if bytes_eq r.verifier.0 args.verifier.0 then registrations.Update r.client else registrations.Arrival)
-    (if has_state then registrations.InUse r.callback.address else registrations.Arrival) P
-    (λ _. cond_both (bytes_eq r.verifier.0 args.verifier.0) (registrations.Update r.client) registrations.Arrival P (λ _. there) (λ _. tt))
-    (λ _. cond_both has_state (registrations.InUse r.callback.address) registrations.Arrival P (λ _. tt) (λ _. tt))
+    let there : P (registrations.Update r.state.client) = found_record (is_of args.id) r.state.client args.id registry.confirmed r is
+    (found_passes (is_of args.id) registry.confirmed r is) (same_client_self r.state.client) in
+    cond_both (is_same_principal r.state.principal principal) (if bytes_eq r.state.verifier.0 args.verifier.0 then registrations.Update r.state.client else registrations.Arrival)
+    (if has_state then registrations.InUse r.state.callback.address else registrations.Arrival) P
+    (λ _. cond_both (bytes_eq r.state.verifier.0 args.verifier.0) (registrations.Update r.state.client) registrations.Arrival P (λ _. there) (λ _. tt))
+    (λ _. cond_both has_state (registrations.InUse r.state.callback.address) registrations.Arrival P (λ _. tt) (λ _. tt))
 
 registered : (found : registrations.Finding) (epoch : ℕ) (registry : Registry) (principal : Principal) (args : Setclientid) → IsFound registry args found
     → IfSome (registration_by found epoch registry principal args) (λ x. IsClientReady x.1 registry)
 registered (registrations.InUse address) epoch registry principal args found = tt
 registered (registrations.Update client) epoch registry principal args found =
-    cond_both (is_within_limit args.callback.address) _ None (λ o. IfSome o (λ x. IsClientReady x.1 registry)) (λ _. (refl, found)) (λ _. tt)
+    cond_both (is_within_limit args.callback.address) _ None (λ o. IfSome o (λ x. IsClientReady x.1 registry)) (λ _. found) (λ _. tt)
 registered registrations.Arrival epoch registry principal args found =
     cond_both (is_within_limit args.callback.address && has_number_left registry) _ None (λ o. IfSome o (λ x. IsClientReady x.1 registry))
-    (λ both. (refl, refl, (and_parts (is_within_limit args.callback.address) (has_number_left registry) both).1)) (λ _. tt)
+    (λ both. (refl, (and_parts (is_within_limit args.callback.address) (has_number_left registry) both).1)) (λ _. tt)
 
 registers : (number : ℕ) (old : State) (d : Decision) (o : Option (registrations.Outcome × ClientChange)) → IfSome o (λ x. IsClientReady x.1 old.clients) → Some d ≡ option_map setclientid.decision_of o → IsReady number old d
 registers number old d None ready is = absurd cc
@@ -112,64 +120,65 @@ registers number old d (Some x) ready is = as_decided number old d (setclientid.
 
 -- SETCLIENTID_CONFIRM
 
+-- the id's confirmed record has this state
+abbrev IsHolder : Registry → List ℕ → ClientState → Type 0
+IsHolder registry id state = (holder : ClientRecord) × (confirmed_of registry id ≡ Some holder) × (holder.state ≡ state)
+
 -- The confirmed record with the id is the one that the case speaks of, and the one that is confirmed is there.
 abbrev IsFitting : Registry → Confirmation → Type 0
-IsFitting registry (First r) = (confirmed_of registry r.id ≡ None) × IsOfRecord r registry.records
-IsFitting registry (Update old r) = confirmed_of registry r.id ≡ Some old
-IsFitting registry (InPlaceOf old r) = (confirmed_of registry r.id ≡ Some old) × IsOfRecord r registry.records
+IsFitting registry (First r) = (confirmed_of registry r.id ≡ None) × HasRecord r.state.client r.id registry.unconfirmed
+IsFitting registry (Update old r) = IsHolder registry r.id old
+IsFitting registry (InPlaceOf old r) =
+    IsHolder registry r.id old × HasRecord r.state.client r.id registry.unconfirmed × (is_same_client old.client r.state.client ≡ false)
 IsFitting registry confirmation = ⊤
 
--- a record that is found is there
-is_of_record : (test : ClientRecord → Bool) (records : List ClientRecord) (r : ClientRecord) → find test records ≡ Some r → IsOfRecord r records
-is_of_record test records r is =
-    found_some test (λ s. is_same_client s.client r.client && bytes_eq s.id r.id) records r is
-    (and_from (is_same_client r.client r.client) (bytes_eq r.id r.id) (same_client_self r.client) ((bytes_eq-Decides r.id r.id).1 refl))
-
-beside_fits : (registry : Registry) (found : Option ClientRecord) (r : ClientRecord) (has_state : Bool) → IsOfRecord r registry.records → confirmed_of registry r.id ≡ found → IsFitting registry (confirmation_beside found r has_state)
+beside_fits : (registry : Registry) (found : Option ClientRecord) (r : ClientRecord) (has_state : Bool) → HasRecord r.state.client r.id registry.unconfirmed → confirmed_of registry r.id ≡ found
+    → IsFitting registry (confirmation_beside (record_state found) r has_state)
 beside_fits registry None r has_state of is = (is, of)
 beside_fits registry (Some old) r has_state of is =
     let P : Confirmation → Type 0 = IsFitting registry in
-    cond_both (is_same_client old.client r.client) (Update old r)
-    (if not (is_same_principal old.principal r.principal) && has_state then InUse else InPlaceOf old r) P (λ _. is)
-    (λ _. cond_both (not (is_same_principal old.principal r.principal) && has_state) InUse (InPlaceOf old r) P (λ _. tt) (λ _. (is, of)))
+    cond_both (is_same_client old.state.client r.state.client) (Update old.state r)
+    (if not (is_same_principal old.state.principal r.state.principal) && has_state then InUse else InPlaceOf old.state r) P (λ _. (old, is, refl))
+    (λ other. cond_both (not (is_same_principal old.state.principal r.state.principal) && has_state) InUse (InPlaceOf old.state r) P (λ _. tt) (λ _. ((old, is, refl), of, other)))
 
-before_fits : (registry : Registry) (found : Option ClientRecord) (principal : Principal) → IsFitting registry (confirmation_before found principal)
+before_fits : (registry : Registry) (found : Option ClientState) (principal : Principal) → IsFitting registry (confirmation_before found principal)
 before_fits registry None principal = tt
-before_fits registry (Some r) principal =
+before_fits registry (Some s) principal =
     let P : Confirmation → Type 0 = IsFitting registry in
-    cond_both (is_same_principal r.principal principal) Retransmission InUse P (λ _. tt) (λ _. tt)
+    cond_both (is_same_principal s.principal principal) Retransmission InUse P (λ _. tt) (λ _. tt)
 
 finding_fits : (registry : Registry) (named : Option ClientRecord) (has_state : Bool) (principal : Principal) (args : SetclientidConfirm) → unconfirmed_named_by args registry ≡ named
     → IsFitting registry (confirmations.finding named registry has_state principal args)
 finding_fits registry (Some r) has_state principal args is =
     let P : Confirmation → Type 0 = IsFitting registry in
-    cond_both (is_same_principal r.principal principal) (confirmation_beside (confirmed_of registry r.id) r has_state) InUse P
-    (λ _. beside_fits registry (confirmed_of registry r.id) r has_state (is_of_record (λ s. not s.confirmed && is_named_by args s) registry.records r is) refl) (λ _. tt)
-finding_fits registry None has_state principal args is = before_fits registry (confirmed_named_by args registry) principal
+    let of : HasRecord r.state.client r.id registry.unconfirmed =
+    found_record (is_named_by args) r.state.client r.id registry.unconfirmed r is ((bytes_eq-Decides r.id r.id).1 refl) (same_client_self r.state.client) in
+    cond_both (is_same_principal r.state.principal principal) (confirmation_beside (record_state (confirmed_of registry r.id)) r has_state) InUse P
+    (λ _. beside_fits registry (confirmed_of registry r.id) r has_state of refl) (λ _. tt)
+finding_fits registry None has_state principal args is = before_fits registry (record_state (confirmed_named_by args registry)) principal
 
-pub confirms : (registry : Registry) (case : Confirmation) (path : PathMark) → AreSingle registry.records → IsFitting registry case → IsClientReady (confirmation_by case path).1 registry
+-- all confirmed records with the holder's id are of its client, and it is there
+held : (registry : Registry) (id : List ℕ) (state : ClientState) → AreSingle registry.confirmed → IsHolder registry id state
+    → AllByRecursion (IsOnlyOf state.client id) registry.confirmed × HasRecord state.client id registry.confirmed
+held registry id state single holds =
+    let old = holds.0 in
+    let found = all_find (λ r. AllByRecursion (HasSameClient r) registry.confirmed) (is_of id) registry.confirmed old holds.1 single in
+    let ids : old.id ≡ id = (bytes_eq-Decides old.id id).0 found.1 in
+    subst (λ (s : ClientState). AllByRecursion (IsOnlyOf s.client id) registry.confirmed × HasRecord s.client id registry.confirmed) holds.2 (
+      all_weaken (HasSameClient old) (IsOnlyOf old.state.client id)
+          (λ s same of. same (subst (λ i. bytes_eq s.id i ≡ true) (sym ids) of)) registry.confirmed found.0,
+      found_record (is_of id) old.state.client id registry.confirmed old holds.1 found.1 (same_client_self old.state.client),
+    )
+
+pub confirms : (registry : Registry) (case : Confirmation) (path : PathMark) → AreSingle registry.confirmed → IsFitting registry case → IsClientReady (confirmation_by case path).1 registry
 confirms registry Stale path single fits = tt
 confirms registry InUse path single fits = tt
 confirms registry Retransmission path single fits = tt
-confirms registry (First r) path single fits = (
-  refl,
-  all_weaken (λ s. is_confirmed_of r.id s ≡ false) (IsOnlyOf r.client r.id)
-      (λ s none is_set same. absurd (never (is_confirmed_of r.id s) none (and_from s.confirmed (is_of r.id s) is_set same))) registry.records
-      (all_none (is_confirmed_of r.id) registry.records fits.0),
-  fits.1,
-)
-confirms registry (Update old r) path single fits =
-    let found = all_find (λ r. AllByRecursion (HasSameClient r) registry.records) (is_confirmed_of r.id) registry.records old fits single in
-    let both = and_parts old.confirmed (is_of r.id old) found.1 in
-    (both.0, all_weaken (HasSameClient old) (IsOnlyOf old.client old.id) (λ s same. same both.0) registry.records found.0, is_of_record (is_confirmed_of r.id) registry.records old fits)
+confirms registry (First r) path single fits = (all_none (is_of r.id) registry.confirmed fits.0, fits.1)
+confirms registry (Update old r) path single fits = held registry r.id old single fits
 confirms registry (InPlaceOf old r) path single fits =
-    let found = all_find (λ r. AllByRecursion (HasSameClient r) registry.records) (is_confirmed_of r.id) registry.records old fits.0 single in
-    let both = and_parts old.confirmed (is_of r.id old) found.1 in
-    let ids : old.id ≡ r.id = (bytes_eq-Decides old.id r.id).0 both.1 in (
-      all_weaken (HasSameClient old) (IsOnlyOf old.client r.id)
-          (λ s same is_set of. same both.0 is_set (subst (λ id. bytes_eq s.id id ≡ true) (sym ids) of)) registry.records found.0,
-      fits.1,
-    )
+    let holds = held registry r.id old single fits.0 in
+    (holds.0, holds.1, fits.1, fits.2)
 
 -- OPEN_CONFIRM, OPEN_DOWNGRADE and CLOSE: what they change is always ready.
 
@@ -216,7 +225,7 @@ opening_allowed journal state node args o is =
     bound P (opening.unless_delegated journal state args.claim file) _ o (λ at _. allowed state args.owner share at o))))) is
 
 -- The owner whose client is live may become known where there is a place, and one that isn't confirmed may be dropped.
-owner_ready : (journal : History) (state : State) (op : Op) (owner : OpenOwner) (passage : Passage) (status : Status) → IsSound state → is_live_in state.clients.records owner.client ≡ true
+owner_ready : (journal : History) (state : State) (op : Op) (owner : OpenOwner) (passage : Passage) (status : Status) → IsSound state → is_live_in state.clients.confirmed owner.client ≡ true
     → IsFit state op (open_owner owner) passage → newcomer_of journal state owner.client op ≡ Nobody
     → (is_ok_status status ≡ true → opening.has_owner_place passage (before_own passage owner state) ≡ true)
     → IsOwnerReady (owner_change_of passage (open_owner owner) (newcomer_of journal state owner.client op) status) state
@@ -251,7 +260,7 @@ opens_ready number state op owner passages.Restarts newcomer status node share o
 
 -- the rule of OPEN, by what it opens or why it opens nothing
 ruling_ready : (number : ℕ) (journal : History) (state : State) (op : Op) (args : Open) (passage : Passage) (directory : ℕ) (ruling : Ruling) (result : Result Opening Refusal)
-    → IsSound state → is_live_in state.clients.records args.owner.client ≡ true → IsFit state op (open_owner args.owner) passage
+    → IsSound state → is_live_in state.clients.confirmed args.owner.client ≡ true → IsFit state op (open_owner args.owner) passage
     → newcomer_of journal state args.owner.client op ≡ Nobody
     → opening.opening journal (before_own passage args.owner state) directory args ≡ result
     → Some ruling ≡ opening.ruling_of (before_own passage args.owner state) passage args.owner (opening.opening_or_ruling result)
@@ -283,9 +292,9 @@ ruling_ready number journal state op args passage directory ruling (Ok o) sound 
     ]
 
 -- the owner of an OPEN is the one in its arguments, whose client is live
-requests_open : (state : State) (owner : OpenOwner) (seqid : ℕ) (name : StateOwner) → IsOf name (requester_of_open state owner seqid) → (name ≡ open_owner owner) × (is_live_in state.clients.records owner.client ≡ true)
+requests_open : (state : State) (owner : OpenOwner) (seqid : ℕ) (name : StateOwner) → IsOf name (requester_of_open state owner seqid) → (name ≡ open_owner owner) × (is_live_in state.clients.confirmed owner.client ≡ true)
 requests_open state owner seqid name is =
-    let live = is_live_in state.clients.records owner.client in
+    let live = is_live_in state.clients.confirmed owner.client in
     let own = Owner (open_owner owner) seqid in
     elim (cases_Bool live) [
       | inl there ↦
@@ -326,14 +335,15 @@ pub ruled_ready : (number : ℕ) (journal : History) (state : State) (op : Op) (
 ruled_ready number journal state (ops.Getattr mask) request d same sound is =
     as_decided number state d _ is (tt, tt)
 ruled_ready number journal state (ops.Setclientid args) request d same sound is =
-    let has_state = record_has_state state (confirmed_of state.clients args.id) in
+    let holder = record_state (confirmed_of state.clients args.id) in
+    let has_state = record_has_state state holder in
     registers number state d (registrations.registration journal.epoch has_state state.clients request.principal args)
-    (registered (registrations.finding (confirmed_of state.clients args.id) has_state request.principal args) journal.epoch state.clients request.principal args
+    (registered (registrations.finding holder has_state request.principal args) journal.epoch state.clients request.principal args
     (finding_found state.clients args (confirmed_of state.clients args.id) has_state request.principal refl)) is
 ruled_ready number journal state (ops.SetclientidConfirm args) request d same sound is =
     let path = confirm.path_of journal.policy.callbacks in
     let named = unconfirmed_named_by args state.clients in
-    let has_state = record_has_state state (confirmations.holder_of named state.clients) in
+    let has_state = record_has_state state (record_state (confirmations.holder_of named state.clients)) in
     as_decided number state d _ is (
       tt,
       confirms state.clients (confirmations.finding named state.clients has_state request.principal args) path sound.single

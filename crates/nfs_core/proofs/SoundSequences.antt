@@ -158,10 +158,10 @@ newcomer_of_client journal state client op = tt
 -- A request that continues.
 
 -- the client of a known owner is live
-pub live_owner : (state : State) → IsSound state → (name : StateOwner) → is_known_in state.owners name ≡ true → is_live_in state.clients.records name.client ≡ true
+pub live_owner : (state : State) → IsSound state → (name : StateOwner) → is_known_in state.owners name ≡ true → is_live_in state.clients.confirmed name.client ≡ true
 live_owner state sound name known =
-    let held = found_holds (λ (k : KnownOwner). is_live_in state.clients.records k.name.client ≡ true) (has_name name) state.owners known sound.live in
-    ap (λ n. is_live_in state.clients.records n.client) (sym (equal_names held.0.name name held.2)) ∙ held.1
+    let held = found_holds (λ (k : KnownOwner). is_live_in state.clients.confirmed k.name.client ≡ true) (has_name name) state.owners known sound.live in
+    ap (λ n. is_live_in state.clients.confirmed n.client) (sym (equal_names held.0.name name held.2)) ∙ held.1
 
 -- Where the answer is OK, there is a place for a lock owner that isn't known.
 abbrev pub HasPlaceFor : State → Newcomer → Status → Type 0
@@ -172,13 +172,13 @@ HasPlaceFor state newcomer status = ⊤
 pub place_for_nobody : (state : State) (newcomer : Newcomer) (status : Status) → newcomer ≡ Nobody → HasPlaceFor state newcomer status
 place_for_nobody state newcomer status nobody = subst (λ n. HasPlaceFor state n status) (sym nobody) tt
 
-kept_ready : (state : State) (name : StateOwner) (newcomer : Newcomer) (status : Status) → is_live_in state.clients.records name.client ≡ true → IsOfClient name.client newcomer
+kept_ready : (state : State) (name : StateOwner) (newcomer : Newcomer) (status : Status) → is_live_in state.clients.confirmed name.client ≡ true → IsOfClient name.client newcomer
     → HasPlaceFor state newcomer status → IsOwnerReady (kept_with name newcomer status) state
 kept_ready state name Nobody status live of place = tt
 kept_ready state name (Known newcomer) status live of place = tt
 kept_ready state name (Unknown newcomer) status live of place =
     cond_both (is_ok_status status) (owner_changes.Introduces name (lock_owner newcomer)) (owner_changes.Keeps name) (λ c. IsOwnerReady c state)
-    (λ ok. (subst (λ c. is_live_in state.clients.records c ≡ true) (sym (equal_clients newcomer.client name.client of)) live, place ok)) (λ _. tt)
+    (λ ok. (subst (λ c. is_live_in state.clients.confirmed c ≡ true) (sym (equal_clients newcomer.client name.client of)) live, place ok)) (λ _. tt)
 
 pub continues_ready : (journal : History) (state : State) (op : Op) (name : StateOwner) (status : Status) → IsSound state → is_known_in state.owners name ≡ true
     → HasPlaceFor state (newcomer_of journal state name.client op) status

@@ -16,7 +16,7 @@ use Rattle.nfs_state.specs.Places.{has_state_place}
 use Rattle.nfs_state.specs.State.{State}
 use Rattle.nfs_core.proofs.SafeFiles.{opens_at, set_opens}
 use Rattle.nfs_core.proofs.SafeLists.{all_filter, all_push, all_set}
-use Rattle.nfs_core.proofs.Sound.{AreLive, IsAloneOf, IsKnownIn, IsOfRecord, IsOnlyOf, IsSound, StandsUnder, KeepsOwner, KeepsOwners, OpensStay, dropped_compatible, dropped_known, dropped_live, each_known, is_known_in, is_live_in, keeps_mapped, keeps_recorded, keeps_tested, live_confirmed, live_expired, live_replaced, live_unconfirmed, mapped_live, name_left, opening_known, renamed_known, single_confirmed, single_left, single_unconfirmed}
+use Rattle.nfs_core.proofs.Sound.{AreLive, IsAloneOf, HasRecord, IsKnownIn, IsOnlyOf, IsSound, StandsUnder, KeepsOwner, KeepsOwners, OpensStay, dropped_compatible, dropped_known, dropped_live, each_known, is_known_in, is_live_in, keeps_mapped, keeps_recorded, keeps_tested, live_confirmed, live_expired, live_replaced, mapped_live, name_left, none_of, opening_known, renamed_known, single_confirmed, single_left}
 use Rattle.nfs_core.proofs.SoundLocks.{LocksStay, locks_begun, locks_changed, locks_closed, locks_numbered, locks_owned, locks_released, locks_reopened, locks_without, locks_without_client, under_each, under_opening}
 use Rattle.nfs_forms.specs.ClientId.{is_same_client}
 use Rattle.nfs_forms.specs.OpenOwner.{is_same_owner}
@@ -27,7 +27,7 @@ use Rattle.nfs_locks.specs.Laws.{IsFreeFor}
 use Rattle.nfs_locks.specs.Locks.{first_state, is_lock_of, lock_of}
 use Rattle.nfs_locks.specs.Locks as locks
 use Rattle.nfs_owners.specs.Registration.{has_number_left}
-use Rattle.nfs_owners.specs.Registry.{Registry, is_of_client}
+use Rattle.nfs_owners.specs.Registry.{Registry, is_of, is_of_client}
 use Rattle.nfs_owners.specs.StateOwner.{is_same_state_owner, lock_owner, open_owner}
 use Rattle.nfs_owners.specs.declared.clients.client_change.ClientChange.{ClientChange}
 use Rattle.nfs_owners.specs.declared.clients.client_change.ClientChange.TheVariants as client_changes
@@ -42,31 +42,34 @@ use Rattle.nfs_share.specs.Opens.{after_downgrade, is_numbered, is_refused, open
 -- confirmed.
 abbrev pub IsOwnerReady : OwnerChange → State → Type 0
 IsOwnerReady (owner_changes.Introduces name newcomer) state =
-    (is_live_in state.clients.records newcomer.client ≡ true) × (nat_lt (length state.owners) OWNER_LIMIT ≡ true)
+    (is_live_in state.clients.confirmed newcomer.client ≡ true) × (nat_lt (length state.owners) OWNER_LIMIT ≡ true)
 IsOwnerReady (owner_changes.Records name) state =
-    (is_live_in state.clients.records name.client ≡ true) × (nat_lt (length state.owners) OWNER_LIMIT ≡ true)
+    (is_live_in state.clients.confirmed name.client ≡ true) × (nat_lt (length state.owners) OWNER_LIMIT ≡ true)
 IsOwnerReady (owner_changes.Restarts name) state =
-    (is_live_in state.clients.records name.client ≡ true) × (is_confirmed (open_owner name) state.owners ≡ false)
+    (is_live_in state.clients.confirmed name.client ≡ true) × (is_confirmed (open_owner name) state.owners ≡ false)
     × (nat_lt (length (without_owner (open_owner name) state.owners)) OWNER_LIMIT ≡ true)
 IsOwnerReady (owner_changes.Drops name) state = is_confirmed (open_owner name) state.owners ≡ false
 IsOwnerReady change state = ⊤
 
 -- A new record has the next number, which is left, and any other the clientid and the id of one that is there. One is
--- confirmed in place of those of its own client, or of those of the client that it replaces.
+-- confirmed as the first of its id, in place of one of its own client, or in place of one of the client that it replaces.
 abbrev pub IsClientReady : ClientChange → Registry → Type 0
 IsClientReady client_changes.Nothing registry = ⊤
 IsClientReady (client_changes.Arrives r) registry =
-    (r.confirmed ≡ false) × (r.client.number ≡ registry.last_number + 1) × (has_number_left registry ≡ true)
-IsClientReady (client_changes.Updates r) registry = (r.confirmed ≡ false) × IsOfRecord r registry.records
+    (r.state.client.number ≡ registry.last_number + 1) × (has_number_left registry ≡ true)
+IsClientReady (client_changes.Updates r) registry = HasRecord r.state.client r.id registry.confirmed
 IsClientReady (client_changes.Confirms r) registry =
-    (r.confirmed ≡ true) × AllByRecursion (IsOnlyOf r.client r.id) registry.records × IsOfRecord r registry.records
+    AllByRecursion (λ s. is_of r.id s ≡ false) registry.confirmed × HasRecord r.state.client r.id registry.unconfirmed
+IsClientReady (client_changes.Refreshes r) registry =
+    AllByRecursion (IsOnlyOf r.state.client r.id) registry.confirmed × HasRecord r.state.client r.id registry.confirmed
 IsClientReady (client_changes.Replaces r client) registry =
-    AllByRecursion (IsOnlyOf client r.id) registry.records × IsOfRecord r registry.records
+    AllByRecursion (IsOnlyOf client r.id) registry.confirmed × HasRecord client r.id registry.confirmed
+    × HasRecord r.state.client r.id registry.unconfirmed × (is_same_client client r.state.client ≡ false)
 
 -- The owner of an open is known, its OPEN isn't refused, and there is a place for an open that it makes. The owner of a lock
 -- state that begins is known, an open of the node is there for it, the bytes are free for it, it has no lock state of the
 -- file, and there is a place for one; those of another change are free for the owner of a lock state with the number, and
--- leave its runs within the limit. No other client has the number of one that expires.
+-- leave its runs within the limit. A client that expires is live, and no other has its number.
 abbrev pub IsChangeReady : Change → State → Type 0
 IsChangeReady (changes.Clients change) state = IsClientReady change state.clients
 IsChangeReady (changes.Opens node owner share) state =
@@ -83,7 +86,8 @@ IsChangeReady (changes.Locks node number change) state =
     × (is_some (find (λ l. locks.is_numbered number l && is_lock_of owner l) (locks_of node state.locks)) ≡ true)
     × IsFreeFor owner change (locks_of node state.locks)
     × (is_full_for number change (locks_of node state.locks) ≡ false)
-IsChangeReady (changes.Expires client) state = AllByRecursion (IsAloneOf client) state.clients.records
+IsChangeReady (changes.Expires client) state =
+    (is_live_in state.clients.confirmed client ≡ true) × AllByRecursion (IsAloneOf client) state.clients.confirmed
 IsChangeReady change state = ⊤
 
 abbrev pub IsEffectReady : ℕ → State → Effect → Type 0
@@ -94,7 +98,7 @@ abbrev pub IsReady : ℕ → State → Decision → Type 0
 IsReady number old decision = IsEffectReady number old decision.effect
 
 -- The owners change, and all that are known or confirmed stay so.
-sound_owners : (new : List KnownOwner) (old : State) → AreLive old.clients.records new → KeepsOwners old.owners new → IsSound old → IsSound (record old { owners = new })
+sound_owners : (new : List KnownOwner) (old : State) → AreLive old.clients.confirmed new → KeepsOwners old.owners new → IsSound old → IsSound (record old { owners = new })
 sound_owners new old live keeps sound = record {
   live = live;
   known = renamed_known old.owners new (λ o found. keeps.known (open_owner o) found) old.opens sound.known;
@@ -115,7 +119,7 @@ keeps_confirmed name =
 
 sound_mapped : (f : KnownOwner → KnownOwner) → KeepsOwner f → (old : State) → IsSound old → IsSound (record old { owners = map f old.owners })
 sound_mapped f keeps old sound =
-    sound_owners (map f old.owners) old (mapped_live f keeps old.clients.records old.owners sound.live) (keeps_mapped f keeps old.owners) sound
+    sound_owners (map f old.owners) old (mapped_live f keeps old.clients.confirmed old.owners sound.live) (keeps_mapped f keeps old.owners) sound
 
 -- what an entry means for an owner
 
@@ -123,17 +127,17 @@ sound_kept : (number : ℕ) (name : StateOwner) (old : State) → IsSound old �
 sound_kept number name old sound =
     sound_mapped (λ o. if has_name name o then record o { kept_entry = number } else o) (keeps_kept number name) old sound
 
-sound_recorded : (number : ℕ) (name : StateOwner) (old : State) → is_live_in old.clients.records name.client ≡ true → IsSound old → IsSound (record old { owners = with_record number name old.owners })
+sound_recorded : (number : ℕ) (name : StateOwner) (old : State) → is_live_in old.clients.confirmed name.client ≡ true → IsSound old → IsSound (record old { owners = with_record number name old.owners })
 sound_recorded number name old live sound =
     let new : KnownOwner = record { name = name; confirmed = false; recording_entry = number; kept_entry = number } in
     sound_owners (with_record number name old.owners) old
-    (all_push (λ o. is_live_in old.clients.records o.name.client ≡ true) old.owners new sound.live live) (keeps_recorded new old.owners) sound
+    (all_push (λ o. is_live_in old.clients.confirmed o.name.client ≡ true) old.owners new sound.live live) (keeps_recorded new old.owners) sound
 
 sound_dropped : OpensStay → (name : OpenOwner) (old : State) → is_confirmed (open_owner name) old.owners ≡ false → IsSound old → IsSound (state_changes.without name old)
 sound_dropped law name old unset sound =
     let t : StateOwner → Bool = λ n. is_same_state_owner n (open_owner name) in
     record {
-      live = dropped_live t old.clients.records old.owners sound.live;
+      live = dropped_live t old.clients.confirmed old.owners sound.live;
       known = dropped_known t old.owners old.opens sound.known;
       compatible = dropped_compatible law (λ o. is_same_owner o.owner name) old.opens sound.compatible;
       single = sound.single;
@@ -164,31 +168,38 @@ sound_clients law lock_law client_changes.Nothing old ready sound = record {
   locks = sound.locks;
 }
 sound_clients law lock_law (client_changes.Arrives r) old ready sound = record {
-  live = live_unconfirmed r old.clients.records old.owners sound.live;
+  live = sound.live;
   known = sound.known;
   compatible = sound.compatible;
-  single = single_unconfirmed r ready.0 old.clients.records sound.single;
+  single = sound.single;
   locks = sound.locks;
 }
 sound_clients law lock_law (client_changes.Updates r) old ready sound = record {
-  live = live_unconfirmed r old.clients.records old.owners sound.live;
+  live = sound.live;
   known = sound.known;
   compatible = sound.compatible;
-  single = single_unconfirmed r ready.0 old.clients.records sound.single;
+  single = sound.single;
   locks = sound.locks;
 }
 sound_clients law lock_law (client_changes.Confirms r) old ready sound = record {
-  live = live_confirmed r old.clients.records old.owners ready.0 ready.1 sound.live;
+  live = live_confirmed r old.clients.confirmed old.owners (none_of r.state.client r.id old.clients.confirmed ready.0) sound.live;
   known = sound.known;
   compatible = sound.compatible;
-  single = single_confirmed r old.clients.records sound.single;
+  single = single_confirmed r old.clients.confirmed sound.single;
+  locks = sound.locks;
+}
+sound_clients law lock_law (client_changes.Refreshes r) old ready sound = record {
+  live = live_confirmed r old.clients.confirmed old.owners ready.0 sound.live;
+  known = sound.known;
+  compatible = sound.compatible;
+  single = single_confirmed r old.clients.confirmed sound.single;
   locks = sound.locks;
 }
 sound_clients law lock_law (client_changes.Replaces r client) old ready sound = record {
-  live = live_replaced r client old.clients.records old.owners ready.0 sound.live;
+  live = live_replaced r client old.clients.confirmed old.owners ready.0 sound.live;
   known = dropped_known (λ n. is_same_client n.client client) old.owners old.opens sound.known;
   compatible = dropped_compatible law (λ o. is_same_client o.owner.client client) old.opens sound.compatible;
-  single = single_confirmed r old.clients.records sound.single;
+  single = single_confirmed r old.clients.confirmed sound.single;
   locks = locks_without_client lock_law client old.owners old.opens old.last_state old.locks sound.locks;
 }
 
@@ -259,7 +270,7 @@ sound_changed law lock_law (changes.Locks node number change) old ready sound = 
   locks = locks_changed lock_law node number change ready.0 old.owners old.opens old.last_state old.locks ready.1 ready.2 sound.locks;
 }
 sound_changed law lock_law (changes.Releases owner) old ready sound = record {
-  live = dropped_live (λ n. is_same_state_owner n (lock_owner owner)) old.clients.records old.owners sound.live;
+  live = dropped_live (λ n. is_same_state_owner n (lock_owner owner)) old.clients.confirmed old.owners sound.live;
   known = renamed_known old.owners (without_owner (lock_owner owner) old.owners)
       (λ o found. name_left (λ n. is_same_state_owner n (lock_owner owner)) old.owners (open_owner o) refl found) old.opens sound.known;
   compatible = sound.compatible;
@@ -267,10 +278,10 @@ sound_changed law lock_law (changes.Releases owner) old ready sound = record {
   locks = locks_released lock_law owner old.owners old.opens old.last_state old.locks sound.locks;
 }
 sound_changed law lock_law (changes.Expires client) old ready sound = record {
-  live = live_expired client old.clients.records old.owners ready sound.live;
+  live = live_expired client old.clients.confirmed old.owners ready.1 sound.live;
   known = dropped_known (λ n. is_same_client n.client client) old.owners old.opens sound.known;
   compatible = dropped_compatible law (λ o. is_same_client o.owner.client client) old.opens sound.compatible;
-  single = single_left (is_of_client client.number) old.clients.records sound.single;
+  single = single_left (is_of_client client.number) old.clients.confirmed sound.single;
   locks = locks_without_client lock_law client old.owners old.opens old.last_state old.locks sound.locks;
 }
 

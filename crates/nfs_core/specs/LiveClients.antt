@@ -1,13 +1,17 @@
 -- Which clients are live, and how entries of the journal change it (RFC 7530, sections 9.1.1, 9.6 and 16.34.5).
-use Rattle.std.specs.Prelude.{◌≡◌, ℕ, ◌≤◌, not, ◌&&◌, ◌==◌, IsFalse, IsTrue, Option, Some, None, option_and_then}
+use Rattle.std.specs.Prelude.{◌≡◌, ℕ, ⊤, not, ◌&&◌, ◌==◌, IsFalse, IsTrue, Option, Some, None, option_and_then}
 use Rattle.nfs_core.specs.Lawful.{Lawful}
 use Rattle.nfs_core.specs.Step.{Step}
+use Rattle.nfs_owners.specs.LiveChange.{is_live_after}
 use Rattle.nfs_owners.specs.LiveClients.{can_become_live, replaced_by}
-use Rattle.nfs_owners.specs.Registry.{Registry, is_live}
-use Rattle.nfs_owners.specs.declared.client_record.TheConstants.{CLIENT_LIMIT}
+use Rattle.nfs_owners.specs.Registry.{IsClientNumber, Registry, is_live}
+use Rattle.nfs_owners.specs.declared.live_change.LiveChange.{LiveChange}
+use Rattle.nfs_owners.specs.declared.live_change.LiveChange.TheVariants as live_changes
 use Rattle.nfs_rules.specs.entries.Expire.{is_live as is_live_in}
 use Rattle.nfs_state.specs.Entries.{entry_of}
+use Rattle.nfs_state.specs.LiveChange.{live_change_of}
 use Rattle.nfs_state.specs.State.{State, History}
+use Rattle.nfs_state.specs.declared.entry.Entry.{Entry}
 use Rattle.nfs_state.specs.declared.entry.Entry.TheVariants as entries
 use Rattle.nfs_state.specs.declared.entry.Expire.{Expire}
 use Rattle.nfs_state.specs.declared.request.Request.{Request}
@@ -18,12 +22,39 @@ use Rattle.nfs_xdr.specs.declared.op_result.OpResult.{OpResult}
 -- Each live client has a number that can be given out.
 abbrev pub AreNumbered : Registry → Type 0
 AreNumbered registry =
-    (number : ℕ) → IsTrue (is_live number registry) → (1 ≤ number) × (number ≤ CLIENT_LIMIT)
+    (number : ℕ) → IsTrue (is_live number registry) → IsClientNumber number
 
 -- A client is told by its number: all clientids are of the run of the server that the journal is of.
 abbrev pub AreOfOneRun : History → State → Type 0
 AreOfOneRun journal state =
     (number : ℕ) → is_live_in journal state number ≡ is_live number state.clients
+
+-- The client can become live, and has a number that can be given out.
+abbrev pub CanCome : ℕ → Registry → Type 0
+CanCome number registry = IsTrue (can_become_live number registry) × IsClientNumber number
+
+-- who comes could become live before, and who goes was live
+abbrev pub Fits : LiveChange → Registry → Type 0
+Fits live_changes.Same old = ⊤
+Fits (live_changes.Comes comes) old = CanCome comes old
+Fits (live_changes.Replaces comes goes) old = CanCome comes old × IsTrue (is_live goes old)
+Fits (live_changes.Goes goes) old = IsTrue (is_live goes old)
+
+-- An entry did this to who is live.
+pub record LiveFollows (change : LiveChange) (old new : Registry) : Type 0 where
+  pub live : (number : ℕ) → is_live number new ≡ is_live_after change number (is_live number old)
+  pub fits : Fits change old
+  -- who can become live afterwards could before, and isn't live
+  pub once : (number : ℕ) → IsTrue (can_become_live number new)
+      → IsTrue (can_become_live number old) × IsFalse (is_live number new)
+
+-- What each entry does to who is live is what its effect says.
+abbrev pub EffectsFollow : Type 0
+EffectsFollow =
+    (journal : History) (old new : State) (entry : Entry)
+    → Lawful journal old
+    → (step : Step journal old entry new)
+    → LiveFollows (live_change_of step.effect.change) old.clients new.clients
 
 -- the client that the operation asks to confirm, by its number
 abbrev pub confirmed_by : Op → Option ℕ

@@ -1,7 +1,6 @@
 -- What holds of the state at all times (RFC 7530, sections 9.1, 9.9, 9.11, 16.10 and 16.33).
 use Rattle.std.specs.Prelude.{ℕ, ◌&&◌, ◌++◌, ◌==◌, ◌≤◌, Bool, IsSomeAnd, IsTrue, List, flat_map, is_some, length, map, Option, option_and_then, slice_get}
 use Rattle.std.specs.List.{AllByRecursion, IsDistinct, list_any}
-use Rattle.std.specs.Str.{bytes_eq}
 use Rattle.nfs_forms.specs.ClientId.{is_same_client}
 use Rattle.nfs_forms.specs.LockOwner.{is_same_lock_owner}
 use Rattle.nfs_forms.specs.OpenOwner.{is_same_owner}
@@ -12,7 +11,7 @@ use Rattle.nfs_rules.specs.Sequences.{counts}
 use Rattle.nfs_state.specs.Entries.{call_of}
 use Rattle.nfs_state.specs.Owners.{KnownOwner, is_confirmed, owner_of}
 use Rattle.nfs_state.specs.State.{State, History}
-use Rattle.nfs_owners.specs.Registry.{record_of}
+use Rattle.nfs_owners.specs.Registry.{AreRecords, record_of}
 use Rattle.nfs_owners.specs.StateOwner.{lock_owner, open_owner}
 use Rattle.nfs_owners.specs.declared.client_record.ClientRecord.{ClientRecord}
 use Rattle.nfs_owners.specs.declared.client_record.TheConstants.{CLIENT_LIMIT}
@@ -87,21 +86,13 @@ have_same_owner a b = is_same_owner a.owner b.owner
 abbrev pub have_same_lock_owner : ByteLocks → ByteLocks → Bool
 have_same_lock_owner a b = is_same_lock_owner a.owner b.owner
 
--- both records are confirmed and have one id
-abbrev pub have_same_id : ClientRecord → ClientRecord → Bool
-have_same_id r s = r.confirmed && s.confirmed && bytes_eq r.id s.id
-
--- both records are confirmed and have one clientid
+-- both records have one clientid
 abbrev pub have_same_client : ClientRecord → ClientRecord → Bool
-have_same_client r s = r.confirmed && s.confirmed && is_same_client r.client s.client
+have_same_client r s = is_same_client r.state.client s.state.client
 
 -- the number was given, where `last` is the one that was given last: they go up from 1
 abbrev pub WasGiven : ℕ → ℕ → Type 0
 WasGiven last number = (1 ≤ number) × (number ≤ last)
-
--- the record's client number was given
-abbrev pub HasGivenNumber : ℕ → ClientRecord → Type 0
-HasGivenNumber last r = WasGiven last r.client.number
 
 -- the bytes that the owner holds are in no more runs than an owner may have of a file
 abbrev pub HasFewRuns : ByteLocks → Type 0
@@ -134,11 +125,11 @@ pub record IsSafe (state : State) : Type 0 where
   -- an owner has at most one open of a file (section 9.11), and at most one lock state (section 9.1.4)
   pub one_open : AllByRecursion (IsDistinct have_same_owner) state.opens
   pub one_lock : AllByRecursion (IsDistinct have_same_lock_owner) state.locks
-  -- an id has at most one confirmed record (section 16.33.5), and so has a clientid
-  pub one_of_id : IsDistinct have_same_id state.clients.records
-  pub one_of_client : IsDistinct have_same_client state.clients.records
-  pub clients_given :
-      AllByRecursion (HasGivenNumber state.clients.last_number) state.clients.records
+  -- an id has at most one confirmed and at most one unconfirmed record (section 16.33.5), and each client number was
+  -- given, to one id
+  pub records : AreRecords state.clients
+  -- a clientid has at most one confirmed record
+  pub one_of_client : IsDistinct have_same_client state.clients.confirmed
   pub within : KeepsLimits state
 
 -- What is kept for the owners.

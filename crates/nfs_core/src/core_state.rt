@@ -1,5 +1,5 @@
-ghost use Rattle.std.specs.Prelude.{◌≡◌, ◌≤◌, ◌<◌, [], IfErr, IfNone, IfOk, IfSome, OnErr, OnOk, IsErrOf, IsTrue, length};
-ghost use Rattle.nfs_core.specs.Entered.{number_entered};
+ghost use Rattle.std.specs.Prelude.{◌≡◌, ◌≤◌, ◌<◌, [], IfErr, IfNone, IfOk, OnErr, OnOk, IsErrOf, IsTrue, length};
+ghost use Rattle.nfs_core.specs.Entered.{Answers};
 ghost use Rattle.nfs_core.specs.Expiry.{IsNotEndedFor, IsWithoutRoom, expire_of};
 ghost use Rattle.nfs_core.specs.Following.{MayFollow};
 ghost use Rattle.nfs_core.specs.LiveClients.{AreNumbered, AreOfOneRun};
@@ -16,11 +16,11 @@ ghost use Rattle.nfs_xdr.specs.Op.{has_entry, opnum_of};
 ghost use Rattle.nfs_xdr.specs.OpResult.{op_result};
 ghost use Rattle.nfs_xdr.specs.Opnum.{answer_limit};
 
-use crate::entered::{Entered, enter, enter_copied};
+use crate::answering::enter;
 use crate::expiry::enter_expiry;
 use crate::following::follow;
 use crate::laws::lawful_is_safe;
-use crate::{CoreError, FollowError};
+use crate::{CoreError, Entered, FollowError};
 use nfs_state::{
     Entry, Expire, JOURNAL_LIMIT, Journal, LEASE_MAX, LEASE_MIN, Moment, Request, Tables,
 };
@@ -103,24 +103,15 @@ impl Core {
         ensures form { op_result.Fits result.0 }
         ensures lawful { IsLawful self.new }
     {
-        lawful_is_safe();
-        let tables = &mut self.tables;
-        let journal = &mut self.journal;
-        let Ok(request) = Request::of_copy(moment, principal, op, filehandle) else {
-            return (op.opnum().refusal(Refusal::Resource), None);
-        };
-        match enter(self.alloc, tables, journal, request) {
-            Ok((answer, number)) => {
-                answer.fits();
-                (answer, Some(number))
-            }
-            Err(_) => (op.opnum().refusal(Refusal::Resource), None),
+        match self.answer(moment, principal, op, filehandle) {
+            (answer, Some(entered)) => (answer, Some(entered.number)),
+            (answer, None) => (answer, None),
         }
     }
 
-    /// The same as `apply`, and returns a copy of the entry with its number. The copy is made before anything changes:
-    /// where memory runs out for it, the answer is NFS4ERR_RESOURCE.
-    pub fn apply_copied(
+    /// The same as `apply`, and returns what came of the operation: with the entry's number who came to be live by it, or
+    /// is live no longer.
+    pub fn answer(
         &mut self,
         moment: Moment,
         principal: Principal,
@@ -129,13 +120,9 @@ impl Core {
     ) -> (OpResult, Option<Entered>)
         requires entry { IsTrue (has_entry op.now) }
         requires node { IsFilehandle self.old.journal filehandle }
-        ensures applies { Applies self.old self.new (request_of moment principal op.now filehandle)
-            result.0 (number_entered result.1) }
+        ensures answers { Answers self.old self.new (request_of moment principal op.now filehandle)
+            result.0 result.1 }
         ensures room { IfNone result.1 (self.old.room ≤ self.new.room) }
-        ensures copy { IfSome result.1 (λ e. e.call ≡ record {
-          request = request_of moment principal op.now filehandle;
-          answer = result.0;
-        }) }
         ensures short { length (op_result.encoding result.0) ≤ answer_limit (opnum_of op.now) }
         ensures form { op_result.Fits result.0 }
         ensures lawful { IsLawful self.new }
@@ -146,7 +133,7 @@ impl Core {
         let Ok(request) = Request::of_copy(moment, principal, op, filehandle) else {
             return (op.opnum().refusal(Refusal::Resource), None);
         };
-        match enter_copied(self.alloc, tables, journal, request) {
+        match enter(self.alloc, tables, journal, request) {
             Ok((answer, entered)) => {
                 answer.fits();
                 (answer, Some(entered))

@@ -1,5 +1,5 @@
 ghost use Rattle.nfs_core.specs.Lawful.{AtMostOneState, Lawful};
-ghost use Rattle.nfs_core.specs.LiveClients.{AreNumbered, AreOfOneRun, CallsFollow, EndsFollow};
+ghost use Rattle.nfs_core.specs.LiveClients.{AreNumbered, AreOfOneRun, CallsFollow, EffectsFollow, EndsFollow};
 ghost use Rattle.nfs_core.specs.Safe.{IsSafe, KeepRequests};
 ghost use Rattle.nfs_core.specs.Step.{AtMostOneStateAfter, AtMostOneStep};
 ghost use Rattle.nfs_state.specs.State.{State, History};
@@ -40,9 +40,10 @@ pub fn lawful_is_safe()
     first_change_has_place();
 }
 
-/// The law of how entries change which clients are live: one becomes so by its confirmation, and once at most; one that is
-/// live stays so until a confirmation replaces it or it ends.
+/// The law of how entries change which clients are live: as their effects say. One becomes so by its confirmation, and once
+/// at most; one that is live stays so until a confirmation replaces it or it ends.
 pub fn live_clients_follow()
+    ensures effects { EffectsFollow }
     ensures calls { CallsFollow }
     ensures ends { EndsFollow }
 {

@@ -1,6 +1,7 @@
 //! The server's state in one value that can't break its rules, with the journal of its changes.
 #![tactic(auto)]
 
+mod answering;
 mod core_error;
 mod core_state;
 mod entered;

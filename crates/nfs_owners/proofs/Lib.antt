@@ -1,3 +1,4 @@
+pub mod Lists
 pub mod ClientLists
 pub mod NextLive
 pub mod OwnerLists

@@ -1,35 +1,38 @@
--- The least number above another that a live client has.
+-- The least client number above another among records.
 use Rattle.std.proofs.Common.{◌≡◌, ℕ, Bool, true, false, ◌&&◌, ◌||◌, ◌==◌, List, [], ◌∷◌, ◌++◌, Option, Some, None, refl, arith, nat_lt, if◌then◌else◌}
+use Rattle.std.specs.List.{list_any}
 use Rattle.std.proofs.lemmas.Grind.{common_steps}
-use Rattle.nfs_owners.specs.LiveClients.{IsNextAmong, is_live_among, nearer_of}
+use Rattle.nfs_owners.specs.LiveClients.{IsNextAmong, nearer_of}
+use Rattle.nfs_owners.specs.Registry.{is_of_client}
 use Rattle.nfs_owners.specs.declared.client_record.ClientRecord.{ClientRecord}
 
--- who is live with one more record
-live_with : (records : List ClientRecord) (r : ClientRecord) (number : ℕ) → is_live_among number (records ++ r ∷ []) ≡ (is_live_among number records || (r.confirmed && (r.client.number == number)))
-live_with [] r number = grind (arith, common_steps)
-live_with (s ∷ records) r number = grind (arith, common_steps, live_with records r number)
+-- who has a number with one more record
+any_with : (records : List ClientRecord) (r : ClientRecord) (number : ℕ) → list_any (is_of_client number) (records ++ r ∷ []) ≡ (list_any (is_of_client number) records || (r.state.client.number == number))
+any_with [] r number = grind (arith, common_steps)
+any_with (s ∷ records) r number = grind (arith, common_steps, any_with records r number)
 
-first_is_next : (after : ℕ) (records : List ClientRecord) (r : ClientRecord) (b : Bool) → (r.confirmed && nat_lt after r.client.number) ≡ b → IsNextAmong after records None → IsNextAmong after (records ++ r ∷ []) (if b then Some r.client.number else None)
+first_is_next : (after : ℕ) (records : List ClientRecord) (r : ClientRecord) (b : Bool) → nat_lt after r.state.client.number ≡ b → IsNextAmong after records None → IsNextAmong after (records ++ r ∷ []) (if b then Some r.state.client.number else None)
 first_is_next after records r true e h = (
-  grind (arith, common_steps, live_with records r r.client.number),
+  grind (arith, common_steps, any_with records r r.state.client.number),
   grind (arith, common_steps),
-  λ c here above. grind (arith, common_steps, live_with records r c, h c),
+  λ c here above. grind (arith, common_steps, any_with records r c, h c),
 )
-first_is_next after records r false e h = λ c here. grind (arith, common_steps, live_with records r c, h c)
+first_is_next after records r false e h = λ c here. grind (arith, common_steps, any_with records r c, h c)
 
-later_is_next : (after : ℕ) (records : List ClientRecord) (next : ℕ) (r : ClientRecord) (b : Bool) → (r.confirmed && nat_lt after r.client.number && nat_lt r.client.number next) ≡ b → IsNextAmong after records (Some next) → IsNextAmong after (records ++ r ∷ []) (if b then Some r.client.number else Some next)
+later_is_next : (after : ℕ) (records : List ClientRecord) (next : ℕ) (r : ClientRecord) (b : Bool) → (nat_lt after r.state.client.number && nat_lt r.state.client.number next) ≡ b → IsNextAmong after records (Some next)
+    → IsNextAmong after (records ++ r ∷ []) (if b then Some r.state.client.number else Some next)
 later_is_next after records next r true e h = (
-  grind (arith, common_steps, live_with records r r.client.number),
+  grind (arith, common_steps, any_with records r r.state.client.number),
   grind (arith, common_steps),
-  λ c here above. grind (arith, common_steps, live_with records r c, h.2 c),
+  λ c here above. grind (arith, common_steps, any_with records r c, h.2 c),
 )
 later_is_next after records next r false e h = (
-  grind (arith, common_steps, live_with records r next, h.0),
+  grind (arith, common_steps, any_with records r next, h.0),
   h.1,
-  λ c here above. grind (arith, common_steps, live_with records r c, h.2 c),
+  λ c here above. grind (arith, common_steps, any_with records r c, h.2 c),
 )
 
 -- with one more record
 pub nearer_is_next : (after : ℕ) (records : List ClientRecord) (least : Option ℕ) (r : ClientRecord) → IsNextAmong after records least → IsNextAmong after (records ++ r ∷ []) (nearer_of after least r)
-nearer_is_next after records None r h = first_is_next after records r (r.confirmed && nat_lt after r.client.number) refl h
-nearer_is_next after records (Some next) r h = later_is_next after records next r (r.confirmed && nat_lt after r.client.number && nat_lt r.client.number next) refl h
+nearer_is_next after records None r h = first_is_next after records r (nat_lt after r.state.client.number) refl h
+nearer_is_next after records (Some next) r h = later_is_next after records next r (nat_lt after r.state.client.number && nat_lt r.state.client.number next) refl h

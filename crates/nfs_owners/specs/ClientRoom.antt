@@ -1,21 +1,23 @@
 -- What a change of the clients' records needs.
-use Rattle.std.specs.Prelude.{◌≡◌, ℕ, ◌<◌, ◌+◌, ◌-◌, ◌^◌, ⊤, Bool, true, false, IsFalse, IsTrue}
+use Rattle.std.specs.Prelude.{◌≡◌, ℕ, ◌<◌, ◌+◌, ◌-◌, ◌^◌, ⊤, Bool, true, false, None}
 use Rattle.nfs_owners.specs.declared.clients.client_change.ClientChange.{ClientChange}
 use Rattle.nfs_owners.specs.declared.clients.client_change.ClientChange.TheVariants as changes
-use Rattle.nfs_owners.specs.Registry.{IsNumberOf, Registry}
+use Rattle.nfs_owners.specs.Registry.{IsClientOf, Registry, confirmed_of}
 
--- The clients' records, and how many more of them fit without taking memory.
+-- The clients' records, and how many more confirmed and unconfirmed ones fit without taking memory.
 pub record RoomyClients : Type 0 where
   pub registry : Registry
-  pub room : ℕ
+  pub confirmed_room : ℕ
+  pub unconfirmed_room : ℕ
 
 -- the change takes no memory
 abbrev pub HasRoomFor : ClientChange → RoomyClients → Type 0
 HasRoomFor changes.Nothing clients = ⊤
-HasRoomFor (changes.Arrives r) clients = 0 < clients.room
-HasRoomFor (changes.Updates r) clients = 0 < clients.room
-HasRoomFor (changes.Confirms r) clients = 0 < clients.room
-HasRoomFor (changes.Replaces r client) clients = 0 < clients.room
+HasRoomFor (changes.Arrives r) clients = 0 < clients.unconfirmed_room
+HasRoomFor (changes.Updates r) clients = 0 < clients.unconfirmed_room
+HasRoomFor (changes.Confirms r) clients = 0 < clients.confirmed_room
+HasRoomFor (changes.Refreshes r) clients = 0 < clients.confirmed_room
+HasRoomFor (changes.Replaces r client) clients = 0 < clients.confirmed_room
 
 -- the next client number and the next confirm value, if the change uses them, fit in four bytes and in eight bytes
 abbrev pub HasNumbersFor : ClientChange → Registry → Type 0
@@ -24,20 +26,21 @@ HasNumbersFor (changes.Arrives r) registry =
     (registry.last_number < 2 ^ 32 - 1) × (registry.last_confirm < 2 ^ 64 - 1)
 HasNumbersFor (changes.Updates r) registry = registry.last_confirm < 2 ^ 64 - 1
 HasNumbersFor (changes.Confirms r) registry = ⊤
+HasNumbersFor (changes.Refreshes r) registry = ⊤
 HasNumbersFor (changes.Replaces r client) registry = ⊤
 
--- The record that the change adds is of its kind, confirmed or not, and has the next client number, or one that is its
--- id's.
-abbrev pub IsOfItsKind : ClientChange → Registry → Type 0
-IsOfItsKind changes.Nothing registry = ⊤
-IsOfItsKind (changes.Arrives r) registry =
-    IsFalse r.confirmed × (r.client.number ≡ registry.last_number + 1)
-IsOfItsKind (changes.Updates r) registry =
-    IsFalse r.confirmed × IsNumberOf r.id r.client.number registry
-IsOfItsKind (changes.Confirms r) registry =
-    IsTrue r.confirmed × IsNumberOf r.id r.client.number registry
-IsOfItsKind (changes.Replaces r client) registry =
-    IsTrue r.confirmed × IsNumberOf r.id r.client.number registry
+-- The record that the change adds has the next client number, or the clientid of the id's record that it updates,
+-- confirms or refreshes; one that is replaced is the id's confirmed record.
+abbrev pub FitsRecords : ClientChange → Registry → Type 0
+FitsRecords changes.Nothing registry = ⊤
+FitsRecords (changes.Arrives r) registry = r.state.client.number ≡ registry.last_number + 1
+FitsRecords (changes.Updates r) registry = IsClientOf r.id r.state.client registry.confirmed
+FitsRecords (changes.Confirms r) registry =
+    (confirmed_of registry r.id ≡ None) × IsClientOf r.id r.state.client registry.unconfirmed
+FitsRecords (changes.Refreshes r) registry = IsClientOf r.id r.state.client registry.confirmed
+FitsRecords (changes.Replaces r client) registry =
+    IsClientOf r.id client registry.confirmed
+    × IsClientOf r.id r.state.client registry.unconfirmed
 
 -- the change adds a record
 abbrev pub adds_record : ClientChange → Bool
@@ -45,4 +48,5 @@ adds_record changes.Nothing = false
 adds_record (changes.Arrives r) = true
 adds_record (changes.Updates r) = true
 adds_record (changes.Confirms r) = true
+adds_record (changes.Refreshes r) = true
 adds_record (changes.Replaces r client) = true

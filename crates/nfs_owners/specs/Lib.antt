@@ -10,5 +10,6 @@ pub mod Owner
 pub mod Owners
 pub mod OwnerLaws
 pub mod LiveClients
+pub mod LiveChange
 pub mod Numbers
 pub mod OwnersError

@@ -1,41 +1,40 @@
 -- Which clients are live, which come next, and which one a confirmation ends (RFC 7530, sections 9.1.1 and 16.34.5).
-use Rattle.std.specs.Prelude.{◌≡◌, ℕ, ◌<◌, ◌≤◌, nat_lt, Bool, ◌&&◌, ◌||◌, ◌==◌, not, IsTrue, List, find, Option, Some, None, option_and_then, if◌then◌else◌}
+use Rattle.std.specs.Prelude.{ℕ, ◌<◌, ◌≤◌, nat_lt, Bool, ◌&&◌, ◌||◌, ◌==◌, not, IsTrue, List, find, Option, Some, None, option_and_then, if◌then◌else◌}
 use Rattle.std.specs.List.{list_any}
 use Rattle.nfs_owners.specs.Registry.{Registry, confirmed_of, is_live, is_of_client, was_given}
 use Rattle.nfs_owners.specs.declared.client_record.ClientRecord.{ClientRecord}
 
--- one of the records is a confirmed one of the client with this number
-abbrev pub is_live_among : ℕ → List ClientRecord → Bool
-is_live_among number records = list_any (λ r. r.confirmed && is_of_client number r) records
+-- the least client number above this one that one of the records has, or that none has one
+abbrev pub IsNextAmong : ℕ → List ClientRecord → Option ℕ → Type 0
+IsNextAmong after records None =
+    (number : ℕ) → IsTrue (list_any (is_of_client number) records) → number ≤ after
+IsNextAmong after records (Some next) =
+    IsTrue (list_any (is_of_client next) records)
+    × (after < next)
+    × ((number : ℕ) → IsTrue (list_any (is_of_client number) records) → after < number
+    → next ≤ number)
 
 -- the least number above this one that a live client has, or that none has one
-abbrev pub IsNextAmong : ℕ → List ClientRecord → Option ℕ → Type 0
-IsNextAmong after records None = (number : ℕ) → IsTrue (is_live_among number records) → number ≤ after
-IsNextAmong after records (Some next) =
-    IsTrue (is_live_among next records)
-    × (after < next)
-    × ((number : ℕ) → IsTrue (is_live_among number records) → after < number → next ≤ number)
-
 abbrev pub IsNextLive : ℕ → Registry → Option ℕ → Type 0
-IsNextLive after registry next = IsNextAmong after registry.records next
+IsNextLive after registry next = IsNextAmong after registry.confirmed next
 
 -- the least number so far, and one more record
 abbrev pub nearer_of : ℕ → Option ℕ → ClientRecord → Option ℕ
 nearer_of after None r =
-    if r.confirmed && nat_lt after r.client.number then Some r.client.number else None
+    if nat_lt after r.state.client.number then Some r.state.client.number else None
 nearer_of after (Some next) r =
-    if r.confirmed && nat_lt after r.client.number && nat_lt r.client.number next
-    then Some r.client.number
+    if nat_lt after r.state.client.number && nat_lt r.state.client.number next
+    then Some r.state.client.number
     else Some next
 
 -- the unconfirmed record of the client with this number, if there is one
 abbrev pub unconfirmed_of_client : ℕ → Registry → Option ClientRecord
-unconfirmed_of_client number registry =
-    find (λ r. not r.confirmed && is_of_client number r) registry.records
+unconfirmed_of_client number registry = find (is_of_client number) registry.unconfirmed
 
 -- the number of the record's client, unless it is this one
 abbrev pub other_number : ℕ → ClientRecord → Option ℕ
-other_number number r = if r.client.number == number then None else Some r.client.number
+other_number number r =
+    if r.state.client.number == number then None else Some r.state.client.number
 
 -- The number of the live client that the client with this number replaces once it is confirmed: another one, of the id
 -- that this number's unconfirmed record has.
@@ -49,4 +48,4 @@ replaced_by number registry =
 abbrev pub can_become_live : ℕ → Registry → Bool
 can_become_live number registry =
     not (was_given number registry)
-    || (not (is_live number registry) && list_any (is_of_client number) registry.records)
+    || (not (is_live number registry) && list_any (is_of_client number) registry.unconfirmed)

@@ -1,13 +1,14 @@
 -- What SETCLIENTID does to the clients' records (RFC 7530, section 16.33.5).
-use Rattle.std.specs.Prelude.{ℕ, ◌+◌, nat_lt, Bool, false, ◌&&◌, Option, Some, None, if◌then◌else◌}
+use Rattle.std.specs.Prelude.{ℕ, ◌+◌, nat_lt, Bool, ◌&&◌, Option, Some, None, if◌then◌else◌}
 use Rattle.std.specs.Str.{bytes_eq}
 use Rattle.nfs_owners.specs.declared.client_record.ClientRecord.{ClientRecord}
+use Rattle.nfs_owners.specs.declared.client_record.ClientState.{ClientState}
 use Rattle.nfs_owners.specs.declared.client_record.PathMark.TheVariants.{Unknown}
 use Rattle.nfs_owners.specs.declared.client_record.TheConstants.{CLIENT_LIMIT}
 use Rattle.nfs_owners.specs.declared.clients.client_change.ClientChange.{ClientChange}
 use Rattle.nfs_owners.specs.declared.clients.client_change.ClientChange.TheVariants.{Nothing, Arrives, Updates}
 use Rattle.nfs_owners.specs.Addresses.{is_within_limit}
-use Rattle.nfs_owners.specs.Registry.{Registry, confirmed_of}
+use Rattle.nfs_owners.specs.Registry.{Registry, confirmed_of, record_state}
 use Rattle.nfs_forms.specs.declared.callback.Address.{Address}
 use Rattle.nfs_forms.specs.declared.answer.Answer.{Answer}
 use Rattle.nfs_forms.specs.declared.answer.Answer.TheVariants.{Done, ClidInUse}
@@ -32,7 +33,7 @@ pub data Finding : Type 0 where
   Arrival : Finding
 
 -- The case, given the confirmed record with the id. `has_state` is whether the client of that record has state.
-abbrev pub finding : Option ClientRecord → Bool → Principal → Setclientid → Finding
+abbrev pub finding : Option ClientState → Bool → Principal → Setclientid → Finding
 finding None has_state principal args = Arrival
 finding (Some r) has_state principal args =
     if is_same_principal r.principal principal
@@ -43,13 +44,14 @@ finding (Some r) has_state principal args =
 abbrev pub unconfirmed_record : Principal → Setclientid → SetclientidConfirm → ClientRecord
 unconfirmed_record principal args answer = record {
   id = args.id;
-  principal = principal;
-  verifier = args.verifier;
-  callback = args.callback;
-  confirm = answer.confirm;
-  client = answer.client;
-  confirmed = false;
-  path = Unknown;
+  state = record {
+    principal = principal;
+    verifier = args.verifier;
+    callback = args.callback;
+    confirm = answer.confirm;
+    client = answer.client;
+    path = Unknown;
+  };
 }
 
 -- there is still a number for another client
@@ -84,5 +86,6 @@ registration_by Arrival epoch registry principal args =
 abbrev pub registration :
     ℕ → Bool → Registry → Principal → Setclientid → Option (Outcome × ClientChange)
 registration epoch has_state registry principal args =
-    let found = finding (confirmed_of registry args.id) has_state principal args in
+    let holder = record_state (confirmed_of registry args.id) in
+    let found = finding holder has_state principal args in
     registration_by found epoch registry principal args

@@ -1,14 +1,20 @@
-use crate::ClientCallback;
+use crate::{ClientCallback, ClientRef};
 use nfs_operations::setclientid::ID_LIMIT;
 use nfs_operations::setclientid_confirm::SetclientidConfirm;
 use nfs_xdr::{ClientId, Principal, Verifier};
 use xdr::Opaque;
 
 /// What the server stores of a SETCLIENTID, written { v, x, c, l, s } in RFC 7530, section 16.33.5.
-#[derive(Clone, Debug, Drop)]
+#[derive(Debug, Drop)]
 pub struct ClientRecord {
     /// The name that the client gave itself (x).
     pub id: Opaque<ID_LIMIT>,
+    pub state: ClientState,
+}
+
+/// What a client's record has besides the client's name.
+#[derive(Clone, Debug, Drop)]
+pub struct ClientState {
     /// The principal that sent the SETCLIENTID.
     pub principal: Principal,
     /// Identifies one start of the client (v).
@@ -19,8 +25,6 @@ pub struct ClientRecord {
     pub confirm: u64,
     /// The clientid (c).
     pub client: ClientId,
-    /// Whether the record is confirmed. The server knows a client as long as it has its confirmed record.
-    pub confirmed: bool,
     /// Whether callbacks reach the client.
     pub path: PathMark,
 }
@@ -41,7 +45,7 @@ pub const CLIENT_LIMIT: u32 = 4096;
 
 impl ClientRecord {
     ghost use Rattle.std.specs.Prelude.{◌≡◌};
-    ghost use Rattle.nfs_owners.specs.Registry.{is_confirmed_of, is_named_by, is_of, is_of_client, is_unconfirmed_of};
+    ghost use Rattle.nfs_owners.specs.Registry.{client_seen, is_named_by, is_of, is_of_client};
 
     /// Whether the record has this id.
     pub(crate) fn is_of(&self, id: &[u8]) -> bool
@@ -50,31 +54,27 @@ impl ClientRecord {
         self.id.as_slice() == id
     }
 
-    /// Whether this is the confirmed record with this id.
-    pub(crate) fn is_confirmed_of(&self, id: &[u8]) -> bool
-        ensures { result ≡ is_confirmed_of id.now self.now }
-    {
-        self.confirmed && self.is_of(id)
-    }
-
-    /// Whether this is the unconfirmed record with this id.
-    pub(crate) fn is_unconfirmed_of(&self, id: &[u8]) -> bool
-        ensures { result ≡ is_unconfirmed_of id.now self.now }
-    {
-        !self.confirmed && self.is_of(id)
-    }
-
     /// Whether the record is one of the client with this number.
     pub(crate) fn is_of_client(&self, number: u32) -> bool
         ensures { result ≡ is_of_client number self.now }
     {
-        self.client.number == number
+        self.state.client.number == number
     }
 
     /// Whether the arguments of SETCLIENTID_CONFIRM name the record, by its clientid and its confirm value.
     pub(crate) fn is_named_by(&self, args: &SetclientidConfirm) -> bool
         ensures { result ≡ is_named_by args.now self.now }
     {
-        self.client == args.client && self.confirm == args.confirm
+        self.state.client == args.client && self.state.confirm == args.confirm
+    }
+
+    /// The record, lent.
+    pub(crate) fn as_ref(&self) -> ClientRef<'_>
+        ensures { client_seen result ≡ self.now }
+    {
+        ClientRef {
+            id: self.id.as_slice(),
+            state: &self.state,
+        }
     }
 }

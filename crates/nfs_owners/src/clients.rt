@@ -1,25 +1,27 @@
-ghost use Rattle.std.specs.Prelude.{◌≡◌, ◌<◌, ◌≤◌, IsOk, OnOk};
+ghost use Rattle.std.specs.Prelude.{◌≡◌, ◌<◌, ◌≤◌, ◌-◌, [], ◌∷◌, ◌++◌, IsOk, OnOk, find, option_map};
+ghost use Rattle.std.specs.Option.{option_copied};
 ghost use Rattle.std.specs.Vec.{vec_len, vec_capacity};
-ghost use Rattle.nfs_owners.specs.ClientChange.{with_confirmed, with_unconfirmed};
 ghost use Rattle.nfs_owners.specs.LiveClients.{IsNextAmong, nearer_of};
+ghost use Rattle.nfs_owners.specs.Registry.{client_seen, is_named_by, is_of_client, record_state, without_id, without_number};
 
 mod client_change;
 mod confirmation;
 mod registration;
 
-use crate::ClientRecord;
+use crate::{ClientRecord, ClientRef, ClientState};
 pub use client_change::ClientChange;
 use nfs_operations::setclientid_confirm::SetclientidConfirm;
 use nfs_xdr::ClientId;
 use std::alloc::{AllocError, Global};
 use std::marker::Model;
 
-/// The clients' records in the order in which they were added, and the numbers that were given out last. An id has at
-/// most one confirmed and one unconfirmed record, and a client number is that of one id. SETCLIENTID and
+/// The clients' confirmed and unconfirmed records, each in the order in which they were added, and the numbers that were
+/// given out last. An id has at most one record of each kind, and a client number is that of one id. SETCLIENTID and
 /// SETCLIENTID_CONFIRM are decided first (`set`, `confirm`); after `make_room` the change takes no memory.
 #[derive(Debug, Drop)]
 pub struct Clients {
-    records: Vec<ClientRecord>,
+    confirmed: Vec<ClientRecord>,
+    unconfirmed: Vec<ClientRecord>,
     /// The client number that was given out last; 0 before the first.
     last_number: u32,
     /// The confirm value that was given out last; 0 before the first.
@@ -36,72 +38,75 @@ impl Model for Clients {
 
     ghost view = { λ c. record {
       registry = record {
-        records = c.records.items;
+        confirmed = c.confirmed.items;
+        unconfirmed = c.unconfirmed.items;
         last_number = c.last_number;
         last_confirm = c.last_confirm;
       };
-      room = vec_capacity c.records - vec_len c.records;
+      confirmed_room = vec_capacity c.confirmed - vec_len c.confirmed;
+      unconfirmed_room = vec_capacity c.unconfirmed - vec_len c.unconfirmed;
     } };
 
-    ghost invariant = { λ c. AreRecords c.last_number c.records.items };
+    ghost invariant = { λ c. AreRecords (record {
+      confirmed = c.confirmed.items;
+      unconfirmed = c.unconfirmed.items;
+      last_number = c.last_number;
+      last_confirm = c.last_confirm;
+    }) };
 }
 
 impl Clients {
-    ghost use Rattle.std.specs.Option.{option_copied};
     ghost use Rattle.nfs_owners.specs.ClientChange.{with_change};
-    ghost use Rattle.nfs_owners.specs.ClientRoom.{HasNumbersFor, HasRoomFor, IsOfItsKind};
+    ghost use Rattle.nfs_owners.specs.ClientRoom.{FitsRecords, HasNumbersFor, HasRoomFor};
     ghost use Rattle.nfs_owners.specs.LiveClients.{IsNextLive, replaced_by, unconfirmed_of_client};
-    ghost use Rattle.nfs_owners.specs.Registry.{AreRecords, confirmed_named_by, confirmed_of, is_live, no_clients, record_of, unconfirmed_named_by, was_given, without_client};
+    ghost use Rattle.nfs_owners.specs.Registry.{AreRecords, client_seen, confirmed_named_by, confirmed_of, is_live, no_clients, record_of, record_state, unconfirmed_named_by, was_given, without_client};
 
     /// A registry without clients, taking no memory.
     pub fn new(alloc: Global) -> Clients
         ensures { result.registry ≡ no_clients }
     {
         Clients {
-            records: Vec::new(alloc),
+            confirmed: Vec::new(alloc),
+            unconfirmed: Vec::new(alloc),
             last_number: 0,
             last_confirm: 0,
         }
     }
 
-    /// The law that no two records exclude each other: an id has at most one confirmed and one unconfirmed record, and a
-    /// client number is that of one id.
+    /// The law of the records: an id has at most one confirmed and one unconfirmed record, and a client number is that of
+    /// one id.
     pub fn records_are_apart(&self)
-        ensures { AreRecords self.now.registry.last_number self.now.registry.records }
+        ensures { AreRecords self.now.registry }
     {
-        let _ = &self.records;
+        let _ = &self.confirmed;
     }
 
-    /// The confirmed record with this id, if there is one.
-    pub fn confirmed_of(&self, id: &[u8]) -> Option<&ClientRecord>
-        ensures { option_copied result ≡ confirmed_of self.now.registry id.now }
+    /// What the confirmed record with this id has, if there is one.
+    pub fn confirmed_of(&self, id: &[u8]) -> Option<&ClientState>
+        ensures { option_copied result ≡ record_state (confirmed_of self.now.registry id.now) }
     {
-        self.records.iter().find(|r| r.is_confirmed_of(id))
+        state_of(self.confirmed.iter().find(|r| r.is_of(id)))
     }
 
-    /// The confirmed record with this clientid, if there is one.
-    pub fn of(&self, client: ClientId) -> Option<&ClientRecord>
-        ensures { option_copied result ≡ record_of client self.now.registry }
+    /// What the confirmed record with this clientid has, if there is one.
+    pub fn of(&self, client: ClientId) -> Option<&ClientState>
+        ensures { option_copied result ≡ record_state (record_of client self.now.registry) }
     {
-        self.records
-            .iter()
-            .find(|r| r.confirmed && r.client == client)
+        state_of(self.confirmed.iter().find(|r| r.state.client == client))
     }
 
     /// Whether the client with this number has a confirmed record.
     pub fn live(&self, number: u32) -> bool
         ensures { result ≡ is_live number self.now.registry }
     {
-        self.records
-            .iter()
-            .any(|r| r.confirmed && r.is_of_client(number))
+        self.confirmed.iter().any(|r| r.is_of_client(number))
     }
 
     /// The least number above this one that a live client has, if there is one.
     pub fn next_live(&self, after: u32) -> Option<u32>
         ensures { IsNextLive after self.now.registry result }
     {
-        next_live_among(&self.records, after)
+        next_among(&self.confirmed, after)
     }
 
     /// The number of the live client that the client with this number replaces once it is confirmed: another one, of the
@@ -110,17 +115,15 @@ impl Clients {
         ensures { result ≡ replaced_by number self.now.registry }
     {
         let record = self.unconfirmed_of_client(number)?;
-        let old = self.confirmed_of(record.id.as_slice())?;
+        let old = self.confirmed_of(record.id)?;
         (old.client.number != number).then_some(old.client.number)
     }
 
     // The unconfirmed record of the client with this number, if there is one.
-    fn unconfirmed_of_client(&self, number: u32) -> Option<&ClientRecord>
-        ensures { option_copied result ≡ unconfirmed_of_client number self.now.registry }
+    fn unconfirmed_of_client(&self, number: u32) -> Option<ClientRef<'_>>
+        ensures { option_map client_seen result ≡ unconfirmed_of_client number self.now.registry }
     {
-        self.records
-            .iter()
-            .find(|r| !r.confirmed && r.is_of_client(number))
+        lent(with_number(&self.unconfirmed, number))
     }
 
     /// Whether a client was given this number.
@@ -131,29 +134,29 @@ impl Clients {
     }
 
     /// The unconfirmed record that the arguments of SETCLIENTID_CONFIRM name, if there is one.
-    pub fn unconfirmed_named_by(&self, args: &SetclientidConfirm) -> Option<&ClientRecord>
-        ensures { option_copied result ≡ unconfirmed_named_by args.now self.now.registry }
+    pub fn unconfirmed_named_by(&self, args: &SetclientidConfirm) -> Option<ClientRef<'_>>
+        ensures { option_map client_seen result
+            ≡ unconfirmed_named_by args.now self.now.registry }
     {
-        self.records
-            .iter()
-            .find(|r| !r.confirmed && r.is_named_by(args))
+        lent(named_by(&self.unconfirmed, args))
     }
 
-    /// The confirmed record that the arguments of SETCLIENTID_CONFIRM name, if there is one.
-    pub fn confirmed_named_by(&self, args: &SetclientidConfirm) -> Option<&ClientRecord>
-        ensures { option_copied result ≡ confirmed_named_by args.now self.now.registry }
+    /// What the confirmed record has that the arguments of SETCLIENTID_CONFIRM name, if there is one.
+    pub fn confirmed_named_by(&self, args: &SetclientidConfirm) -> Option<&ClientState>
+        ensures { option_copied result
+            ≡ record_state (confirmed_named_by args.now self.now.registry) }
     {
-        self.records
-            .iter()
-            .find(|r| r.confirmed && r.is_named_by(args))
+        state_of(named_by(&self.confirmed, args))
     }
 
     /// Removes all records of the client with this number, also an unconfirmed one.
     pub fn remove(&mut self, number: u32)
         ensures registry { self.new.registry ≡ without_client number self.old.registry }
-        ensures room { self.old.room ≤ self.new.room }
+        ensures room { (self.old.confirmed_room ≤ self.new.confirmed_room)
+            × (self.old.unconfirmed_room ≤ self.new.unconfirmed_room) }
     {
-        self.records.retain(|r| !r.is_of_client(number));
+        remove_number(&mut self.confirmed, number);
+        remove_number(&mut self.unconfirmed, number);
     }
 
     /// Makes room for the change.
@@ -164,10 +167,9 @@ impl Clients {
     {
         match change {
             ClientChange::Nothing => Ok(()),
-            ClientChange::Arrives(_)
-            | ClientChange::Updates(_)
-            | ClientChange::Confirms(_)
-            | ClientChange::Replaces(_, _) => self.records.reserve(1),
+            ClientChange::Arrives(_) | ClientChange::Updates(_) => self.unconfirmed.reserve(1),
+            ClientChange::Confirms(_) | ClientChange::Refreshes(_) | ClientChange::Replaces(_, _) =>
+                self.confirmed.reserve(1),
         }
     }
 
@@ -175,7 +177,7 @@ impl Clients {
     pub fn commit(&mut self, change: ClientChange)
         requires room { HasRoomFor change self.old }
         requires numbers { HasNumbersFor change self.old.registry }
-        requires kind { IsOfItsKind change self.old.registry }
+        requires fits { FitsRecords change self.old.registry }
         ensures { self.new.registry ≡ with_change change self.old.registry }
     {
         match change {
@@ -183,20 +185,58 @@ impl Clients {
             ClientChange::Arrives(record) => {
                 self.last_number += 1;
                 self.last_confirm += 1;
-                put_unconfirmed(&mut self.records, record);
+                put(&mut self.unconfirmed, record);
             }
             ClientChange::Updates(record) => {
                 self.last_confirm += 1;
-                put_unconfirmed(&mut self.records, record);
+                put(&mut self.unconfirmed, record);
             }
-            ClientChange::Confirms(record) => put_confirmed(&mut self.records, record),
-            ClientChange::Replaces(record, _) => put_confirmed(&mut self.records, record),
+            ClientChange::Confirms(record)
+            | ClientChange::Refreshes(record)
+            | ClientChange::Replaces(record, _) => {
+                remove_id(&mut self.unconfirmed, record.id.as_slice());
+                put(&mut self.confirmed, record);
+            }
         }
     }
 }
 
-// The least number above this one that a confirmed record has, if there is one.
-fn next_live_among(records: &[ClientRecord], after: u32) -> Option<u32>
+// What the record has besides its id, if there is a record.
+fn state_of(found: Option<&ClientRecord>) -> Option<&ClientState>
+    ensures { option_copied result ≡ record_state (option_copied found.entry) }
+{
+    match found {
+        Some(record) => Some(&record.state),
+        None => None,
+    }
+}
+
+// The record, lent, if there is one.
+fn lent(found: Option<&ClientRecord>) -> Option<ClientRef<'_>>
+    ensures { option_map client_seen result ≡ option_copied found.entry }
+{
+    match found {
+        Some(record) => Some(record.as_ref()),
+        None => None,
+    }
+}
+
+// The record that the arguments of SETCLIENTID_CONFIRM name, if there is one.
+fn named_by<'a>(records: &'a [ClientRecord], args: &SetclientidConfirm) -> Option<&'a ClientRecord>
+    ensures { option_copied result ≡ find (is_named_by args.now) records.now }
+{
+    records.iter().find(|r| r.is_named_by(args))
+}
+
+// The record of the client with this number, if there is one.
+fn with_number(records: &[ClientRecord], number: u32) -> Option<&ClientRecord>
+    ensures { option_copied result ≡ find (is_of_client number) records.now }
+{
+    records.iter().find(|r| r.is_of_client(number))
+}
+
+// The least client number above this one that one of the records has, if there is one.
+fn next_among(records: &[ClientRecord], after: u32) -> Option<u32>
     ensures { IsNextAmong after records.now result }
 {
     let mut least = None;
@@ -206,33 +246,41 @@ fn next_live_among(records: &[ClientRecord], after: u32) -> Option<u32>
     least
 }
 
-// The record's number instead, if the record is confirmed and the number is above `after` and below the least so far.
-fn nearer(least: Option<u32>, record: &ClientRecord, after: u32) -> Option<u32>
-    ensures { result ≡ nearer_of after least record.now }
+// The record's number instead, if it is above `after` and below the least so far.
+fn nearer(least: Option<u32>, candidate: &ClientRecord, after: u32) -> Option<u32>
+    ensures { result ≡ nearer_of after least candidate.now }
 {
-    let number = record.client.number;
-    let is_above = record.confirmed && after < number;
+    let number = candidate.state.client.number;
     match least {
-        None if is_above => Some(number),
-        Some(next) if is_above && number < next => Some(number),
+        None if after < number => Some(number),
+        Some(next) if after < number && number < next => Some(number),
         _ => least,
     }
 }
 
-// Adds the record at the end, where there has to be room, and removes an unconfirmed record with the same id.
-fn put_unconfirmed(records: &mut Vec<ClientRecord>, newcomer: ClientRecord)
+// Adds the record at the end, where there has to be room, and removes the one with the same id.
+fn put(records: &mut Vec<ClientRecord>, newcomer: ClientRecord)
     requires { vec_len records.old < vec_capacity records.old }
-    ensures { records.new.items ≡ with_unconfirmed newcomer records.old.items }
+    ensures { records.new.items ≡ without_id newcomer.id records.old.items ++ newcomer ∷ [] }
 {
-    records.retain(|r| !r.is_unconfirmed_of(newcomer.id.as_slice()));
+    remove_id(records, newcomer.id.as_slice());
     records.push_reserved(newcomer);
 }
 
-// Adds the record at the end, where there has to be room, and removes all other records with the same id.
-fn put_confirmed(records: &mut Vec<ClientRecord>, newcomer: ClientRecord)
-    requires { vec_len records.old < vec_capacity records.old }
-    ensures { records.new.items ≡ with_confirmed newcomer records.old.items }
+// Removes the record with this id.
+fn remove_id(records: &mut Vec<ClientRecord>, id: &[u8])
+    ensures items { records.new.items ≡ without_id id.now records.old.items }
+    ensures room { vec_capacity records.old - vec_len records.old
+        ≤ vec_capacity records.new - vec_len records.new }
 {
-    records.retain(|r| !r.is_of(newcomer.id.as_slice()));
-    records.push_reserved(newcomer);
+    records.retain(|r| !r.is_of(id));
+}
+
+// Removes the records of the client with this number.
+fn remove_number(records: &mut Vec<ClientRecord>, number: u32)
+    ensures items { records.new.items ≡ without_number number records.old.items }
+    ensures room { vec_capacity records.old - vec_len records.old
+        ≤ vec_capacity records.new - vec_len records.new }
+{
+    records.retain(|r| !r.is_of_client(number));
 }

@@ -4,9 +4,12 @@
 
 mod client_callback;
 mod client_record;
+mod client_ref;
 mod clients;
+mod copy_of_bytes;
 mod kept;
 mod limits;
+mod live_change;
 mod numbers;
 mod owner;
 mod owner_laws;
@@ -16,10 +19,12 @@ mod owners_error;
 mod state_owner;
 
 pub use client_callback::{ADDRESS_LIMIT, ClientCallback};
-pub use client_record::{CLIENT_LIMIT, ClientRecord, PathMark};
+pub use client_record::{CLIENT_LIMIT, ClientRecord, ClientState, PathMark};
+pub use client_ref::ClientRef;
 pub use clients::{ClientChange, Clients};
 pub use kept::{Kept, KeptRequest, Verdict};
 pub use limits::limits_of_owners;
+pub use live_change::LiveChange;
 pub use numbers::{Numbers, numbers_rise};
 pub use owner::{OWNER_LIMIT, Owner, OwnerStanding, OwnerState};
 pub use owner_laws::{client_takes_its_owners, kinds_are_apart, other_owners_stay};

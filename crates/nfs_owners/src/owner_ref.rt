@@ -1,20 +1,25 @@
-ghost use Rattle.std.specs.Prelude.{◌≡◌, IfOk};
-ghost use Rattle.nfs_owners.specs.StateOwner.{as_open_owner, is_same_state_owner, lock_owner, open_owner, owner_seen};
+ghost use Rattle.std.specs.Prelude.{◌≤◌, length};
+ghost use Rattle.nfs_forms.specs.declared.open_owner.TheConstants.{OWNER_NAME_LIMIT};
 
+use crate::copy_of_bytes::copy_of_bytes;
 use crate::{OwnerKind, StateOwner};
 use nfs_forms::{ClientId, LockOwner, OWNER_NAME_LIMIT, OpenOwner};
-use std::alloc::AllocError;
-use xdr::Opaque;
+use std::alloc::{AllocError, Global};
 
-/// An owner's kind, client and name, lent: by these an owner is looked for without a copy of its name.
+/// An owner's kind, client and name, lent: by these an owner is looked for without a copy of its name, which is at most
+/// as long as that of an owner.
 #[derive(Clone, Copy, Debug)]
 pub struct OwnerRef<'a> {
     pub kind: OwnerKind,
     pub client: ClientId,
-    pub name: &'a Opaque<OWNER_NAME_LIMIT>,
+    pub name: &'a [u8],
+    pub ghost short: { length name.now ≤ OWNER_NAME_LIMIT },
 }
 
 impl<'a> OwnerRef<'a> {
+    ghost use Rattle.std.specs.Prelude.{◌≡◌, IfOk};
+    ghost use Rattle.nfs_owners.specs.StateOwner.{as_open_owner, is_same_state_owner, lock_owner, open_owner, owner_seen};
+
     /// This open owner.
     pub fn of_open(owner: &'a OpenOwner) -> OwnerRef<'a>
         ensures { owner_seen result ≡ open_owner owner.now }
@@ -22,7 +27,7 @@ impl<'a> OwnerRef<'a> {
         OwnerRef {
             kind: OwnerKind::Open,
             client: owner.client,
-            name: &owner.name,
+            name: owner.name.as_slice(),
         }
     }
 
@@ -33,28 +38,28 @@ impl<'a> OwnerRef<'a> {
         OwnerRef {
             kind: OwnerKind::Lock,
             client: owner.client,
-            name: &owner.name,
+            name: owner.name.as_slice(),
         }
     }
 
     /// A copy of the owner.
-    pub fn to_owned(self) -> Result<StateOwner, AllocError>
+    pub fn to_owned(self, alloc: Global) -> Result<StateOwner, AllocError>
         ensures { IfOk result (λ o. o ≡ owner_seen self.entry) }
     {
         Ok(StateOwner {
             kind: self.kind,
             client: self.client,
-            name: self.name.clone()?,
+            name: copy_of_bytes(alloc, self.name)?,
         })
     }
 
     /// A copy of the owner as an open owner, whatever its kind.
-    pub fn to_open_owner(self) -> Result<OpenOwner, AllocError>
+    pub fn to_open_owner(self, alloc: Global) -> Result<OpenOwner, AllocError>
         ensures { IfOk result (λ o. o ≡ as_open_owner (owner_seen self.entry)) }
     {
         Ok(OpenOwner {
             client: self.client,
-            name: self.name.clone()?,
+            name: copy_of_bytes(alloc, self.name)?,
         })
     }
 
@@ -62,8 +67,6 @@ impl<'a> OwnerRef<'a> {
     pub fn is(self, owner: &StateOwner) -> bool
         ensures { result ≡ is_same_state_owner owner.now (owner_seen self.entry) }
     {
-        owner.kind == self.kind
-            && owner.client == self.client
-            && owner.name.as_slice() == self.name.as_slice()
+        owner.kind == self.kind && owner.client == self.client && owner.name.as_slice() == self.name
     }
 }

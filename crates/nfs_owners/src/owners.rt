@@ -74,8 +74,8 @@ impl Owners {
     }
 
     /// The name of the owner whose kept request closed the client's state with this number, if there is one.
-    pub fn closer_of(&self, client: ClientId, number: u32) -> Option<&StateOwner>
-        ensures { option_copied result ≡ option_map (λ o. o.name)
+    pub fn closer_of(&self, client: ClientId, number: u32) -> Option<OwnerRef<'_>>
+        ensures { option_map owner_seen result ≡ option_map (λ o. o.name)
             (find (λ o. closes client number o.state.kept) self.now.owners) }
     {
         match self
@@ -83,7 +83,7 @@ impl Owners {
             .iter()
             .find(|o| o.state.kept.closes(client, number))
         {
-            Some(owner) => Some(&owner.name),
+            Some(owner) => Some(owner.name.as_ref()),
             None => None,
         }
     }

@@ -51,7 +51,7 @@ impl StateOwner {
         OwnerRef {
             kind: self.kind,
             client: self.client,
-            name: &self.name,
+            name: self.name.as_slice(),
         }
     }
 }

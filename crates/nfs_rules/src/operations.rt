@@ -76,7 +76,9 @@ fn decide_plain(
     match &request.op {
         Op::Getattr(mask) => getattr::decide(alloc, tables, journal, request, mask),
         Op::Setclientid(args) => setclientid::decide(tables, journal, request, args),
-        Op::SetclientidConfirm(args) => setclientid_confirm::decide(tables, journal, request, args),
+        Op::SetclientidConfirm(args) => setclientid_confirm::decide(
+            alloc, tables, journal, request, args,
+        ),
         Op::Lockt(args) => lockt::decide(tables, journal, request, args),
         Op::ReleaseLockowner(args) => release_lockowner::decide(tables, args),
         _ => unreachable!(),

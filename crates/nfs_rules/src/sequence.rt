@@ -86,7 +86,7 @@ fn closer_of(tables: &Tables, stateid: Stateid, seqid: u32) -> Requester<'_>
         tables.now.owners.owners)) }
 {
     match tables.owners.closer_of(stateid.client, stateid.number) {
-        Some(name) => Requester::Owner(name.as_ref(), seqid),
+        Some(name) => Requester::Owner(name, seqid),
         None => Requester::Refused(Refusal::BadStateId),
     }
 }

@@ -1,15 +1,14 @@
--- What the lock guards, after a call and after a sweep.
+-- What the lock guards, after a call and after entries that are no calls.
 use Rattle.std.proofs.Common.{◌≡◌, ℕ, suc, ◌+◌, List, [], ◌∷◌, ◌++◌, length, sym, ap, ◌∙◌, arith, length-append}
 use Rattle.nfs_core.specs.Safe.{IsSafe}
-use Rattle.nfs_core.specs.Server.{AreAlike, Enters, IsLawful, Server}
-use Rattle.nfs_shared.specs.BookEvent.{BookEvent}
+use Rattle.nfs_core.specs.Server.{Enters, IsLawful, Server}
 use Rattle.nfs_shared.specs.BookOf.{IsBookOf}
 use Rattle.nfs_shared.specs.Held.{HeldView, IsHeld}
 use Rattle.nfs_shared.specs.PlainBook.{PlainBook, is_open_in, was_opened_in}
 use Rattle.nfs_shared.specs.Receipts.{calls_in, receipts_of}
-use Rattle.nfs_shared.specs.Turn.{Gains, expiries}
+use Rattle.nfs_shared.specs.Turn.{Gains}
 use Rattle.nfs_shared.specs.declared.receipt.Receipt.{Receipt}
-use Rattle.nfs_shared.proofs.Receipts.{calls_in_call, calls_in_more, expiries_no_calls, receipts_call, receipts_more}
+use Rattle.nfs_shared.proofs.Receipts.{calls_in_call, calls_in_more, receipts_call, receipts_more}
 use Rattle.nfs_state.specs.State.{History}
 use Rattle.nfs_state.specs.Stored.{meaning}
 use Rattle.nfs_state.specs.declared.entry.Call.{Call}
@@ -42,13 +41,14 @@ held_call old new number call receipt h enters keeps number_is call_is places_is
       receipts = receipts_is ∙ ap (λ xs. xs ++ receipt ∷ []) h.receipts ∙ ap (λ r. receipts_of 0 es old.places ++ r ∷ []) here ∙ sym grown ∙ (λ i. receipts_of 0 (sym journal i) (sym places_is i));
     }
 
--- nothing but room, or entries without a call
+-- entries that are no calls, as the journal gained them
 pub held_more : (old new : HeldView) (more : List Entry)
-    → IsHeld old → new.server.journal.entries ≡ old.server.journal.entries ++ more → calls_in more ≡ 0
+    → IsHeld old → Gains more old.server new.server → calls_in more ≡ 0
     → KeepsRules new.server new.leases → new.places ≡ old.places → new.receipts ≡ old.receipts
     → IsHeld new
-held_more old new more h journal none keeps places_is receipts_is =
+held_more old new more h gains none keeps places_is receipts_is =
     let es : List Entry = old.server.journal.entries in
+    let journal : new.server.journal.entries ≡ es ++ more = ap (λ (j : History). j.entries) gains.journal in
     record {
       lawful = keeps.lawful;
       safe = keeps.safe;
@@ -56,24 +56,3 @@ held_more old new more h journal none keeps places_is receipts_is =
       places = ap length places_is ∙ h.places ∙ sym (calls_in_more es more none) ∙ ap calls_in (sym journal);
       receipts = receipts_is ∙ h.receipts ∙ sym (receipts_more 0 es more old.places none) ∙ (λ i. receipts_of 0 (sym journal i) (sym places_is i));
     }
-
-pub held_same : (old new : HeldView)
-    → IsHeld old → AreAlike old.server new.server → KeepsRules new.server new.leases
-    → new.places ≡ old.places → new.receipts ≡ old.receipts
-    → IsHeld new
-held_same old new h alike keeps places_is receipts_is =
-    let same : new.server.journal.entries ≡ old.server.journal.entries = ap (λ (j : History). j.entries) alike.0 in
-    record {
-      lawful = keeps.lawful;
-      safe = keeps.safe;
-      agrees = keeps.agrees;
-      places = ap length places_is ∙ h.places ∙ ap calls_in (sym same);
-      receipts = receipts_is ∙ h.receipts ∙ (λ i. receipts_of 0 (sym same i) (sym places_is i));
-    }
-
-pub held_swept : (old new : HeldView) (events : List BookEvent)
-    → IsHeld old → Gains (expiries events) old.server new.server → KeepsRules new.server new.leases
-    → new.places ≡ old.places → new.receipts ≡ old.receipts
-    → IsHeld new
-held_swept old new events h gains keeps =
-    held_more old new (expiries events) h (ap (λ (j : History). j.entries) gains.journal) (expiries_no_calls events) keeps

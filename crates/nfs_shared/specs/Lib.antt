@@ -6,6 +6,7 @@ pub mod Held
 pub mod Naming
 pub mod PlainBook
 pub mod PlainLaws
+pub mod Receipt
 pub mod Receipts
 pub mod Renewals
 pub mod Roll

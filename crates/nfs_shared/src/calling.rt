@@ -1,7 +1,6 @@
 //! Operations on the core, with the leases of the clients that they make live or replace.
 
-ghost use Rattle.std.specs.Prelude.{◌≡◌, ◌≤◌, ◌&&◌, not, IfSome, IsFalse, IsTrue, length};
-ghost use Rattle.nfs_core.specs.Entered.{number_entered};
+ghost use Rattle.std.specs.Prelude.{◌≡◌, ◌≤◌, ◌&&◌, not, IsFalse, IsTrue, length};
 ghost use Rattle.nfs_core.specs.Server.{Applies, IsLawful};
 ghost use Rattle.nfs_owners.specs.Registry.{is_live};
 ghost use Rattle.nfs_owners.specs.declared.client_record.TheConstants.{CLIENT_LIMIT};
@@ -14,7 +13,7 @@ ghost use Rattle.nfs_xdr.specs.OpResult.{op_result};
 ghost use Rattle.nfs_xdr.specs.Opnum.{answer_limit};
 
 use crate::LeaseBook;
-use nfs_core::{Core, Entered, lawful_is_safe, live_clients_follow};
+use nfs_core::{Core, lawful_is_safe, live_clients_follow};
 use nfs_state::Moment;
 use nfs_xdr::{Op, OpResult, Principal};
 use std::snapshot::Snapshot;
@@ -66,39 +65,6 @@ pub fn call_core<B: LeaseBook>(
     let (answer, number) = core.apply(moment, principal, op, filehandle);
     settle(core, book, moment, before);
     (answer, number)
-}
-
-/// The same as `call_core`, and returns a copy of the entry with its number, as `Core::apply_copied` does.
-pub(crate) fn call_copied<B: LeaseBook>(
-    core: &mut Core,
-    book: &mut B,
-    moment: Moment,
-    principal: Principal,
-    op: &Op,
-    filehandle: Option<u32>,
-) -> (OpResult, Option<Entered>)
-    requires entry { IsTrue (has_entry op.now) }
-    requires node { IsFilehandle core.old.journal filehandle }
-    requires agrees { IsBookOf (B.is_open book.old) (B.was_opened book.old) (B.lease book.old)
-        core.old }
-    ensures applies { Applies core.old core.new (request_of moment principal op.now filehandle)
-        result.0 (number_entered result.1) }
-    ensures copy { IfSome result.1 (λ e. e.call ≡ record {
-      request = request_of moment principal op.now filehandle;
-      answer = result.0;
-    }) }
-    ensures short { length (op_result.encoding result.0) ≤ answer_limit (opnum_of op.now) }
-    ensures form { op_result.Fits result.0 }
-    ensures lawful { IsLawful core.new }
-    ensures leases { Leads B.happens book.old
-        (events_of_call op.now moment core.old core.new) book.new }
-    ensures agrees { IsBookOf (B.is_open book.new) (B.was_opened book.new) (B.lease book.new)
-        core.new }
-{
-    let before = before_call(core, op);
-    let (answer, entered) = core.apply_copied(moment, principal, op, filehandle);
-    settle(core, book, moment, before);
-    (answer, entered)
 }
 
 // What is to be known before the core answers this operation.

@@ -1,5 +1,5 @@
 //! The value that the lock guards, and what is done to it.
-ghost use Rattle.std.specs.Prelude.{◌≡◌, ◌≤◌, ◌++◌, ◌∷◌, [], false, IfNone, IfSome, IsTrue, List, length};
+ghost use Rattle.std.specs.Prelude.{◌≡◌, ◌≤◌, ◌++◌, ◌∷◌, [], false, IfNone, IfSome, IsTrue, List, Some, length, slice_get};
 ghost use Rattle.nfs_core.specs.Server.{Applies};
 ghost use Rattle.nfs_forms.specs.ClientId.{number_in};
 ghost use Rattle.nfs_shared.specs.BookEvent.{Leads};
@@ -10,11 +10,13 @@ ghost use Rattle.nfs_shared.specs.Seats.{Gives, number_given};
 ghost use Rattle.nfs_shared.specs.Sweeps.{Sweeps};
 ghost use Rattle.nfs_shared.specs.Turn.{Turn};
 ghost use Rattle.nfs_state.specs.Entries.{IsFilehandle, request_of};
+ghost use Rattle.nfs_state.specs.declared.entry.Call.{Call};
+ghost use Rattle.nfs_state.specs.declared.entry.Entry.TheVariants as entries;
 ghost use Rattle.nfs_xdr.specs.Op.{has_entry, opnum_of};
 ghost use Rattle.nfs_xdr.specs.OpResult.{op_result};
 ghost use Rattle.nfs_xdr.specs.Opnum.{answer_limit};
 
-use crate::calling::call_copied;
+use crate::calling::call_core;
 use crate::naming::Naming;
 use crate::receipt::Receipt;
 use crate::register::{Register, give};
@@ -22,7 +24,8 @@ use crate::renewing::{renew_lease, renewed_client};
 use crate::seat::Seat;
 use crate::sweeping::sweep_core;
 use crate::{PlainLeases, Swept};
-use nfs_core::{Core, Moment, lawful_is_safe};
+use nfs_core::{Core, Entry, Moment, lawful_is_safe};
+use nfs_state::SeenCall;
 use nfs_xdr::{ClientId, Op, OpResult, Principal, Refusal};
 use std::marker::Model;
 
@@ -98,14 +101,27 @@ pub fn call_held<N: Naming>(
         return (op.opnum().refusal(Refusal::Resource), None);
     }
     let (core, leases) = (&mut held.core, &mut held.leases);
-    let (answer, entered) = call_copied(core, leases, moment, principal, op, filehandle);
+    let (answer, entered) = call_core(core, leases, moment, principal, op, filehandle);
     match entered {
         None => (answer, None),
-        Some(entered) => {
-            let receipt = give(&mut held.register, seat, entered.number, entered.call);
+        Some(number) => {
+            let call = call_at(&held.core, number);
+            let receipt = give(&mut held.register, seat, number, call);
             (answer, Some(receipt))
         }
     }
+}
+
+// The call that is the journal's entry with this number.
+fn call_at(core: &Core, number: u32) -> SeenCall
+    requires { (call : Call)
+        × (slice_get core.now.journal.entries number ≡ Some (entries.Call call)) }
+    ensures { slice_get core.now.journal.entries number ≡ Some (entries.Call result.call) }
+{
+    let Some(Entry::Call(call)) = core.journal().entries().get(number as usize) else {
+        unreachable!()
+    };
+    SeenCall::of(call)
 }
 
 /// Goes through the live clients, and removes each whose lease is over at `now`. No receipt is made.

@@ -9,7 +9,7 @@ use crate::naming::Naming;
 use crate::receipt::Receipt;
 use crate::roll::{Roll, Token, add, meet, tell};
 use crate::seat::Seat;
-use nfs_core::Call;
+use nfs_state::SeenCall;
 use std::sync::ledger::{Book, Share};
 
 /// The receipts that were given: whose they are, the roll that ties them to the seats, and how many there are.
@@ -29,7 +29,7 @@ pub(crate) fn give<N: Naming>(
     register: &mut Register<N>,
     seat: &mut Seat<N>,
     number: u32,
-    call: Call,
+    call: SeenCall,
 ) -> Receipt
     requires room { vec_len register.old.places < vec_capacity register.old.places }
     requires roll { register.old.roll.shared.table_id ≡ N.roll }
@@ -37,7 +37,7 @@ pub(crate) fn give<N: Naming>(
     requires count { (length (list_of register.old.writer) ≡ length register.old.places.items)
         × (length register.old.places.items < 2 ^ 63) }
     requires above { IsAbove number (list_of register.old.writer) }
-    ensures receipt { result ≡ record { place = seat.old.place; number = number; call = call } }
+    ensures receipt { result ≡ record { place = seat.old.place; number = number; call = call.call } }
     ensures places { register.new.places.items
         ≡ register.old.places.items ++ result.place ∷ [] }
     ensures roll { register.new.roll.shared.table_id ≡ register.old.roll.shared.table_id }

@@ -26,7 +26,7 @@ use Rattle.nfs_state.specs.Stored.{known_owner}
 use Rattle.nfs_owners.specs.StateOwner.{open_owner}
 use Rattle.nfs_owners.specs.declared.state_owner.OwnerKind.{OwnerKind}
 use Rattle.nfs_owners.specs.declared.state_owner.StateOwner.{StateOwner}
-use Rattle.nfs_owners.specs.ClientRoom.{HasNumbersFor, IsOfItsKind}
+use Rattle.nfs_owners.specs.ClientRoom.{FitsRecords, HasNumbersFor}
 use Rattle.nfs_owners.specs.declared.kept.Kept.{Kept}
 use Rattle.nfs_owners.specs.declared.owner.Owner.{Owner}
 use Rattle.nfs_owners.specs.declared.owner.OwnerState.{OwnerState}
@@ -82,7 +82,7 @@ owners_changed update change (Some kept) number old new is sendable keeps same p
 -- what an entry means for an owner passes no limit of the change after it
 limits_alike : (change : Change) (old new : State) → new.clients ≡ old.clients → new.last_state ≡ old.last_state → new.locks ≡ old.locks → IsWithinLimits change old → IsWithinLimits change new
 limits_alike (changes.Clients change) old new clients states locks has =
-    subst (λ registry. HasNumbersFor change registry × IsOfItsKind change registry) (sym clients) has
+    subst (λ registry. HasNumbersFor change registry × FitsRecords change registry) (sym clients) has
 limits_alike (changes.Opens node owner share) old new clients states locks has = omega (arith, states, has)
 limits_alike changes.Nothing old new clients states locks has = tt
 limits_alike (changes.Confirms node number owner) old new clients states locks has = tt

@@ -6,6 +6,7 @@ pub mod Stored
 pub mod Entries
 pub mod Kept
 pub mod Changes
+pub mod LiveChange
 pub mod Places
 pub mod Room
 pub mod Shortage

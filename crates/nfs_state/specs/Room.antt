@@ -20,7 +20,7 @@ use Rattle.nfs_owners.specs.declared.state_owner.StateOwner.{StateOwner}
 use Rattle.nfs_owners.specs.declared.owner.TheConstants.{OWNER_LIMIT}
 use Rattle.nfs_state.specs.State.{State}
 use Rattle.nfs_state.specs.Stored.{Stored, meaning}
-use Rattle.nfs_owners.specs.ClientRoom.{HasNumbersFor, HasRoomFor, IsOfItsKind}
+use Rattle.nfs_owners.specs.ClientRoom.{FitsRecords, HasNumbersFor, HasRoomFor}
 use Rattle.nfs_share.specs.AllOpens.{HasRoomAt, opens_in}
 use Rattle.nfs_share.specs.AllOpens as opens
 
@@ -104,12 +104,12 @@ HasOwnerPlace (owner_changes.Records name) state = IsNewcomer (open_owner name) 
 HasOwnerPlace (owner_changes.Restarts name) state = IsTrue (is_known (open_owner name) state)
 HasOwnerPlace (owner_changes.Drops name) state = ⊤
 
--- The next client number, confirm value and state number that the change uses exist, a client's record is of the kind
--- that the change adds, and the runs of a lock state aren't too many after it. (How many states there may be is judged by
+-- The next client number, confirm value and state number that the change uses exist, a client's record that it adds
+-- fits those that are there, and the runs of a lock state aren't too many after it. (How many states there may be is judged by
 -- the rules.)
 abbrev pub IsWithinLimits : Change → State → Type 0
 IsWithinLimits (changes.Clients change) state =
-    HasNumbersFor change state.clients × IsOfItsKind change state.clients
+    HasNumbersFor change state.clients × FitsRecords change state.clients
 IsWithinLimits (changes.Opens node owner share) state = state.last_state < 2 ^ 32 - 1
 IsWithinLimits (changes.Begins node first) state = state.last_state < 2 ^ 32 - 1
 IsWithinLimits (changes.Locks node number change) state =

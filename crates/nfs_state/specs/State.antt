@@ -2,7 +2,7 @@
 use Rattle.std.specs.Prelude.{ℕ, zero, suc, Bool, false, ◌==◌, ◌||◌, List, [], ◌∷◌, ◌++◌, length, find, replicate, Option, Some, None}
 use Rattle.std.specs.List.{list_any}
 use Rattle.nfs_forms.specs.declared.client_id.ClientId.{ClientId}
-use Rattle.nfs_owners.specs.declared.client_record.ClientRecord.{ClientRecord}
+use Rattle.nfs_owners.specs.declared.client_record.ClientState.{ClientState}
 use Rattle.nfs_state.specs.declared.entry.Entry.{Entry}
 use Rattle.nfs_owners.specs.Registry.{Registry, no_clients}
 use Rattle.nfs_state.specs.Owners.{KnownOwner}
@@ -82,6 +82,6 @@ has_state state client =
     || list_any (list_any (is_lock_of_client client)) state.locks
 
 -- whether the client of a record has state, if there is a record
-abbrev pub record_has_state : State → Option ClientRecord → Bool
+abbrev pub record_has_state : State → Option ClientState → Bool
 record_has_state state None = false
 record_has_state state (Some r) = has_state state r.client

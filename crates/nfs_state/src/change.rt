@@ -1,6 +1,6 @@
 use nfs_forms::LockOwner;
 use nfs_locks::FirstLock;
-use nfs_owners::ClientChange;
+use nfs_owners::{ClientChange, LiveChange};
 use nfs_ranges::Piece;
 use nfs_share::Share;
 use nfs_xdr::{ClientId, OpenOwner};
@@ -52,4 +52,27 @@ pub enum Change {
     },
     /// The client is removed with all its records, its owners, its opens and its lock states.
     Expires(ClientId),
+}
+
+impl Change {
+    ghost use Rattle.std.specs.Prelude.{◌≡◌};
+    ghost use Rattle.nfs_state.specs.LiveChange.{live_change_of};
+
+    /// Who comes to be live by the change, or is live no longer.
+    pub fn live(&self) -> LiveChange
+        ensures { result ≡ live_change_of self.now }
+    {
+        match self {
+            Change::Clients(change) => change.live(),
+            Change::Expires(client) => LiveChange::Goes(client.number),
+            Change::Nothing
+            | Change::Opens { .. }
+            | Change::Confirms { .. }
+            | Change::Downgrades { .. }
+            | Change::Closes { .. }
+            | Change::Begins { .. }
+            | Change::Locks { .. }
+            | Change::Releases { .. } => LiveChange::Same,
+        }
+    }
 }

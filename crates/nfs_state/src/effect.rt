@@ -1,7 +1,9 @@
 ghost use Rattle.std.specs.Prelude.{◌≡◌};
 ghost use Rattle.nfs_state.specs.Changes.{change_alone};
+ghost use Rattle.nfs_state.specs.LiveChange.{live_change_of};
 
 use crate::{Change, OwnerChange};
+use nfs_owners::LiveChange;
 
 /// What an entry of the journal does to the state: first what it means for the owners, and then the change.
 #[derive(Debug, Drop)]
@@ -19,5 +21,12 @@ impl Effect {
             owner: OwnerChange::Nothing,
             change,
         }
+    }
+
+    /// Who comes to be live by the effect, or is live no longer.
+    pub fn live(&self) -> LiveChange
+        ensures { result ≡ live_change_of self.now.change }
+    {
+        self.change.live()
     }
 }

@@ -7,7 +7,7 @@ use crate::owner_update::{Keeping, OwnerUpdate};
 use crate::shortage::Shortage;
 use crate::stored_files::StoredFiles;
 use nfs_locks::{FirstLock, Locks};
-use nfs_owners::{ClientChange, ClientRecord, Clients, Numbers, OwnerRef, Owners, StateOwner};
+use nfs_owners::{ClientChange, ClientState, Clients, Numbers, OwnerRef, Owners, StateOwner};
 use nfs_share::{Opens, Share};
 use nfs_tree::Tree;
 use nfs_xdr::{ClientId, OpenOwner};
@@ -45,7 +45,7 @@ impl Tables {
     ghost use Rattle.nfs_share.specs.AllOpens.{HasRoomAt, opens_in};
     ghost use Rattle.nfs_share.specs.Opens.{is_of, without};
     ghost use Rattle.nfs_state.specs.declared.change.Change.TheVariants as changes;
-    ghost use Rattle.nfs_owners.specs.ClientRoom.{HasNumbersFor, HasRoomFor, IsOfItsKind};
+    ghost use Rattle.nfs_owners.specs.ClientRoom.{FitsRecords, HasNumbersFor, HasRoomFor};
     ghost use Rattle.nfs_state.specs.Stored.{empty_store};
 
     /// The files of the tree, and no clients.
@@ -73,8 +73,8 @@ impl Tables {
         }
     }
 
-    /// Whether the client of the record, if there is one, has state.
-    pub fn record_has_state(&self, found: Option<&ClientRecord>) -> bool
+    /// Whether the client of a record that has this, if there is one, has state.
+    pub fn record_has_state(&self, found: Option<&ClientState>) -> bool
         ensures { result ≡ record_has_state (state_of self.now) (option_copied found.entry) }
     {
         match found {
@@ -296,7 +296,7 @@ impl Tables {
     fn commit_clients(&mut self, change: ClientChange)
         requires room { HasRoomFor change self.old.clients }
         requires numbers { HasNumbersFor change self.old.clients.registry }
-        requires kind { IsOfItsKind change self.old.clients.registry }
+        requires fits { FitsRecords change self.old.clients.registry }
         ensures state { state_of self.new
             ≡ with_state_change (changes.Clients change) (state_of self.old) }
         ensures kept { (journal : History)

@@ -13,7 +13,7 @@ pub(crate) struct Ended {
 }
 
 /// What came of a plan.
-#[derive(Debug, Drop)]
+#[derive(Drop)]
 pub(crate) struct Outcome {
     pub(crate) sweeps: Sweeps,
     /// By the places of their seats: those that came at once, and at last the one that came alone.

@@ -3,7 +3,9 @@
 use crate::names::name_of;
 use nfs_operations::setclientid::Setclientid;
 use nfs_operations::setclientid_confirm::{Outcome, SetclientidConfirm};
-use nfs_owners::{Clients, Kept, KeptRequest, Owners, OwnersError, PathMark, StateOwner, Verdict};
+use nfs_owners::{
+    Clients, Kept, KeptRequest, LiveChange, Owners, OwnersError, PathMark, StateOwner, Verdict,
+};
 use nfs_xdr::{
     Address, Callback, ClientId, Op, OpResult, OpenOwner, Opnum, Principal, Refusal, Verifier,
 };
@@ -81,6 +83,7 @@ fn live(rt: &impl Abort, alloc: Global) -> Result<(), OwnersError> {
     let principal = Principal::AuthSys(1);
     let mut clients = Clients::new(alloc);
     let (_, arrival) = clients.set(7, principal, &setclientid(alloc)?, false)?;
+    assert!(rt; arrival.live() == LiveChange::Same);
     clients.make_room(&arrival)?;
     clients.commit(arrival);
     assert!(rt; !clients.live(1));
@@ -88,8 +91,8 @@ fn live(rt: &impl Abort, alloc: Global) -> Result<(), OwnersError> {
         client: CLIENT,
         confirm: 1,
     };
-    let (answer, confirmation) = clients.confirm(principal, &args, false, PathMark::Up)?;
-    assert!(rt; answer == Outcome::Done(()));
+    let (answer, confirmation) = clients.confirm(alloc, principal, &args, false, PathMark::Up)?;
+    assert!(rt; answer == Outcome::Done(()) && confirmation.live() == LiveChange::Comes(1));
     clients.make_room(&confirmation)?;
     clients.commit(confirmation);
     assert!(rt; clients.live(1) && clients.of(CLIENT).is_some_and(|c| c.path == PathMark::Up));

@@ -1,15 +1,16 @@
 ghost use Rattle.std.specs.Prelude.{◌≡◌, IfOk, IsTrue, OnErr};
 ghost use Rattle.std.specs.Option.{option_copied};
-ghost use Rattle.nfs_owners.specs.ClientRoom.{HasNumbersFor, IsOfItsKind, adds_record};
+ghost use Rattle.nfs_owners.specs.ClientRoom.{FitsRecords, HasNumbersFor, adds_record};
 ghost use Rattle.nfs_owners.specs.Confirmation.{confirmation, confirmation_before, confirmation_beside, confirmation_by, confirmed_record, holder_of, updated_record};
-ghost use Rattle.nfs_owners.specs.Registry.{confirmed_named_by, confirmed_of, unconfirmed_named_by};
+ghost use Rattle.nfs_owners.specs.Registry.{client_seen, confirmed_named_by, confirmed_of, record_state, unconfirmed_named_by};
 ghost use Rattle.nfs_owners.specs.declared.client_record.PathMark.{PathMark};
 
 use super::{ClientChange, Clients};
-use crate::{ClientRecord, PathMark};
+use crate::copy_of_bytes::copy_of_bytes;
+use crate::{ClientRecord, ClientRef, ClientState, PathMark};
 use nfs_operations::setclientid_confirm::{Outcome, SetclientidConfirm};
 use nfs_xdr::{Principal, Refusal};
-use std::alloc::AllocError;
+use std::alloc::{AllocError, Global};
 
 impl Clients {
     /// The answer of SETCLIENTID_CONFIRM (RFC 7530, section 16.34.5), and its change of the clients' records.
@@ -17,6 +18,7 @@ impl Clients {
     /// the path of a client that is confirmed by this call. Memory may be wanting only where a record is to be added.
     pub fn confirm(
         &self,
+        alloc: Global,
         principal: Principal,
         args: &SetclientidConfirm,
         has_state: bool,
@@ -25,19 +27,19 @@ impl Clients {
         ensures ok { IfOk result (λ r.
             r ≡ confirmation path has_state self.now.registry principal args.now) }
         ensures numbers { IfOk result (λ r. HasNumbersFor r.1 self.now.registry) }
-        ensures kind { IfOk result (λ r. IsOfItsKind r.1 self.now.registry) }
+        ensures fits { IfOk result (λ r. FitsRecords r.1 self.now.registry) }
         ensures memory { OnErr result (IsTrue (adds_record
             (confirmation path has_state self.now.registry principal args.now).1)) }
     {
-        // A law, for the proof alone: the number of a record that is found is that of its id.
+        // A law, for the proof alone: an id has one unconfirmed record at most.
         self.records_are_apart();
         match self.unconfirmed_named_by(args) {
             None => Ok((
                 self.answer_confirmed(principal, args),
                 ClientChange::Nothing,
             )),
-            Some(candidate) if candidate.principal.is(principal) => {
-                self.confirm_unconfirmed(candidate, has_state, path)
+            Some(candidate) if candidate.state.principal.is(principal) => {
+                self.confirm_unconfirmed(alloc, candidate, has_state, path)
             }
             Some(_) => Ok((Outcome::ClidInUse(()), ClientChange::Nothing)),
         }
@@ -46,25 +48,30 @@ impl Clients {
     // Decides a call that names an unconfirmed record, given the confirmed record with the same id.
     fn confirm_unconfirmed(
         &self,
-        candidate: &ClientRecord,
+        alloc: Global,
+        candidate: ClientRef<'_>,
         has_state: bool,
         path: PathMark,
     ) -> Result<(Outcome, ClientChange), AllocError>
         ensures ok { IfOk result (λ r. r ≡ confirmation_by (confirmation_beside
-            (confirmed_of self.now.registry candidate.now.id) candidate.now has_state) path) }
+            (record_state (confirmed_of self.now.registry candidate.entry.id.now))
+            (client_seen candidate.entry) has_state) path) }
         ensures numbers { IfOk result (λ r. HasNumbersFor r.1 self.now.registry) }
         ensures memory { OnErr result (IsTrue (adds_record (confirmation_by (confirmation_beside
-            (confirmed_of self.now.registry candidate.now.id) candidate.now has_state) path).1)) }
+            (record_state (confirmed_of self.now.registry candidate.entry.id.now))
+            (client_seen candidate.entry) has_state) path).1)) }
     {
-        let change = match self.confirmed_of(candidate.id.as_slice()) {
-            None => ClientChange::Confirms(confirmed_record(path, candidate)?),
-            Some(old) if old.client == candidate.client => {
-                ClientChange::Confirms(updated_record(path, old, candidate)?)
+        let change = match self.confirmed_of(candidate.id) {
+            None => ClientChange::Confirms(confirmed_record(alloc, path, candidate)?),
+            Some(old) if old.client == candidate.state.client => {
+                ClientChange::Refreshes(updated_record(alloc, path, old, candidate)?)
             }
-            Some(old) if !old.principal.is(candidate.principal) && has_state => {
+            Some(old) if !old.principal.is(candidate.state.principal) && has_state => {
                 return Ok((Outcome::ClidInUse(()), ClientChange::Nothing));
             }
-            Some(old) => ClientChange::Replaces(confirmed_record(path, candidate)?, old.client),
+            Some(old) => {
+                ClientChange::Replaces(confirmed_record(alloc, path, candidate)?, old.client)
+            }
         };
         Ok((Outcome::Done(()), change))
     }
@@ -72,7 +79,8 @@ impl Clients {
     // Answers a call that names no unconfirmed record.
     fn answer_confirmed(&self, principal: Principal, args: &SetclientidConfirm) -> Outcome
         ensures { (path : PathMark) → (result, ClientChange.Nothing) ≡ confirmation_by
-            (confirmation_before (confirmed_named_by args.now self.now.registry) principal) path }
+            (confirmation_before (record_state (confirmed_named_by args.now self.now.registry))
+            principal) path }
     {
         match self.confirmed_named_by(args) {
             None => Outcome::Refused(Refusal::StaleClientId),
@@ -81,38 +89,49 @@ impl Clients {
         }
     }
 
-    /// The confirmed record of the id that the call would confirm, if there is one.
-    pub fn holder_of(&self, args: &SetclientidConfirm) -> Option<&ClientRecord>
-        ensures { option_copied result ≡ holder_of
-            (unconfirmed_named_by args.now self.now.registry) self.now.registry }
+    /// What the confirmed record has of the id that the call would confirm, if there is one.
+    pub fn holder_of(&self, args: &SetclientidConfirm) -> Option<&ClientState>
+        ensures { option_copied result ≡ record_state (holder_of
+            (unconfirmed_named_by args.now self.now.registry) self.now.registry) }
     {
         let candidate = self.unconfirmed_named_by(args)?;
-        self.confirmed_of(candidate.id.as_slice())
+        self.confirmed_of(candidate.id)
     }
 }
 
-// The record, now confirmed, with this mark for its path.
-fn confirmed_record(path: PathMark, candidate: &ClientRecord) -> Result<ClientRecord, AllocError>
-    ensures { IfOk result (λ r. r ≡ confirmed_record path candidate.now) }
+// The record with this mark for its path.
+fn confirmed_record(
+    alloc: Global,
+    path: PathMark,
+    candidate: ClientRef<'_>,
+) -> Result<ClientRecord, AllocError>
+    ensures { IfOk result (λ r. r ≡ confirmed_record path (client_seen candidate.entry)) }
 {
-    let mut new = candidate.clone()?;
-    new.confirmed = true;
-    new.path = path;
-    Ok(new)
+    let mut state = candidate.state.clone()?;
+    state.path = path;
+    Ok(ClientRecord {
+        id: copy_of_bytes(alloc, candidate.id)?,
+        state,
+    })
 }
 
 // The confirmed record with the verifier, the callback and the confirm value of the unconfirmed one.
 fn updated_record(
+    alloc: Global,
     path: PathMark,
-    old: &ClientRecord,
-    candidate: &ClientRecord,
+    old: &ClientState,
+    candidate: ClientRef<'_>,
 ) -> Result<ClientRecord, AllocError>
-    ensures { IfOk result (λ r. r ≡ updated_record path old.now candidate.now) }
+    ensures { IfOk result (λ r. r
+        ≡ updated_record path old.now (client_seen candidate.entry)) }
 {
-    let mut new = old.clone()?;
-    new.verifier = candidate.verifier;
-    new.callback = candidate.callback.clone()?;
-    new.confirm = candidate.confirm;
-    new.path = path;
-    Ok(new)
+    let mut state = old.clone()?;
+    state.verifier = candidate.state.verifier;
+    state.callback = candidate.state.callback.clone()?;
+    state.confirm = candidate.state.confirm;
+    state.path = path;
+    Ok(ClientRecord {
+        id: copy_of_bytes(alloc, candidate.id)?,
+        state,
+    })
 }

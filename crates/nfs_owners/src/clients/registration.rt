@@ -1,14 +1,14 @@
 ghost use Rattle.std.specs.Prelude.{◌≡◌, ℕ, ◌-◌, ◌^◌, ◌<◌, ◌↔◌, false, true, None, Some, IfOk, IsErrOf};
 ghost use Rattle.nfs_forms.specs.declared.answer.Answer.TheVariants.{ClidInUse};
 ghost use Rattle.nfs_owners.specs.Registration.{Arrival, Update, registration, registration_by, unconfirmed_record};
-ghost use Rattle.nfs_owners.specs.ClientRoom.{HasNumbersFor, IsOfItsKind};
-ghost use Rattle.nfs_owners.specs.Registry.{IsNumberOf};
+ghost use Rattle.nfs_owners.specs.ClientRoom.{FitsRecords, HasNumbersFor};
+ghost use Rattle.nfs_owners.specs.Registry.{IsClientOf};
 ghost use Rattle.nfs_owners.specs.Addresses.{is_within_limit};
 ghost use Rattle.nfs_xdr.specs.Short.{IsShort};
 ghost use Rattle.nfs_xdr.specs.declared.op_result.OpResult.TheVariants as OpResult;
 
 use super::{ClientChange, Clients};
-use crate::{CLIENT_LIMIT, ClientCallback, ClientRecord, OwnersError, PathMark};
+use crate::{CLIENT_LIMIT, ClientCallback, ClientRecord, ClientState, OwnersError, PathMark};
 use nfs_operations::setclientid::{Outcome, Setclientid};
 use nfs_operations::setclientid_confirm::SetclientidConfirm;
 use nfs_xdr::{Address, ClientId, Principal};
@@ -31,21 +31,19 @@ impl Clients {
         ensures full { IsErrOf result OwnersError.Full
             ↔ registration epoch has_state self.now.registry principal args.now ≡ None }
         ensures numbers { IfOk result (λ r. HasNumbersFor r.1 self.now.registry) }
-        ensures kind { IfOk result (λ r. IsOfItsKind r.1 self.now.registry) }
+        ensures fits { IfOk result (λ r. FitsRecords r.1 self.now.registry) }
         ensures short { IfOk result (λ r. IsShort (OpResult.Setclientid r.0)) }
     {
-        // A law, for the proof alone: the number of a record that is found is that of its id.
-        self.records_are_apart();
         match self.confirmed_of(args.id.as_slice()) {
-            Some(record) if record.principal.is(principal) => {
-                if record.verifier == args.verifier {
-                    self.set_update(principal, args, record.client)
+            Some(holder) if holder.principal.is(principal) => {
+                if holder.verifier == args.verifier {
+                    self.set_update(principal, args, holder.client)
                 } else {
                     self.set_arrival(epoch, principal, args)
                 }
             }
-            Some(record) if has_state => {
-                let answer = clid_in_use(record.callback.address())?;
+            Some(holder) if has_state => {
+                let answer = clid_in_use(holder.callback.address())?;
                 Ok((answer, ClientChange::Nothing))
             }
             _ => self.set_arrival(epoch, principal, args),
@@ -60,13 +58,13 @@ impl Clients {
         client: ClientId,
     ) -> Result<(Outcome, ClientChange), OwnersError>
         requires confirm { self.now.registry.last_confirm < 2 ^ 64 - 1 }
-        requires number { IsNumberOf args.now.id client.number self.now.registry }
+        requires client { IsClientOf args.now.id client self.now.registry.confirmed }
         ensures ok { IfOk result (λ r. registration_by (Update client)
             client.epoch self.now.registry principal args.now ≡ Some r) }
         ensures full { IsErrOf result OwnersError.Full ↔ registration_by (Update client)
             client.epoch self.now.registry principal args.now ≡ None }
         ensures numbers { IfOk result (λ r. HasNumbersFor r.1 self.now.registry) }
-        ensures kind { IfOk result (λ r. IsOfItsKind r.1 self.now.registry) }
+        ensures fits { IfOk result (λ r. FitsRecords r.1 self.now.registry) }
         ensures short { IfOk result (λ r. IsShort (OpResult.Setclientid r.0)) }
     {
         let confirm = self.last_confirm + 1;
@@ -88,7 +86,7 @@ impl Clients {
         ensures full { IsErrOf result OwnersError.Full
             ↔ registration_by Arrival epoch self.now.registry principal args.now ≡ None }
         ensures numbers { IfOk result (λ r. HasNumbersFor r.1 self.now.registry) }
-        ensures kind { IfOk result (λ r. IsOfItsKind r.1 self.now.registry) }
+        ensures fits { IfOk result (λ r. FitsRecords r.1 self.now.registry) }
         ensures short { IfOk result (λ r. IsShort (OpResult.Setclientid r.0)) }
     {
         if self.last_number >= CLIENT_LIMIT {
@@ -128,12 +126,13 @@ fn unconfirmed_record(
     let callback = ClientCallback::copy_of(&args.callback)?;
     Ok(ClientRecord {
         id: args.id.clone()?,
-        principal,
-        verifier: args.verifier,
-        callback,
-        confirm: answer.confirm,
-        client: answer.client,
-        confirmed: false,
-        path: PathMark::Unknown,
+        state: ClientState {
+            principal,
+            verifier: args.verifier,
+            callback,
+            confirm: answer.confirm,
+            client: answer.client,
+            path: PathMark::Unknown,
+        },
     })
 }

@@ -5,7 +5,7 @@ use Rattle.nfs_owners.specs.declared.clients.client_change.ClientChange.{ClientC
 use Rattle.nfs_rules.specs.declared.decision.Decision.{Decision}
 use Rattle.nfs_state.specs.declared.request.Request.{Request}
 use Rattle.nfs_owners.specs.Registration.{Outcome, registration}
-use Rattle.nfs_owners.specs.Registry.{confirmed_of}
+use Rattle.nfs_owners.specs.Registry.{confirmed_of, record_state}
 use Rattle.nfs_state.specs.Changes.{change_alone}
 use Rattle.nfs_state.specs.State.{State, History, record_has_state}
 use Rattle.nfs_xdr.specs.declared.op_result.OpResult.TheVariants as results
@@ -21,6 +21,7 @@ decision_of outcome = record {
 -- The rule of SETCLIENTID. It depends on whether the client of the confirmed record with the id has state.
 abbrev pub rule : History → State → Request → Setclientid → Option Decision
 rule journal state request args =
-    let has_state = record_has_state state (confirmed_of state.clients args.id) in
+    let holder = record_state (confirmed_of state.clients args.id) in
+    let has_state = record_has_state state holder in
     option_map decision_of
     (registration journal.epoch has_state state.clients request.principal args)

@@ -7,7 +7,7 @@ use Rattle.nfs_owners.specs.declared.clients.client_change.ClientChange.{ClientC
 use Rattle.nfs_rules.specs.declared.decision.Decision.{Decision}
 use Rattle.nfs_state.specs.declared.request.Request.{Request}
 use Rattle.nfs_owners.specs.Confirmation.{Outcome, confirmation, holder_of}
-use Rattle.nfs_owners.specs.Registry.{unconfirmed_named_by}
+use Rattle.nfs_owners.specs.Registry.{record_state, unconfirmed_named_by}
 use Rattle.nfs_state.specs.Changes.{change_alone}
 use Rattle.nfs_state.specs.State.{State, History, record_has_state}
 use Rattle.nfs_tree.specs.declared.policy.Callbacks.{Callbacks}
@@ -32,5 +32,5 @@ abbrev pub rule : History → State → Request → SetclientidConfirm → Optio
 rule journal state request args =
     let path = path_of journal.policy.callbacks in
     let holder = holder_of (unconfirmed_named_by args state.clients) state.clients in
-    let has_state = record_has_state state holder in
+    let has_state = record_has_state state (record_state holder) in
     Some (decision_of (confirmation path has_state state.clients request.principal args))

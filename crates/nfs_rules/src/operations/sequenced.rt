@@ -58,7 +58,7 @@ pub(super) fn decide(
             };
             let ruling = rule(alloc, tables, journal, request, turn)?;
             let newcomer = newcomer_of(tables, name.client, &request.op);
-            Ok(decision_of(passage, name, newcomer, ruling)?)
+            Ok(decision_of(alloc, passage, name, newcomer, ruling)?)
         }
     }
 }
@@ -109,6 +109,7 @@ fn rule(
 
 // The ruling, and what its answer means for the owners.
 fn decision_of(
+    alloc: Global,
     passage: Passage,
     name: OwnerRef<'_>,
     newcomer: Newcomer<'_>,
@@ -117,7 +118,7 @@ fn decision_of(
     ensures { IfOk result (λ d. d ≡ decision_of passage (owner_seen name.entry)
         (newcomer_seen newcomer.entry) ruling) }
 {
-    let owner = owner_change_of(passage, name, newcomer, ruling.answer.status())?;
+    let owner = owner_change_of(alloc, passage, name, newcomer, ruling.answer.status())?;
     Ok(Decision {
         answer: ruling.answer,
         effect: Effect {
@@ -129,6 +130,7 @@ fn decision_of(
 
 // What an answer with this status means for the owner of the request, and for the lock owner that it introduces.
 fn owner_change_of(
+    alloc: Global,
     passage: Passage,
     name: OwnerRef<'_>,
     newcomer: Newcomer<'_>,
@@ -138,16 +140,19 @@ fn owner_change_of(
         (newcomer_seen newcomer.entry) status) }
 {
     Ok(match passage {
-        Passage::Continues if counts(status) => kept_with(name, newcomer, status)?,
-        Passage::Begins if status == Status::Ok => OwnerChange::Records(name.to_open_owner()?),
-        Passage::Restarts if status == Status::Ok => OwnerChange::Restarts(name.to_open_owner()?),
-        Passage::Restarts => OwnerChange::Drops(name.to_open_owner()?),
+        Passage::Continues if counts(status) => kept_with(alloc, name, newcomer, status)?,
+        Passage::Begins if status == Status::Ok => OwnerChange::Records(name.to_open_owner(alloc)?),
+        Passage::Restarts if status == Status::Ok => OwnerChange::Restarts(name.to_open_owner(
+            alloc,
+        )?),
+        Passage::Restarts => OwnerChange::Drops(name.to_open_owner(alloc)?),
         _ => OwnerChange::Nothing,
     })
 }
 
 // What an answer that counts means for the two.
 fn kept_with(
+    alloc: Global,
     name: OwnerRef<'_>,
     newcomer: Newcomer<'_>,
     status: Status,
@@ -155,13 +160,13 @@ fn kept_with(
     ensures { IfOk result (λ c. c ≡ kept_with (owner_seen name.entry)
         (newcomer_seen newcomer.entry) status) }
 {
-    let owner = name.to_owned()?;
+    let owner = name.to_owned(alloc)?;
     Ok(match newcomer {
         Newcomer::Known(newcomer) => {
-            OwnerChange::KeepsBoth(owner, OwnerRef::of_lock(newcomer).to_owned()?)
+            OwnerChange::KeepsBoth(owner, OwnerRef::of_lock(newcomer).to_owned(alloc)?)
         }
         Newcomer::Unknown(newcomer) if status == Status::Ok => {
-            OwnerChange::Introduces(owner, OwnerRef::of_lock(newcomer).to_owned()?)
+            OwnerChange::Introduces(owner, OwnerRef::of_lock(newcomer).to_owned(alloc)?)
         }
         _ => OwnerChange::Keeps(owner),
     })

@@ -9,9 +9,11 @@ use nfs_owners::PathMark;
 use nfs_state::{Change, Effect, Journal, Request, Shortage, Tables};
 use nfs_tree::Callbacks;
 use nfs_xdr::{Op, OpResult};
+use std::alloc::Global;
 
 /// Decides a SETCLIENTID_CONFIRM: its answer and its change.
 pub(super) fn decide(
+    alloc: Global,
     tables: &Tables,
     journal: &Journal,
     request: &Request,
@@ -24,7 +26,7 @@ pub(super) fn decide(
     let path = path_of(journal.policy().callbacks);
     let (answer, change) = tables
         .clients
-        .confirm(request.principal, args, has_state, path)?;
+        .confirm(alloc, request.principal, args, has_state, path)?;
     Ok(Decision {
         answer: OpResult::SetclientidConfirm(answer),
         effect: Effect::change_alone(Change::Clients(change)),

@@ -1,5 +1,5 @@
 use Rattle.nfs_core.proofs.laws.live_clients_follow.Goals as goal
-use Rattle.nfs_core.proofs.LiveLaws.{Calls-follow, Ends-follow}
+use Rattle.nfs_core.proofs.LiveLaws.{Calls-follow, Effects-follow, Ends-follow}
 use Rattle.nfs_core.proofs.Safety.{Laws}
 
 pub returns : goal.returns
@@ -16,4 +16,4 @@ returns c =
       locks = record { begin = locks.begin; change = locks.change; removal = locks.removal };
       runs = c.first_change_has_place.ensures;
     } in
-    record { calls = Calls-follow laws; ends = Ends-follow laws }
+    record { effects = Effects-follow laws; calls = Calls-follow laws; ends = Ends-follow laws }

@@ -1,11 +1,13 @@
 -- A sweep enters no call.
 use Rattle.std.proofs.Common.{◌∙◌, ap, refl}
-use Rattle.nfs_shared.proofs.Holding.{KeepsRules, held_swept}
+use Rattle.nfs_shared.proofs.Holding.{KeepsRules, held_more}
+use Rattle.nfs_shared.proofs.Receipts.{expiries_no_calls}
 use Rattle.nfs_shared.proofs.held.sweep_held.Goals as goal
 use Rattle.nfs_shared.specs.Held.{HeldView}
 use Rattle.nfs_shared.specs.Naming.{start_of}
 use Rattle.nfs_shared.specs.Roll.{list_of}
 use Rattle.nfs_shared.specs.Sweeps.{events_of_all}
+use Rattle.nfs_shared.specs.Turn.{expiries}
 
 pub invariant_of-held : goal.invariant_of-held
 invariant_of-held g c =
@@ -28,8 +30,9 @@ invariant_of-held g c =
       safe = c.lawful_is_safe.ensures.safe _ _ swept.ensures.lawful;
       agrees = swept.ensures.agrees;
     } in
+    let events = events_of_all c.args.now swept.ensures.sweeps.0 in
     let gains = swept.ensures.sweeps.1.entries in (
-      held_swept old new (events_of_all c.args.now swept.ensures.sweeps.0) c.held.invariant.0 gains keeps refl refl,
+      held_more old new (expiries events) c.held.invariant.0 gains (expiries_no_calls events) keeps refl refl,
       c.held.invariant.1,
       ap start_of gains.journal ∙ c.held.invariant.2,
       c.held.invariant.3,

@@ -7,7 +7,7 @@ use Rattle.nfs_shared.specs.declared.receipt.Receipt.{Receipt}
 
 pub invariant_of-seat : goal.invariant_of-seat
 invariant_of-seat g c =
-    let receipt : Receipt = record { place = c.seat.inside.place; number = c.args.number; call = c.args.call } in
+    let receipt : Receipt = record { place = c.seat.inside.place; number = c.args.number; call = c.args.call.call } in
     let whole = list_of c.args.register.now.writer in
     let signed = c.sign.ensures in (
       (signed.token.0.0 ∙ c.requires.roll, c.requires.writer.0.1),
@@ -19,7 +19,7 @@ invariant_of-seat g c =
 pub returns-clause-given : goal.returns-clause-given
 returns-clause-given g c =
     let seat = c.seat.inside in
-    let receipt : Receipt = record { place = seat.place; number = c.args.number; call = c.args.call } in
+    let receipt : Receipt = record { place = seat.place; number = c.args.number; call = c.args.call.call } in
     let whole = list_of c.args.register.now.writer in
     let signed = c.sign.ensures in
     let old : SeatView = record { place = seat.place; last = seat.last; list = list_of seat.token; given = seat.share.amount } in

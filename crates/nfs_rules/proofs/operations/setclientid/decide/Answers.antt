@@ -2,7 +2,7 @@ use Rattle.std.proofs.Common.{◌≡◌, Option, Some, None, Err, option_map, re
 use Rattle.std.specs.Prelude.{◌↔◌, Result}
 use Rattle.std.specs.Result.{IsErrOf}
 use Rattle.nfs_owners.specs.Registration.{Outcome, registration}
-use Rattle.nfs_owners.specs.Registry.{confirmed_of}
+use Rattle.nfs_owners.specs.Registry.{confirmed_of, record_state}
 use Rattle.nfs_owners.specs.declared.clients.client_change.ClientChange.{ClientChange}
 use Rattle.nfs_owners.specs.declared.owners_error.OwnersError.{OwnersError}
 use Rattle.nfs_owners.specs.declared.owners_error.OwnersError.TheVariants.{Full, Memory}
@@ -33,7 +33,7 @@ returns-in_err-answer c =
     let state = state_of c.args.tables.now in
     let request = c.args.request.now in
     let args = c.args.args.now in
-    let found = registration journal.epoch (record_has_state state (confirmed_of state.clients args.id)) state.clients request.principal args in
+    let found = registration journal.epoch (record_has_state state (record_state (confirmed_of state.clients args.id))) state.clients request.principal args in
     let error = c.in_err-answer.field-0.0 in
     let same : registration c.epoch.result c.record_has_state-has_state.result state.clients request.principal args ≡ found = cc in
     let full : Option (Outcome × ClientChange) → Type 0 = λ o. IsErrOf {T = Outcome × ClientChange} (Err error) Full ↔ (o ≡ None) in

@@ -1,6 +1,6 @@
 use Rattle.std.proofs.Common.{◌≡◌, refl}
 use Rattle.nfs_owners.specs.Confirmation.{confirmation, holder_of}
-use Rattle.nfs_owners.specs.Registry.{unconfirmed_named_by}
+use Rattle.nfs_owners.specs.Registry.{record_state, unconfirmed_named_by}
 use Rattle.nfs_rules.specs.operations.SetclientidConfirm.{decision_of, path_of, rule}
 use Rattle.nfs_rules.proofs.Sequenced.{fails_as}
 use Rattle.nfs_rules.proofs.operations.setclientid_confirm.decide.Goals as goal
@@ -15,6 +15,6 @@ returns-in_err-answer c =
     let state = state_of c.args.tables.now in
     let request = c.args.request.now in
     let args = c.args.args.now in
-    let has_state = record_has_state state (holder_of (unconfirmed_named_by args state.clients) state.clients) in
+    let has_state = record_has_state state (record_state (holder_of (unconfirmed_named_by args state.clients) state.clients)) in
     fails_as (λ d. d ≡ rule journal state request args) state (ops.SetclientidConfirm args) Memory c.from_residual.result c.from_residual.ensures.0 c.from_residual.ensures.1
     (decision_of (confirmation (path_of journal.policy.callbacks) has_state state.clients request.principal args), refl)

@@ -3,14 +3,14 @@ use Rattle.nfs_state.specs.Room.{state_of, stored_of}
 use Rattle.nfs_core.proofs.Entering.{can_ask}
 use Rattle.nfs_core.proofs.Journals.{Lawful-confirm, Lawful-entered, Lawful-same, Lawful-state}
 use Rattle.nfs_core.proofs.SoundNumbers.{given_numbers}
-use Rattle.nfs_core.proofs.core_state.Core.apply_copied.Goals as goal
-use Rattle.nfs_core.proofs.core_state.Core.apply_copied.Goals.{in-Ok-enter_copied, in-Err}
+use Rattle.nfs_core.proofs.core_state.Core.answer.Goals as goal
+use Rattle.nfs_core.proofs.core_state.Core.answer.Goals.{in-Ok-enter, in-Err}
 
-pub enter_copied-requires-clause-asked : goal.enter_copied-requires-clause-asked
-enter_copied-requires-clause-asked c = can_ask c.self.inside.journal.history _ (search rules) (search rules)
+pub enter-requires-clause-asked : goal.enter-requires-clause-asked
+enter-requires-clause-asked c = can_ask c.self.inside.journal.history _ (search rules) (search rules)
 
-pub enter_copied-requires-clause-stored : goal.enter_copied-requires-clause-stored
-enter_copied-requires-clause-stored c =
+pub enter-requires-clause-stored : goal.enter-requires-clause-stored
+enter-requires-clause-stored c =
     let journal = c.self.inside.journal.history in
     let state = state_of c.self.inside.tables in
     record {
@@ -23,11 +23,11 @@ enter_copied-requires-clause-stored c =
 pub invariant_of-self-2 : goal.invariant_of-self-2
 invariant_of-self-2 c =
     let before = c.self.inside in
-    let after = c.enter_copied.new in
-    elim c.match-enter_copied.branch [
-      | in-Ok-enter_copied w ↦
-          let entered = w.in-Ok-enter_copied.ensures.entered in
-          (Lawful-entered before.journal.history after.journal.history (state_of before.tables) (state_of after.tables) _ c.self.invariant.0 entered.1 entered.2, w.in-Ok-enter_copied.ensures.kept)
+    let after = c.enter.new in
+    elim c.match-enter.branch [
+      | in-Ok-enter w ↦
+          let entered = w.in-Ok-enter.ensures.entered in
+          (Lawful-entered before.journal.history after.journal.history (state_of before.tables) (state_of after.tables) _ c.self.invariant.0 entered.0.1 entered.0.2, w.in-Ok-enter.ensures.kept)
       | in-Err w ↦ (Lawful-same before.journal.history after.journal.history (stored_of before.tables) (stored_of after.tables) w.in-Err.ensures.same.0 w.in-Err.ensures.same.1 c.self.invariant.0, w.in-Err.ensures.kept)
     ]
 

@@ -3,7 +3,7 @@ use Rattle.std.proofs.Common.{List, subst, arith, ◌≡◌, take}
 use Rattle.std.proofs.lemmas.Grind.{common_steps}
 use Rattle.nfs_owners.specs.LiveClients.{IsNextAmong}
 use Rattle.nfs_owners.specs.declared.client_record.ClientRecord.{ClientRecord}
-use Rattle.nfs_owners.proofs.clients.next_live_among.Goals as goal
+use Rattle.nfs_owners.proofs.clients.next_among.Goals as goal
 
 pub returns : goal.returns
 returns c =
