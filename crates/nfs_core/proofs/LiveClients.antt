@@ -18,7 +18,7 @@ use Rattle.nfs_forms.specs.declared.client_id.ClientId.{ClientId}
 use Rattle.nfs_owners.specs.ClientChange.{with_change}
 use Rattle.nfs_owners.specs.LiveChange.{is_live_after, live_change}
 use Rattle.nfs_owners.specs.LiveClients.{can_become_live}
-use Rattle.nfs_owners.specs.Registry.{Registry, is_live, is_of, is_of_client, was_given, without_client, without_id, without_number}
+use Rattle.nfs_owners.specs.Registry.{Registry, is_live, is_of, is_of_client, takes_number, was_given, without_client, without_id, without_number}
 use Rattle.nfs_owners.specs.declared.client_record.ClientRecord.{ClientRecord}
 use Rattle.nfs_owners.specs.declared.client_record.TheConstants.{CLIENT_LIMIT}
 use Rattle.nfs_owners.specs.declared.clients.client_change.ClientChange.{ClientChange}
@@ -58,39 +58,39 @@ of_record client id records c there is =
 turned : (a b : ℕ) → (a == b) ≡ (b == a)
 turned a b = bool_equal (a == b) (b == a) (λ is. eq-eqb b a (sym (eqb-true a b is))) (λ is. eq-eqb a b (sym (eqb-true b a is)))
 
--- Who is live once a record is put in place of those of its id: its client, and those with a record of another id.
+-- Who is live once a record is put in place of those of its id: its client, and those that have a record of another id.
 live_put : (r : ClientRecord) (records : List ClientRecord) (c : ℕ)
-    → list_any (is_of_client c) (without_id r.id records ++ r ∷ []) ≡ ((c == r.state.client.number) || list_any (λ s. is_of_client c s && not (is_of r.id s)) records)
+    → list_any (is_of_client c) (without_id r.id records ++ r ∷ []) ≡ ((c == r.state.client.number) || list_any (takes_number r.id c) records)
 live_put r records c =
     any_put (is_of_client c) (λ s. not (is_of r.id s)) records r
-    ∙ ap (λ b. b || list_any (λ s. is_of_client c s && not (is_of r.id s)) records) (turned r.state.client.number c)
+    ∙ ap (λ b. b || list_any (takes_number r.id c) records) (turned r.state.client.number c)
 
 kept_is : (p q : ClientRecord → Bool) (records : List ClientRecord) → list_any (λ s. p s && q s) records ≡ true → list_any p records ≡ true
 kept_is p q records any = any_weaken (λ s. ⊤) (λ s. p s && q s) p (λ s _ both. (and_parts (p s) (q s) both).0) records (all_always records) any
 
 -- where no record has the id, all stay
-all_stay : (id : List ℕ) (records : List ClientRecord) (c : ℕ) → AllByRecursion (λ s. is_of id s ≡ false) records → list_any (λ s. is_of_client c s && not (is_of id s)) records ≡ list_any (is_of_client c) records
+all_stay : (id : List ℕ) (records : List ClientRecord) (c : ℕ) → AllByRecursion (λ s. is_of id s ≡ false) records → list_any (takes_number id c) records ≡ list_any (is_of_client c) records
 all_stay id records c none =
-    bool_equal (list_any (λ s. is_of_client c s && not (is_of id s)) records) (list_any (is_of_client c) records) (kept_is (is_of_client c) (λ s. not (is_of id s)) records)
-    (λ any. any_weaken (λ s. is_of id s ≡ false) (is_of_client c) (λ s. is_of_client c s && not (is_of id s))
+    bool_equal (list_any (takes_number id c) records) (list_any (is_of_client c) records) (kept_is (is_of_client c) (λ s. not (is_of id s)) records)
+    (λ any. any_weaken (λ s. is_of id s ≡ false) (is_of_client c) (takes_number id c)
     (λ s other is. and_from (is_of_client c s) (not (is_of id s)) is (not_from_false (is_of id s) other)) records none any)
 
 -- where all records with the id are of one client, those of other clients stay
 others_stay : (client : ClientId) (id : List ℕ) (records : List ClientRecord) (c : ℕ) → AllByRecursion (IsOnlyOf client id) records → list_any (is_of_client c) records ≡ true
-    → (list_any (λ s. is_of_client c s && not (is_of id s)) records ≡ true) ⊎ ((c == client.number) ≡ true)
+    → (list_any (takes_number id c) records ≡ true) ⊎ ((c == client.number) ≡ true)
 others_stay client id records c only live =
-    any_split (IsOnlyOf client id) (is_of_client c) (λ s. is_of_client c s && not (is_of id s)) ((c == client.number) ≡ true)
+    any_split (IsOnlyOf client id) (is_of_client c) (takes_number id c) ((c == client.number) ≡ true)
     (λ s is_only passes. elim (cases_Bool (is_of id s)) [
       | inl same ↦ inr (eq-eqb c client.number (sym (eqb-true s.state.client.number c passes) ∙ ap (λ (x : ClientId). x.number) (equal_clients s.state.client client (is_only same))))
       | inr other ↦ inl (and_from (is_of_client c s) (not (is_of id s)) passes (not_from_false (is_of id s) other))
     ]) records only live
 
 -- The client of a record has no record of another id.
-own_id : (c : ℕ) (s : ClientRecord) (id : List ℕ) (records : List ClientRecord) → s.state.client.number ≡ c → s.id ≡ id → AllByRecursion (HasSameId s) records → list_any (λ t. is_of_client c t && not (is_of id t)) records ≡ false
+own_id : (c : ℕ) (s : ClientRecord) (id : List ℕ) (records : List ClientRecord) → s.state.client.number ≡ c → s.id ≡ id → AllByRecursion (HasSameId s) records → list_any (takes_number id c) records ≡ false
 own_id c s id records number ids same =
-    none_any (λ t. is_of_client c t && not (is_of id t)) records
-    (all_weaken (HasSameId s) (λ t. (is_of_client c t && not (is_of id t)) ≡ false)
-    (λ t same_id. false_from_ne_true (is_of_client c t && not (is_of id t))
+    none_any (takes_number id c) records
+    (all_weaken (HasSameId s) (λ t. takes_number id c t ≡ false)
+    (λ t same_id. false_from_ne_true (takes_number id c t)
     (λ passes.
     let both = and_parts (is_of_client c t) (not (is_of id t)) passes in
     let is : t.id ≡ id = sym (same_id (number ∙ sym (eqb-true t.state.client.number c both.0))).1 ∙ ids in
@@ -98,7 +98,7 @@ own_id c s id records number ids same =
 
 -- the same of a client that has a record of the id among some of the registry
 own_id_of : (client : ClientId) (id : List ℕ) (some others : List ClientRecord) (c : ℕ) → HasRecord client id some → AllByRecursion (λ s. AllByRecursion (HasSameId s) others) some → (c == client.number) ≡ true
-    → list_any (λ t. is_of_client c t && not (is_of id t)) others ≡ false
+    → list_any (takes_number id c) others ≡ false
 own_id_of client id some others c there same is =
     let found = find_record (λ s. AllByRecursion (HasSameId s) others) client id some there same in
     own_id c found.one id others (ap (λ (x : ClientId). x.number) found.client_is ∙ sym (eqb-true c client.number is)) found.id_is found.holds
@@ -146,13 +146,13 @@ live_changed (client_changes.Confirms r) old singles ready c =
     live_put r old.confirmed c ∙ or_same (c == r.state.client.number) _ _ (all_stay r.id old.confirmed c ready.0)
 live_changed (client_changes.Refreshes r) old singles ready c =
     live_put r old.confirmed c
-    ∙ absorbed (c == r.state.client.number) (list_any (λ s. is_of_client c s && not (is_of r.id s)) old.confirmed) (is_live c old)
+    ∙ absorbed (c == r.state.client.number) (list_any (takes_number r.id c) old.confirmed) (is_live c old)
     (λ is. of_record r.state.client r.id old.confirmed c ready.1 is) (kept_is (is_of_client c) (λ s. not (is_of r.id s)) old.confirmed)
     (λ live. others_stay r.state.client r.id old.confirmed c ready.0 live)
 live_changed (client_changes.Replaces r client) old singles ready c =
     live_put r old.confirmed c
     ∙ or_same (c == r.state.client.number) _ _
-    (but_one (list_any (λ s. is_of_client c s && not (is_of r.id s)) old.confirmed) (is_live c old) (c == client.number) (kept_is (is_of_client c) (λ s. not (is_of r.id s)) old.confirmed)
+    (but_one (list_any (takes_number r.id c) old.confirmed) (is_live c old) (c == client.number) (kept_is (is_of_client c) (λ s. not (is_of r.id s)) old.confirmed)
     (λ is. own_id_of client r.id old.confirmed old.confirmed c ready.1 (rows_confirmed old.confirmed old singles.same.0) is)
     (λ live. others_stay client r.id old.confirmed c ready.0 live))
 
@@ -220,13 +220,13 @@ not_next c number last given next is =
 -- where a record is put among the unconfirmed ones, its client or one that was there is among them
 known_put : (r : ClientRecord) (records : List ClientRecord) (c : ℕ) → list_any (is_of_client c) (without_id r.id records ++ r ∷ []) ≡ true → ((c == r.state.client.number) ≡ true) ⊎ (list_any (is_of_client c) records ≡ true)
 known_put r records c there =
-    elim (or_cases (c == r.state.client.number) (list_any (λ s. is_of_client c s && not (is_of r.id s)) records) (sym (live_put r records c) ∙ there)) [
+    elim (or_cases (c == r.state.client.number) (list_any (takes_number r.id c) records) (sym (live_put r records c) ∙ there)) [
       | inl own ↦ inl own
       | inr kept ↦ inr (kept_is (is_of_client c) (λ s. not (is_of r.id s)) records kept)
     ]
 
 -- where records with an id are removed, one of the client that stays was there, and has another id
-known_left : (id : List ℕ) (records : List ClientRecord) (c : ℕ) → list_any (is_of_client c) (without_id id records) ≡ true → list_any (λ s. is_of_client c s && not (is_of id s)) records ≡ true
+known_left : (id : List ℕ) (records : List ClientRecord) (c : ℕ) → list_any (is_of_client c) (without_id id records) ≡ true → list_any (takes_number id c) records ≡ true
 known_left id records c there = any_of_kept (is_of_client c) (λ s. not (is_of id s)) records there
 
 can_changed : (change : ClientChange) (old : Registry) → HasSingles old → IsClientReady change old → (c : ℕ) → can_become_live c (with_change change old) ≡ true → can_become_live c old ≡ true
@@ -271,7 +271,7 @@ can_changed (client_changes.Replaces r client) old singles ready c can =
     let kept = known_left r.id old.unconfirmed c there in (
       false_from_ne_true (is_live c old)
           (λ live. elim (cases_Bool (c == client.number)) [
-            | inl goes ↦ never (list_any (λ s. is_of_client c s && not (is_of r.id s)) old.unconfirmed)
+            | inl goes ↦ never (list_any (takes_number r.id c) old.unconfirmed)
                 (own_id_of client r.id old.confirmed old.unconfirmed c ready.1 (rows_unconfirmed old.confirmed old singles.same.0) goes) kept
             | inr other ↦ never (is_live c new) dead
                 (live_changed (client_changes.Replaces r client) old singles ready c
@@ -286,14 +286,13 @@ can_come : (client : ClientId) (id : List ℕ) (old : Registry) → HasSingles o
 can_come client id old singles below there dead =
     let n = client.number in
     let found = find_record (HasGivenNumber old.last_number) client id old.unconfirmed there singles.given.1 in
-    let given : (1 ≤ n) × (n ≤ old.last_number) = subst (λ (x : ClientId). (1 ≤ x.number) × (x.number ≤ old.last_number)) found.client_is found.holds in
-    (
+    let given : (1 ≤ n) × (n ≤ old.last_number) = subst (λ (x : ClientId). (1 ≤ x.number) × (x.number ≤ old.last_number)) found.client_is found.holds in (
       can_of_known (was_given n old) (is_live n old) (list_any (is_of_client n) old.unconfirmed) dead (of_record client id old.unconfirmed n there (eq-eqb n n refl)),
       (given.0, omega (arith, given.1, below)),
     )
 
 -- a client that has an unconfirmed record of an id has no confirmed record of another
-own_id_before : (client : ClientId) (id : List ℕ) (old : Registry) → HasSingles old → HasRecord client id old.unconfirmed → list_any (λ t. is_of_client client.number t && not (is_of id t)) old.confirmed ≡ false
+own_id_before : (client : ClientId) (id : List ℕ) (old : Registry) → HasSingles old → HasRecord client id old.unconfirmed → list_any (takes_number id client.number) old.confirmed ≡ false
 own_id_before client id old singles there =
     own_id_of client id old.unconfirmed old.confirmed client.number there (rows_confirmed old.unconfirmed old singles.same.1) (eq-eqb client.number client.number refl)
 
@@ -318,7 +317,7 @@ fits_changed (client_changes.Replaces r client) old singles below ready =
       can_come r.state.client r.id old singles below ready.2
           (false_from_ne_true (is_live n old)
           (λ live. elim (others_stay client r.id old.confirmed n ready.0 live) [
-            | inl kept ↦ never (list_any (λ s. is_of_client n s && not (is_of r.id s)) old.confirmed) (own_id_before r.state.client r.id old singles ready.2) kept
+            | inl kept ↦ never (list_any (takes_number r.id n) old.confirmed) (own_id_before r.state.client r.id old singles ready.2) kept
             | inr goes ↦ never (is_same_client client r.state.client) ready.3
                 (subst (λ x. is_same_client x r.state.client ≡ true) (sym (same_number r.state.client client r.id old singles ready.2 ready.1 (eqb-true n client.number goes))) (same_client_self r.state.client))
           ])),
