@@ -1,7 +1,6 @@
 -- Lawful journals: those whose entries the rules allow.
 use Rattle.std.proofs.Common.{◌≡◌, Bool, true, false, ℕ, ◌≤◌, Some, None, List, [], ◌∷◌, ◌++◌, length, map, refl, sym, ap, ◌∙◌, ◌+◌, ◌*◌, subst, append_assoc, append-nil, arith, Result, Ok, Err}
 use Rattle.nfs_state.specs.declared.effect.Effect.{Effect}
-use Rattle.nfs_state.specs.declared.entry.Call.{Call}
 use Rattle.std.specs.Prelude.{IfOk, OnErr, is_some}
 use Rattle.nfs_state.specs.declared.request.Request.{Request}
 use Rattle.nfs_share.specs.AllOpens.{opens_of}

@@ -1,5 +1,5 @@
 -- What a change of the clients' records does to who is live, and which epoch their clientids are of.
-use Rattle.std.proofs.Common.{◌≡◌, ◌⊎◌, inl, inr, ℕ, Bool, true, false, List, [], ◌∷◌, ◌++◌, filter, refl, sym, ap, ◌∙◌, subst, arith}
+use Rattle.std.proofs.Common.{◌≡◌, ◌⊎◌, inl, inr, ℕ, Bool, true, false, List, [], ◌∷◌, ◌++◌, refl, sym, ap, ◌∙◌, subst, arith}
 use Rattle.std.specs.Prelude.{⊤, ◌+◌, ◌≤◌, ◌&&◌, ◌||◌, ◌==◌, nat_le, find, is_some, not}
 use Rattle.std.specs.List.{AllByRecursion, list_any}
 use Rattle.std.specs.Str.{bytes_eq}
@@ -7,7 +7,7 @@ use Rattle.std.proofs.lemmas.Bool.{and_from, and_parts, cases_Bool, eq-eqb, eqb-
 use Rattle.std.proofs.lemmas.Slice.Eq.{bytes_eq-Decides}
 use Rattle.nfs_core.proofs.ClientChanges.{IsClientsFor}
 use Rattle.nfs_core.proofs.LiveLists.{any_found_with, any_holds, any_kept, any_of_kept, any_put, any_split, any_weaken, bool_equal, found_any, none_any}
-use Rattle.nfs_core.proofs.SafeLists.{all_always, all_both, all_weaken, found_holds}
+use Rattle.nfs_core.proofs.SafeLists.{all_always, all_weaken, found_holds}
 use Rattle.nfs_core.proofs.Sound.{HasRecord, IsOnlyOf, equal_clients, is_live_in, is_record_of, same_client_self}
 use Rattle.nfs_core.proofs.SoundClients.{EachRecord, HasGivenNumber, HasSameId, HasSingles, each_confirmed, each_unconfirmed, singles_changed}
 use Rattle.nfs_core.proofs.SoundSequences.{never}

@@ -1,6 +1,5 @@
 -- Who is live along a lawful journal.
 use Rattle.std.proofs.Common.{◌≡◌, ℕ, Bool, true, false, Some, List, [], ◌∷◌, length, refl, sym, ap, ◌∙◌, subst, arith}
-use Rattle.std.specs.Prelude.{⊤, ◌&&◌, ◌||◌, ◌==◌, not}
 use Rattle.std.proofs.lemmas.Grind.{common_steps}
 use Rattle.nfs_core.proofs.ClientChanges.{IsFor, ruled_for}
 use Rattle.nfs_core.proofs.LiveClients.{HasEpoch, HaveEpoch, epoch_changed, follows_changed, follows_ended, follows_same, live_number, numbered, told_by_number}
@@ -29,7 +28,6 @@ use Rattle.nfs_state.specs.declared.effect.Effect.{Effect}
 use Rattle.nfs_state.specs.declared.entry.Call.{Call}
 use Rattle.nfs_state.specs.declared.entry.Entry.{Entry}
 use Rattle.nfs_state.specs.declared.entry.Entry.TheVariants as entries
-use Rattle.nfs_state.specs.declared.entry.Expire.{Expire}
 use Rattle.nfs_state.specs.declared.owner_change.OwnerChange.{OwnerChange}
 use Rattle.nfs_state.specs.declared.owner_change.OwnerChange.TheVariants as owner_changes
 use Rattle.nfs_xdr.specs.declared.op.Op.{Op}

@@ -1,10 +1,10 @@
 -- The clients' records: an id has one confirmed and one unconfirmed one at most, a clientid one confirmed one at most, and
 -- each client number was given, to one id.
 use Rattle.std.proofs.Common.{◌≡◌, ℕ, Bool, true, false, List, [], ◌∷◌, ◌++◌, filter, refl, sym, ap, ◌∙◌, subst, arith}
-use Rattle.std.specs.Prelude.{⊤, ◌+◌, ◌≤◌, ◌&&◌, nat_le, is_some, not}
-use Rattle.std.specs.List.{AllByRecursion, IsDistinct, list_any}
+use Rattle.std.specs.Prelude.{⊤, ◌+◌, ◌≤◌, nat_le, not}
+use Rattle.std.specs.List.{AllByRecursion, IsDistinct}
 use Rattle.std.specs.Str.{bytes_eq}
-use Rattle.std.proofs.lemmas.Bool.{and_from, and_parts, cases_Bool, eqb-true, false_from_ne_true, le-leb, not-true}
+use Rattle.std.proofs.lemmas.Bool.{and_from, and_parts, eqb-true, false_from_ne_true, le-leb, not-true}
 use Rattle.std.proofs.lemmas.Slice.Eq.{bytes_eq-Decides}
 use Rattle.nfs_core.specs.Safe.{WasGiven, have_same_client}
 use Rattle.nfs_core.proofs.LiveLists.{none_any}

@@ -1,7 +1,5 @@
 use Rattle.std.proofs.Common.{rules}
-use Rattle.nfs_core.proofs.Entering.{decided_within}
 use Rattle.nfs_core.proofs.answering.enter.Goals as goal
-use Rattle.nfs_state.specs.Room.{state_of}
 
 pub returns-in_err-decision-clause-limit : goal.returns-in_err-decision-clause-limit
 returns-in_err-decision-clause-limit c is_limit = c.decide_next.ensures.limit (search (rules, is_limit))

@@ -4,8 +4,6 @@ use Rattle.nfs_core.proofs.answering.enter_decided.Goals as goal
 use Rattle.nfs_state.specs.Changes.{after}
 use Rattle.nfs_state.specs.Entries.{entry_of, with_entry}
 use Rattle.nfs_state.specs.Room.{Fits, state_of}
-use Rattle.nfs_state.specs.declared.entry.Call.{Call}
-use Rattle.nfs_state.specs.declared.entry.Entry.TheVariants as entries
 use Rattle.nfs_xdr.specs.declared.op_result.OpResult.{OpResult}
 
 pub commit_entry-requires-clause-fits : goal.commit_entry-requires-clause-fits

@@ -1,13 +1,19 @@
-use Rattle.std.proofs.Common.{rules}
+use Rattle.std.proofs.Common.{Option, rules, subst, sym}
 use Rattle.nfs_state.specs.Room.{state_of, stored_of}
 use Rattle.nfs_core.proofs.Entering.{can_ask}
 use Rattle.nfs_core.proofs.Journals.{Lawful-confirm, Lawful-entered, Lawful-same, Lawful-state}
 use Rattle.nfs_core.proofs.SoundNumbers.{given_numbers}
 use Rattle.nfs_core.proofs.core_state.Core.answer.Goals as goal
 use Rattle.nfs_core.proofs.core_state.Core.answer.Goals.{in-Ok-enter, in-Err}
+use Rattle.nfs_core.specs.Entered.{Answers, IsEntered}
+use Rattle.nfs_core.specs.Server.{AreAlike, Server, server_of}
+use Rattle.nfs_core.specs.declared.entered.Entered.{Entered}
+use Rattle.nfs_state.specs.Entries.{entry_of, request_of}
+use Rattle.nfs_state.specs.declared.request.Request.{Request}
+use Rattle.nfs_xdr.specs.declared.op_result.OpResult.{OpResult}
 
 pub enter-requires-clause-asked : goal.enter-requires-clause-asked
-enter-requires-clause-asked c = can_ask c.self.inside.journal.history _ (search rules) (search rules)
+enter-requires-clause-asked c = can_ask c.self.inside.journal.history c.in-Ok.request (search rules) (search rules)
 
 pub enter-requires-clause-stored : goal.enter-requires-clause-stored
 enter-requires-clause-stored c =
@@ -33,3 +39,20 @@ invariant_of-self-2 c =
 
 pub returns-clause-lawful : goal.returns-clause-lawful
 returns-clause-lawful c = (invariant_of-self-2 c).0
+
+pub returns-clause-answers : goal.returns-clause-answers
+returns-clause-answers c =
+    let request = request_of c.args.moment c.args.principal c.args.op.now c.args.filehandle in
+    let old = server_of c.self.inside.journal c.self.inside.tables in
+    let new = server_of c.enter.new.journal c.enter.new.tables in
+    elim c.match-enter.branch [
+      | in-Ok-enter w ↦
+          let told : IsEntered old new (entry_of request w.in-Ok-enter.answer) w.in-Ok-enter.entered =
+          subst (λ (r : Request). IsEntered old new (entry_of r w.in-Ok-enter.answer) w.in-Ok-enter.entered) c.in-Ok.ensures w.in-Ok-enter.ensures.entered in
+          let from : IsEntered c.args.self.now new (entry_of request w.in-Ok-enter.answer) w.in-Ok-enter.entered =
+          subst (λ (s : Server). IsEntered s new (entry_of request w.in-Ok-enter.answer) w.in-Ok-enter.entered) c.self.view_is told in
+          subst (λ (r : OpResult × Option Entered). Answers c.args.self.now new request r.0 r.1) (sym w.result-is) from
+      | in-Err w ↦
+          let alike : AreAlike c.args.self.now new = subst (λ (s : Server). AreAlike s new) c.self.view_is w.in-Err.ensures.same in
+          subst (λ (r : OpResult × Option Entered). Answers c.args.self.now new request r.0 r.1) (sym w.result-is) (search rules, alike)
+    ]
