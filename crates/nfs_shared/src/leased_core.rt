@@ -1,5 +1,6 @@
 ghost use Rattle.std.specs.Prelude.{◌≡◌, ◌≤◌, IsTrue, List, false, length};
-ghost use Rattle.nfs_core.specs.Server.{Answers, IsLawful};
+ghost use Rattle.nfs_core.specs.Entered.{Answers};
+ghost use Rattle.nfs_core.specs.Server.{IsLawful};
 ghost use Rattle.nfs_shared.specs.BookEvent.{Leads};
 ghost use Rattle.nfs_shared.specs.BookOf.{IsBookOf, events_entered};
 ghost use Rattle.nfs_shared.specs.PlainBook.{has_open_lease, with_renewal};
@@ -58,10 +59,13 @@ impl<B: LeaseBook> LeasedCore<B> {
         live_clients_follow();
         cores_are_lawful(&self.core);
         let (answer, entered) = self.core.answer(moment, principal, op, filehandle);
-        if let Some(made) = entered {
-            follow(&mut self.book, made.live, moment);
+        match entered {
+            None => (answer, None),
+            Some(made) => {
+                follow(&mut self.book, made.live, moment);
+                (answer, Some(made))
+            }
         }
-        (answer, entered)
     }
 
     /// Goes through the live clients, by rising numbers, and removes each whose lease is over at `now`, from the book
@@ -75,14 +79,6 @@ impl<B: LeaseBook> LeasedCore<B> {
     {
         sweep_core(&mut self.core, &mut self.book, now)
     }
-
-    /// The core, without the leases.
-    pub fn into_core(self) -> Core
-        ensures { result ≡ self.core }
-    {
-        let LeasedCore { core, .. } = self;
-        core
-    }
 }
 
 impl LeasedCore<PlainLeases> {
@@ -93,6 +89,14 @@ impl LeasedCore<PlainLeases> {
         ensures open { result ≡ has_open_lease self.old.book client }
     {
         renew_lease(&mut self.book, client, moment)
+    }
+
+    /// The core, without the leases.
+    pub fn into_core(self) -> Core
+        ensures { result ≡ self.core }
+    {
+        let LeasedCore { core, .. } = self;
+        core
     }
 }
 

@@ -1,5 +1,5 @@
 -- A seat's receipts, as they are kept in order.
-use Rattle.std.proofs.Common.{◌≡◌, ◌⊎◌, ℕ, zero, suc, ◌+◌, ◌<◌, ◌≤◌, List, [], ◌∷◌, ◌++◌, length, Some, slice_get, refl, sym, ap, ◌∙◌, subst, inl, inr, ⊎_elim, arith, length-append, append_assoc}
+use Rattle.std.proofs.Common.{◌≡◌, ◌⊎◌, ℕ, zero, suc, ◌<◌, ◌≤◌, List, [], ◌∷◌, ◌++◌, length, Some, slice_get, refl, sym, ap, ◌∙◌, subst, inl, inr, ⊎_elim, arith, length-append, append_assoc}
 use Rattle.nfs_shared.specs.Ends.{IsKept}
 use Rattle.nfs_shared.specs.Seats.{SeatView, fresh, Gives}
 use Rattle.nfs_shared.specs.declared.receipt.Receipt.{Receipt}

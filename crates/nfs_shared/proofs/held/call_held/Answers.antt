@@ -9,20 +9,21 @@ use Rattle.nfs_shared.proofs.Holding.{KeepsRules, held_call}
 use Rattle.nfs_shared.proofs.Receipts.{calls_in_length}
 use Rattle.nfs_shared.proofs.Renewals.{renewed_named, told_named}
 use Rattle.nfs_shared.proofs.held.call_held.Goals as goal
-use Rattle.nfs_shared.specs.BookEvent.{Leads}
-use Rattle.nfs_shared.specs.BookOf.{events_entered}
 use Rattle.nfs_shared.specs.Held.{HeldView}
 use Rattle.nfs_shared.specs.Naming.{start_of}
-use Rattle.nfs_shared.specs.PlainBook.{Happens, PlainBook, with_renewal}
+use Rattle.nfs_shared.specs.PlainBook.{with_renewal}
 use Rattle.nfs_shared.specs.Receipts.{calls_in, receipts_of}
 use Rattle.nfs_shared.specs.Renewals.{renewed_by}
 use Rattle.nfs_shared.specs.Roll.{list_of}
-use Rattle.nfs_state.specs.Entries.{IsFilehandle, entry_of, request_of}
+use Rattle.nfs_forms.specs.declared.status.Refusal.TheVariants.{Resource}
+use Rattle.nfs_shared.specs.declared.receipt.Receipt.{Receipt}
+use Rattle.nfs_state.specs.Entries.{IsFilehandle, entry_of, request_of, resource}
 use Rattle.nfs_state.specs.State.{History}
 use Rattle.nfs_state.specs.Stored.{meaning}
 use Rattle.nfs_state.specs.declared.entry.Call.{Call}
 use Rattle.nfs_state.specs.declared.entry.Entry.TheVariants as entries
 use Rattle.nfs_state.specs.declared.entry.TheConstants.{JOURNAL_LIMIT}
+use Rattle.nfs_xdr.specs.OpResult.{refusal_of}
 
 pub call-answer-requires-clause-node : goal.call-answer-requires-clause-node
 call-answer-requires-clause-node g c =
@@ -119,7 +120,7 @@ returns-in-Some-clause-leases g c =
     renewed_named g.N.Naming.start held.leased.core.journal c.journal.result.now.history c.epoch.result c.renewed_client-client.result c.args.op.now c.args.moment c.args.held.now.leases held.leased.book c.renew.new.self.book c.held.invariant.2 c.journal.ensures.journal c.epoch.ensures c.renewed_client-client.ensures (ap (λ (h : HeldView). h.leases) c.held.view_is) c.renew.ensures.book in
     let server : c.renew.new.self.core ≡ c.args.held.now.server = c.renew.ensures.core ∙ ap (λ (h : HeldView). h.server) c.held.view_is in
     let told = told_named request called.result.0 c.args.moment c.renew.new.self.core c.args.held.now.server called.new.self.core called.result.1 c.renew.new.self.book _ called.new.self.book called.ensures.answers called.ensures.leases server book in
-    (called.result.1, told.0, ap number_entered c.in-Some.is, told.1)
+    (called.result.1, told.0, ap number_entered c.in-Some.is ∙ ap (λ (r : Receipt). Some r.number) (sym c.give-receipt.ensures.receipt), told.1)
 
 pub returns-in-None-clause-leases : goal.returns-in-None-clause-leases
 returns-in-None-clause-leases g c =
@@ -160,4 +161,5 @@ returns-then-is_err-clause-leases g c =
     let book : c.renew.new.self.book ≡ with_renewal (renewed_by g.N.Naming.start.epoch c.args.op.now) c.args.moment c.args.held.now.leases =
     renewed_named g.N.Naming.start held.leased.core.journal c.journal.result.now.history c.epoch.result c.renewed_client-client.result c.args.op.now c.args.moment c.args.held.now.leases held.leased.book c.renew.new.self.book c.held.invariant.2 c.journal.ensures.journal c.epoch.ensures c.renewed_client-client.ensures (ap (λ (h : HeldView). h.leases) c.held.view_is) c.renew.ensures.book in
     let server : c.renew.new.self.core ≡ c.args.held.now.server = c.renew.ensures.core ∙ ap (λ (h : HeldView). h.server) c.held.view_is in
-    (None, ?, refl, sym book)
+    let refused : c.refusal.result ≡ resource c.args.op.now = c.refusal.ensures.value ∙ ap (λ o. refusal_of o Resource) c.opnum.ensures in
+    (None, (refused, (ap (λ (s : Server). s.journal) server, ap (λ (s : Server). s.stored) server)), refl, book)

@@ -4,7 +4,7 @@ use Rattle.nfs_core.specs.Entered.{Answers, IsEntered}
 use Rattle.nfs_core.specs.LiveClients.{LiveFollows}
 use Rattle.nfs_core.specs.declared.entered.Entered.{Entered}
 use Rattle.nfs_owners.specs.declared.live_change.LiveChange.{LiveChange}
-use Rattle.nfs_shared.proofs.Books.{book_alike, book_follows, can_follow}
+use Rattle.nfs_shared.proofs.Books.{book_follows, can_follow}
 use Rattle.nfs_shared.proofs.Comes.{AreLaws}
 use Rattle.nfs_shared.proofs.leased_core.LeasedCore.call.Goals as goal
 use Rattle.nfs_state.specs.Entries.{entry_of, request_of}
@@ -25,8 +25,8 @@ follow-requires g c =
     can_follow c.in-Some.made.live (g.B.LeaseBook.is_open old.book) (g.B.LeaseBook.was_opened old.book) (g.B.LeaseBook.lease old.book) old.core core.stored.clients (law.open_was_opened old.book)
     (c.lawful_is_safe.ensures.numbered _ _ c.cores_are_lawful.ensures) old.agrees follows
 
-pub invariant_of-self : goal.invariant_of-self
-invariant_of-self g c =
+pub invariant_of-self-in-Some : goal.invariant_of-self-in-Some
+invariant_of-self-in-Some g c =
     let law = g.met.B.LeaseBook in
     let old = c.args.self.now in
     let core = c.answer-answer.new.self in

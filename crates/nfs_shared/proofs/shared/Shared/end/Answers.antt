@@ -1,30 +1,33 @@
-use Rattle.std.proofs.Common.{◌≡◌, map, subst, arith}
+use Rattle.std.proofs.Common.{◌≡◌, ap, map, subst, sym, arith}
 use Rattle.nfs_shared.proofs.Ends.{all_apart, all_counted, all_stand}
 use Rattle.nfs_shared.proofs.Giving.{counted}
 use Rattle.nfs_shared.proofs.shared.Shared.end.Goals as goal
-use Rattle.nfs_shared.specs.Ends.{AllBegin}
+use Rattle.nfs_core.specs.Server.{Server}
+use Rattle.nfs_shared.specs.Ends.{AllBegin, AllStand}
+use Rattle.nfs_shared.specs.Receipts.{calls_in}
 use Rattle.nfs_shared.specs.Roll.{list_of}
 
 pub returns-clause-stand : goal.returns-clause-stand
 returns-clause-stand g c =
     let held = c.held.inside in
     let begin = subst (AllBegin c.args.seats.items) c.held.invariant.0.receipts c.meet_each.ensures.begin in
-    all_stand held.core.journal.entries held.register.places.items c.args.seats.items (map (λ v. v.items) c.args.receipts.now) begin c.requires.kept
+    subst (λ (s : Server). AllStand s.journal.entries (map (λ v. v.items) c.args.receipts.now)) (sym c.into_core.ensures)
+    (all_stand held.leased.core.journal.entries held.register.places.items c.args.seats.items (map (λ v. v.items) c.args.receipts.now) begin c.requires.kept)
 
 pub returns-clause-apart : goal.returns-clause-apart
 returns-clause-apart g c =
     let held = c.held.inside in
     let begin = subst (AllBegin c.args.seats.items) c.held.invariant.0.receipts c.meet_each.ensures.begin in
-    all_apart held.core.journal.entries held.register.places.items c.args.seats.items (map (λ v. v.items) c.args.receipts.now) begin c.requires.kept
+    all_apart held.leased.core.journal.entries held.register.places.items c.args.seats.items (map (λ v. v.items) c.args.receipts.now) begin c.requires.kept
 
 pub returns-clause-counted : goal.returns-clause-counted
 returns-clause-counted g c =
     let held = c.held.inside in
     let h = c.held.invariant.0 in
-    let es = held.core.journal.entries in
+    let es = held.leased.core.journal.entries in
     let begin = subst (AllBegin c.args.seats.items) h.receipts c.meet_each.ensures.begin in
     let all = all_counted es held.register.places.items c.args.seats.items (map (λ v. v.items) c.args.receipts.now) begin c.requires.kept in
     let met = c.meet_each.ensures in
     let whole : c.meet_each.new.rest.amount ≡ held.register.count.total = c.audit.ensures.whole (omega (arith, met.parts, c.held.invariant.3, c.requires.all)) in
     let same = counted es held.register.places.items (list_of held.register.writer) h.receipts h.places in
-    omega (arith, whole, met.amount, c.held.invariant.4, c.held.invariant.1.total, same, h.places, all)
+    omega (arith, ap (λ (s : Server). calls_in s.journal.entries) c.into_core.ensures, whole, met.amount, c.held.invariant.4, c.held.invariant.1.total, same, h.places, all)
