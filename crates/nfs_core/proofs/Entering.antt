@@ -197,7 +197,7 @@ limit_not_next shortages.Limit is = refl
 limit_not_next shortages.Memory is = absurd cc
 
 -- an entry that may come next, and leads to the state that its effect gives
-pub Step-next : (journal : History) (old new : State) (entry : Entry) (effect : Effect) → IsNext journal old entry effect → new ≡ after (length journal.entries) entry effect old → Step journal old entry new
+abbrev pub Step-next : (journal : History) (old new : State) (entry : Entry) (effect : Effect) → IsNext journal old entry effect → new ≡ after (length journal.entries) entry effect old → Step journal old entry new
 Step-next journal old new entry effect next state = record { below = next.below; effect = effect; allowed = next.allowed; state = state }
 
 -- where memory runs out for a decision, no limit would be passed

@@ -103,9 +103,10 @@ impl Core {
         ensures form { op_result.Fits result.0 }
         ensures lawful { IsLawful self.new }
     {
-        match self.answer(moment, principal, op, filehandle) {
-            (answer, Some(entered)) => (answer, Some(entered.number)),
-            (answer, None) => (answer, None),
+        let (answer, entered) = self.answer(moment, principal, op, filehandle);
+        match entered {
+            Some(entered) => (answer, Some(entered.number)),
+            None => (answer, None),
         }
     }
 

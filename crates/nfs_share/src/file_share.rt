@@ -144,21 +144,23 @@ impl FileShare {
         if self.refuses(&owner, share) {
             return Err(ShareError::Denied);
         }
-        match self.join(&owner, share) {
-            Some(stateid) => Ok(stateid),
-            None => Ok(self.add(OpenState::new(owner, share, number))?),
+        if self.open_of(&owner).is_none() {
+            self.opens.reserve(1)?;
         }
+        Ok(self.grant(owner, share, number))
     }
 
-    /// OPEN, no matter what others deny: as `try_open`, where there is room. It takes no memory.
-    pub fn grant(&mut self, owner: OpenOwner, share: Share, number: u32)
-        requires room { 0 < self.old.room }
+    /// OPEN, no matter what others deny: as `try_open`, where there is room for an open that is made. It takes no memory.
+    pub fn grant(&mut self, owner: OpenOwner, share: Share, number: u32) -> Stateid
+        requires room { open_of owner self.old.opens ≡ None → 0 < self.old.room }
         requires newest { IsNewestFor owner number self.old.opens }
-        ensures { self.new.opens ≡ with_opening owner share number self.old.opens }
+        ensures opens { self.new.opens ≡ with_opening owner share number self.old.opens }
+        ensures stateid { option_map stateid_of (open_of owner self.new.opens) ≡ Some result }
+        ensures room { self.old.room ≤ self.new.room + 1 }
     {
-        if self.join(&owner, share).is_none() {
-            self.opens
-                .push_reserved(OpenState::new(owner, share, number));
+        match self.join(&owner, share) {
+            Some(stateid) => stateid,
+            None => self.add(OpenState::new(owner, share, number)),
         }
     }
 
@@ -175,18 +177,16 @@ impl FileShare {
         Some(stateid)
     }
 
-    // Adds the open, and returns its stateid.
-    fn add(&mut self, newcomer: OpenState) -> Result<Stateid, AllocError>
-        ensures ok { IfOk result (λ stateid. stateid ≡ stateid_of newcomer) }
-        ensures opens { OnOk result (self.new.opens ≡ self.old.opens ++ newcomer ∷ []) }
-        ensures room { OnOk result (self.old.room ≤ self.new.room + 1) }
-        ensures err { OnErr result (self.new ≡ self.old) }
-        ensures full { OnErr result (self.old.room ≡ 0) }
+    // Adds the open, for which there has to be room, and returns its stateid.
+    fn add(&mut self, newcomer: OpenState) -> Stateid
+        requires { 0 < self.old.room }
+        ensures stateid { result ≡ stateid_of newcomer }
+        ensures opens { self.new.opens ≡ self.old.opens ++ newcomer ∷ [] }
+        ensures room { self.old.room ≤ self.new.room + 1 }
     {
-        self.opens.reserve(1)?;
         let stateid = newcomer.stateid();
         self.opens.push_reserved(newcomer);
-        Ok(stateid)
+        stateid
     }
 
     /// OPEN_CONFIRM (RFC 7530, section 16.18): gives the open with this number its next seqid, if there is one.
@@ -213,7 +213,7 @@ impl FileShare {
         match self.find(number) {
             Some(open) if open.shares.can_downgrade_to(share) => {
                 let stateid = open.next_stateid();
-                downgrade_each(&mut self.opens, number, share);
+                self.keep_within(number, share);
                 Ok(stateid)
             }
             _ => Err(ShareError::Invalid),

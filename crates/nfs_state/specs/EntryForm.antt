@@ -16,7 +16,7 @@ use Rattle.nfs_state.specs.declared.entry_kind.EntryKind.TheVariants as kinds
 use Rattle.nfs_xdr.specs.Op.{op}
 use Rattle.nfs_xdr.specs.OpResult.{op_result}
 use Rattle.xdr.specs.Form.{Form, ◌and◌, of, some_of, enumeration, u32, flag}
-use Rattle.xdr.specs.Switch.{Case, case, Arm, arm, Agrees, IsRead}
+use Rattle.xdr.specs.Switch.{Case, Content, case, Arm, arm_in, Agrees, IsRead}
 use Rattle.xdr.specs.Union.{switch}
 
 -- the words of what is there or not: whether it is there, and its number, or 0
@@ -100,13 +100,19 @@ unfoldable pub expire : Form Expire
 expire = of (λ p. record { client = p.0; seen = p.1.0; now = p.1.1 }) (λ e. (e.client, (e.seen, e.now)))
     (λ p. refl) (λ e. refl) (u32 and moment and moment)
 
--- enum { Call = 1, Expire = 2 }
-abbrev pub number_of : EntryKind → ℕ
-number_of kinds.Call = 1
-number_of kinds.Expire = 2
+-- union switch (kind): a kind's row is its number, and what an entry of the kind has after that
+abbrev pub row_of_kind : EntryKind → ℕ × Case Entry
+row_of_kind kinds.Call = (1, case call entries.Call)
+row_of_kind kinds.Expire = (2, case expire entries.Expire)
 
 abbrev pub entry_kinds : List EntryKind
 entry_kinds = kinds.Call ∷ kinds.Expire ∷ []
+
+abbrev pub number_of : EntryKind → ℕ
+number_of k = (row_of_kind k).0
+
+abbrev pub entry_case : EntryKind → Case Entry
+entry_case k = (row_of_kind k).1
 
 pub known : (k : EntryKind) → find (λ v. number_of v == number_of k) entry_kinds ≡ Some k
 known kinds.Call = refl
@@ -115,18 +121,19 @@ known k = refl
 unfoldable pub kind : Form EntryKind
 kind = enumeration number_of entry_kinds known
 
-abbrev pub kind_of : Entry → EntryKind
-kind_of (entries.Call c) = kinds.Call
-kind_of (entries.Expire e) = kinds.Expire
+-- an entry's row: its kind, and how it is written after that
+abbrev row : (k : EntryKind) → Content (entry_case k) → EntryKind × Arm Entry
+row k content = (k, arm_in (entry_case k) content)
 
--- union switch (kind)
-abbrev pub entry_case : EntryKind → Case Entry
-entry_case kinds.Call = case call entries.Call
-entry_case kinds.Expire = case expire entries.Expire
+abbrev pub row_of : Entry → EntryKind × Arm Entry
+row_of (entries.Call c) = row kinds.Call c
+row_of (entries.Expire e) = row kinds.Expire e
+
+abbrev pub kind_of : Entry → EntryKind
+kind_of e = (row_of e).0
 
 abbrev pub entry_arm : Entry → Arm Entry
-entry_arm (entries.Call c) = arm call entries.Call c
-entry_arm (entries.Expire e) = arm expire entries.Expire e
+entry_arm e = (row_of e).1
 
 pub entry_agrees : (k : EntryKind) → Agrees kind_of entry_arm k (entry_case k)
 entry_agrees kinds.Call = λ v. (refl, refl)

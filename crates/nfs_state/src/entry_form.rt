@@ -6,6 +6,7 @@ ghost use Rattle.nfs_state.specs.EntryForm.{entry_case, filehandle_of, principal
 ghost use Rattle.xdr.specs.Reading.{Gives};
 ghost use Rattle.xdr.specs.Switch.{case_at};
 
+use crate::entry_kind::each_kind;
 use crate::{Call, Entry, EntryKind, Expire, Moment, Request};
 use nfs_xdr::{Op, OpResult, Principal};
 use std::alloc::Global;
@@ -146,20 +147,30 @@ impl Wire for Call {
     }
 }
 
+macro_rules! read_of_kind {
+    ([$($Kind:ident = $n:literal),*] $kind:expr, $alloc:expr, $bytes:expr) => {
+        match $kind {
+            $(EntryKind::$Kind => match $Kind::read($alloc, $bytes) {
+                Ok((content, rest)) => Ok((Entry::$Kind(content), rest)),
+                Err(error) => Err(error),
+            },)*
+        }
+    };
+}
+
+macro_rules! write_of_kind {
+    ([$($Kind:ident = $n:literal),*] $entry:expr, $out:expr) => {
+        match $entry {
+            $(Entry::$Kind(content) => write_two($out, &EntryKind::$Kind, content),)*
+        }
+    };
+}
+
 // Reads an entry of this kind.
 fn read_of_kind(alloc: Global, kind: EntryKind, bytes: &[u8]) -> Result<(Entry, &[u8]), WireError>
     ensures { Gives (λ x. (x.0, x.1.now)) result (case_at (entry_case kind) bytes.now) }
 {
-    match kind {
-        EntryKind::Call => match Call::read(alloc, bytes) {
-            Ok((call, rest)) => Ok((Entry::Call(call), rest)),
-            Err(error) => Err(error),
-        },
-        EntryKind::Expire => match Expire::read(alloc, bytes) {
-            Ok((expire, rest)) => Ok((Entry::Expire(expire), rest)),
-            Err(error) => Err(error),
-        },
-    }
+    each_kind!(read_of_kind kind, alloc, bytes)
 }
 
 impl Wire for Entry {
@@ -173,9 +184,6 @@ impl Wire for Entry {
 
     #[tactic(auto, unfolding(crate::specs::EntryForm::entry))]
     fn write(&self, out: &mut Vec<u8>) -> Result<(), WireError> {
-        match self {
-            Entry::Call(call) => write_two(out, &EntryKind::Call, call),
-            Entry::Expire(expire) => write_two(out, &EntryKind::Expire, expire),
-        }
+        each_kind!(write_of_kind self, out)
     }
 }

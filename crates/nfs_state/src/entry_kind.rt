@@ -4,6 +4,24 @@ ghost use Rattle.xdr.specs.Reading.{Answers};
 use std::alloc::Global;
 use xdr::{Wire, WireError, read_u32, write_u32};
 
+// Hands to a macro the kinds of entries with their numbers. An entry of a kind has what the type of that name has.
+macro_rules! each_kind {
+    ($then:ident $($given:tt)*) => {
+        $then!([Call = 1, Expire = 2] $($given)*)
+    };
+}
+
+pub(crate) use each_kind;
+
+macro_rules! kind_of_number {
+    ([$($Kind:ident = $n:literal),*] $number:expr) => {
+        match $number {
+            $($n => Some(EntryKind::$Kind),)*
+            _ => None,
+        }
+    };
+}
+
 /// The kinds of entries, each with its number in a journal's file.
 #[derive(Clone, Copy, Debug, PartialEq, Eq)]
 pub enum EntryKind {
@@ -19,10 +37,9 @@ impl Wire for EntryKind {
         ensures { Answers (λ x. (x.0, x.1.now)) result (forms.kind.at bytes.now) }
     {
         let (number, rest) = read_u32(bytes)?;
-        match number {
-            1 => Ok((EntryKind::Call, rest)),
-            2 => Ok((EntryKind::Expire, rest)),
-            _ => Err(WireError::Short),
+        match each_kind!(kind_of_number number) {
+            Some(kind) => Ok((kind, rest)),
+            None => Err(WireError::Short),
         }
     }
 

@@ -25,5 +25,5 @@ returns-clause-entered c =
         Step-next journal old _ (entry_of c.args.request c.args.decision.answer) effect c.requires.next
             (entered.state ∙ ap (λ (answer : OpResult). after (length journal.entries) (entry_of c.args.request answer) effect old) same),
       ),
-      c.live.ensures,
+      c.live-live.ensures,
     )

@@ -1,4 +1,4 @@
-use Rattle.std.proofs.Common.{rules, subst}
+use Rattle.std.proofs.Common.{rules, subst, sym}
 use Rattle.nfs_core.proofs.following.effect_of.Goals as goal
 use Rattle.nfs_core.specs.Following.{MayFollow}
 use Rattle.nfs_core.specs.Server.{server_of}
@@ -13,7 +13,8 @@ returns-in-Call-clause-not_next c is new step =
 
 pub returns-in-Call-clause-memory : goal.returns-in-Call-clause-memory
 returns-in-Call-clause-memory c is =
-    subst (λ (e : Entry). MayFollow (server_of c.args.journal.now c.args.tables.now) e) (search rules) (c.effect_of_call.ensures.memory is)
+    let follows : Entry → Type 0 = λ e. MayFollow (server_of c.args.journal.now c.args.tables.now) e in
+    subst follows (sym c.in-Call.is) (c.effect_of_call.ensures.memory is)
 
 pub returns-in-Expire-clause-not_next : goal.returns-in-Expire-clause-not_next
 returns-in-Expire-clause-not_next c is new step =

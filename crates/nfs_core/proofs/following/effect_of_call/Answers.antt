@@ -1,6 +1,6 @@
 use Rattle.std.proofs.Common.{◌≡◌, Err, ap, rules}
 use Rattle.std.proofs.lemmas.Result.{err_from_is_err_and}
-use Rattle.nfs_core.proofs.Entering.{limit_not_next, memory_runs_out, with_same_answer}
+use Rattle.nfs_core.proofs.Entering.{limit_not_next, memory_runs_out, not_asked, with_same_answer}
 use Rattle.nfs_core.specs.Following.{error_of}
 use Rattle.nfs_core.specs.declared.following.FollowError.TheVariants as errors
 use Rattle.nfs_state.specs.declared.shortage.Shortage.{Shortage}
@@ -28,3 +28,7 @@ returns-in_err-decision-clause-memory c is_memory =
     let is : failed.0 ≡ error_of shortage = failed.2 in
     let memory : error_of shortage ≡ errors.Memory = cc (failed.1, is, is_memory) in
     (search rules, c.in_err-decision.ensures.memory (ap (λ (s : Shortage). Err s) (memory_runs_out shortage memory)))
+
+pub returns-then-not-can_be_asked-clause-not_next : goal.returns-then-not-can_be_asked-clause-not_next
+returns-then-not-can_be_asked-clause-not_next c is =
+    not_asked c.args.journal.now.history (state_of c.args.tables.now) c.args.call.now (search (rules, c.can_be_asked.ensures))

@@ -3,7 +3,6 @@ use Rattle.std.specs.Prelude.{Result}
 use Rattle.nfs_forms.specs.declared.status.Refusal.{Refusal}
 use Rattle.nfs_rules.specs.Finding.{locking_seen}
 use Rattle.nfs_rules.specs.declared.ruling.Ruling.{Ruling}
-use Rattle.nfs_rules.specs.operations.Lock as lock
 use Rattle.nfs_rules.specs.operations.Lock.{IsAllowed, IsLock, Locking, allows, locking_of, own, refusal_of}
 use Rattle.nfs_rules.proofs.Sendable.{locking_refusal, refused_ruled}
 use Rattle.nfs_rules.proofs.Sequenced.{rules_onto}

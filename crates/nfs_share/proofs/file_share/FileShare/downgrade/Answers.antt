@@ -5,8 +5,7 @@ use Rattle.nfs_share.proofs.file_share.FileShare.downgrade.Goals as goal
 
 pub returns-in-Some-clause-stateid : goal.returns-in-Some-clause-stateid
 returns-in-Some-clause-stateid c =
-    ap (λ opens. option_map stateid_of (open_with_number c.args.number opens)) c.downgrade_each.ensures.items
-    ∙ stateid-with_each (is_numbered c.args.number) (after_downgrade c.args.share) (λ o. refl) (λ o. refl) c.self.inside.opens.items
-    ∙ ap (λ (f : FileOpens). option_map next_stateid_of (open_with_number c.args.number f.opens)) c.self.view_is
+    ap (λ (f : FileOpens). option_map stateid_of (open_with_number c.args.number f.opens)) c.keep_within.ensures
+    ∙ stateid-with_each (is_numbered c.args.number) (after_downgrade c.args.share) (λ o. refl) (λ o. refl) c.args.self.now.opens
     ∙ ap (option_map next_stateid_of) (sym c.in-Some.ensures)
     ∙ ap Some (sym c.next_stateid-stateid.ensures)

@@ -12,5 +12,5 @@ grant-requires-clause-newest c =
 pub returns-then-node-len : goal.returns-then-node-len
 returns-then-node-len c =
     let change = with_opening c.args.owner c.args.share c.args.number in
-    changed_at change c.self.inside.files.items c.args.node c.index_mut.result.now c.grant.new.self (omega (arith, c.if-node-len.true, c.len.ensures)) c.index_mut.ensures.value c.grant.ensures
+    changed_at change c.self.inside.files.items c.args.node c.index_mut.result.now c.grant.new.self (omega (arith, c.if-node-len.true, c.len.ensures)) c.index_mut.ensures.value c.grant.ensures.opens
     ∙ ap (λ files. with_opens c.args.node change (opens_in files)) c.self.view_is

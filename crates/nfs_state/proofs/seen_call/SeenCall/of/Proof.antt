@@ -3,8 +3,7 @@ use mathlib.Core.Path.{refl, sym, subst}
 use Prim.Native.Nat.{ℕ}
 use mathlib.Core.List.{List, [], ◌∷◌, ◌++◌}
 use seplogic.Ra.Ura.{Ura}
-use mir.Syntax.{Fn}
-use mir.Val.{Val, vptr, vstruct, vcons, vnil}
+use mir.Val.{Val, vptr, vstruct, vnil}
 use base.Logic.{SProp, ent, via, fst∗, snd∗}
 use base.Fml.{Fml}
 use prog.Memory.{Memory}
@@ -15,9 +14,9 @@ use contract.Monad.{Fun, fact_use}
 use contract.Running.{tables, tables_of}
 use sound.WpLaws.{WpFn-mono}
 use types.Kit.{‵, raw, ◌⊛◌, ◌$◌, ◌∵◌, !, qed, move, keep, split, join, fjoin, use0, suffices, done}
-use types.Run.{no_more, and_then, returns, enter}
+use types.Run.{no_more, returns, enter}
 use types.Part.{agg}
-use types.ByLocal.{alloc_all, pass_all, free_all, look_at, get, sets, env}
+use types.ByLocal.{alloc_all, pass_all, free_all, look_at, sets}
 use denote.RattleType.{RattleType, owns}
 use denote.Exit.{yes}
 use denote.Laws.{Are, Ises, owns_show, showss}
