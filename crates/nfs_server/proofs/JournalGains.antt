@@ -1,5 +1,5 @@
 -- The entries that the journal of a core gains when the core is asked questions as a service.
-use Rattle.std.proofs.Common.{◌≡◌, Option, Some, None, List, [], ◌∷◌, ◌++◌, refl, sym, ap, ◌∙◌, inl, inr, append_assoc}
+use Rattle.std.proofs.Common.{◌≡◌, ℕ, Option, Some, None, List, [], ◌∷◌, ◌++◌, refl, sym, ap, ◌∙◌, inl, inr, append_assoc}
 use Rattle.std.proofs.lemmas.List.{append-nil}
 use Rattle.nfs_state.specs.declared.entry.Entry.{Entry}
 use Rattle.nfs_core.specs.Entered.{Answers}
