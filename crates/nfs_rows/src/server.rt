@@ -10,7 +10,7 @@ use nfs_tree::{Tree, TreeError};
 use std::alloc::Global;
 
 /// A server that takes one step after another, and serves each connection to its end.
-#[derive(Debug, Drop)]
+#[derive(Drop)]
 pub struct Server {
     tree: Tree,
     lent: Lent,
