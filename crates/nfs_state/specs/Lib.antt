@@ -9,5 +9,6 @@ pub mod Changes
 pub mod LiveChange
 pub mod Places
 pub mod Room
+pub mod Store
 pub mod Shortage
 pub mod EntryForm

@@ -4,12 +4,14 @@ ghost use Rattle.nfs_state.specs.Entries.{with_entry};
 ghost use Rattle.nfs_state.specs.Kept.{Agrees, kept_in, owners_after, update_by};
 ghost use Rattle.nfs_state.specs.Room.{Fits, HasGivenNumbers, TakesNoMemory, state_of, stored_of};
 ghost use Rattle.nfs_state.specs.State.{History};
+ghost use Rattle.nfs_state.specs.Store.{AreAlike, OwnersAgree, server_of};
 
 use crate::effect::Effect;
 use crate::entry::{Entry, JOURNAL_LIMIT};
-use crate::journal::{Journal, push_entry};
+use crate::journal::push_entry;
 use crate::owner_update::OwnerUpdate;
 use crate::shortage::Shortage;
+use crate::store::Store;
 use crate::tables::Tables;
 use std::alloc::Global;
 
@@ -18,30 +20,31 @@ use std::alloc::Global;
 /// kept for an owner and there is room, it takes no memory.
 pub fn commit_entry(
     alloc: Global,
-    tables: &mut Tables,
-    journal: &mut Journal,
+    store: &mut Store,
     entry: Entry,
     effect: Effect,
 ) -> Result<u32, Shortage>
-    requires below { length journal.old.history.entries < JOURNAL_LIMIT }
-    requires fits { Fits entry effect (state_of tables.old) }
-    requires given { HasGivenNumbers (state_of tables.old) }
-    requires kept { Agrees journal.old.history tables.old.owners.owners }
-    ensures number { IfOk result (λ n. n ≡ length journal.old.history.entries) }
-    ensures entry { OnOk result (journal.new.history ≡ with_entry entry journal.old.history) }
-    ensures state { OnOk result (state_of tables.new
-        ≡ after (length journal.old.history.entries) entry effect (state_of tables.old)) }
-    ensures kept { OnOk result (Agrees journal.new.history tables.new.owners.owners) }
+    requires below { length store.old.journal.history.entries < JOURNAL_LIMIT }
+    requires fits { Fits entry effect (state_of store.old.tables) }
+    requires given { HasGivenNumbers (state_of store.old.tables) }
+    requires kept { OwnersAgree store.old }
+    ensures number { IfOk result (λ n. n ≡ length store.old.journal.history.entries) }
+    ensures entry { OnOk result
+        (store.new.journal.history ≡ with_entry entry store.old.journal.history) }
+    ensures state { OnOk result (state_of store.new.tables
+        ≡ after (length store.old.journal.history.entries) entry effect
+        (state_of store.old.tables)) }
+    ensures kept { OnOk result (OwnersAgree store.new) }
     ensures memory { IfErr result (λ e. e ≡ Shortage.Memory) }
-    ensures ready { 0 < journal.old.room → TakesNoMemory entry effect tables.old → IsOk result }
-    ensures same { OnErr result ((journal.new.history ≡ journal.old.history)
-        × (stored_of tables.new ≡ stored_of tables.old)) }
-    ensures room { OnErr result (journal.old.room ≤ journal.new.room) }
+    ensures ready { 0 < store.old.journal.room → TakesNoMemory entry effect store.old.tables
+        → IsOk result }
+    ensures same { OnErr result (AreAlike (server_of store.old) (server_of store.new)) }
+    ensures room { OnErr result (store.old.journal.room ≤ store.new.journal.room) }
 {
-    journal.entries.reserve(1)?;
-    let number = journal.entries.len() as u32;
-    make_changes(alloc, tables, &entry, effect, number)?;
-    Ok(push_entry(&mut journal.entries, entry))
+    store.journal.entries.reserve(1)?;
+    let number = store.journal.entries.len() as u32;
+    make_changes(alloc, &mut store.tables, &entry, effect, number)?;
+    Ok(push_entry(&mut store.journal.entries, entry))
 }
 
 // Makes room for the effect of the entry, which gets this number, and then makes its changes.
