@@ -3,3 +3,4 @@ pub mod Sequenced
 pub mod Sequencing
 pub mod OpeningLaws
 pub mod Uniqueness
+pub mod Judging

@@ -110,7 +110,7 @@ refusal_sendable op refusal answer other is = record {
 }
 
 -- A sequence that the stored owner gives is one that the known owner gives.
-owner_sequence : (journal : History) (name : StateOwner) (stored : List Owner) (o : Owner) (seqid : ℕ) (request : Request) (s : SequenceStep) → Agrees journal stored → owners.owner_of name stored ≡ Some o → IsOfKnown (is_open request.op && not o.state.confirmed) o.state.kept name seqid request s → IsOfOwner journal (owner_of name (map known_owner stored)) name seqid request s
+pub owner_sequence : (journal : History) (name : StateOwner) (stored : List Owner) (o : Owner) (seqid : ℕ) (request : Request) (s : SequenceStep) → Agrees journal stored → owners.owner_of name stored ≡ Some o → IsOfKnown (is_open request.op && not o.state.confirmed) o.state.kept name seqid request s → IsOfOwner journal (owner_of name (map known_owner stored)) name seqid request s
 owner_sequence journal name stored o seqid request s agrees found is =
     let of_owner : Option KnownOwner → Type 0 = λ known. IsOfOwner journal known name seqid request s in
     subst of_owner (sym (owner_known name stored ∙ ap (option_map known_owner) found)) (o.state.kept, (kept_found journal name stored o agrees found).entry, is)

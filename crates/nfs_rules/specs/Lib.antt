@@ -2,6 +2,7 @@ pub mod Stateids
 pub mod Refusing
 pub mod Newcomers
 pub mod Sequences
+pub mod Judging
 pub mod Locking
 pub mod operations
 pub mod Deciding

@@ -1,3 +1,4 @@
+ghost use Rattle.nfs_rules.specs.Judging.{JudgedAsSequenced};
 ghost use Rattle.nfs_rules.specs.operations.{AtMostOneDecision};
 
 use nfs_locks::at_most_one_report;
@@ -10,3 +11,9 @@ pub fn at_most_one_decision()
     at_most_one_range();
     at_most_one_report();
 }
+
+/// The law that the verdict of the stored owners on a request (`Owners::judge`) leads to the one step that the rules take,
+/// where what is stored for each owner is what its entry in the journal has.
+pub fn judged_as_sequenced()
+    ensures { JudgedAsSequenced }
+{}

@@ -18,7 +18,7 @@ mod turn;
 pub use decision::Decision;
 pub use demand::{Demand, Kinds};
 pub use entries::expire::{NotExpired, expire};
-pub use laws::at_most_one_decision;
+pub use laws::{at_most_one_decision, judged_as_sequenced};
 pub use opening::Opening;
 pub use operations::decide;
 pub use passage::Passage;

@@ -2,9 +2,9 @@
 ghost use Rattle.std.specs.Prelude.{◌-◌, ◌^◌, ◌<◌, IsFalse, IsTrue};
 ghost use Rattle.nfs_rules.specs.operations.{IsPlain, IsRuled};
 ghost use Rattle.nfs_rules.specs.Deciding.{Decides};
-ghost use Rattle.nfs_state.specs.Kept.{Agrees};
 ghost use Rattle.nfs_state.specs.Entries.{IsFilehandle};
 ghost use Rattle.nfs_state.specs.Room.{state_of};
+ghost use Rattle.nfs_state.specs.Store.{OwnersAgree};
 ghost use Rattle.nfs_xdr.specs.Names.{is_sequenced};
 ghost use Rattle.nfs_xdr.specs.Op.{has_entry};
 
@@ -24,63 +24,51 @@ mod setclientid_confirm;
 use crate::decision::Decision;
 use crate::sequence::{requester_of_open, requester_of_target};
 use crate::stateids::target_of;
-use nfs_state::{Journal, Request, Shortage, Tables};
+use nfs_state::{Request, Shortage, Store};
 use nfs_xdr::{Names, Op};
 use std::alloc::Global;
 
 /// Decides, by the operation's rule, how a request is answered and what it changes.
-pub fn decide(
-    alloc: Global,
-    tables: &Tables,
-    journal: &Journal,
-    request: &Request,
-) -> Result<Decision, Shortage>
+pub fn decide(alloc: Global, store: &Store, request: &Request) -> Result<Decision, Shortage>
     requires entry { IsTrue (has_entry request.now.op) }
-    requires node { IsFilehandle journal.now.history request.now.filehandle }
-    requires numbers { tables.now.clients.registry.last_confirm < 2 ^ 64 - 1 }
-    requires states { tables.now.numbers < 2 ^ 32 - 1 }
-    requires kept { Agrees journal.now.history tables.now.owners.owners }
-    ensures { Decides (IsRuled request.now.op journal.now.history (state_of tables.now) request.now)
-        (state_of tables.now) request.now.op result }
+    requires node { IsFilehandle store.now.journal.history request.now.filehandle }
+    requires numbers { store.now.tables.clients.registry.last_confirm < 2 ^ 64 - 1 }
+    requires states { store.now.tables.numbers < 2 ^ 32 - 1 }
+    requires kept { OwnersAgree store.now }
+    ensures { Decides (IsRuled request.now.op store.now.journal.history (state_of store.now.tables)
+        request.now) (state_of store.now.tables) request.now.op result }
 {
     match request.op.names() {
         Names::Opener(owner, seqid) => {
-            let requester = requester_of_open(tables, owner, seqid);
-            sequenced::decide(alloc, tables, journal, request, requester, Ok(None))
+            let requester = requester_of_open(&store.tables, owner, seqid);
+            sequenced::decide(alloc, store, request, requester, Ok(None))
         }
         Names::Owned(stateid, seqid) => {
-            let target = target_of(tables, journal.epoch(), stateid);
-            let requester = requester_of_target(tables, stateid, seqid, target);
-            sequenced::decide(alloc, tables, journal, request, requester, target)
+            let target = target_of(&store.tables, store.journal.epoch(), stateid);
+            let requester = requester_of_target(&store.tables, stateid, seqid, target);
+            sequenced::decide(alloc, store, request, requester, target)
         }
         Names::Nothing | Names::Client(_) | Names::State(_) => {
-            decide_plain(alloc, tables, journal, request)
+            decide_plain(alloc, store, request)
         }
     }
 }
 
 // Decides an operation that goes by no sequence id.
-fn decide_plain(
-    alloc: Global,
-    tables: &Tables,
-    journal: &Journal,
-    request: &Request,
-) -> Result<Decision, Shortage>
+fn decide_plain(alloc: Global, store: &Store, request: &Request) -> Result<Decision, Shortage>
     requires entry { IsTrue (has_entry request.now.op) }
     requires other { IsFalse (is_sequenced request.now.op) }
-    requires node { IsFilehandle journal.now.history request.now.filehandle }
-    requires numbers { tables.now.clients.registry.last_confirm < 2 ^ 64 - 1 }
-    ensures { Decides (IsPlain request.now.op journal.now.history (state_of tables.now) request.now)
-        (state_of tables.now) request.now.op result }
+    requires node { IsFilehandle store.now.journal.history request.now.filehandle }
+    requires numbers { store.now.tables.clients.registry.last_confirm < 2 ^ 64 - 1 }
+    ensures { Decides (IsPlain request.now.op store.now.journal.history (state_of store.now.tables)
+        request.now) (state_of store.now.tables) request.now.op result }
 {
     match &request.op {
-        Op::Getattr(mask) => getattr::decide(alloc, tables, journal, request, mask),
-        Op::Setclientid(args) => setclientid::decide(tables, journal, request, args),
-        Op::SetclientidConfirm(args) => setclientid_confirm::decide(
-            alloc, tables, journal, request, args,
-        ),
-        Op::Lockt(args) => lockt::decide(tables, journal, request, args),
-        Op::ReleaseLockowner(args) => release_lockowner::decide(tables, args),
+        Op::Getattr(mask) => getattr::decide(alloc, store, request, mask),
+        Op::Setclientid(args) => setclientid::decide(store, request, args),
+        Op::SetclientidConfirm(args) => setclientid_confirm::decide(alloc, store, request, args),
+        Op::Lockt(args) => lockt::decide(store, request, args),
+        Op::ReleaseLockowner(args) => release_lockowner::decide(&store.tables, args),
         _ => unreachable!(),
     }
 }

@@ -5,6 +5,7 @@ ghost use Rattle.nfs_state.specs.Entries.{IsSendable};
 ghost use Rattle.nfs_state.specs.Kept.{Agrees};
 ghost use Rattle.nfs_state.specs.Room.{state_of};
 ghost use Rattle.nfs_state.specs.State.{History};
+ghost use Rattle.nfs_state.specs.Store.{OwnersAgree};
 ghost use Rattle.nfs_rules.specs.Sequences.{IsJudged, IsOfKnown, IsOfUnknown, IsRestart, IsSequence, is_open, owner_of_found, refusal_to, requester_of_open, requester_of_target};
 ghost use Rattle.nfs_owners.specs.Kept.{closes};
 ghost use Rattle.nfs_owners.specs.StateOwner.{owner_seen};
@@ -12,7 +13,7 @@ ghost use Rattle.nfs_owners.specs.StateOwner.{owner_seen};
 use crate::passage::Passage;
 use crate::stateids::Found;
 use nfs_owners::{Kept, OwnerRef, OwnerState, Verdict};
-use nfs_state::{Journal, Request, Tables};
+use nfs_state::{Request, Store, Tables};
 use nfs_xdr::{Op, OpResult, OpenOwner, Refusal, Stateid};
 use std::alloc::AllocError;
 
@@ -93,25 +94,25 @@ fn closer_of(tables: &Tables, stateid: Stateid, seqid: u32) -> Requester<'_>
 
 /// Whether the request is answered already, or goes on to its own rule.
 pub(crate) fn sequence_of<'a>(
-    tables: &Tables,
-    journal: &Journal,
+    store: &Store,
     request: &Request,
     requester: Requester<'a>,
 ) -> Result<SequenceStep<'a>, AllocError>
-    requires kept { Agrees journal.now.history tables.now.owners.owners }
+    requires kept { OwnersAgree store.now }
     requires refusal { HasOtherRefusal (requester_seen requester) }
-    ensures sequence { IfOk result (λ s. IsSequence journal.now.history (state_of tables.now)
-        (requester_seen requester.entry) request.now (sequence_seen s)) }
+    ensures sequence { IfOk result (λ s. IsSequence store.now.journal.history
+        (state_of store.now.tables) (requester_seen requester.entry) request.now
+        (sequence_seen s)) }
     ensures sendable { IfOk result (λ s. IsSendableSequence request.now.op (sequence_seen s)) }
-    ensures passage { IfOk result (λ s. HasPassage (state_of tables.now) (sequence_seen s)) }
-    ensures memory { OnErr result (HasAnswer (IsSequence journal.now.history (state_of tables.now)
-        (requester_seen requester.entry) request.now)) }
+    ensures passage { IfOk result (λ s. HasPassage (state_of store.now.tables) (sequence_seen s)) }
+    ensures memory { OnErr result (HasAnswer (IsSequence store.now.journal.history
+        (state_of store.now.tables) (requester_seen requester.entry) request.now)) }
 {
     let (name, seqid) = match requester {
         Requester::Refused(refusal) => return Ok(refusal_to(&request.op, refusal)),
         Requester::Owner(name, seqid) => (name, seqid),
     };
-    match tables.owners.find(name) {
+    match store.tables.owners.find(name) {
         None => Ok(begin(request, name)),
         Some(known) => resume(known, request, name, seqid),
     }

@@ -4,7 +4,7 @@ ghost use Rattle.std.specs.Prelude.{◌≡◌, ◌↔◌, Err, IfOk, IsFalse, Is
 ghost use Rattle.nfs_rules.specs.entries.Expire.{IsExpiry, is_due, is_live};
 ghost use Rattle.nfs_state.specs.Room.{state_of};
 
-use nfs_state::{Change, Effect, Expire, Journal, Tables, is_over};
+use nfs_state::{Change, Effect, Expire, Store, is_over};
 use nfs_xdr::ClientId;
 
 /// Why a client isn't removed.
@@ -17,23 +17,23 @@ pub enum NotExpired {
 }
 
 /// The effect of a client's end, if its lease has run out.
-pub fn expire(tables: &Tables, journal: &Journal, expire: &Expire) -> Result<Effect, NotExpired>
-    ensures expiry { IfOk result (λ effect. IsExpiry journal.now.history (state_of tables.now)
-        expire.entry.now effect) }
-    ensures not_live { result ≡ Err NotExpired.NotLive
-        ↔ IsFalse (is_live journal.now.history (state_of tables.now) expire.entry.now.client) }
-    ensures not_due { result ≡ Err NotExpired.NotDue
-        ↔ IsTrue (is_live journal.now.history (state_of tables.now) expire.entry.now.client)
-        × IsFalse (is_due journal.now.history expire.entry.now) }
+pub fn expire(store: &Store, expire: &Expire) -> Result<Effect, NotExpired>
+    ensures expiry { IfOk result (λ effect.
+        IsExpiry store.now.journal.history (state_of store.now.tables) expire.entry.now effect) }
+    ensures not_live { result ≡ Err NotExpired.NotLive ↔ IsFalse
+        (is_live store.now.journal.history (state_of store.now.tables) expire.entry.now.client) }
+    ensures not_due { result ≡ Err NotExpired.NotDue ↔ IsTrue
+        (is_live store.now.journal.history (state_of store.now.tables) expire.entry.now.client)
+        × IsFalse (is_due store.now.journal.history expire.entry.now) }
 {
     let client = ClientId {
-        epoch: journal.epoch(),
+        epoch: store.journal.epoch(),
         number: expire.client,
     };
-    if tables.clients.of(client).is_none() {
+    if store.tables.clients.of(client).is_none() {
         return Err(NotExpired::NotLive);
     }
-    if !is_over(expire.seen, journal.lease(), expire.now) {
+    if !is_over(expire.seen, store.journal.lease(), expire.now) {
         return Err(NotExpired::NotDue);
     }
     Ok(Effect::change_alone(Change::Expires(client)))

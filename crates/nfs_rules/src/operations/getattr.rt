@@ -6,7 +6,7 @@ ghost use Rattle.nfs_state.specs.Room.{state_of};
 ghost use Rattle.nfs_xdr.specs.Short.{IsShort};
 
 use crate::decision::Decision;
-use nfs_state::{Change, Effect, Journal, Request, Shortage, Tables};
+use nfs_state::{Change, Effect, Request, Shortage, Store};
 use nfs_tree::Subject;
 use nfs_xdr::{Answer, Bitmap, Fattr, Op, OpResult, Refusal};
 use std::alloc::{AllocError, Global};
@@ -14,17 +14,16 @@ use std::alloc::{AllocError, Global};
 /// Decides a GETATTR: its answer, and that it changes nothing.
 pub(super) fn decide(
     alloc: Global,
-    tables: &Tables,
-    journal: &Journal,
+    store: &Store,
     request: &Request,
     mask: &Bitmap,
 ) -> Result<Decision, Shortage>
-    requires node { IsFilehandle journal.now.history request.now.filehandle }
-    ensures { Decides (λ d.
-        d ≡ rule journal.now.history (state_of tables.now) request.now.filehandle mask.now)
-        (state_of tables.now) (Op.Getattr mask.now) result }
+    requires node { IsFilehandle store.now.journal.history request.now.filehandle }
+    ensures { Decides (λ d. d ≡ rule store.now.journal.history
+        (state_of store.now.tables) request.now.filehandle mask.now)
+        (state_of store.now.tables) (Op.Getattr mask.now) result }
 {
-    let answer = attributes(alloc, tables, journal, mask, request.filehandle)?;
+    let answer = attributes(alloc, store, mask, request.filehandle)?;
     Ok(Decision {
         answer: OpResult::Getattr(answer),
         effect: Effect::change_alone(Change::Nothing),
@@ -33,33 +32,32 @@ pub(super) fn decide(
 
 fn attributes(
     alloc: Global,
-    tables: &Tables,
-    journal: &Journal,
+    store: &Store,
     mask: &Bitmap,
     filehandle: Option<u32>,
 ) -> Result<Answer<Fattr>, AllocError>
-    requires node { IsFilehandle journal.now.history filehandle }
+    requires node { IsFilehandle store.now.journal.history filehandle }
     ensures attributes { IfOk result (λ r.
-        r ≡ attributes journal.now.history (state_of tables.now) filehandle mask.now) }
+        r ≡ attributes store.now.journal.history (state_of store.now.tables) filehandle mask.now) }
     ensures short { IfOk result (λ r. IsShort (OpResult.Getattr r)) }
 {
     let Some(node) = filehandle else {
         return Ok(Answer::Refused(Refusal::NoFileHandle));
     };
-    let found = subject_of(tables, journal, node).attributes(alloc, mask.as_slice())?;
+    let found = subject_of(store, node).attributes(alloc, mask.as_slice())?;
     Ok(Answer::Done(found))
 }
 
 // The node with the size and the change number that its file has now.
-fn subject_of(tables: &Tables, journal: &Journal, node: u32) -> Subject
-    ensures { result ≡ subject_of journal.now.history (state_of tables.now) node }
+fn subject_of(store: &Store, node: u32) -> Subject
+    ensures { result ≡ subject_of store.now.journal.history (state_of store.now.tables) node }
 {
-    let (change, size) = tables.change_and_size(node);
+    let (change, size) = store.tables.change_and_size(node);
     Subject {
         node,
-        is_directory: journal.tree().is_directory(node),
+        is_directory: store.journal.tree().is_directory(node),
         change,
         size,
-        lease: journal.lease(),
+        lease: store.journal.lease(),
     }
 }

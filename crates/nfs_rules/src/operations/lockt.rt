@@ -10,22 +10,17 @@ use crate::locking::{denied_by, mode_of};
 use nfs_forms::LockDenied;
 use nfs_operations::lockt::Lockt;
 use nfs_ranges::range_of;
-use nfs_state::{Change, Effect, Journal, Request, Shortage, Tables};
+use nfs_state::{Change, Effect, Request, Shortage, Store, Tables};
 use nfs_xdr::{Answer, Op, OpResult, Refusal};
 use std::alloc::AllocError;
 
 /// Decides a LOCKT: its answer, and that it changes nothing.
-pub(super) fn decide(
-    tables: &Tables,
-    journal: &Journal,
-    request: &Request,
-    args: &Lockt,
-) -> Result<Decision, Shortage>
-    ensures { Decides (IsRuled journal.now.history (state_of tables.now) request.now.filehandle
-        args.now) (state_of tables.now) (Op.Lockt args.now) result }
+pub(super) fn decide(store: &Store, request: &Request, args: &Lockt) -> Result<Decision, Shortage>
+    ensures { Decides (IsRuled store.now.journal.history (state_of store.now.tables)
+        request.now.filehandle args.now) (state_of store.now.tables) (Op.Lockt args.now) result }
 {
-    let answer = match lockt_file(tables, journal, request.filehandle, args) {
-        Ok(node) => test(tables, node, args)?,
+    let answer = match lockt_file(store, request.filehandle, args) {
+        Ok(node) => test(&store.tables, node, args)?,
         Err(refusal) => Answer::Refused(refusal),
     };
     Ok(Decision {
@@ -35,19 +30,14 @@ pub(super) fn decide(
 }
 
 // The node of the file that is asked about, or the first refusal.
-fn lockt_file(
-    tables: &Tables,
-    journal: &Journal,
-    filehandle: Option<u32>,
-    args: &Lockt,
-) -> Result<u32, Refusal>
+fn lockt_file(store: &Store, filehandle: Option<u32>, args: &Lockt) -> Result<u32, Refusal>
     ensures { result
-        ≡ lockt_file journal.now.history (state_of tables.now) filehandle args.now }
+        ≡ lockt_file store.now.journal.history (state_of store.now.tables) filehandle args.now }
 {
     let node = filehandle.ok_or(Refusal::NoFileHandle)?;
-    if tables.clients.of(args.owner.client).is_none() {
+    if store.tables.clients.of(args.owner.client).is_none() {
         Err(Refusal::StaleClientId)
-    } else if journal.tree().is_directory(node) {
+    } else if store.journal.tree().is_directory(node) {
         Err(Refusal::IsDir)
     } else {
         Ok(node)

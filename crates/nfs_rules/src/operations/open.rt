@@ -19,7 +19,7 @@ use crate::stateids::target_of;
 use nfs_operations::open::{Open, OpenOk};
 use nfs_owners::OwnerRef;
 use nfs_share::{OpenState, Share};
-use nfs_state::{Change, Journal, Shortage, Tables};
+use nfs_state::{Change, Journal, Shortage, Store, Tables};
 use nfs_xdr::{
     Answer, Bitmap, ChangeInfo, Claim, CreateHow, Op, OpResult, OpenDelegation, OpenHow, OpenOwner,
     Opnum, Refusal, Stateid,
@@ -29,22 +29,21 @@ use std::alloc::Global;
 /// The own rule of OPEN, under the current filehandle `directory`.
 pub(super) fn rule(
     alloc: Global,
-    tables: &Tables,
-    journal: &Journal,
+    store: &Store,
     directory: u32,
     passage: Passage,
     args: &Open,
 ) -> Result<Ruling, Shortage>
-    requires states { tables.now.numbers < 2 ^ 32 - 1 }
-    requires passage { IsPassage passage (open_owner args.now.owner) (state_of tables.now) }
-    ensures rules { (request : Request) → ByOwnRule
-        (own journal.now.history (state_of tables.now) args.now request directory passage)
-        (state_of tables.now) (Op.Open args.now) result }
-    ensures error { OnErr result
-        (IsOk (opening journal.now.history (state_of tables.now) directory args.now)) }
+    requires states { store.now.tables.numbers < 2 ^ 32 - 1 }
+    requires passage { IsPassage passage (open_owner args.now.owner) (state_of store.now.tables) }
+    ensures rules { (request : Request) → ByOwnRule (own store.now.journal.history
+        (state_of store.now.tables) args.now request directory passage)
+        (state_of store.now.tables) (Op.Open args.now) result }
+    ensures error { OnErr result (IsOk
+        (opening store.now.journal.history (state_of store.now.tables) directory args.now)) }
 {
-    match opening_or_ruling(find_opening(tables, journal, directory, args)) {
-        Ok(opening) => grant(alloc, tables, passage, args, opening),
+    match opening_or_ruling(find_opening(store, directory, args)) {
+        Ok(opening) => grant(alloc, &store.tables, passage, args, opening),
         Err(ruling) => Ok(ruling),
     }
 }
@@ -61,20 +60,16 @@ fn opening_or_ruling(opening: Result<Opening, Refusal>) -> Result<Opening, Rulin
 
 // What the OPEN opens, or the first of its refusals. An owner that starts anew has the same, since its own opens refuse
 // it nothing.
-fn find_opening(
-    tables: &Tables,
-    journal: &Journal,
-    directory: u32,
-    args: &Open,
-) -> Result<Opening, Refusal>
-    ensures { result ≡ opening journal.now.history (state_of tables.now) directory args.now }
+fn find_opening(store: &Store, directory: u32, args: &Open) -> Result<Opening, Refusal>
+    ensures { result
+        ≡ opening store.now.journal.history (state_of store.now.tables) directory args.now }
 {
     let name = name_of(&args.claim)?;
     let share = Share::from_numbers(args.access, args.deny).ok_or(Refusal::Inval)?;
-    let found = found_by(&args.how, journal.tree().resolve(directory, name))?;
-    let file = file_at(journal, &args.how, found)?;
-    let node = unless_delegated(tables, journal, &args.claim, file)?;
-    unless_denied(tables, &args.owner, share, node)
+    let found = found_by(&args.how, store.journal.tree().resolve(directory, name))?;
+    let file = file_at(&store.journal, &args.how, found)?;
+    let node = unless_delegated(store, &args.claim, file)?;
+    unless_denied(&store.tables, &args.owner, share, node)
 }
 
 // The name that the claim opens.
@@ -125,18 +120,14 @@ fn file_at(journal: &Journal, how: &OpenHow, node: u32) -> Result<u32, Refusal>
 }
 
 // There are no delegations: the delegation's stateid in a CLAIM_DELEGATE_CUR never names one.
-fn unless_delegated(
-    tables: &Tables,
-    journal: &Journal,
-    claim: &Claim,
-    node: u32,
-) -> Result<u32, Refusal>
-    ensures { result ≡ unless_delegated journal.now.history (state_of tables.now) claim.now node }
+fn unless_delegated(store: &Store, claim: &Claim, node: u32) -> Result<u32, Refusal>
+    ensures { result
+        ≡ unless_delegated store.now.journal.history (state_of store.now.tables) claim.now node }
 {
     let Claim::DelegateCur { stateid, .. } = claim else {
         return Ok(node);
     };
-    match target_of(tables, journal.epoch(), *stateid) {
+    match target_of(&store.tables, store.journal.epoch(), *stateid) {
         Err(refusal) => Err(refusal),
         Ok(_) => Err(Refusal::BadStateId),
     }

@@ -4,8 +4,8 @@ ghost use Rattle.std.specs.Prelude.{◌≡◌, ◌<◌, ◌-◌, ◌^◌, IfOk, 
 ghost use Rattle.nfs_rules.specs.Deciding.{ByOwnRule, Decides, HasOtherRefusal, IsPassageOf, IsRequesterOf, IsTargetOf};
 ghost use Rattle.nfs_owners.specs.StateOwner.{owner_seen};
 ghost use Rattle.nfs_rules.specs.Finding.{newcomer_seen, requester_seen, target_seen};
-ghost use Rattle.nfs_state.specs.Kept.{Agrees};
 ghost use Rattle.nfs_state.specs.Room.{state_of};
+ghost use Rattle.nfs_state.specs.Store.{OwnersAgree};
 ghost use Rattle.nfs_rules.specs.Sequences.{IsSequenced, decision_of, counts, kept_with, only, owner_change_of};
 ghost use Rattle.nfs_xdr.specs.Names.{is_sequenced, names_of};
 ghost use Rattle.nfs_rules.specs.operations.{own_of};
@@ -19,7 +19,7 @@ use crate::sequence::{Requester, SequenceStep, sequence_of};
 use crate::stateids::Found;
 use crate::turn::Turn;
 use nfs_owners::OwnerRef;
-use nfs_state::{Change, Effect, Journal, OwnerChange, Request, Shortage, Tables};
+use nfs_state::{Change, Effect, OwnerChange, Request, Shortage, Store};
 use nfs_xdr::{Op, OpResult, Refusal, Status};
 use std::alloc::{AllocError, Global};
 
@@ -27,28 +27,27 @@ use std::alloc::{AllocError, Global};
 /// owner and its sequence id come before the operation's own rule.
 pub(super) fn decide(
     alloc: Global,
-    tables: &Tables,
-    journal: &Journal,
+    store: &Store,
     request: &Request,
     requester: Requester<'_>,
     target: Result<Option<Found<'_>>, Refusal>,
 ) -> Result<Decision, Shortage>
     requires refusal { HasOtherRefusal (requester_seen requester) }
-    requires target { IsTargetOf (names_of request.now.op) journal.now.history
-        (state_of tables.now) (target_seen target) }
+    requires target { IsTargetOf (names_of request.now.op) store.now.journal.history
+        (state_of store.now.tables) (target_seen target) }
     requires sequenced { IsTrue (is_sequenced request.now.op) }
-    requires states { tables.now.numbers < 2 ^ 32 - 1 }
-    requires kept { Agrees journal.now.history tables.now.owners.owners }
+    requires states { store.now.tables.numbers < 2 ^ 32 - 1 }
+    requires kept { OwnersAgree store.now }
     requires owner { IsRequesterOf request.now.op (requester_seen requester) }
-    ensures { Decides (IsSequenced journal.now.history (state_of tables.now)
+    ensures { Decides (IsSequenced store.now.journal.history (state_of store.now.tables)
         (requester_seen requester.entry)
-        (own_of request.now.op journal.now.history (state_of tables.now))
-        request.now) (state_of tables.now) request.now.op result }
+        (own_of request.now.op store.now.journal.history (state_of store.now.tables))
+        request.now) (state_of store.now.tables) request.now.op result }
 {
     let Some(node) = request.filehandle else {
         return Ok(answer_alone(request.op.opnum().refusal(Refusal::NoFileHandle)));
     };
-    match sequence_of(tables, journal, request, requester)? {
+    match sequence_of(store, request, requester)? {
         SequenceStep::Answered(answer) => Ok(answer_alone(answer)),
         SequenceStep::GoesOn(passage, name) => {
             let turn = Turn {
@@ -56,8 +55,8 @@ pub(super) fn decide(
                 passage,
                 target,
             };
-            let ruling = rule(alloc, tables, journal, request, turn)?;
-            let newcomer = newcomer_of(tables, name.client, &request.op);
+            let ruling = rule(alloc, store, request, turn)?;
+            let newcomer = newcomer_of(&store.tables, name.client, &request.op);
             Ok(decision_of(alloc, passage, name, newcomer, ruling)?)
         }
     }
@@ -74,22 +73,16 @@ fn answer_alone(answer: OpResult) -> Decision
 }
 
 // The operation's own rule.
-fn rule(
-    alloc: Global,
-    tables: &Tables,
-    journal: &Journal,
-    request: &Request,
-    turn: Turn<'_>,
-) -> Result<Ruling, Shortage>
+fn rule(alloc: Global, store: &Store, request: &Request, turn: Turn<'_>) -> Result<Ruling, Shortage>
     requires sequenced { IsTrue (is_sequenced request.now.op) }
-    requires states { tables.now.numbers < 2 ^ 32 - 1 }
-    requires kept { Agrees journal.now.history tables.now.owners.owners }
-    requires passage { IsPassageOf request.now.op turn.passage (state_of tables.now) }
-    requires target { IsTargetOf (names_of request.now.op) journal.now.history
-        (state_of tables.now) (target_seen turn.target) }
-    ensures { ByOwnRule (own_of request.now.op journal.now.history (state_of tables.now)
-        request.now turn.entry.node turn.entry.passage)
-        (state_of tables.now) request.now.op result }
+    requires states { store.now.tables.numbers < 2 ^ 32 - 1 }
+    requires kept { OwnersAgree store.now }
+    requires passage { IsPassageOf request.now.op turn.passage (state_of store.now.tables) }
+    requires target { IsTargetOf (names_of request.now.op) store.now.journal.history
+        (state_of store.now.tables) (target_seen turn.target) }
+    ensures { ByOwnRule (own_of request.now.op store.now.journal.history
+        (state_of store.now.tables) request.now turn.entry.node turn.entry.passage)
+        (state_of store.now.tables) request.now.op result }
 {
     let Turn {
         node,
@@ -97,12 +90,12 @@ fn rule(
         target,
     } = turn;
     match &request.op {
-        Op::Open(args) => open::rule(alloc, tables, journal, node, passage, args),
-        Op::OpenConfirm(args) => open_confirm::rule(tables, node, args, target),
-        Op::OpenDowngrade(args) => Ok(open_downgrade::rule(tables, node, args, target)),
-        Op::Close(args) => Ok(close::rule(tables, node, args, target)),
-        Op::Lock(args) => lock::rule(tables, node, args, target),
-        Op::Locku(args) => locku::rule(tables, node, args, target),
+        Op::Open(args) => open::rule(alloc, store, node, passage, args),
+        Op::OpenConfirm(args) => open_confirm::rule(&store.tables, node, args, target),
+        Op::OpenDowngrade(args) => Ok(open_downgrade::rule(&store.tables, node, args, target)),
+        Op::Close(args) => Ok(close::rule(&store.tables, node, args, target)),
+        Op::Lock(args) => lock::rule(&store.tables, node, args, target),
+        Op::Locku(args) => locku::rule(&store.tables, node, args, target),
         _ => unreachable!(),
     }
 }

@@ -6,7 +6,7 @@ ghost use Rattle.nfs_state.specs.Room.{state_of};
 use crate::decision::Decision;
 use nfs_operations::setclientid_confirm::SetclientidConfirm;
 use nfs_owners::PathMark;
-use nfs_state::{Change, Effect, Journal, Request, Shortage, Tables};
+use nfs_state::{Change, Effect, Request, Shortage, Store};
 use nfs_tree::Callbacks;
 use nfs_xdr::{Op, OpResult};
 use std::alloc::Global;
@@ -14,16 +14,17 @@ use std::alloc::Global;
 /// Decides a SETCLIENTID_CONFIRM: its answer and its change.
 pub(super) fn decide(
     alloc: Global,
-    tables: &Tables,
-    journal: &Journal,
+    store: &Store,
     request: &Request,
     args: &SetclientidConfirm,
 ) -> Result<Decision, Shortage>
-    ensures { Decides (λ d. d ≡ rule journal.now.history (state_of tables.now) request.now args.now)
-        (state_of tables.now) (Op.SetclientidConfirm args.now) result }
+    ensures { Decides (λ d. d
+        ≡ rule store.now.journal.history (state_of store.now.tables) request.now args.now)
+        (state_of store.now.tables) (Op.SetclientidConfirm args.now) result }
 {
+    let tables = &store.tables;
     let has_state = tables.record_has_state(tables.clients.holder_of(args));
-    let path = path_of(journal.policy().callbacks);
+    let path = path_of(store.journal.policy().callbacks);
     let (answer, change) = tables
         .clients
         .confirm(alloc, request.principal, args, has_state, path)?;

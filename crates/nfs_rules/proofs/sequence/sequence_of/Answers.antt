@@ -12,41 +12,41 @@ use Rattle.nfs_owners.specs.Owner.{owner_of}
 use Rattle.nfs_owners.specs.StateOwner.{owner_seen}
 use Rattle.nfs_rules.proofs.sequence.sequence_of.Goals as goal
 
-none : (c : goal.After-begin) → owner_of (owner_seen c.in-Owner.name) c.args.tables.now.owners.owners ≡ None
-none c = none_found (owner_seen c.in-Owner.name) c.args.tables.now.owners.owners (sym c.find.ensures ∙ ap option_copied c.in-None.is)
+none : (c : goal.After-begin) → owner_of (owner_seen c.in-Owner.name) c.args.store.now.tables.owners.owners ≡ None
+none c = none_found (owner_seen c.in-Owner.name) c.args.store.now.tables.owners.owners (sym c.find.ensures ∙ ap option_copied c.in-None.is)
 
 pub resume-requires : goal.resume-requires
-resume-requires c = sendable_found c.args.journal.now.history (owner_seen c.in-Owner.name) c.args.tables.now.owners.owners c.in-Some.known.now c.requires.kept (sym c.find.ensures ∙ ap option_copied c.in-Some.is)
+resume-requires c = sendable_found c.args.store.now.journal.history (owner_seen c.in-Owner.name) c.args.store.now.tables.owners.owners c.in-Some.known.now c.requires.kept (sym c.find.ensures ∙ ap option_copied c.in-Some.is)
 
 pub returns-in-None-clause-sequence : goal.returns-in-None-clause-sequence
 returns-in-None-clause-sequence c =
-    let is_sequence : Requester → Type 0 = λ r. IsSequence c.args.journal.now.history (state_of c.args.tables.now) (requester_seen r) c.args.request.now (sequence_seen c.begin.result) in
+    let is_sequence : Requester → Type 0 = λ r. IsSequence c.args.store.now.journal.history (state_of c.args.store.now.tables) (requester_seen r) c.args.request.now (sequence_seen c.begin.result) in
     subst is_sequence (sym c.in-Owner.is)
-    (unknown_sequence c.args.journal.now.history (owner_seen c.in-Owner.name) c.args.tables.now.owners.owners c.in-Owner.seqid c.args.request.now (sequence_seen c.begin.result) (none c) c.begin.ensures.sequence)
+    (unknown_sequence c.args.store.now.journal.history (owner_seen c.in-Owner.name) c.args.store.now.tables.owners.owners c.in-Owner.seqid c.args.request.now (sequence_seen c.begin.result) (none c) c.begin.ensures.sequence)
 
 pub returns-in-None-clause-passage : goal.returns-in-None-clause-passage
 returns-in-None-clause-passage c =
-    passage_unknown (state_of c.args.tables.now) (owner_seen c.in-Owner.name) c.args.tables.now.owners.owners c.args.request.now (sequence_seen c.begin.result) refl (none c) c.begin.ensures.sequence
+    passage_unknown (state_of c.args.store.now.tables) (owner_seen c.in-Owner.name) c.args.store.now.tables.owners.owners c.args.request.now (sequence_seen c.begin.result) refl (none c) c.begin.ensures.sequence
 
 pub returns-in-Some-clause-sequence : goal.returns-in-Some-clause-sequence
 returns-in-Some-clause-sequence c =
-    let is_sequence : Requester → SequenceStep → Type 0 = λ r s. IsSequence c.args.journal.now.history (state_of c.args.tables.now) (requester_seen r) c.args.request.now (sequence_seen s) in
+    let is_sequence : Requester → SequenceStep → Type 0 = λ r s. IsSequence c.args.store.now.journal.history (state_of c.args.store.now.tables) (requester_seen r) c.args.request.now (sequence_seen s) in
     IfOk-weaker c.resume.result _ _
-    (λ s is. subst (λ r. is_sequence r s) (sym c.in-Owner.is) (known_sequence c.args.journal.now.history (owner_seen c.in-Owner.name) c.args.tables.now.owners.owners c.in-Some.known.now c.in-Owner.seqid c.args.request.now (sequence_seen s) c.requires.kept (sym c.find.ensures ∙ ap option_copied c.in-Some.is) is))
+    (λ s is. subst (λ r. is_sequence r s) (sym c.in-Owner.is) (known_sequence c.args.store.now.journal.history (owner_seen c.in-Owner.name) c.args.store.now.tables.owners.owners c.in-Some.known.now c.in-Owner.seqid c.args.request.now (sequence_seen s) c.requires.kept (sym c.find.ensures ∙ ap option_copied c.in-Some.is) is))
     c.resume.ensures.sequence
 
 pub returns-in-Some-clause-passage : goal.returns-in-Some-clause-passage
 returns-in-Some-clause-passage c =
     IfOk-weaker c.resume.result _ _
-    (λ s is. passage_known (state_of c.args.tables.now) (owner_seen c.in-Owner.name) c.args.tables.now.owners.owners c.in-Some.known.now c.in-Owner.seqid c.args.request.now (sequence_seen s) refl (sym c.find.ensures ∙ ap option_copied c.in-Some.is) is)
+    (λ s is. passage_known (state_of c.args.store.now.tables) (owner_seen c.in-Owner.name) c.args.store.now.tables.owners.owners c.in-Some.known.now c.in-Owner.seqid c.args.request.now (sequence_seen s) refl (sym c.find.ensures ∙ ap option_copied c.in-Some.is) is)
     c.resume.ensures.sequence
 
 pub returns-in-Some-clause-memory : goal.returns-in-Some-clause-memory
 returns-in-Some-clause-memory c =
-    let has_answer : Requester → Type 0 = λ r. HasAnswer (IsSequence c.args.journal.now.history (state_of c.args.tables.now) (requester_seen r) c.args.request.now) in
+    let has_answer : Requester → Type 0 = λ r. HasAnswer (IsSequence c.args.store.now.journal.history (state_of c.args.store.now.tables) (requester_seen r) c.args.request.now) in
     on_err_weaker c.resume.result
     (λ has. subst has_answer (sym c.in-Owner.is) (
       has.0,
-      known_sequence c.args.journal.now.history (owner_seen c.in-Owner.name) c.args.tables.now.owners.owners c.in-Some.known.now c.in-Owner.seqid c.args.request.now (Answered has.0) c.requires.kept (sym c.find.ensures ∙ ap option_copied c.in-Some.is) has.1,
+      known_sequence c.args.store.now.journal.history (owner_seen c.in-Owner.name) c.args.store.now.tables.owners.owners c.in-Some.known.now c.in-Owner.seqid c.args.request.now (Answered has.0) c.requires.kept (sym c.find.ensures ∙ ap option_copied c.in-Some.is) has.1,
     ))
     c.resume.ensures.memory

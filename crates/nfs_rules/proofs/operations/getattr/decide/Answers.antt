@@ -11,8 +11,8 @@ use Rattle.nfs_xdr.specs.declared.op_result.OpResult.TheVariants as results
 
 pub returns-in_err-answer : goal.returns-in_err-answer
 returns-in_err-answer c =
-    let journal = c.args.journal.now.history in
-    let state = state_of c.args.tables.now in
+    let journal = c.args.store.now.journal.history in
+    let state = state_of c.args.store.now.tables in
     let filehandle = c.args.request.now.filehandle in
     let mask = c.args.mask.now in
     fails_as (λ d. d ≡ rule journal state filehandle mask) state (ops.Getattr mask) Memory c.from_residual.result c.from_residual.ensures.0 c.from_residual.ensures.1

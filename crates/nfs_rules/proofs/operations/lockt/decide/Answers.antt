@@ -9,8 +9,8 @@ use Rattle.nfs_xdr.specs.declared.op.Op.TheVariants as ops
 
 pub returns-in_err-answer-in-Ok : goal.returns-in_err-answer-in-Ok
 returns-in_err-answer-in-Ok c =
-    let journal = c.args.journal.now.history in
-    let state = state_of c.args.tables.now in
+    let journal = c.args.store.now.journal.history in
+    let state = state_of c.args.store.now.tables in
     let filehandle = c.args.request.now.filehandle in
     let args = c.args.args.now in
     let d = c.in_err-answer-in-Ok.ensures.memory in

@@ -16,8 +16,8 @@ use Rattle.nfs_rules.proofs.operations.open.rule.Goals as goal
 pub returns-in-Ok-clause-rules : goal.returns-in-Ok-clause-rules
 returns-in-Ok-clause-rules c = λ request.
     let args = c.args.args.now in
-    let journal = c.args.journal.now.history in
-    let state = state_of c.args.tables.now in
+    let journal = c.args.store.now.journal.history in
+    let state = state_of c.args.store.now.tables in
     let seen = before_own c.args.passage args.owner state in
     let rules : Option Ruling → Type 0 = λ r. ByOwnRule (λ ruling. ruling ≡ r) state (ops.Open args) c.grant.result in
     let same : Ok c.in-Ok.opening ≡ opening_or_ruling (opening journal seen c.args.directory args) =
@@ -26,13 +26,13 @@ returns-in-Ok-clause-rules c = λ request.
 
 pub returns-in-Ok-clause-error : goal.returns-in-Ok-clause-error
 returns-in-Ok-clause-error c =
-    on_err c.grant.result (opening_opens (opening c.args.journal.now.history (state_of c.args.tables.now) c.args.directory c.args.args.now) c.in-Ok.opening (c.in-Ok.ensures ∙ ap opening_or_ruling c.find_opening.ensures))
+    on_err c.grant.result (opening_opens (opening c.args.store.now.journal.history (state_of c.args.store.now.tables) c.args.directory c.args.args.now) c.in-Ok.opening (c.in-Ok.ensures ∙ ap opening_or_ruling c.find_opening.ensures))
 
 pub returns-in-Err-clause-rules : goal.returns-in-Err-clause-rules
 returns-in-Err-clause-rules c = λ request.
     let args = c.args.args.now in
-    let journal = c.args.journal.now.history in
-    let state = state_of c.args.tables.now in
+    let journal = c.args.store.now.journal.history in
+    let state = state_of c.args.store.now.tables in
     let seen = before_own c.args.passage args.owner state in
     let found = opening journal seen c.args.directory args in
     let same : Err c.in-Err.ruling ≡ opening_or_ruling found =

@@ -15,16 +15,16 @@ use Rattle.nfs_xdr.specs.OpResult.{refusal_of}
 pub returns-in_default : goal.returns-in_default
 returns-in_default c =
     let request = c.args.request.now in
-    let journal = c.args.journal.now.history in
-    let state = state_of c.args.tables.now in
+    let journal = c.args.store.now.journal.history in
+    let state = state_of c.args.store.now.tables in
     let refused : Opnum → OpResult = λ o. refusal_of o NoFileHandle in
     without_filehandle (own_of request.op journal state) journal state (requester_seen c.args.requester) request request.filehandle c.refusal.result c.answer_alone.result c.in_default.not-Some (c.refusal.ensures.value ∙ ap refused c.opnum.ensures) c.answer_alone.ensures
 
 pub returns-in_err-answer : goal.returns-in_err-answer
 returns-in_err-answer c =
     let request = c.args.request.now in
-    let journal = c.args.journal.now.history in
-    let state = state_of c.args.tables.now in
+    let journal = c.args.store.now.journal.history in
+    let state = state_of c.args.store.now.tables in
     let requester = requester_seen c.args.requester in
     let own = own_of request.op journal state in
     fails_as (IsSequenced journal state requester own request) state request.op Memory c.from_residual.result c.from_residual.ensures.0 c.from_residual.ensures.1 (answered_decides own journal state requester request request.filehandle c.in-Some.node c.in-Some.is c.in_err-answer.ensures.memory)
@@ -32,8 +32,8 @@ returns-in_err-answer c =
 pub returns-in_err-decision_of-in-GoesOn : goal.returns-in_err-decision_of-in-GoesOn
 returns-in_err-decision_of-in-GoesOn c =
     let request = c.args.request.now in
-    let journal = c.args.journal.now.history in
-    let state = state_of c.args.tables.now in
+    let journal = c.args.store.now.journal.history in
+    let state = state_of c.args.store.now.tables in
     let requester = requester_seen c.args.requester in
     let own = own_of request.op journal state in
     let found = c.in_ok-answer in
@@ -43,16 +43,16 @@ returns-in_err-decision_of-in-GoesOn c =
 pub returns-in-Answered : goal.returns-in-Answered
 returns-in-Answered c =
     let request = c.args.request.now in
-    let journal = c.args.journal.now.history in
-    let state = state_of c.args.tables.now in
+    let journal = c.args.store.now.journal.history in
+    let state = state_of c.args.store.now.tables in
     let found = c.in_ok-answer in
     answered (own_of request.op journal state) journal state (requester_seen c.args.requester) request request.filehandle c.in-Some.node (sequence_seen found.field-0) c.in-Answered.answer c.answer_alone-in-Answered.result c.in-Some.is (ap sequence_seen c.in-Answered.is) found.ensures.sequence found.ensures.sendable c.answer_alone-in-Answered.ensures
 
 pub returns-in_ok-decision_of-in-GoesOn : goal.returns-in_ok-decision_of-in-GoesOn
 returns-in_ok-decision_of-in-GoesOn c =
     let request = c.args.request.now in
-    let journal = c.args.journal.now.history in
-    let state = state_of c.args.tables.now in
+    let journal = c.args.store.now.journal.history in
+    let state = state_of c.args.store.now.tables in
     let found = c.in_ok-answer in
     goes_on journal state (requester_seen c.args.requester) request request.filehandle c.in-Some.node (sequence_seen found.field-0) c.in-GoesOn.passage (owner_seen c.in-GoesOn.name) c.in_ok-ruling-in-GoesOn.ruling c.in_ok-decision_of-in-GoesOn.field-0 c.in-Some.is c.requires.owner (ap sequence_seen c.in-GoesOn.is) found.ensures.sequence found.ensures.passage c.in_ok-ruling-in-GoesOn.ensures
     (c.in_ok-decision_of-in-GoesOn.ensures ∙ ap (λ n. decision_of c.in-GoesOn.passage (owner_seen c.in-GoesOn.name) n c.in_ok-ruling-in-GoesOn.ruling) (c.newcomer_of-newcomer.ensures journal c.requires.kept))
@@ -60,8 +60,8 @@ returns-in_ok-decision_of-in-GoesOn c =
 pub returns-in_err-ruling-in-GoesOn : goal.returns-in_err-ruling-in-GoesOn
 returns-in_err-ruling-in-GoesOn c =
     let request = c.args.request.now in
-    let journal = c.args.journal.now.history in
-    let state = state_of c.args.tables.now in
+    let journal = c.args.store.now.journal.history in
+    let state = state_of c.args.store.now.tables in
     let requester = requester_seen c.args.requester in
     let own = own_of request.op journal state in
     let found = c.in_ok-answer in

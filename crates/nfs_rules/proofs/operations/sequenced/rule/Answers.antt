@@ -10,16 +10,16 @@ use Rattle.nfs_xdr.specs.declared.op.Op.TheVariants as ops
 
 pub returns-in-Open : goal.returns-in-Open
 returns-in-Open c =
-    let journal = c.args.journal.now.history in
-    let state = state_of c.args.tables.now in
+    let journal = c.args.store.now.journal.history in
+    let state = state_of c.args.store.now.tables in
     let request = c.args.request.now in
     let turn = c.args.turn in
     rules_of request.op (ops.Open c.in-Open.args) journal state request turn.node turn.passage c.rule.result c.in-Open.is (c.rule.ensures.rules request)
 
 pub returns-in-OpenConfirm : goal.returns-in-OpenConfirm
 returns-in-OpenConfirm c =
-    let journal = c.args.journal.now.history in
-    let state = state_of c.args.tables.now in
+    let journal = c.args.store.now.journal.history in
+    let state = state_of c.args.store.now.tables in
     let request = c.args.request.now in
     let turn = c.args.turn in
     let named : Op → Type 0 = λ op. IsTargetOf (names_of op) journal state (target_seen turn.target) in
@@ -28,8 +28,8 @@ returns-in-OpenConfirm c =
 
 pub returns-in-OpenDowngrade : goal.returns-in-OpenDowngrade
 returns-in-OpenDowngrade c =
-    let journal = c.args.journal.now.history in
-    let state = state_of c.args.tables.now in
+    let journal = c.args.store.now.journal.history in
+    let state = state_of c.args.store.now.tables in
     let request = c.args.request.now in
     let turn = c.args.turn in
     let named : Op → Type 0 = λ op. IsTargetOf (names_of op) journal state (target_seen turn.target) in
@@ -38,8 +38,8 @@ returns-in-OpenDowngrade c =
 
 pub returns-in-Close : goal.returns-in-Close
 returns-in-Close c =
-    let journal = c.args.journal.now.history in
-    let state = state_of c.args.tables.now in
+    let journal = c.args.store.now.journal.history in
+    let state = state_of c.args.store.now.tables in
     let request = c.args.request.now in
     let turn = c.args.turn in
     let named : Op → Type 0 = λ op. IsTargetOf (names_of op) journal state (target_seen turn.target) in
@@ -48,8 +48,8 @@ returns-in-Close c =
 
 pub returns-in-Lock : goal.returns-in-Lock
 returns-in-Lock c =
-    let journal = c.args.journal.now.history in
-    let state = state_of c.args.tables.now in
+    let journal = c.args.store.now.journal.history in
+    let state = state_of c.args.store.now.tables in
     let request = c.args.request.now in
     let turn = c.args.turn in
     let named : Op → Type 0 = λ op. IsTargetOf (names_of op) journal state (target_seen turn.target) in
@@ -58,8 +58,8 @@ returns-in-Lock c =
 
 pub returns-in-Locku : goal.returns-in-Locku
 returns-in-Locku c =
-    let journal = c.args.journal.now.history in
-    let state = state_of c.args.tables.now in
+    let journal = c.args.store.now.journal.history in
+    let state = state_of c.args.store.now.tables in
     let request = c.args.request.now in
     let turn = c.args.turn in
     let named : Op → Type 0 = λ op. IsTargetOf (names_of op) journal state (target_seen turn.target) in

@@ -29,8 +29,8 @@ registration_fails (Some x) state op Memory full = (decision_of x, refl)
 
 pub returns-in_err-answer : goal.returns-in_err-answer
 returns-in_err-answer c =
-    let journal = c.args.journal.now.history in
-    let state = state_of c.args.tables.now in
+    let journal = c.args.store.now.journal.history in
+    let state = state_of c.args.store.now.tables in
     let request = c.args.request.now in
     let args = c.args.args.now in
     let found = registration journal.epoch (record_has_state state (record_state (confirmed_of state.clients args.id))) state.clients request.principal args in

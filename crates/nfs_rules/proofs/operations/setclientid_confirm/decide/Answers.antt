@@ -11,8 +11,8 @@ use Rattle.nfs_xdr.specs.declared.op.Op.TheVariants as ops
 
 pub returns-in_err-answer : goal.returns-in_err-answer
 returns-in_err-answer c =
-    let journal = c.args.journal.now.history in
-    let state = state_of c.args.tables.now in
+    let journal = c.args.store.now.journal.history in
+    let state = state_of c.args.store.now.tables in
     let request = c.args.request.now in
     let args = c.args.args.now in
     let has_state = record_has_state state (record_state (holder_of (unconfirmed_named_by args state.clients) state.clients)) in
