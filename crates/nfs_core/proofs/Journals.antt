@@ -28,10 +28,10 @@ use Rattle.nfs_state.specs.State.{State, History, empty_server}
 use Rattle.nfs_core.specs.Step.{Allows, AtMostOneStateAfter, AtMostOneStep, Step}
 use Rattle.nfs_state.specs.Entries.{entry_of, with_entry}
 use Rattle.nfs_state.specs.Kept.{Agrees}
-use Rattle.nfs_state.specs.Journal.{RoomyJournal}
 use Rattle.nfs_state.specs.Room.{state_of, stored_of}
-use Rattle.nfs_state.specs.declared.tables.Tables.{Tables}
-use Rattle.nfs_core.specs.Server.{AreAlike, Enters, server_of}
+use Rattle.nfs_state.specs.Store.{AreAlike, server_of}
+use Rattle.nfs_state.specs.declared.store.Store.{Store}
+use Rattle.nfs_core.specs.Server.{Enters}
 
 -- entries that lead to a state, and one more entry that leads on from there
 Leads-append : (journal : History) (old mid new : State) (entries : List Entry) (entry : Entry) → Leads journal old entries mid → Step (record journal { entries = journal.entries ++ entries }) mid entry new → Leads journal old (entries ++ entry ∷ []) new
@@ -109,13 +109,13 @@ pub Lawful-same : (journal journal' : History) (stored stored' : Stored) → jou
 Lawful-same journal journal' stored stored' same_journal same_stored lawful = rw (same_journal, same_stored) lawful
 
 -- a core that tried to add an entry
-pub Lawful-tried : {E : Type 0} (old new : RoomyJournal) (tables tables' : Tables) (entry : Entry) (result : Result ℕ E) → Lawful old.history (state_of tables)
-    → IfOk result (λ number. Enters (server_of old tables) (server_of new tables') entry number) → OnErr result (AreAlike (server_of old tables) (server_of new tables'))
-    → Lawful new.history (state_of tables')
-Lawful-tried old new tables tables' entry (Ok number) lawful entered same =
-    Lawful-entered old.history new.history (state_of tables) (state_of tables') entry lawful entered.1 entered.2
-Lawful-tried old new tables tables' entry (Err error) lawful entered same =
-    Lawful-same old.history new.history (stored_of tables) (stored_of tables') same.0 same.1 lawful
+pub Lawful-tried : {E : Type 0} (old new : Store) (entry : Entry) (result : Result ℕ E) → Lawful old.journal.history (state_of old.tables)
+    → IfOk result (λ number. Enters (server_of old) (server_of new) entry number) → OnErr result (AreAlike (server_of old) (server_of new))
+    → Lawful new.journal.history (state_of new.tables)
+Lawful-tried old new entry (Ok number) lawful entered same =
+    Lawful-entered old.journal.history new.journal.history (state_of old.tables) (state_of new.tables) entry lawful entered.1 entered.2
+Lawful-tried old new entry (Err error) lawful entered same =
+    Lawful-same old.journal.history new.journal.history (stored_of old.tables) (stored_of new.tables) same.0 same.1 lawful
 
 -- and what it stores agrees with its journal as before
 pub Agrees-same : (journal journal' : History) (stored stored' : Stored) → journal' ≡ journal → stored' ≡ stored → Agrees journal stored.owners → Agrees journal' stored'.owners

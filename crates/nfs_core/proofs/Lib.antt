@@ -21,3 +21,4 @@ pub mod SoundRules
 pub mod SoundSequences
 pub mod SoundSteps
 pub mod SoundTargets
+pub mod Storing

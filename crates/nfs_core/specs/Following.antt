@@ -15,20 +15,22 @@ use Rattle.nfs_state.specs.declared.request.Request.{Request}
 use Rattle.nfs_state.specs.declared.shortage.Shortage.{Shortage}
 use Rattle.nfs_state.specs.declared.shortage.Shortage.TheVariants as shortages
 use Rattle.nfs_state.specs.Entries.{can_be_asked}
-use Rattle.nfs_state.specs.Kept.{Agrees}
-use Rattle.nfs_state.specs.Room.{Fits, HasGivenNumbers}
+use Rattle.nfs_state.specs.Room.{Fits, HasGivenNumbers, state_of}
 use Rattle.nfs_state.specs.State.{State, History}
-use Rattle.nfs_state.specs.Stored.{Stored, meaning}
+use Rattle.nfs_state.specs.Store.{OwnersAgree}
+use Rattle.nfs_state.specs.Stored.{meaning}
+use Rattle.nfs_state.specs.declared.store.Store.{Store}
 use Rattle.nfs_tree.specs.Tree.{node_count}
 
--- What is stored agrees with this journal as far as a decision and its effect need it: no more confirm values were given
+-- What is stored agrees with the journal as far as a decision and its effect need it: no more confirm values were given
 -- out than the journal has entries, and of numbers of states no more than two an entry; each state has a number that was
 -- given; and what is stored for each owner is what its entry has.
-pub record IsStoredBy (journal : History) (stored : Stored) : Type 0 where
-  pub confirms : stored.clients.last_confirm ≤ length journal.entries
-  pub states : stored.last_state ≤ 2 * length journal.entries
-  pub given : HasGivenNumbers (meaning stored)
-  pub owners : Agrees journal stored.owners
+pub record StoreAgrees (store : Store) : Type 0 where
+  pub confirms : store.tables.clients.registry.last_confirm
+      ≤ length store.journal.history.entries
+  pub states : store.tables.numbers ≤ 2 * length store.journal.history.entries
+  pub given : HasGivenNumbers (state_of store.tables)
+  pub owners : OwnersAgree store
 
 -- the request can be asked of a server with the journal's tree
 abbrev pub CanBeAsked : History → Request → Type 0

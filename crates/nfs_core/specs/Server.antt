@@ -1,38 +1,18 @@
--- The core of the server: the journal, and what is stored.
+-- The core of the server: whether it is lawful, and how it takes entries and answers requests. `Server` and `AreAlike` are
+-- defined in `specs/Store.antt` of `nfs_state`.
 use Rattle.std.specs.Prelude.{◌≡◌, ℕ, length, Option, Some, None}
 use Rattle.nfs_state.specs.declared.entry.Entry.{Entry}
 use Rattle.nfs_state.specs.declared.request.Request.{Request}
 use Rattle.nfs_core.specs.Lawful.{Lawful}
-use Rattle.nfs_state.specs.State.{History}
 use Rattle.nfs_core.specs.Step.{Step}
 use Rattle.nfs_state.specs.Entries.{entry_of, resource, with_entry}
-use Rattle.nfs_state.specs.Journal.{RoomyJournal}
-use Rattle.nfs_state.specs.Room.{stored_of}
-use Rattle.nfs_state.specs.Stored.{Stored, meaning}
-use Rattle.nfs_state.specs.declared.tables.Tables.{Tables}
+use Rattle.nfs_state.specs.Stored.{meaning}
 use Rattle.nfs_xdr.specs.declared.op_result.OpResult.{OpResult}
-
-pub record Server : Type 0 where
-  pub journal : History
-  pub stored : Stored
-  -- how many entries the journal can gain without memory
-  pub room : ℕ
-
--- the server with this journal, which can gain so many entries without memory, and with these tables
-abbrev pub server_of : RoomyJournal → Tables → Server
-server_of journal tables = record {
-  journal = journal.history;
-  stored = stored_of tables;
-  room = journal.room;
-}
+pub use Rattle.nfs_state.specs.Store.{Server, AreAlike}
 
 -- the server's journal leads to the state that is stored
 abbrev pub IsLawful : Server → Type 0
 IsLawful server = Lawful server.journal (meaning server.stored)
-
--- Two servers have the same journal, and store the same, no matter how much room they have.
-abbrev pub AreAlike : Server → Server → Type 0
-AreAlike old new = (new.journal ≡ old.journal) × (new.stored ≡ old.stored)
 
 -- The server `old` becomes `new` by an entry that may come next, and is the journal's entry with this number.
 abbrev pub Enters : Server → Server → Entry → ℕ → Type 0

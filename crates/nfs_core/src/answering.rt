@@ -1,18 +1,17 @@
 //! Answering a request, and entering it in the journal.
 
 ghost use Rattle.std.specs.Prelude.{◌≡◌, ◌≤◌, IfErr, IfOk, IsErrOf, OnErr};
-ghost use Rattle.nfs_core.specs.Following.{CanBeAsked, IsNext, IsStoredBy, MayBeAnswered};
+ghost use Rattle.nfs_core.specs.Following.{CanBeAsked, IsNext, MayBeAnswered, StoreAgrees};
 ghost use Rattle.nfs_core.specs.Entered.{IsEntered};
-ghost use Rattle.nfs_core.specs.Server.{server_of};
 ghost use Rattle.nfs_core.specs.Step.{HasNoAnswer};
 ghost use Rattle.nfs_state.specs.Entries.{IsSendable, entry_of};
-ghost use Rattle.nfs_state.specs.Kept.{Agrees};
-ghost use Rattle.nfs_state.specs.Room.{HasGivenNumbers, state_of, stored_of};
+ghost use Rattle.nfs_state.specs.Room.{HasGivenNumbers, state_of};
+ghost use Rattle.nfs_state.specs.Store.{AreAlike, OwnersAgree, server_of};
 
 use crate::Entered;
 use crate::following::decide_next;
 use nfs_rules::{Decision, at_most_one_decision};
-use nfs_state::{Call, Entry, Journal, Request, Shortage, Tables, commit_entry, copy_of_answer};
+use nfs_state::{Call, Entry, Request, Shortage, Store, commit_entry, copy_of_answer};
 use nfs_xdr::OpResult;
 use std::alloc::Global;
 
@@ -20,53 +19,49 @@ use std::alloc::Global;
 /// answer may come next, and with Memory only if no limit would be exceeded.
 pub(crate) fn enter(
     alloc: Global,
-    tables: &mut Tables,
-    journal: &mut Journal,
+    store: &mut Store,
     request: Request,
 ) -> Result<(OpResult, Entered), Shortage>
-    requires asked { CanBeAsked journal.old.history request }
-    requires stored { IsStoredBy journal.old.history (stored_of tables.old) }
-    ensures entered { IfOk result (λ r. IsEntered (server_of journal.old tables.old)
-        (server_of journal.new tables.new) (entry_of request r.0) r.1) }
-    ensures kept { Agrees journal.new.history tables.new.owners.owners }
+    requires asked { CanBeAsked store.old.journal.history request }
+    requires stored { StoreAgrees store.old }
+    ensures entered { IfOk result (λ r. IsEntered (server_of store.old) (server_of store.new)
+        (entry_of request r.0) r.1) }
+    ensures kept { OwnersAgree store.new }
     ensures sendable { IfOk result (λ r. IsSendable request.op r.0) }
     ensures limit { IsErrOf result Shortage.Limit
-        → HasNoAnswer journal.old.history (state_of tables.old) request }
+        → HasNoAnswer store.old.journal.history (state_of store.old.tables) request }
     ensures memory { IsErrOf result Shortage.Memory
-        → MayBeAnswered journal.old.history (state_of tables.old) request }
-    ensures same { OnErr result ((journal.new.history ≡ journal.old.history)
-        × (stored_of tables.new ≡ stored_of tables.old)) }
-    ensures room { OnErr result (journal.old.room ≤ journal.new.room) }
+        → MayBeAnswered store.old.journal.history (state_of store.old.tables) request }
+    ensures same { OnErr result (AreAlike (server_of store.old) (server_of store.new)) }
+    ensures room { OnErr result (store.old.journal.room ≤ store.new.journal.room) }
 {
     at_most_one_decision();
-    let decision = decide_next(alloc, tables, journal, &request)?;
-    enter_decided(alloc, tables, journal, request, decision)
+    let decision = decide_next(alloc, store, &request)?;
+    enter_decided(alloc, store, request, decision)
 }
 
 // Enters the request with the answer that was decided.
 fn enter_decided(
     alloc: Global,
-    tables: &mut Tables,
-    journal: &mut Journal,
+    store: &mut Store,
     request: Request,
     decision: Decision,
 ) -> Result<(OpResult, Entered), Shortage>
-    requires next { IsNext journal.old.history (state_of tables.old)
+    requires next { IsNext store.old.journal.history (state_of store.old.tables)
         (entry_of request decision.answer) decision.effect }
-    requires given { HasGivenNumbers (state_of tables.old) }
-    requires owners { Agrees journal.old.history tables.old.owners.owners }
+    requires given { HasGivenNumbers (state_of store.old.tables) }
+    requires owners { OwnersAgree store.old }
     ensures answer { IfOk result (λ r. r.0 ≡ decision.answer) }
-    ensures entered { IfOk result (λ r. IsEntered (server_of journal.old tables.old)
-        (server_of journal.new tables.new) (entry_of request r.0) r.1) }
-    ensures kept { Agrees journal.new.history tables.new.owners.owners }
+    ensures entered { IfOk result (λ r. IsEntered (server_of store.old) (server_of store.new)
+        (entry_of request r.0) r.1) }
+    ensures kept { OwnersAgree store.new }
     ensures memory { IfErr result (λ e. e ≡ Shortage.Memory) }
-    ensures same { OnErr result ((journal.new.history ≡ journal.old.history)
-        × (stored_of tables.new ≡ stored_of tables.old)) }
-    ensures room { OnErr result (journal.old.room ≤ journal.new.room) }
+    ensures same { OnErr result (AreAlike (server_of store.old) (server_of store.new)) }
+    ensures room { OnErr result (store.old.journal.room ≤ store.new.journal.room) }
 {
     let answer = copy_of_answer(&decision.answer)?;
     let live = decision.effect.live();
     let call = Call { request, answer };
-    let number = commit_entry(alloc, tables, journal, Entry::Call(call), decision.effect)?;
+    let number = commit_entry(alloc, store, Entry::Call(call), decision.effect)?;
     Ok((decision.answer, Entered { number, live }))
 }

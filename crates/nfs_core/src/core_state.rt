@@ -22,7 +22,7 @@ use crate::following::follow;
 use crate::laws::lawful_is_safe;
 use crate::{CoreError, Entered, FollowError};
 use nfs_state::{
-    Entry, Expire, JOURNAL_LIMIT, Journal, LEASE_MAX, LEASE_MIN, Moment, Request, Tables,
+    Entry, Expire, JOURNAL_LIMIT, Journal, LEASE_MAX, LEASE_MIN, Moment, Request, Store, Tables,
 };
 use nfs_tree::{Policy, Tree};
 use nfs_xdr::{Op, OpResult, Principal, Refusal};
@@ -33,26 +33,21 @@ use std::marker::Model;
 #[derive(Debug, Drop)]
 pub struct Core {
     alloc: Global,
-    tables: Tables,
-    journal: Journal,
+    store: Store,
 }
 
 impl Model for Core {
-    ghost use Rattle.nfs_state.specs.Kept.{Agrees};
     ghost use Rattle.nfs_core.specs.Lawful.{Lawful};
     ghost use Rattle.nfs_core.specs.Server.{Server};
-    ghost use Rattle.nfs_state.specs.Room.{state_of, stored_of};
+    ghost use Rattle.nfs_state.specs.Room.{state_of};
+    ghost use Rattle.nfs_state.specs.Store.{OwnersAgree, server_of};
 
     ghost Value = { Server };
 
-    ghost view = { λ c. record {
-      journal = c.journal.history;
-      stored = stored_of c.tables;
-      room = c.journal.room;
-    } };
+    ghost view = { λ c. server_of c.store };
 
-    ghost invariant = { λ c. Lawful c.journal.history (state_of c.tables)
-        × Agrees c.journal.history c.tables.owners.owners };
+    ghost invariant = { λ c. Lawful c.store.journal.history (state_of c.store.tables)
+        × OwnersAgree c.store };
 }
 
 impl Core {
@@ -79,8 +74,10 @@ impl Core {
     {
         Ok(Core {
             alloc,
-            tables: Tables::of_tree(alloc, tree)?,
-            journal: Journal::new(alloc, tree.clone()?, lease, epoch, policy),
+            store: Store {
+                tables: Tables::of_tree(alloc, tree)?,
+                journal: Journal::new(alloc, tree.clone()?, lease, epoch, policy),
+            },
         })
     }
 
@@ -129,12 +126,11 @@ impl Core {
         ensures lawful { IsLawful self.new }
     {
         lawful_is_safe();
-        let tables = &mut self.tables;
-        let journal = &mut self.journal;
+        let store = &mut self.store;
         let Ok(request) = Request::of_copy(moment, principal, op, filehandle) else {
             return (op.opnum().refusal(Refusal::Resource), None);
         };
-        match enter(self.alloc, tables, journal, request) {
+        match enter(self.alloc, store, request) {
             Ok((answer, entered)) => {
                 answer.fits();
                 (answer, Some(entered))
@@ -152,10 +148,10 @@ impl Core {
         ensures error { IfErr result (IsWithoutRoom self.old) }
         ensures lawful { IsLawful self.new }
     {
-        if self.journal.is_full() {
+        if self.store.journal.is_full() {
             return Err(CoreError::Full);
         }
-        Ok(self.journal.reserve()?)
+        Ok(self.store.journal.reserve()?)
     }
 
     /// Removes the client with this number, whose lease was renewed last at `seen` and has run out at `now`, with all that
@@ -170,9 +166,8 @@ impl Core {
         ensures lawful { IsLawful self.new }
     {
         lawful_is_safe();
-        let tables = &mut self.tables;
-        let journal = &mut self.journal;
-        enter_expiry(self.alloc, tables, journal, Expire { client, seen, now })
+        let store = &mut self.store;
+        enter_expiry(self.alloc, store, Expire { client, seen, now })
     }
 
     /// Enters an entry that is handed in, such as one of another server's journal, if it may come next: it is judged as
@@ -189,16 +184,15 @@ impl Core {
         ensures lawful { IsLawful self.new }
     {
         lawful_is_safe();
-        let tables = &mut self.tables;
-        let journal = &mut self.journal;
-        follow(self.alloc, tables, journal, entry)
+        let store = &mut self.store;
+        follow(self.alloc, store, entry)
     }
 
     /// Whether the client with this number is live: whether it has a confirmed record.
     pub fn live(&self, client: u32) -> bool
         ensures { result ≡ is_live client self.now.stored.clients }
     {
-        self.tables.clients.live(client)
+        self.store.tables.clients.live(client)
     }
 
     /// The least number above this one that a live client has, if there is one.
@@ -209,14 +203,14 @@ impl Core {
         ensures lawful { IsLawful self.now }
     {
         lawful_is_safe();
-        self.tables.clients.next_live(after)
+        self.store.tables.clients.next_live(after)
     }
 
     /// The number of the live client that the client with this number replaces once it is confirmed.
     pub fn replaced_by(&self, client: u32) -> Option<u32>
         ensures { result ≡ replaced_by client self.now.stored.clients }
     {
-        self.tables.clients.replaced_by(client)
+        self.store.tables.clients.replaced_by(client)
     }
 
     /// The journal of the changes that led to the state.
@@ -228,6 +222,6 @@ impl Core {
         ensures counted { KeepRequests self.now.journal (meaning self.now.stored) }
     {
         lawful_is_safe();
-        &self.journal
+        &self.store.journal
     }
 }

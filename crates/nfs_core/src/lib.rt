@@ -15,6 +15,5 @@ pub use entered::Entered;
 pub use following::FollowError;
 pub use laws::{at_most_one_state, at_most_one_step, lawful_is_safe, live_clients_follow};
 pub use nfs_state::{
-    Call, Entry, Expire, JOURNAL_LIMIT, Journal, LEASE_MAX, LEASE_MIN, Moment, Request,
-    STATE_LIMIT, StoredFile, limits_of_the_state,
+    Entry, JOURNAL_LIMIT, Journal, LEASE_MAX, LEASE_MIN, Moment, STATE_LIMIT, limits_of_the_state,
 };

@@ -8,12 +8,12 @@ use Rattle.nfs_xdr.specs.declared.op_result.OpResult.{OpResult}
 
 pub commit_entry-requires-clause-fits : goal.commit_entry-requires-clause-fits
 commit_entry-requires-clause-fits c =
-    subst (λ (answer : OpResult). Fits (entry_of c.args.request answer) c.args.decision.effect (state_of c.args.tables.now)) (sym c.in_ok-answer.ensures) c.requires.next.fits
+    subst (λ (answer : OpResult). Fits (entry_of c.args.request answer) c.args.decision.effect (state_of c.args.store.now.tables)) (sym c.in_ok-answer.ensures) c.requires.next.fits
 
 pub returns-clause-entered : goal.returns-clause-entered
 returns-clause-entered c =
-    let journal = c.args.journal.now.history in
-    let old = state_of c.args.tables.now in
+    let journal = c.args.store.now.journal.history in
+    let old = state_of c.args.store.now.tables in
     let effect = c.args.decision.effect in
     let entered = c.in_ok-number.ensures in
     let same = c.in_ok-answer.ensures in (

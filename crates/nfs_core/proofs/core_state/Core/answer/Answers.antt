@@ -1,35 +1,29 @@
 use Rattle.std.proofs.Common.{Option, rules, subst, sym}
 use Rattle.nfs_state.specs.Room.{state_of, stored_of}
 use Rattle.nfs_core.proofs.Entering.{can_ask}
-use Rattle.nfs_core.proofs.Journals.{Lawful-confirm, Lawful-entered, Lawful-same, Lawful-state}
-use Rattle.nfs_core.proofs.SoundNumbers.{given_numbers}
+use Rattle.nfs_core.proofs.Journals.{Lawful-entered, Lawful-same}
+use Rattle.nfs_core.proofs.Storing.{store_agrees}
 use Rattle.nfs_core.proofs.core_state.Core.answer.Goals as goal
 use Rattle.nfs_core.proofs.core_state.Core.answer.Goals.{in-Ok-enter, in-Err}
 use Rattle.nfs_core.specs.Entered.{Answers, IsEntered}
-use Rattle.nfs_core.specs.Server.{AreAlike, Server, server_of}
+use Rattle.nfs_core.specs.Server.{AreAlike, Server}
 use Rattle.nfs_core.specs.declared.entered.Entered.{Entered}
 use Rattle.nfs_state.specs.Entries.{entry_of, request_of}
+use Rattle.nfs_state.specs.Store.{server_of}
 use Rattle.nfs_state.specs.declared.request.Request.{Request}
 use Rattle.nfs_xdr.specs.declared.op_result.OpResult.{OpResult}
 
 pub enter-requires-clause-asked : goal.enter-requires-clause-asked
-enter-requires-clause-asked c = can_ask c.self.inside.journal.history c.in-Ok.request (search rules) (search rules)
+enter-requires-clause-asked c = can_ask c.self.inside.store.journal.history c.in-Ok.request (search rules) (search rules)
 
 pub enter-requires-clause-stored : goal.enter-requires-clause-stored
 enter-requires-clause-stored c =
-    let journal = c.self.inside.journal.history in
-    let state = state_of c.self.inside.tables in
-    record {
-      confirms = Lawful-confirm journal state c.self.invariant.0;
-      states = Lawful-state journal state c.self.invariant.0;
-      given = given_numbers state (c.lawful_is_safe.ensures.safe journal state c.self.invariant.0).numbers_given;
-      owners = c.self.invariant.1;
-    }
+    store_agrees c.lawful_is_safe.ensures.safe c.self.inside.store c.self.invariant.0 c.self.invariant.1
 
 pub invariant_of-self-2 : goal.invariant_of-self-2
 invariant_of-self-2 c =
-    let before = c.self.inside in
-    let after = c.enter.new in
+    let before = c.self.inside.store in
+    let after = c.enter.new.store in
     elim c.match-enter.branch [
       | in-Ok-enter w ↦
           let entered = w.in-Ok-enter.ensures.entered in
@@ -43,8 +37,8 @@ returns-clause-lawful c = (invariant_of-self-2 c).0
 pub returns-clause-answers : goal.returns-clause-answers
 returns-clause-answers c =
     let request = request_of c.args.moment c.args.principal c.args.op.now c.args.filehandle in
-    let old = server_of c.self.inside.journal c.self.inside.tables in
-    let new = server_of c.enter.new.journal c.enter.new.tables in
+    let old = server_of c.self.inside.store in
+    let new = server_of c.enter.new.store in
     elim c.match-enter.branch [
       | in-Ok-enter w ↦
           let told : IsEntered old new (entry_of request w.in-Ok-enter.answer) w.in-Ok-enter.entered =
