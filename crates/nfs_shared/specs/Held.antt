@@ -44,12 +44,12 @@ pub record IsHeld (held : HeldView) : Type 0 where
   pub places : length held.places ≡ calls_in held.server.journal.entries
   pub receipts : held.receipts ≡ receipts_of 0 held.server.journal.entries held.places
 
--- The seat knows of this value, as one that began with this start: the receipts that it knows of begin those that were given
--- by then. So the value is no older than the last call that was made with the seat.
-pub record IsKnownOf (start : History) (seat : SeatView) (held : HeldView) : Type 0 where
-  pub held : IsHeld held
-  pub start : start_of held.server.journal ≡ start
-  pub begins : IsPrefix seat.receipts.list held.receipts
+-- The seat knows that the lock guarded this value, in a run with this start: the receipts that the seat knows of begin
+-- those that were given by then. So the value is no older than the last call that was made with the seat.
+pub record IsKnownOf (origin : History) (seat : SeatView) (value : HeldView) : Type 0 where
+  pub held : IsHeld value
+  pub start : start_of value.server.journal ≡ origin
+  pub begins : IsPrefix seat.receipts.list value.receipts
 
 -- The token is the writer's of this run's roll, which is the roll that is kept, and the run's ledger has counted the
 -- receipts.

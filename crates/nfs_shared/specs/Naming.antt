@@ -21,12 +21,12 @@ pub record OpenedView : Type 0 where
 abbrev pub start_of : History → History
 start_of journal = record journal { entries = [] }
 
--- A run that is named so, and starts so, can begin with what was opened and with this core: the journal is empty, and no
--- client is live.
-pub record CanBegin (run : OpenedView) (start : History) (opened : OpenedView) (core : Server)
+-- A run of this name, with this start, can begin with what was opened and with this core: these are what the name stands
+-- for, the journal is empty, and no client is live.
+pub record CanBegin (name : OpenedView) (origin : History) (opened : OpenedView) (core : Server)
     : Type 0 where
-  pub run : opened ≡ run
-  pub start : start_of core.journal ≡ start
+  pub run : opened ≡ name
+  pub start : start_of core.journal ≡ origin
   pub empty : core.journal.entries ≡ []
   pub nobody : (number : ℕ) → IsFalse (is_live number core.stored.clients)
 

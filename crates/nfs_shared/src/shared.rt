@@ -158,7 +158,6 @@ impl<N: Naming> Shared<N> {
             mut swept,
         } = held;
         let Sweeper { mut share } = sweeper;
-        swept.audit(&mut share);
         let Register {
             places: _,
             roll,
@@ -168,6 +167,7 @@ impl<N: Naming> Shared<N> {
         } = register;
         meet_each(&roll, &mut writer, &mut rest, seats);
         count.audit(&mut rest);
+        swept.audit(&mut share);
         leased.into_core()
     }
 }

@@ -16,7 +16,7 @@ use Rattle.nfs_state.specs.State.{History}
 pub invariant_of-held : goal.invariant_of-held
 invariant_of-held g c =
     let held = c.held.inside in
-    let swept = c.sweep in
+    let swept = c.sweep-swept in
     let old : HeldView = record {
       server = held.leased.core;
       leases = held.leased.book;
