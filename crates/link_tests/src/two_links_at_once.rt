@@ -1,7 +1,6 @@
-ghost use Rattle.std.specs.Prelude.{◌≡◌, [], ℕ, IfSome, IsFalse};
-ghost use Rattle.nfs_owners.specs.Registry.{is_live};
+ghost use Rattle.std.specs.Prelude.{◌≡◌, IfSome};
 ghost use Rattle.nfs_server.specs.Working.{seats_of};
-ghost use Rattle.nfs_shared.specs.Naming.{start_of};
+ghost use Rattle.nfs_shared.specs.Naming.{CanBegin};
 
 use crate::board::Board;
 use crate::board_link::BoardLink;
@@ -44,15 +43,10 @@ fn serve_links_in<N: Naming + Send + Sync, R: Threads + Wait + Sleeper + Sync>(
     core: Core,
     tree: &Tree,
 ) -> Option<Outcome>
-    requires roll { opened.roll ≡ N.roll }
-    requires ledger { opened.ledger ≡ N.name }
-    requires workers { opened.workers ≡ N.parts }
-    requires start { start_of core.journal ≡ N.start }
-    requires empty { core.journal.entries ≡ [] }
-    requires nobody { (number : ℕ) → IsFalse (is_live number core.stored.clients) }
+    requires begins { CanBegin N.run N.start opened core }
     requires tree { N.start.nodes ≡ tree.now.nodes }
 {
-    let Ok((shared, seats)) = Shared::<N>::new(alloc, opened, core) else {
+    let Ok((shared, seats, sweeper)) = Shared::<N>::new(alloc, opened, core) else {
         return None;
     };
     let board = Board::new(alloc, seats.len()).ok()?;
@@ -65,7 +59,7 @@ fn serve_links_in<N: Naming + Send + Sync, R: Threads + Wait + Sleeper + Sync>(
         return None;
     };
     workers_keep_receipts::<N, BoardLink<'_, R>>();
-    let core = shared.end(receipts.as_slice(), seats);
+    let core = shared.end(receipts.as_slice(), seats, sweeper);
     Some(Outcome {
         served,
         read_failures,

@@ -30,7 +30,7 @@ one_more_done linking tree (l ∷ links) [] link done are is = absurd are
 one_more_done linking tree (l ∷ links) (d ∷ dones) link done are is = (are.0, one_more_done linking tree links dones link done are.1 is)
 
 -- a seat that was given nothing is kept with no receipts
-kept_unused : (seat : SeatView) → seat.given ≡ 0 → IsKept seat []
+kept_unused : (seat : SeatView) → seat.receipts.given ≡ 0 → IsKept seat []
 kept_unused seat none = record {
   place = λ k r at. cc;
   list = λ k r at. cc;
@@ -40,7 +40,7 @@ kept_unused seat none = record {
 }
 
 -- a worker that gives its seat back, with the error Memory, before it opened its link
-pub is_refused : {N R : Type 0} (tree : Files) (link : TcpLink R) (seat : SeatView) (done : Done N) → seat.given ≡ 0
+pub is_refused : {N R : Type 0} (tree : Files) (link : TcpLink R) (seat : SeatView) (done : Done N) → seat.receipts.given ≡ 0
     → done.result ≡ Err errors.Memory → done.seat ≡ seat → done.receipts.items ≡ []
     → IsDone tcp tree link seat done
 is_refused {R = R} tree link seat done none result same empty =

@@ -9,7 +9,7 @@ ghost use Rattle.nfs_listener.specs.declared.tcp_link.TcpLink.{TcpLink};
 ghost use Rattle.nfs_owners.specs.Registry.{is_live};
 ghost use Rattle.nfs_server.specs.Working.{AreDone, AreUnused, receipts_back, seats_back, seats_of};
 ghost use Rattle.nfs_shared.specs.Ends.{AllApart, AllStand, AreKept, receipts_in};
-ghost use Rattle.nfs_shared.specs.Naming.{start_of};
+ghost use Rattle.nfs_shared.specs.Naming.{CanBegin, start_of};
 ghost use Rattle.nfs_shared.specs.Receipts.{calls_in};
 ghost use Rattle.nfs_state.specs.Stored.{meaning};
 
@@ -19,7 +19,7 @@ use crate::sweeping::sweep_until;
 use crate::{Ended, TcpLink, Uptime};
 use nfs_core::Core;
 use nfs_server::{Done, ServeError, serve_all, workers_keep_receipts};
-use nfs_shared::{Naming, Opened, Receipt, Seat, Shared};
+use nfs_shared::{Naming, Opened, Receipt, Seat, Shared, Sweeper};
 use nfs_tree::Tree;
 use std::alloc::Global;
 use std::marker::Brand;
@@ -80,13 +80,8 @@ fn run<N: Naming + Send + Sync, R: Threads + Wait + Timer + Sync>(
     opened: Opened,
     core: Core,
 ) -> Result<(Core, Vec<Ended>), Core>
-    requires roll { opened.roll ≡ N.roll }
-    requires ledger { opened.ledger ≡ N.name }
-    requires workers { opened.workers ≡ N.parts }
+    requires begins { CanBegin N.run N.start opened core }
     requires count { opened.workers ≡ connections }
-    requires start { start_of core.journal ≡ N.start }
-    requires empty { core.journal.entries ≡ [] }
-    requires nobody { (number : ℕ) → IsFalse (is_live number core.stored.clients) }
     requires nodes { core.journal.nodes ≡ place.now.tree.now.nodes }
     ensures served { IfOk result
         (λ r. IsServed link.now place.now.tree.now connections core r.0 r.1.items) }
@@ -95,7 +90,7 @@ fn run<N: Naming + Send + Sync, R: Threads + Wait + Timer + Sync>(
     let Ok(lists) = Lists::<N, R>::new(place.alloc, connections as usize) else {
         return Err(core);
     };
-    let (shared, seats) = match Shared::<N>::new(place.alloc, opened, core) {
+    let (shared, seats, sweeper) = match Shared::<N>::new(place.alloc, opened, core) {
         Ok(shared) => shared,
         Err(core) => return Err(core),
     };
@@ -106,9 +101,9 @@ fn run<N: Naming + Send + Sync, R: Threads + Wait + Timer + Sync>(
         ended,
     } = lists;
     link_all(link, seats, &mut links);
-    let all = serve_swept(place, &shared, links, spare);
+    let (all, sweeper) = serve_swept(place, &shared, sweeper, links, spare);
     workers_keep_receipts::<N, TcpLink<'_, R>>();
-    Ok(end(shared, all, parts, ended))
+    Ok(end(shared, sweeper, all, parts, ended))
 }
 
 // The link, for each of the seats.
@@ -131,22 +126,24 @@ fn link_all<'a, N: Naming, R>(
 fn serve_swept<N: Naming + Send + Sync, R: Threads + Wait + Timer + Sync>(
     place: &Place<'_, R>,
     shared: &Shared<N>,
+    mut sweeper: Sweeper<N>,
     links: Vec<(TcpLink<'_, R>, Seat<N>)>,
     spare: Vec<Done<N>>,
-) -> Vec<Done<N>>
+) -> (Vec<Done<N>>, Sweeper<N>)
     requires nodes { N.start.nodes ≡ place.now.tree.now.nodes }
     requires unused { AreUnused (seats_of links.items) }
     requires empty { spare.items ≡ [] }
     requires room { length links.items ≤ vec_capacity spare }
-    ensures { AreDone tcp place.now.tree.now links.entry.items result.items }
+    ensures { AreDone tcp place.now.tree.now links.entry.items result.0.items }
 {
     let bell = &Bell::new();
     // Where no thread can be made, the first is called after the second, and finds the end told.
-    let (_, all) = thread::join(
+    let (sweeper, all) = thread::join(
         place.rt,
         move || {
             let mut uptime = Uptime::since(place.rt, place.start);
-            sweep_until(place.rt, shared, &mut uptime, bell)
+            sweep_until(place.rt, shared, &mut sweeper, &mut uptime, bell);
+            sweeper
         },
         move || -> Vec<Done<N>>
             requires { (N.start.nodes ≡ place.now.tree.now.nodes) × AreUnused (seats_of links.items)
@@ -154,7 +151,7 @@ fn serve_swept<N: Naming + Send + Sync, R: Threads + Wait + Timer + Sync>(
             ensures { AreDone tcp place.entry.now.tree.now links.entry.items result.items }
         { serve_and_ring(place, shared, bell, links, spare) },
     );
-    all
+    (all, sweeper)
 }
 
 // Serves the links, and tells their end.
@@ -205,11 +202,12 @@ fn refuse_all<N: Naming, R>(
 // The core at the end, and how the connections ended.
 fn end<N: Naming>(
     shared: Shared<N>,
+    sweeper: Sweeper<N>,
     all: Vec<Done<N>>,
     mut parts: Parts<N>,
     ended: Vec<Ended>,
 ) -> (Core, Vec<Ended>)
-    requires seats { length (seats_back all.items) ≡ N.parts }
+    requires seats { length (seats_back all.items) ≡ N.run.workers }
     requires kept { AreKept (seats_back all.items) (receipts_back all.items) }
     requires parts { HaveRoom (length all.items) parts }
     requires none { ended.items ≡ [] }
@@ -229,7 +227,7 @@ fn end<N: Naming>(
         seats,
         receipts,
     } = parts;
-    let core = shared.end(receipts.as_slice(), seats);
+    let core = shared.end(receipts.as_slice(), seats, sweeper);
     (core, pair(results.as_slice(), receipts, ended))
 }
 

@@ -1,7 +1,7 @@
 use crate::Uptime;
 use crate::bell::Bell;
 use nfs_server::Clock;
-use nfs_shared::{Naming, Shared};
+use nfs_shared::{Naming, Shared, Sweeper};
 use std::sync::Wait;
 use std::time::{Clock as Timer, Duration};
 
@@ -12,6 +12,7 @@ const PERIOD: u64 = 1;
 pub(crate) fn sweep_until<N: Naming, R: Wait + Timer>(
     rt: &R,
     shared: &Shared<N>,
+    sweeper: &mut Sweeper<N>,
     uptime: &mut Uptime<'_, R>,
     bell: &Bell,
 ) {
@@ -19,6 +20,6 @@ pub(crate) fn sweep_until<N: Naming, R: Wait + Timer>(
         if bell.wait(rt, Duration::from_secs(PERIOD)) {
             return;
         }
-        shared.sweep(rt, uptime.now());
+        shared.sweep(rt, sweeper, uptime.now());
     }
 }

@@ -7,7 +7,7 @@ ghost use Rattle.nfs_shared.specs.Receipts.{calls_in};
 
 use nfs_core::Core;
 use nfs_server::Done;
-use nfs_shared::{Naming, Receipt, Seat, Shared};
+use nfs_shared::{Naming, Receipt, Seat, Shared, Sweeper};
 use std::alloc::{AllocError, Global};
 use std::marker::Model;
 
@@ -73,9 +73,10 @@ impl<N: Naming> Handed<N> {
         Ok(())
     }
 
-    /// The core, once all workers have handed in their seats; and the receipts by the places of their seats.
-    pub fn end(self, shared: Shared<N>) -> (Core, Vec<Vec<Receipt>>)
-        requires all { length self.seats ≡ N.parts }
+    /// The core, once all workers have handed in their seats, and the sweeper has ended; and the receipts by the places of
+    /// their seats.
+    pub fn end(self, shared: Shared<N>, sweeper: Sweeper<N>) -> (Core, Vec<Vec<Receipt>>)
+        requires all { length self.seats ≡ N.run.workers }
         ensures start { start_of result.0.journal ≡ N.start }
         ensures lawful { IsLawful result.0 }
         ensures receipts { map (λ v. v.items) result.1.items ≡ self.receipts }
@@ -84,7 +85,7 @@ impl<N: Naming> Handed<N> {
         ensures counted { calls_in result.0.journal.entries ≡ receipts_in self.receipts }
     {
         let Handed { seats, receipts } = self;
-        let core = shared.end(receipts.as_slice(), seats);
+        let core = shared.end(receipts.as_slice(), seats, sweeper);
         (core, receipts)
     }
 }

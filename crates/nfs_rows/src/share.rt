@@ -1,9 +1,8 @@
 //! A row run through the state that threads share.
 
-ghost use Rattle.std.specs.Prelude.{◌≡◌, ◌-◌, ◌^◌, ◌<◌, [], ℕ, IfOk, IsFalse, length};
-ghost use Rattle.nfs_owners.specs.Registry.{is_live};
+ghost use Rattle.std.specs.Prelude.{◌≡◌, ◌-◌, ◌^◌, ◌<◌, IfOk, length};
 ghost use Rattle.nfs_shared.specs.Ends.{AreFresh, IsKept};
-ghost use Rattle.nfs_shared.specs.Naming.{start_of};
+ghost use Rattle.nfs_shared.specs.Naming.{CanBegin};
 ghost use Rattle.nfs_shared.specs.Seats.{fresh};
 
 use crate::course::Course;
@@ -14,7 +13,7 @@ use crate::{Connection, Got, Handed, MemoryLink, Pieces, Row, Step};
 use nfs_core::{Core, Journal};
 use nfs_journal::write_journal;
 use nfs_server::{Done, Fault, Stopped};
-use nfs_shared::{Naming, Opened, Receipt, Seat, Shared};
+use nfs_shared::{Naming, Opened, Receipt, Seat, Shared, Sweeper};
 use nfs_tree::{Tree, TreeError};
 use std::alloc::{AllocError, Global};
 use std::marker::Brand;
@@ -118,15 +117,10 @@ fn run<N: Naming + Send + Sync, R: Threads + Wait + Sync>(
     tree: &Tree,
     mut course: Course<'_>,
 ) -> Result<Ended, AllocError>
-    requires roll { opened.roll ≡ N.roll }
-    requires ledger { opened.ledger ≡ N.name }
-    requires workers { opened.workers ≡ N.parts }
-    requires start { start_of core.journal ≡ N.start }
-    requires empty { core.journal.entries ≡ [] }
-    requires nobody { (number : ℕ) → IsFalse (is_live number core.stored.clients) }
+    requires begins { CanBegin N.run N.start opened core }
     requires nodes { core.journal.nodes ≡ tree.now.nodes }
 {
-    let Ok((shared, seats)) = Shared::<N>::new(alloc, opened, core) else {
+    let Ok((shared, seats, mut sweeper)) = Shared::<N>::new(alloc, opened, core) else {
         return Err(AllocError);
     };
     let server = SharedServer {
@@ -135,8 +129,8 @@ fn run<N: Naming + Send + Sync, R: Threads + Wait + Sync>(
         shared: &shared,
         tree,
     };
-    let handed = server.take_all(seats, &mut course)?;
-    let (core, _) = handed.end(shared);
+    let handed = server.take_all(seats, &mut sweeper, &mut course)?;
+    let (core, _) = handed.end(shared, sweeper);
     let journal = file_of(alloc, core.journal())?;
     Ok(Ended {
         wrong: course.into_wrong(),
@@ -167,15 +161,16 @@ impl<'a, N: Naming + Send + Sync, R: Threads + Wait + Sync> SharedServer<'a, N, 
     fn take_all(
         &self,
         seats: Vec<Seat<N>>,
+        sweeper: &mut Sweeper<N>,
         course: &mut Course<'_>,
     ) -> Result<Handed<N>, AllocError>
         requires nodes { N.start.nodes ≡ self.now.tree.now.nodes }
-        requires fresh { AreFresh N.parts seats.items }
-        ensures { IfOk result (λ handed. length handed.seats ≡ N.parts) }
+        requires fresh { AreFresh N.run.workers seats.items }
+        ensures { IfOk result (λ handed. length handed.seats ≡ N.run.workers) }
     {
         let mut handed = Handed::new(self.alloc);
         for seat in seats {
-            let (seat, receipts) = self.take(seat, course)?;
+            let (seat, receipts) = self.take(seat, sweeper, course)?;
             handed.hand_in(seat, receipts)?;
         }
         Ok(handed)
@@ -185,6 +180,7 @@ impl<'a, N: Naming + Send + Sync, R: Threads + Wait + Sync> SharedServer<'a, N, 
     fn take(
         &self,
         seat: Seat<N>,
+        sweeper: &mut Sweeper<N>,
         course: &mut Course<'_>,
     ) -> Result<(Seat<N>, Vec<Receipt>), AllocError>
         requires nodes { N.start.nodes ≡ self.now.tree.now.nodes }
@@ -195,7 +191,8 @@ impl<'a, N: Naming + Send + Sync, R: Threads + Wait + Sync> SharedServer<'a, N, 
         match course.next() {
             None => Ok((seat, Vec::new(self.alloc))),
             Some(Step::Sweep(sweep)) => {
-                course.note(Got::Swept(self.shared.sweep(self.rt, sweep.moment)));
+                let swept = self.shared.sweep(self.rt, sweeper, sweep.moment);
+                course.note(Got::Swept(swept));
                 Ok((seat, Vec::new(self.alloc)))
             }
             Some(Step::Connection(connection)) => {

@@ -1,7 +1,7 @@
 -- The receipts that a desk is given in a connection.
 use Rattle.std.proofs.Common.{ℕ, List, [], ◌∷◌, ◌++◌, Option, Some, None, refl, sym, ap, subst, ◌∙◌, inl, inr, append_assoc}
 use Rattle.std.proofs.lemmas.List.{append-nil, map-append}
-use Rattle.nfs_shared.specs.Seats.{SeatView}
+use Rattle.nfs_shared.specs.Seats.{SeatReceipts}
 use Rattle.nfs_shared.specs.declared.receipt.Receipt.{Receipt}
 use Rattle.nfs_state.specs.declared.entry.Call.{Call}
 use Rattle.nfs_state.specs.declared.entry.Entry.{Entry}
@@ -24,13 +24,13 @@ gains_none old new questions answers same none = record {
   receipts = [];
   more = same.1 ∙ sym (append-nil old.receipts);
   entries = none;
-  place = ap (λ (s : SeatView). s.place) same.0;
-  of_seat = ap (λ (s : SeatView). s.last) same.0;
+  place = same.0.0;
+  of_seat = ap (λ (r : SeatReceipts). r.last) same.0.1;
 }
 
 gains_alike : (old new : Holding) → AreAlikeButRoom old new → GainsReceipts old [] [] new
 gains_alike old new alike =
-    gains_none old new [] [] (ap (λ (h : Holding). h.seat) alike, ap (λ (h : Holding). h.receipts) alike) refl
+    gains_none old new [] [] ((ap (λ (h : Holding). h.seat.place) alike, ap (λ (h : Holding). h.seat.receipts) alike), ap (λ (h : Holding). h.receipts) alike) refl
 
 -- one operation
 gains_operation : (old new : Holding) (request : Request) (answer : OpResult) (receipt : Option Receipt) → IsReceived old request answer receipt new
@@ -48,7 +48,7 @@ gains_operation old new request answer (Some receipt) is = record {
 gains_one : (old new : Holding) (question : Question) (answer : OpResult) → GivenBySeat old question answer new → GainsReceipts old (question ∷ []) (answer ∷ []) new
 gains_one old new (Operation request) answer given = gains_operation old new request answer given.0 given.1
 gains_one old new (Renewal moment client) answer given =
-    gains_none old new (Renewal moment client ∷ []) (answer ∷ []) given.2 refl
+    gains_none old new (Renewal moment client ∷ []) (answer ∷ []) given.4 refl
 
 -- receipts of a seat, and more receipts of it after them
 of_seat_then : (place : ℕ) (before mid last : Option ℕ) (receipts more : List Receipt) → AreOfSeat place before receipts mid → AreOfSeat place mid more last → AreOfSeat place before (receipts ++ more) last
@@ -67,8 +67,8 @@ gains_more old mid new questions others answers replies first second = record {
   entries = subst (λ (es : List Entry). AreEntries (questions ++ others) (answers ++ replies) es) (sym (map-append (λ (r : Receipt). entries.Call r.call) first.receipts second.receipts))
       (entries_then questions others answers replies (entries_of first.receipts) (entries_of second.receipts) first.entries second.entries);
   place = second.place ∙ first.place;
-  of_seat = of_seat_then old.seat.place old.seat.last mid.seat.last new.seat.last first.receipts second.receipts first.of_seat
-      (subst (λ (place : ℕ). AreOfSeat place mid.seat.last second.receipts new.seat.last) first.place second.of_seat);
+  of_seat = of_seat_then old.seat.place old.seat.receipts.last mid.seat.receipts.last new.seat.receipts.last first.receipts second.receipts first.of_seat
+      (subst (λ (place : ℕ). AreOfSeat place mid.seat.receipts.last second.receipts new.seat.receipts.last) first.place second.of_seat);
 }
 
 desk_gains : IsGain GivenBySeat AreAlikeButRoom GainsReceipts

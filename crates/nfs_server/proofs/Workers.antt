@@ -10,7 +10,7 @@ use Rattle.nfs_server.specs.declared.begin.Worker.{Worker}
 use Rattle.nfs_server.specs.declared.done.Done.{Done}
 
 -- a seat that was given nothing is kept with no receipts
-pub kept_unused : (seat : SeatView) → seat.given ≡ 0 → IsKept seat []
+pub kept_unused : (seat : SeatView) → seat.receipts.given ≡ 0 → IsKept seat []
 kept_unused seat none = record {
   place = λ k r at. cc;
   list = λ k r at. cc;
@@ -21,7 +21,7 @@ kept_unused seat none = record {
 
 -- where no seat of some links was given anything, the first was not, and no other
 pub unused_rest : {L : Type 0} (links left : List (L × SeatView)) (link : L × SeatView) → links ≡ link ∷ left → AreUnused (seats_of links)
-    → (link.1.given ≡ 0) × AreUnused (seats_of left)
+    → (link.1.receipts.given ≡ 0) × AreUnused (seats_of left)
 unused_rest links left link same unused =
     let here = subst (λ l. AreUnused (seats_of l)) same unused in (here 0 link.1 refl, λ k seat at. here (suc k) seat at)
 

@@ -1,8 +1,12 @@
 -- What a desk holds, and how it answers as a service.
-use Rattle.std.specs.Prelude.{◌≡◌, ◌≢◌, ℕ, Bool, List, [], ◌∷◌, ◌++◌, Option, Some, None}
-use Rattle.nfs_shared.specs.Seats.{Gives, SeatView}
+use Rattle.std.specs.Prelude.{◌≡◌, ◌≢◌, ℕ, List, [], ◌∷◌, ◌++◌, Option, Some, None}
+use Rattle.nfs_forms.specs.ClientId.{number_in}
+use Rattle.nfs_shared.specs.Held.{HeldView, IsKnownOf}
+use Rattle.nfs_shared.specs.PlainBook.{has_open_lease}
+use Rattle.nfs_shared.specs.Seats.{Gives, GivesNothing, SeatView}
 use Rattle.nfs_shared.specs.declared.receipt.Receipt.{Receipt}
 use Rattle.nfs_state.specs.Entries.{resource}
+use Rattle.nfs_state.specs.State.{History}
 use Rattle.nfs_state.specs.declared.request.Request.{Request}
 use Rattle.nfs_server.specs.Asking.{Operation, Question, Renewal}
 use Rattle.nfs_shared.specs.Renewals.{renewal_answer}
@@ -20,9 +24,9 @@ pub record Holding : Type 0 where
 abbrev pub AreAlikeButRoom : Holding → Holding → Type 0
 AreAlikeButRoom old new = new ≡ record old { room = new.room }
 
--- seat and receipts are as they were
+-- the seat was given nothing, and the receipts are as they were
 abbrev pub HoldsTheSame : Holding → Holding → Type 0
-HoldsTheSame old new = (new.seat ≡ old.seat) × (new.receipts ≡ old.receipts)
+HoldsTheSame old new = GivesNothing old.seat new.seat × (new.receipts ≡ old.receipts)
 
 -- The receipt for an operation, if there is one. Without a receipt the answer is NFS4ERR_RESOURCE. A receipt is for
 -- this request with this answer, it is the seat's, and it comes after those that it was given before.
@@ -34,10 +38,13 @@ IsReceived old request answer (Some receipt) new =
     × Gives old.seat receipt new.seat
     × (new.receipts ≡ old.receipts ++ receipt ∷ [])
 
--- How a desk answers a question. RENEW is answered by whether the lease is open, which nobody can tell outside of the
--- lock.
+-- How a desk answers a question. RENEW is answered as it stood behind the lock, after the last call that was made at the
+-- seat: NFS4_OK where the client's lease was open.
 abbrev pub GivenBySeat : Holding → Question → OpResult → Holding → Type 0
 GivenBySeat old (Operation request) answer new =
     (receipt : Option Receipt) × IsReceived old request answer receipt new
 GivenBySeat old (Renewal moment client) answer new =
-    (is_open : Bool) × (answer ≡ results.Renew (renewal_answer is_open)) × HoldsTheSame old new
+    (held : HeldView) × (start : History) × IsKnownOf start old.seat held
+    × (answer ≡ results.Renew (renewal_answer
+    (has_open_lease held.leases (number_in start.epoch client))))
+    × HoldsTheSame old new

@@ -34,7 +34,7 @@ pub record GainsReceipts (old : Holding) (questions : List Question) (answers : 
   pub more : new.receipts ≡ old.receipts ++ receipts
   pub entries : AreEntries questions answers (entries_of receipts)
   pub place : new.seat.place ≡ old.seat.place
-  pub of_seat : AreOfSeat old.seat.place old.seat.last receipts new.seat.last
+  pub of_seat : AreOfSeat old.seat.place old.seat.receipts.last receipts new.seat.receipts.last
 
 -- In every course a desk gains the receipts for the questions that it is asked.
 abbrev pub ReceiptsAreQuestions : {D C : Type 0} → Device D → Rules Holding C → Type 0

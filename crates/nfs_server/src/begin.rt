@@ -34,7 +34,7 @@ pub(crate) fn begin<
     seat: Seat<N>,
 ) -> Worker<N, L>
     requires tree { N.start.nodes ≡ common.now.tree.now.nodes }
-    requires unused { seat.given ≡ 0 }
+    requires unused { seat.receipts.given ≡ 0 }
     ensures { IsWorker
         (linking L.opens L.Device.device L.Device.read_failures L.Device.write_failures L.Clock.tells)
         common.now.tree.now link seat result }
@@ -47,7 +47,7 @@ pub(crate) fn begin<
     let begun = scope.spawn_with(
         promise,
         move || -> Done<N>
-            requires { (N.start.nodes ≡ common.now.tree.now.nodes) × (seat.given ≡ 0) }
+            requires { (N.start.nodes ≡ common.now.tree.now.nodes) × (seat.receipts.given ≡ 0) }
             ensures { IsDone
                 (linking L.opens L.Device.device L.Device.read_failures L.Device.write_failures L.Clock.tells)
                 common.entry.now.tree.now link seat result }

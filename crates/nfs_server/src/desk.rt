@@ -100,7 +100,8 @@ impl<'a, N: Naming, R: Wait> Service for Desk<'a, N, R> {
     }
 
     fn renew(&mut self, moment: Moment, client: ClientId) -> OpResult {
-        let is_open = self.shared.renew(self.rt, moment, client);
+        let seat = &mut self.seat;
+        let is_open = self.shared.renew(self.rt, seat, moment, client);
         let answer = OpResult::Renew(renewal_answer(is_open));
         answer.fits();
         answer

@@ -1,10 +1,9 @@
-ghost use Rattle.std.specs.Prelude.{◌≡◌, ◌^◌, IfOk, IsFalse, List, ℕ, false, refl};
+ghost use Rattle.std.specs.Prelude.{◌≡◌, ◌^◌, IfOk, IsFalse, ℕ, refl};
 ghost use Rattle.nfs_core.specs.Server.{AreAlike};
 ghost use Rattle.nfs_owners.specs.Registry.{is_live};
 ghost use Rattle.nfs_server.specs.Leases.{IsLent};
 ghost use Rattle.nfs_shared.specs.PlainBook.{Happens};
-ghost use Rattle.nfs_shared.specs.Sweeps.{Sweeps};
-ghost use Rattle.nfs_shared.specs.Turn.{Turn};
+ghost use Rattle.nfs_shared.specs.Sweeps.{Sweeps, leased};
 
 use crate::Service;
 use nfs_core::{Core, Moment};
@@ -52,10 +51,8 @@ impl Lent {
 
     /// Removes each client whose lease is over at this moment, with all that it has.
     pub fn sweep(&mut self, now: Moment) -> Swept
-        ensures sweeps { (turns : List Turn)
-            × Sweeps Happens now self.old.core self.old.book result turns self.new.core self.new.book }
-        ensures revoked { result.revoked ≡ 0 }
-        ensures stopped { result.stopped ≡ false }
+        ensures sweeps { Sweeps Happens now (leased self.old.core self.old.book) result
+            (leased self.new.core self.new.book) }
     {
         self.leased.sweep(now)
     }

@@ -45,7 +45,7 @@ pub(crate) fn work<N: Naming, L: Link, R: Wait>(
     seat: Seat<N>,
 ) -> Done<N>
     requires tree { N.start.nodes ≡ common.now.tree.now.nodes }
-    requires unused { seat.given ≡ 0 }
+    requires unused { seat.receipts.given ≡ 0 }
     ensures { IsDone
         (linking L.opens L.Device.device L.Device.read_failures L.Device.write_failures L.Clock.tells)
         common.now.tree.now link seat result }

@@ -11,12 +11,12 @@ use Rattle.nfs_owners.specs.LiveClients.{IsNextLive, can_become_live}
 use Rattle.nfs_owners.specs.Registry.{Registry, is_live}
 use Rattle.nfs_shared.specs.BookEvent.{BookEvent, Leads, is_open_after, was_opened_after}
 use Rattle.nfs_shared.specs.BookOf.{IsBookOf}
-use Rattle.nfs_shared.specs.Sweeps.{AreTurns, IsTurn, Sweeps, events_of_all, is_of, none_swept, tally}
+use Rattle.nfs_shared.specs.Sweeps.{AreTurns, IsTurn, Sweeps, events_of_all, is_of, leased, none_swept, tally}
 use Rattle.nfs_shared.specs.Turn.{Gains, Turn, events_by, events_of, expiries, total, with_case}
 use Rattle.nfs_shared.specs.declared.case.Case.{Case}
 use Rattle.nfs_shared.specs.declared.case.Case.TheVariants as cases
 use Rattle.nfs_shared.specs.declared.swept.Swept.{Swept}
-use Rattle.nfs_shared.proofs.Lists.{Reaches, ascend_from_reaches, events_more, gains_of_all, leads_more, reaches_length, reaches_more, right_more, tally_more, total_tally, turns_more}
+use Rattle.nfs_shared.proofs.Lists.{Reaches, ascend_from_reaches, events_more, gains_of_all, leads_more, none_revoked, reaches_length, reaches_more, right_more, tally_more, total_tally, turns_more}
 use Rattle.nfs_state.specs.State.{History, State}
 use Rattle.nfs_state.specs.Stored.{meaning}
 use Rattle.nfs_state.specs.declared.entry.Entry.TheVariants as entries
@@ -145,17 +145,22 @@ comes_further happens now upto server book swept turns server' book' t server'' 
 pub comes_last : {Book : Type 0} (happens : Book → BookEvent → Book → Type 0) (now upto : ℕ) (server : Server)
     (book : Book) (swept : Swept) (turns : List Turn) (server' : Server) (book' : Book)
     → Comes happens now upto server book swept turns server' book' None
-    → Sweeps happens now server book swept turns server' book'
+    → Sweeps happens now (leased server book) swept (leased server' book')
 comes_last happens now upto server book swept turns server' book' h = record {
-  each = λ client.
-      h.each client
-      ∙ each_last upto client (is_live client server.stored.clients) (is_live client server'.stored.clients)
-      (h.later client) (h.is_next client);
-  once = ascend_from_reaches 0 turns upto h.reaches;
-  right = h.right;
-  events = h.events;
-  entries = gains_of_all now turns server server' h.right;
+  turns = turns;
+  ends = record {
+    each = λ client.
+        h.each client
+        ∙ each_last upto client (is_live client server.stored.clients) (is_live client server'.stored.clients)
+        (h.later client) (h.is_next client);
+    once = ascend_from_reaches 0 turns upto h.reaches;
+    right = h.right;
+    events = h.events;
+    entries = gains_of_all now turns server server' h.right;
+  };
   counts = h.counts;
+  revoked = ap (λ (s : Swept). s.revoked) h.counts ∙ (none_revoked none_swept turns).0;
+  stopped = ap (λ (s : Swept). s.stopped) h.counts ∙ (none_revoked none_swept turns).1;
 }
 
 -- there are no more turns than client numbers

@@ -16,17 +16,17 @@ pub fresh_more : (count : ℕ) (seats : List SeatView) (seat : SeatView) → Are
 fresh_more count seats seat h is =
     (omega (arith, h.0, length-append seats (seat ∷ [])), λ k s at. ⊎_elim (λ old. h.1 k s old) (λ new. sym new.1 ∙ is ∙ ap fresh (sym h.0 ∙ sym new.0)) (at_more seats seat k s at))
 
-pub begin_more : (seats : List SeatView) (seat : SeatView) (whole : List Receipt) → AllBegin seats whole → IsPrefix seat.list whole → AllBegin (seats ++ seat ∷ []) whole
+pub begin_more : (seats : List SeatView) (seat : SeatView) (whole : List Receipt) → AllBegin seats whole → IsPrefix seat.receipts.list whole → AllBegin (seats ++ seat ∷ []) whole
 begin_more seats seat whole h begins k s at =
-    ⊎_elim (λ old. h k s old) (λ new. subst (λ (x : SeatView). IsPrefix x.list whole) new.1 begins) (at_more seats seat k s at)
+    ⊎_elim (λ old. h k s old) (λ new. subst (λ (x : SeatView). IsPrefix x.receipts.list whole) new.1 begins) (at_more seats seat k s at)
 
-pub given_more : (seats : List SeatView) (seat : SeatView) → given_in (seats ++ seat ∷ []) ≡ given_in seats + seat.given
+pub given_more : (seats : List SeatView) (seat : SeatView) → given_in (seats ++ seat ∷ []) ≡ given_in seats + seat.receipts.given
 given_more [] seat = omega arith
 given_more (s ∷ seats) seat = let h = given_more seats seat in omega arith
 
 -- as many receipts as the seats were given
 pub counts : (seats : List SeatView) (lists : List (List Receipt)) → length lists ≡ length seats
-    → ((k : ℕ) (seat : SeatView) (receipts : List Receipt) → slice_get seats k ≡ Some seat → slice_get lists k ≡ Some receipts → length receipts ≡ seat.given)
+    → ((k : ℕ) (seat : SeatView) (receipts : List Receipt) → slice_get seats k ≡ Some seat → slice_get lists k ≡ Some receipts → length receipts ≡ seat.receipts.given)
     → receipts_in lists ≡ given_in seats
 counts [] [] same each = refl
 counts [] (rs ∷ lists) same each = absurd (omega arith)
@@ -56,7 +56,7 @@ module _ (journal : List Entry) (places : List ℕ) (seats : List SeatView) (lis
       let seat = seat_at seats lists i at.0 kept.0 at.1 in
       let its = kept.1 i seat.0 at.0 seat.1 at.1 in
       let known = its.1.list k r at.2 in
-      (known.0, prefix_get seat.0.list (receipts_of 0 journal places) known.0 r (begin i seat.0 seat.1) known.1, its.1.place k r at.2 ∙ its.0)
+      (known.0, prefix_get seat.0.receipts.list (receipts_of 0 journal places) known.0 r (begin i seat.0 seat.1) known.1, its.1.place k r at.2 ∙ its.0)
 
   pub all_stand : AllStand journal lists
   all_stand i k r at = let one = one_of i k r at in receipts_stand 0 journal places one.0 r r.number one.1 (omega arith)

@@ -1,12 +1,12 @@
 -- Lists of turns, of calls on a book and of entries, with more at the end.
-use Rattle.std.proofs.Common.{◌≡◌, ℕ, ◌+◌, ◌<◌, ◌≤◌, ◌==◌, ◌||◌, List, [], ◌∷◌, ◌++◌, length, refl, sym, ap, subst, ◌∙◌, append_assoc, arith}
+use Rattle.std.proofs.Common.{◌≡◌, ℕ, ◌+◌, ◌<◌, ◌≤◌, ◌==◌, ◌||◌, List, [], ◌∷◌, ◌++◌, length, refl, sym, ap, subst, ◌∙◌, append_assoc, arith, length-append}
 use Rattle.std.proofs.lemmas.Grind.{common_steps}
 use Rattle.std.specs.List.{list_any}
 use Rattle.nfs_core.specs.Lawful as lawful
 use Rattle.nfs_core.specs.Server.{Server}
 use Rattle.nfs_shared.specs.BookEvent.{BookEvent, Look, Renew, Close, Open, Retire, Leads}
 use Rattle.nfs_shared.specs.Sweeps.{is_of, Ascend, AreTurns, IsTurn, events_of_all, tally}
-use Rattle.nfs_shared.specs.Turn.{Gains, Turn, events_of, expiries, total, with_case, with_entries}
+use Rattle.nfs_shared.specs.Turn.{Gains, Turn, events_by, events_of, expiries, total, with_case, with_entries}
 use Rattle.nfs_shared.specs.declared.case.Case.{Case}
 use Rattle.nfs_shared.specs.declared.case.Case.TheVariants as cases
 use Rattle.nfs_shared.specs.declared.closing.Closing.TheVariants as closing
@@ -61,6 +61,23 @@ pub total_tally : (swept : Swept) (turns : List Turn) → total (tally swept tur
 total_tally swept [] = omega arith
 total_tally swept (u ∷ turns) =
     omega (arith, total_tally (with_case swept u.case) turns, one_counted swept u.case)
+
+-- each client that was counted as ended has its entry
+expired_case : (case : Case) (client seen now : ℕ) (swept : Swept)
+    → (with_case swept case).expired ≡ swept.expired + length (expiries (events_by case client seen now))
+expired_case cases.Expired client seen now swept = refl
+expired_case cases.Kept client seen now swept = omega arith
+expired_case cases.Changed client seen now swept = omega arith
+expired_case cases.Refused client seen now swept = omega arith
+
+pub expired_tally : (now : ℕ) (swept : Swept) (turns : List Turn)
+    → (tally swept turns).expired ≡ swept.expired + length (expiries (events_of_all now turns))
+expired_tally now swept [] = omega arith
+expired_tally now swept (t ∷ turns) =
+    let here = expired_case t.case t.client t.seen now swept in
+    let rest = expired_tally now (with_case swept t.case) turns in
+    let both = ap (λ (es : List Entry). length es) (expiries_more (events_of now t) (events_of_all now turns)) in
+    omega (arith, here, rest, both, length-append (expiries (events_of now t)) (expiries (events_of_all now turns)))
 
 -- no turn revokes, and none stops the sweep
 revoked_case : (swept : Swept) (case : Case)

@@ -1,11 +1,11 @@
 -- The receipts that a journal has.
-use Rattle.std.proofs.Common.{◌≡◌, ℕ, zero, suc, ◌+◌, ◌<◌, ◌≤◌, List, [], ◌∷◌, ◌++◌, length, map, Option, Some, None, option_map, slice_get, refl, ap, sym, ◌∙◌, arith, length-append}
+use Rattle.std.proofs.Common.{◌≡◌, ℕ, zero, suc, ◌+◌, ◌<◌, ◌≤◌, List, [], ◌∷◌, ◌++◌, length, map, Option, Some, None, filter, is_none, option_map, slice_get, refl, ap, sym, ◌∙◌, arith, length-append}
 use Rattle.std.proofs.lemmas.List.{append-nil}
-use Rattle.std.proofs.lemmas.List.Elements.{filter_map-append}
+use Rattle.std.proofs.lemmas.List.Elements.{filter-append, filter_map-append}
 use Rattle.std.proofs.lemmas.Option.{slice_get_within}
 use Rattle.std.specs.List.{cons_option, filter_map, zip}
 use Rattle.nfs_shared.specs.BookEvent.{BookEvent, Close}
-use Rattle.nfs_shared.specs.Receipts.{calls_in, numbered_calls, receipt_of, receipts_of}
+use Rattle.nfs_shared.specs.Receipts.{calls_in, numbered_calls, receipt_of, receipts_of, swept_in}
 use Rattle.nfs_shared.specs.Turn.{expiries}
 use Rattle.nfs_shared.specs.declared.closing.Closing.TheVariants as closing
 use Rattle.nfs_shared.specs.declared.receipt.Receipt.{Receipt}
@@ -54,6 +54,23 @@ pub expiries_no_calls : (events : List BookEvent) → calls_in (expiries events)
 expiries_no_calls [] = refl
 expiries_no_calls (Close client seen now closing.Closed ∷ events) = expiries_no_calls events
 expiries_no_calls (event ∷ events) = expiries_no_calls events
+
+-- how many entries are no calls
+swept_in_append : (es more : List Entry) → swept_in (es ++ more) ≡ swept_in es + swept_in more
+swept_in_append es more =
+    ap (λ (xs : List Entry). length xs) (filter-append (λ (e : Entry). is_none (call_of e)) es more)
+    ∙ length-append (filter (λ (e : Entry). is_none (call_of e)) es) (filter (λ (e : Entry). is_none (call_of e)) more)
+
+pub swept_in_call : (es : List Entry) (call : Call) → swept_in (es ++ entries.Call call ∷ []) ≡ swept_in es
+swept_in_call es call = omega (arith, swept_in_append es (entries.Call call ∷ []))
+
+expiries_are_swept : (events : List BookEvent) → swept_in (expiries events) ≡ length (expiries events)
+expiries_are_swept [] = refl
+expiries_are_swept (Close client seen now closing.Closed ∷ events) = ap suc (expiries_are_swept events)
+expiries_are_swept (event ∷ events) = expiries_are_swept events
+
+pub swept_in_more : (es : List Entry) (events : List BookEvent) → swept_in (es ++ expiries events) ≡ swept_in es + length (expiries events)
+swept_in_more es events = omega (arith, swept_in_append es (expiries events), expiries_are_swept events)
 
 -- calls with their numbers
 numbered_append : (n : ℕ) (es more : List Entry)

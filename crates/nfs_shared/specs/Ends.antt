@@ -17,12 +17,12 @@ AreFresh count seats =
 pub record IsKept (seat : SeatView) (receipts : List Receipt) : Type 0 where
   pub place : (k : ℕ) (r : Receipt) → slice_get receipts k ≡ Some r → r.place ≡ seat.place
   pub list : (k : ℕ) (r : Receipt) → slice_get receipts k ≡ Some r
-      → (j : ℕ) × (slice_get seat.list j ≡ Some r)
+      → (j : ℕ) × (slice_get seat.receipts.list j ≡ Some r)
   pub rising : (j k : ℕ) (q r : Receipt) → j < k → slice_get receipts j ≡ Some q
       → slice_get receipts k ≡ Some r → q.number < r.number
   pub last : (k : ℕ) (r : Receipt) → slice_get receipts k ≡ Some r
-      → (n : ℕ) × (seat.last ≡ Some n) × (r.number ≤ n)
-  pub given : length receipts ≡ seat.given
+      → (n : ℕ) × (seat.receipts.last ≡ Some n) × (r.number ≤ n)
+  pub given : length receipts ≡ seat.receipts.given
 
 -- the seats stand in the order of their places, and each list has the receipts of the seat at its place
 abbrev pub AreKept : List SeatView → List (List Receipt) → Type 0
@@ -34,7 +34,7 @@ AreKept seats lists =
 -- what each seat knows of begins the whole
 abbrev pub AllBegin : List SeatView → List Receipt → Type 0
 AllBegin seats whole =
-    (k : ℕ) (seat : SeatView) → slice_get seats k ≡ Some seat → IsPrefix seat.list whole
+    (k : ℕ) (seat : SeatView) → slice_get seats k ≡ Some seat → IsPrefix seat.receipts.list whole
 
 -- the receipt r stands at the place k of the list i
 abbrev pub StandsAt : List (List Receipt) → ℕ → ℕ → Receipt → Type 0
@@ -63,4 +63,4 @@ receipts_in (receipts ∷ rest) = length receipts + receipts_in rest
 -- how many the seats were given
 abbrev pub given_in : List SeatView → ℕ
 given_in [] = 0
-given_in (seat ∷ rest) = seat.given + given_in rest
+given_in (seat ∷ rest) = seat.receipts.given + given_in rest

@@ -1,15 +1,19 @@
 -- What the lock of the shared state guards, and what holds whenever the lock is free (`IsHeld`).
 use Rattle.std.specs.Prelude.{◌≡◌, ℕ, List, length}
+use mathlib.Core.List.{IsPrefix}
 use Rattle.atomic_table.specs.Seated.{TableId}
 use Rattle.atomic_table.specs.declared.shared.Seat as tokens
 use Rattle.nfs_core.specs.Safe.{IsSafe}
 use Rattle.nfs_core.specs.Server.{IsLawful, Server}
 use Rattle.nfs_shared.specs.BookOf.{IsBookOf}
+use Rattle.nfs_shared.specs.Naming.{start_of}
 use Rattle.nfs_shared.specs.PlainBook.{PlainBook, is_open_in, was_opened_in}
 use Rattle.nfs_shared.specs.Receipts.{calls_in, receipts_of}
 use Rattle.nfs_shared.specs.Roll.{IsOf, IsWriter, list_of}
+use Rattle.nfs_shared.specs.Seats.{SeatView}
 use Rattle.nfs_shared.specs.declared.receipt.Receipt.{Receipt}
 use Rattle.nfs_shared.specs.declared.roll.View.{View}
+use Rattle.nfs_state.specs.State.{History}
 use Rattle.nfs_state.specs.Stored.{meaning}
 
 pub record HeldView : Type 0 where
@@ -39,6 +43,13 @@ pub record IsHeld (held : HeldView) : Type 0 where
   -- the receipts are for the calls of the journal, each with its number and the place of its seat
   pub places : length held.places ≡ calls_in held.server.journal.entries
   pub receipts : held.receipts ≡ receipts_of 0 held.server.journal.entries held.places
+
+-- The seat knows that the lock guarded this value, in a run with this start: the receipts that the seat knows of begin
+-- those that were given by then. So the value is no older than the last call that was made with the seat.
+pub record IsKnownOf (origin : History) (seat : SeatView) (value : HeldView) : Type 0 where
+  pub held : IsHeld value
+  pub start : start_of value.server.journal ≡ origin
+  pub begins : IsPrefix seat.receipts.list value.receipts
 
 -- The token is the writer's of this run's roll, which is the roll that is kept, and the run's ledger has counted the
 -- receipts.

@@ -1,19 +1,34 @@
 -- What names a run of threads.
-use Rattle.std.specs.Prelude.{ℕ, []}
+use Rattle.std.specs.Prelude.{◌≡◌, ℕ, [], IsFalse}
 use Rattle.atomic_table.specs.Seated.{TableId}
+use Rattle.nfs_core.specs.Server.{Server}
+use Rattle.nfs_owners.specs.Registry.{is_live}
 use Rattle.nfs_state.specs.State.{History}
 use Rattle.nfs_tree.specs.declared.policy.Callbacks.TheVariants.{Probe}
 use Rattle.nfs_tree.specs.declared.policy.Delegations.TheVariants.{All}
 
--- the roll of receipts, the name of the ledger, and the number of its parts, one for each worker
+-- what a run of threads is known by
 pub record OpenedView : Type 0 where
+  -- the roll of receipts
   pub roll : TableId
+  -- the name of the ledger of receipts, and how many workers there are, each of which has a part of it
   pub ledger : ℕ
   pub workers : ℕ
+  -- the name of the ledger of the entries that sweeps make
+  pub sweeps : ℕ
 
 -- what the server was started with: the journal without its entries
 abbrev pub start_of : History → History
 start_of journal = record journal { entries = [] }
+
+-- A run of this name, with this start, can begin with what was opened and with this core: these are what the name stands
+-- for, the journal is empty, and no client is live.
+pub record CanBegin (name : OpenedView) (origin : History) (opened : OpenedView) (core : Server)
+    : Type 0 where
+  pub run : opened ≡ name
+  pub start : start_of core.journal ≡ origin
+  pub empty : core.journal.entries ≡ []
+  pub nobody : (number : ℕ) → IsFalse (is_live number core.stored.clients)
 
 -- the table that stands where none is named
 abbrev pub no_table : TableId
@@ -27,7 +42,10 @@ no_table = record {
   slot_names = [];
 }
 
--- the start that stands where none is named
+-- the run and the start that stand where none is named
+abbrev pub no_run : OpenedView
+no_run = record { roll = no_table; ledger = 0; workers = 0; sweeps = 0 }
+
 abbrev pub no_start : History
 no_start = record {
   nodes = [];

@@ -1,5 +1,5 @@
 -- Receipts: what callers hold for the entries of the journal that their calls made.
-use Rattle.std.specs.Prelude.{◌≡◌, ℕ, ◌<◌, List, length, map, Option, Some, option_map, slice_get}
+use Rattle.std.specs.Prelude.{◌≡◌, ℕ, ◌<◌, List, filter, is_none, length, map, Option, Some, option_map, slice_get}
 use Rattle.std.specs.List.{enumerate_from, filter_map, zip}
 use Rattle.nfs_shared.specs.declared.receipt.Receipt.{Receipt}
 use Rattle.nfs_state.specs.Entries.{call_of}
@@ -9,6 +9,10 @@ use Rattle.nfs_state.specs.declared.entry.Entry.{Entry}
 -- how many of the entries are calls
 abbrev pub calls_in : List Entry → ℕ
 calls_in entries = length (filter_map call_of entries)
+
+-- how many of the entries are no calls: those that sweeps make
+abbrev pub swept_in : List Entry → ℕ
+swept_in entries = length (filter (λ e. is_none (call_of e)) entries)
 
 -- the call of a numbered entry, if it records one, beside its number
 abbrev pub numbered_call : ℕ × Entry → Option (ℕ × Call)

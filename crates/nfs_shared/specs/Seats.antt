@@ -2,19 +2,27 @@
 use Rattle.std.specs.Prelude.{◌≡◌, ℕ, ◌+◌, ◌<◌, List, [], ◌∷◌, ◌++◌, slice_get, Option, Some, None}
 use Rattle.nfs_shared.specs.declared.receipt.Receipt.{Receipt}
 
-pub record SeatView : Type 0 where
-  -- its place among the seats, from 0
-  pub place : ℕ
-  -- the number of the receipt that it was given last
+-- what a seat knows of receipts
+pub record SeatReceipts : Type 0 where
+  -- the number of the one that it was given last
   pub last : Option ℕ
-  -- the receipts that it knows of, with those of other seats: the first that were given
+  -- those that it knows of, with those of other seats: the first that were given
   pub list : List Receipt
   -- how many it was given
   pub given : ℕ
 
+pub record SeatView : Type 0 where
+  -- its place among the seats, from 0
+  pub place : ℕ
+  pub receipts : SeatReceipts
+
 -- a seat that was given nothing yet
 abbrev pub fresh : ℕ → SeatView
-fresh place = record { place = place; last = None; list = []; given = 0 }
+fresh place = record { place = place; receipts = record { last = None; list = []; given = 0 } }
+
+-- the seat was given nothing: it has its place, and knows of receipts what it knew
+abbrev pub GivesNothing : SeatView → SeatView → Type 0
+GivesNothing old new = (new.place ≡ old.place) × (new.receipts ≡ old.receipts)
 
 -- the number of a receipt, if one was given
 abbrev pub number_given : Option Receipt → Option ℕ
@@ -32,7 +40,8 @@ LastStands last list =
 pub record Gives (old : SeatView) (receipt : Receipt) (new : SeatView) : Type 0 where
   pub place : receipt.place ≡ old.place
   pub same : new.place ≡ old.place
-  pub above : (n : ℕ) → old.last ≡ Some n → n < receipt.number
-  pub last : new.last ≡ Some receipt.number
-  pub list : (between : List Receipt) × (new.list ≡ (old.list ++ between) ++ receipt ∷ [])
-  pub given : new.given ≡ old.given + 1
+  pub above : (n : ℕ) → old.receipts.last ≡ Some n → n < receipt.number
+  pub last : new.receipts.last ≡ Some receipt.number
+  pub list : (between : List Receipt)
+      × (new.receipts.list ≡ (old.receipts.list ++ between) ++ receipt ∷ [])
+  pub given : new.receipts.given ≡ old.receipts.given + 1

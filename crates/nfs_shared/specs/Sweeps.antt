@@ -47,16 +47,37 @@ none_swept = record {
   stopped = false;
 }
 
--- A sweep of the server with this book, which were counted so in these turns, and became the other server and book.
-pub record Sweeps {Book : Type 0} (happens : Book → BookEvent → Book → Type 0) (now : ℕ)
-    (server : Server) (book : Book) (swept : Swept) (turns : List Turn) (server' : Server)
-    (book' : Book) : Type 0 where
+-- what is needed to sweep
+pub record SweeperView : Type 0 where
+  -- how many entries of the journal came by it
+  pub entries : ℕ
+
+-- a core, and the book of its clients' leases
+pub record Leased (Book : Type 0) : Type 0 where
+  pub core : Server
+  pub book : Book
+
+abbrev pub leased : {Book : Type 0} → Server → Book → Leased Book
+leased core book = record { core = core; book = book }
+
+-- The part of a sweep in which clients end, in these turns.
+pub record EndsClients {Book : Type 0} (happens : Book → BookEvent → Book → Type 0) (now : ℕ)
+    (turns : List Turn) (old new : Leased Book) : Type 0 where
   -- each client that was live before has a turn, and nobody else has; each has one, as they go up
-  pub each : (client : ℕ) → list_any (is_of client) turns ≡ is_live client server.stored.clients
+  pub each : (client : ℕ)
+      → list_any (is_of client) turns ≡ is_live client old.core.stored.clients
   pub once : Ascend 0 turns
   -- each turn was right where it came
-  pub right : AreTurns now turns server server'
+  pub right : AreTurns now turns old.core new.core
   -- the book went through just the turns' calls, and the journal gained just the entries of the closings among these
-  pub events : Leads happens book (events_of_all now turns) book'
-  pub entries : Gains (expiries (events_of_all now turns)) server server'
+  pub events : Leads happens old.book (events_of_all now turns) new.book
+  pub entries : Gains (expiries (events_of_all now turns)) old.core new.core
+
+-- A sweep, in its parts, and how it was counted. Clients end; nothing is revoked, as nothing is delegated yet.
+pub record Sweeps {Book : Type 0} (happens : Book → BookEvent → Book → Type 0) (now : ℕ)
+    (old : Leased Book) (swept : Swept) (new : Leased Book) : Type 0 where
+  pub turns : List Turn
+  pub ends : EndsClients happens now turns old new
   pub counts : swept ≡ tally none_swept turns
+  pub revoked : swept.revoked ≡ 0
+  pub stopped : swept.stopped ≡ false

@@ -1,16 +1,16 @@
 //! The value that the lock guards, and what is done to it.
-ghost use Rattle.std.specs.Prelude.{◌≡◌, ◌≤◌, ◌++◌, ◌∷◌, [], false, IfNone, IfSome, IsTrue, List, Option, Some, length, slice_get};
+ghost use Rattle.std.specs.Prelude.{◌≡◌, ◌+◌, ◌≤◌, ◌++◌, ◌∷◌, [], IfNone, IfSome, IsTrue, Option, Some, length, slice_get};
 ghost use Rattle.nfs_core.specs.Entered.{Answers, number_entered};
 ghost use Rattle.nfs_core.specs.Server.{Applies};
 ghost use Rattle.nfs_core.specs.declared.entered.Entered.{Entered};
 ghost use Rattle.nfs_forms.specs.ClientId.{number_in};
 ghost use Rattle.nfs_shared.specs.BookEvent.{Leads};
 ghost use Rattle.nfs_shared.specs.BookOf.{events_entered};
+ghost use Rattle.nfs_shared.specs.Held.{IsKnownOf};
 ghost use Rattle.nfs_shared.specs.PlainBook.{Happens, has_open_lease, with_renewal};
 ghost use Rattle.nfs_shared.specs.Renewals.{renewed_by};
-ghost use Rattle.nfs_shared.specs.Seats.{Gives, number_given};
-ghost use Rattle.nfs_shared.specs.Sweeps.{Sweeps};
-ghost use Rattle.nfs_shared.specs.Turn.{Turn};
+ghost use Rattle.nfs_shared.specs.Seats.{Gives, GivesNothing, number_given};
+ghost use Rattle.nfs_shared.specs.Sweeps.{Sweeps, leased};
 ghost use Rattle.nfs_state.specs.Entries.{IsFilehandle, request_of};
 ghost use Rattle.nfs_state.specs.declared.entry.Call.{Call};
 ghost use Rattle.nfs_state.specs.declared.entry.Entry.TheVariants as entries;
@@ -19,28 +19,34 @@ ghost use Rattle.nfs_xdr.specs.OpResult.{op_result};
 ghost use Rattle.nfs_xdr.specs.Opnum.{answer_limit};
 
 use crate::leased_core::LeasedCore;
-use crate::naming::Naming;
+use crate::naming::{Naming, SweepLedger};
 use crate::receipt::Receipt;
 use crate::register::{Register, give};
 use crate::renewing::renewed_client;
+use crate::roll::meet;
 use crate::seat::Seat;
+use crate::sweeper::Sweeper;
 use crate::{PlainLeases, Swept};
 use nfs_core::{Core, Entry, Moment, lawful_is_safe};
 use nfs_state::SeenCall;
 use nfs_xdr::{ClientId, Op, OpResult, Principal, Refusal};
 use std::marker::Model;
+use std::sync::ledger::Book;
 
-/// The core with its journal and the leases of its clients, and the register of the receipts for its entries.
+/// The core with its journal and the leases of its clients, the register of the receipts for its entries, and the number
+/// of the entries that sweeps made.
 #[derive(Drop)]
 pub struct Held<N: Naming> {
     pub(crate) leased: LeasedCore<PlainLeases>,
     pub(crate) register: Register<N>,
+    pub(crate) swept: Book<SweepLedger<N>>,
 }
 
 impl<N: Naming> Model for Held<N> {
     ghost use Rattle.std.specs.Prelude.{◌≡◌};
     ghost use Rattle.nfs_shared.specs.Held.{HeldView, IsHeld, IsTied};
     ghost use Rattle.nfs_shared.specs.Naming.{start_of};
+    ghost use Rattle.nfs_shared.specs.Receipts.{swept_in};
     ghost use Rattle.nfs_shared.specs.Roll.{list_of};
 
     ghost Value = { HeldView };
@@ -59,9 +65,10 @@ impl<N: Naming> Model for Held<N> {
           places = h.register.places.items;
           receipts = list_of h.register.writer;
         })
-        × IsTied N.roll h.register.roll.shared.table_id h.register.writer h.register.count.total
+        × IsTied N.run.roll h.register.roll.shared.table_id h.register.writer h.register.count.total
         × (start_of h.leased.core.journal ≡ N.start)
-        × (h.register.rest.parts ≡ 0) × (h.register.rest.amount ≡ 0) };
+        × (h.register.rest.parts ≡ 0) × (h.register.rest.amount ≡ 0)
+        × (h.swept.total ≡ swept_in h.leased.core.journal.entries) };
 }
 
 /// Has the core answer an operation, and makes the receipt for its entry. The lease of the client that the operation
@@ -84,7 +91,7 @@ pub fn call_held<N: Naming>(
       answer = result.0;
     }) }
     ensures same { IfNone result.1 ((held.new.places ≡ held.old.places)
-        × (held.new.receipts ≡ held.old.receipts) × (seat.new ≡ seat.old)) }
+        × (held.new.receipts ≡ held.old.receipts) × GivesNothing seat.old seat.new) }
     ensures places { IfSome result.1 (λ r. held.new.places ≡ held.old.places ++ r.place ∷ []) }
     ensures receipts { IfSome result.1 (λ r. held.new.receipts ≡ held.old.receipts ++ r ∷ []) }
     ensures given { IfSome result.1 (λ r. Gives seat.old r seat.new) }
@@ -126,26 +133,38 @@ fn call_at(core: &Core, number: u32) -> SeenCall
     SeenCall::of(call)
 }
 
-/// Goes through the live clients, and removes each whose lease is over at `now`. No receipt is made.
-pub fn sweep_held<N: Naming>(held: &mut Held<N>, now: Moment) -> Swept
-    ensures sweeps { (turns : List Turn) × Sweeps Happens now held.old.server held.old.leases
-        result turns held.new.server held.new.leases }
-    ensures revoked { result.revoked ≡ 0 }
-    ensures stopped { result.stopped ≡ false }
+/// Goes through the live clients, and removes each whose lease is over at `now`. No receipt is made: the entries are the
+/// sweeper's.
+pub fn sweep_held<N: Naming>(held: &mut Held<N>, sweeper: &mut Sweeper<N>, now: Moment) -> Swept
+    ensures sweeps { Sweeps Happens now (leased held.old.server held.old.leases) result
+        (leased held.new.server held.new.leases) }
+    ensures entries { sweeper.new.entries ≡ sweeper.old.entries + result.expired }
     ensures places { held.new.places ≡ held.old.places }
     ensures receipts { held.new.receipts ≡ held.old.receipts }
 {
     lawful_is_safe();
-    held.leased.sweep(now)
+    let swept = held.leased.sweep(now);
+    held.swept.add(&mut sweeper.share, swept.expired as u64);
+    swept
 }
 
-/// Renews the lease of this client, if it is open, and returns whether it is.
-pub(crate) fn renew_client<N: Naming>(held: &mut Held<N>, client: ClientId, moment: Moment) -> bool
+/// Renews the lease of this client, if it is open, and returns whether it is. The seat's receipts begin those that were
+/// given.
+pub(crate) fn renew_held<N: Naming>(
+    held: &mut Held<N>,
+    seat: &mut Seat<N>,
+    moment: Moment,
+    client: ClientId,
+) -> bool
     ensures held { held.new ≡ record held.old {
       leases = with_renewal (number_in N.start.epoch client) moment held.old.leases;
     } }
     ensures open { result ≡ has_open_lease held.old.leases (number_in N.start.epoch client) }
+    ensures known { IsKnownOf N.start seat.old held.old }
+    ensures same { GivesNothing seat.old seat.new }
 {
+    let register = &mut held.register;
+    meet(&register.roll, &mut register.writer, &mut seat.token);
     let client = client.number_in(held.leased.core.journal().epoch());
     held.leased.renew(client, moment)
 }

@@ -21,6 +21,7 @@ mod renewing;
 mod roll;
 mod seat;
 mod shared;
+mod sweeper;
 mod sweeping;
 mod swept;
 
@@ -38,4 +39,5 @@ pub use renewal::Renewal;
 pub use renewing::{renewal_answer, renewed_client};
 pub use seat::Seat;
 pub use shared::Shared;
+pub use sweeper::Sweeper;
 pub use swept::Swept;

@@ -1,21 +1,43 @@
-use std::marker::Brand;
+use std::marker::{Brand, PhantomData};
 use std::sync::ledger::Ledger;
 
-/// Names a run of threads: its roll of receipts, its ledger, and what the server was started with. No type stands for
-/// these before they are there. So they are picked where a function is called that is generic over the name.
-pub trait Naming: Ledger {
-    ghost use Rattle.atomic_table.specs.Seated.{TableId};
+/// Names a run of threads: what was opened for it, and what the server was started with. No type stands for these before
+/// they are there. So they are picked where a function is called that is generic over the name.
+pub trait Naming {
+    ghost use Rattle.nfs_shared.specs.Naming.{OpenedView};
     ghost use Rattle.nfs_state.specs.State.{History};
 
-    ghost roll: { TableId };
+    ghost run: { OpenedView };
 
     ghost start: { History };
 }
 
 impl Naming for Brand {
-    ghost use Rattle.nfs_shared.specs.Naming.{no_start, no_table};
+    ghost use Rattle.nfs_shared.specs.Naming.{no_run, no_start};
 
-    ghost roll = { no_table };
+    ghost run = { no_run };
 
     ghost start = { no_start };
+}
+
+/// The ledger of the receipts that are given in a run, with a part for each worker.
+pub struct ReceiptLedger<N> {
+    run: PhantomData<N>,
+}
+
+impl<N: Naming> Ledger for ReceiptLedger<N> {
+    ghost name = { N.run.ledger };
+
+    ghost parts = { N.run.workers };
+}
+
+/// The ledger of the entries that sweeps make in a run, in one part.
+pub struct SweepLedger<N> {
+    run: PhantomData<N>,
+}
+
+impl<N: Naming> Ledger for SweepLedger<N> {
+    ghost name = { N.run.sweeps };
+
+    ghost parts = { 1 };
 }

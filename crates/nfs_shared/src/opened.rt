@@ -5,13 +5,14 @@ use std::alloc::{AllocError, Global};
 use std::marker::Model;
 use std::sync::ledger::Blank;
 
-/// What a run needs before it has a name: the table of receipts with the writer's token, and the ledger, which is cut
-/// into a part for each worker.
+/// What a run needs before it has a name: the table of receipts with the writer's token, and two ledgers. That of
+/// receipts is cut into a part for each worker; that of the entries which sweeps make is in one part.
 #[derive(Drop)]
 pub struct Opened {
     pub(crate) roll: Roll,
     pub(crate) writer: Token,
     pub(crate) blank: Blank,
+    pub(crate) sweeps: Blank,
     pub(crate) workers: u32,
 }
 
@@ -26,11 +27,12 @@ impl Model for Opened {
       roll = o.roll.shared.table_id;
       ledger = o.blank.name;
       workers = o.workers;
+      sweeps = o.sweeps.name;
     } };
 
     ghost invariant = { λ o.
         IsOf o.roll.shared.table_id o.writer × (o.writer.me ≡ (writer_of [], []))
-        × (o.blank.parts ≡ o.workers) };
+        × (o.blank.parts ≡ o.workers) × (o.sweeps.parts ≡ 1) };
 }
 
 impl Opened {
@@ -43,6 +45,7 @@ impl Opened {
             roll,
             writer,
             blank: Blank::new(workers as u64),
+            sweeps: Blank::new(1),
             workers,
         })
     }

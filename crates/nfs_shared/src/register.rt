@@ -5,7 +5,7 @@ ghost use Rattle.nfs_shared.specs.Receipts.{IsAbove};
 ghost use Rattle.nfs_shared.specs.Roll.{IsOf, IsReader, IsWriter, list_of};
 ghost use Rattle.nfs_shared.specs.Seats.{Gives};
 
-use crate::naming::Naming;
+use crate::naming::{Naming, ReceiptLedger};
 use crate::receipt::Receipt;
 use crate::roll::{Roll, Token, add, meet, tell};
 use crate::seat::Seat;
@@ -19,9 +19,9 @@ pub(crate) struct Register<N: Naming> {
     pub(crate) places: Vec<u32>,
     pub(crate) roll: Roll,
     pub(crate) writer: Token,
-    pub(crate) count: Book<N>,
+    pub(crate) count: Book<ReceiptLedger<N>>,
     /// What is left of the shares when each seat has its own: nothing. At the end the seats' shares come back to it.
-    pub(crate) rest: Share<N>,
+    pub(crate) rest: Share<ReceiptLedger<N>>,
 }
 
 /// Gives the seat the receipt for an entry with this number, which is above those of all receipts before.
@@ -32,8 +32,8 @@ pub(crate) fn give<N: Naming>(
     call: SeenCall,
 ) -> Receipt
     requires room { vec_len register.old.places < vec_capacity register.old.places }
-    requires roll { register.old.roll.shared.table_id ≡ N.roll }
-    requires writer { IsOf N.roll register.old.writer × IsWriter register.old.writer }
+    requires roll { register.old.roll.shared.table_id ≡ N.run.roll }
+    requires writer { IsOf N.run.roll register.old.writer × IsWriter register.old.writer }
     requires count { (length (list_of register.old.writer) ≡ length register.old.places.items)
         × (length register.old.places.items < 2 ^ 63) }
     requires above { IsAbove number (list_of register.old.writer) }
@@ -41,7 +41,7 @@ pub(crate) fn give<N: Naming>(
     ensures places { register.new.places.items
         ≡ register.old.places.items ++ result.place ∷ [] }
     ensures roll { register.new.roll.shared.table_id ≡ register.old.roll.shared.table_id }
-    ensures writer { IsOf N.roll register.new.writer × IsWriter register.new.writer }
+    ensures writer { IsOf N.run.roll register.new.writer × IsWriter register.new.writer }
     ensures list { list_of register.new.writer ≡ list_of register.old.writer ++ result ∷ [] }
     ensures total { register.new.count.total ≡ register.old.count.total + 1 }
     ensures rest { register.new.rest ≡ register.old.rest }

@@ -3,27 +3,28 @@ ghost use Rattle.std.specs.Prelude.{◌≡◌, ◌+◌, ◌<◌, ◌≤◌, ◌�
 ghost use Rattle.nfs_core.specs.Safe.{IsSafe};
 ghost use Rattle.nfs_core.specs.Server.{IsLawful};
 ghost use Rattle.nfs_forms.specs.ClientId.{number_in};
-ghost use Rattle.nfs_owners.specs.Registry.{is_live};
 ghost use Rattle.nfs_shared.specs.Ends.{AreFresh, AreKept, AllStand, AllApart, AllBegin, receipts_in, given_in};
-ghost use Rattle.nfs_shared.specs.Naming.{start_of};
-ghost use Rattle.nfs_shared.specs.PlainBook.{PlainBook, has_open_lease};
-ghost use Rattle.nfs_shared.specs.Receipts.{calls_in};
+ghost use Rattle.nfs_shared.specs.Held.{HeldView, IsKnownOf};
+ghost use Rattle.nfs_shared.specs.Naming.{CanBegin, start_of};
+ghost use Rattle.nfs_shared.specs.PlainBook.{has_open_lease};
+ghost use Rattle.nfs_shared.specs.Receipts.{calls_in, swept_in};
 ghost use Rattle.nfs_shared.specs.Roll.{IsOf, IsWriter, list_of, writer_of};
-ghost use Rattle.nfs_shared.specs.Seats.{Gives, fresh};
+ghost use Rattle.nfs_shared.specs.Seats.{Gives, GivesNothing, fresh};
 ghost use Rattle.nfs_state.specs.Entries.{IsFilehandle, request_of, resource};
 ghost use Rattle.nfs_state.specs.Stored.{meaning};
 ghost use Rattle.nfs_xdr.specs.Op.{has_entry, opnum_of};
 ghost use Rattle.nfs_xdr.specs.OpResult.{op_result};
 ghost use Rattle.nfs_xdr.specs.Opnum.{answer_limit};
 
-use crate::held::{Held, call_held, renew_client, sweep_held};
+use crate::held::{Held, call_held, renew_held, sweep_held};
 use crate::leased_core::LeasedCore;
-use crate::naming::Naming;
+use crate::naming::{Naming, ReceiptLedger, SweepLedger};
 use crate::opened::Opened;
 use crate::receipt::Receipt;
 use crate::register::Register;
 use crate::roll::{Copied, Roll, Token, meet};
 use crate::seat::Seat;
+use crate::sweeper::Sweeper;
 use crate::{PlainLeases, Swept};
 use nfs_core::{Core, Moment};
 use nfs_xdr::{ClientId, Op, OpResult, Principal};
@@ -39,16 +40,16 @@ pub struct Shared<N: Naming> {
 }
 
 impl<N: Naming> Shared<N> {
-    /// The core under a lock, and a seat for each worker. The core's journal is empty, and no client is live in it. It
-    /// fails only where memory is refused, and gives the core back.
-    pub fn new(alloc: Global, opened: Opened, core: Core) -> Result<(Shared<N>, Vec<Seat<N>>), Core>
-        requires roll { opened.roll ≡ N.roll }
-        requires ledger { opened.ledger ≡ N.name }
-        requires workers { opened.workers ≡ N.parts }
-        requires start { start_of core.journal ≡ N.start }
-        requires empty { core.journal.entries ≡ [] }
-        requires nobody { (number : ℕ) → IsFalse (is_live number core.stored.clients) }
-        ensures seats { IfOk result (λ r. AreFresh opened.workers r.1.items) }
+    /// The core under a lock, a seat for each worker, and what is needed to sweep. It fails only where memory is refused,
+    /// and gives the core back.
+    pub fn new(
+        alloc: Global,
+        opened: Opened,
+        core: Core,
+    ) -> Result<(Shared<N>, Vec<Seat<N>>, Sweeper<N>), Core>
+        requires begins { CanBegin N.run N.start opened core }
+        ensures seats { IfOk result (λ r. AreFresh N.run.workers r.1.items) }
+        ensures sweeper { IfOk result (λ r. r.2.entries ≡ 0) }
         ensures err { IfErr result (λ c. c ≡ core) }
     {
         let Ok(leases) = PlainLeases::new(alloc, core.journal().lease()) else {
@@ -58,9 +59,11 @@ impl<N: Naming> Shared<N> {
             roll,
             mut writer,
             blank,
+            sweeps,
             workers,
         } = opened;
-        let (count, mut rest) = blank.open::<N>();
+        let (count, mut rest) = blank.open::<ReceiptLedger<N>>();
+        let (swept, share) = sweeps.open::<SweepLedger<N>>();
         let Ok(seats) = new_seats(alloc, &roll, &mut writer, &mut rest, workers) else {
             return Err(core);
         };
@@ -74,13 +77,10 @@ impl<N: Naming> Shared<N> {
         let held = Held {
             leased: LeasedCore::new(core, leases),
             register,
+            swept,
         };
-        Ok((
-            Shared {
-                held: Mutex::new(held),
-            },
-            seats,
-        ))
+        let held = Mutex::new(held);
+        Ok((Shared { held }, seats, Sweeper { share }))
     }
 
     /// Answers an operation that has an entry in the journal, in one hold of the lock, with a receipt for its entry. The
@@ -97,7 +97,7 @@ impl<N: Naming> Shared<N> {
         requires entry { IsTrue (has_entry op.now) }
         requires node { IsFilehandle N.start filehandle }
         ensures refused { IsNone result.1 ↔ (result.0 ≡ resource op.now) }
-        ensures same { IfNone result.1 (seat.new ≡ seat.old) }
+        ensures same { IfNone result.1 (GivesNothing seat.old seat.new) }
         ensures entry { IfSome result.1 (λ r. r.call ≡ record {
           request = request_of moment principal op.now filehandle;
           answer = result.0;
@@ -110,28 +110,37 @@ impl<N: Naming> Shared<N> {
         call_held(&mut *held, seat, moment, principal, op, filehandle)
     }
 
-    /// Renews the lease of this client in a hold of the lock, if it is open, and returns whether it is.
-    pub fn renew<R: Wait>(&self, rt: &R, moment: Moment, client: ClientId) -> bool
-        ensures open { (leases : PlainBook)
-            × (result ≡ has_open_lease leases (number_in N.start.epoch client)) }
+    /// Renews the lease of this client in a hold of the lock, if it is open, and returns whether it is. What is answered
+    /// was so after the last call that was made with this seat.
+    pub fn renew<R: Wait>(
+        &self,
+        rt: &R,
+        seat: &mut Seat<N>,
+        moment: Moment,
+        client: ClientId,
+    ) -> bool
+        ensures open { (held : HeldView) × IsKnownOf N.start seat.old held
+            × (result ≡ has_open_lease held.leases (number_in N.start.epoch client)) }
+        ensures same { GivesNothing seat.old seat.new }
     {
         let mut held = self.held.lock(rt);
-        renew_client(&mut *held, client, moment)
+        renew_held(&mut *held, seat, moment, client)
     }
 
     /// Removes each client whose lease is over at this moment, with all that it has, in one hold of the lock.
-    pub fn sweep<R: Wait>(&self, rt: &R, now: Moment) -> Swept
+    pub fn sweep<R: Wait>(&self, rt: &R, sweeper: &mut Sweeper<N>, now: Moment) -> Swept
+        ensures entries { sweeper.new.entries ≡ sweeper.old.entries + result.expired }
         ensures revoked { result.revoked ≡ 0 }
         ensures stopped { result.stopped ≡ false }
     {
         let mut held = self.held.lock(rt);
-        sweep_held(&mut *held, now)
+        sweep_held(&mut *held, sweeper, now)
     }
 
-    /// The core, once the workers have ended. `receipts` has for each seat those that it was given, in order, and all
-    /// seats are handed in, in the order of their places.
-    pub fn end(self, receipts: &[Vec<Receipt>], seats: Vec<Seat<N>>) -> Core
-        requires all { length seats.items ≡ N.parts }
+    /// The core, once the workers and the sweeper have ended. `receipts` has for each seat those that it was given, in
+    /// order, and all seats are handed in, in the order of their places.
+    pub fn end(self, receipts: &[Vec<Receipt>], seats: Vec<Seat<N>>, sweeper: Sweeper<N>) -> Core
+        requires all { length seats.items ≡ N.run.workers }
         requires kept { AreKept seats.items (map (λ v. v.items) receipts.now) }
         ensures start { start_of result.journal ≡ N.start }
         ensures lawful { IsLawful result }
@@ -140,9 +149,15 @@ impl<N: Naming> Shared<N> {
         ensures apart { AllApart (map (λ v. v.items) receipts.now) }
         ensures counted { calls_in result.journal.entries
             ≡ receipts_in (map (λ v. v.items) receipts.now) }
+        ensures swept { swept_in result.journal.entries ≡ sweeper.entries }
     {
         let held = self.held.into_inner();
-        let Held { leased, register } = held;
+        let Held {
+            leased,
+            register,
+            mut swept,
+        } = held;
+        let Sweeper { mut share } = sweeper;
         let Register {
             places: _,
             roll,
@@ -152,6 +167,7 @@ impl<N: Naming> Shared<N> {
         } = register;
         meet_each(&roll, &mut writer, &mut rest, seats);
         count.audit(&mut rest);
+        swept.audit(&mut share);
         leased.into_core()
     }
 }
@@ -161,13 +177,13 @@ fn new_seats<N: Naming>(
     alloc: Global,
     roll: &Roll,
     writer: &mut Token,
-    rest: &mut Share<N>,
+    rest: &mut Share<ReceiptLedger<N>>,
     workers: u32,
 ) -> Result<Vec<Seat<N>>, AllocError>
-    requires roll { roll.now.shared.table_id ≡ N.roll }
-    requires writer { IsOf N.roll writer.old × (writer.old.me ≡ (writer_of [], [])) }
+    requires roll { roll.now.shared.table_id ≡ N.run.roll }
+    requires writer { IsOf N.run.roll writer.old × (writer.old.me ≡ (writer_of [], [])) }
     requires rest { (rest.old.parts ≡ workers) × (rest.old.amount ≡ 0) }
-    ensures writer { IfOk result (λ s. IsOf N.roll writer.new × (writer.new.me ≡ (writer_of [], []))) }
+    ensures writer { IfOk result (λ s. IsOf N.run.roll writer.new × (writer.new.me ≡ (writer_of [], []))) }
     ensures rest { IfOk result (λ s. (rest.new.parts ≡ 0) × (rest.new.amount ≡ 0)) }
     ensures seats { IfOk result (λ s. AreFresh workers s.items) }
 {
@@ -178,11 +194,16 @@ fn new_seats<N: Naming>(
     Ok(seats)
 }
 
-fn new_seat<N: Naming>(roll: &Roll, writer: &mut Token, rest: &mut Share<N>, place: u32) -> Seat<N>
-    requires roll { roll.now.shared.table_id ≡ N.roll }
-    requires writer { IsOf N.roll writer.old × (writer.old.me ≡ (writer_of [], [])) }
+fn new_seat<N: Naming>(
+    roll: &Roll,
+    writer: &mut Token,
+    rest: &mut Share<ReceiptLedger<N>>,
+    place: u32,
+) -> Seat<N>
+    requires roll { roll.now.shared.table_id ≡ N.run.roll }
+    requires writer { IsOf N.run.roll writer.old × (writer.old.me ≡ (writer_of [], [])) }
     requires rest { (rest.old.amount ≡ 0) × (0 < rest.old.parts) }
-    ensures writer { IsOf N.roll writer.new × (writer.new.me ≡ (writer_of [], [])) }
+    ensures writer { IsOf N.run.roll writer.new × (writer.new.me ≡ (writer_of [], [])) }
     ensures rest { (rest.new.parts + 1 ≡ rest.old.parts) × (rest.new.amount ≡ 0) }
     ensures seat { result ≡ fresh place }
 {
@@ -196,9 +217,14 @@ fn new_seat<N: Naming>(roll: &Roll, writer: &mut Token, rest: &mut Share<N>, pla
 }
 
 // Each seat meets the writer, and gives its share back.
-fn meet_each<N: Naming>(roll: &Roll, writer: &mut Token, rest: &mut Share<N>, seats: Vec<Seat<N>>)
-    requires roll { roll.now.shared.table_id ≡ N.roll }
-    requires writer { IsOf N.roll writer.old × IsWriter writer.old }
+fn meet_each<N: Naming>(
+    roll: &Roll,
+    writer: &mut Token,
+    rest: &mut Share<ReceiptLedger<N>>,
+    seats: Vec<Seat<N>>,
+)
+    requires roll { roll.now.shared.table_id ≡ N.run.roll }
+    requires writer { IsOf N.run.roll writer.old × IsWriter writer.old }
     ensures begin { AllBegin seats.items (list_of writer.old) }
     ensures parts { rest.new.parts ≡ rest.old.parts + length seats.items }
     ensures amount { rest.new.amount ≡ rest.old.amount + given_in seats.items }

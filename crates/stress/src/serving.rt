@@ -1,8 +1,7 @@
-ghost use Rattle.std.specs.Prelude.{◌≡◌, ◌+◌, [], ℕ, IfOk, IfSome, IsFalse, length};
-ghost use Rattle.nfs_owners.specs.Registry.{is_live};
+ghost use Rattle.std.specs.Prelude.{◌≡◌, ◌+◌, IfOk, IfSome, length};
 ghost use Rattle.nfs_server.specs.Working.{seats_of};
 ghost use Rattle.nfs_shared.specs.Ends.{AreFresh, IsKept};
-ghost use Rattle.nfs_shared.specs.Naming.{start_of};
+ghost use Rattle.nfs_shared.specs.Naming.{CanBegin};
 ghost use Rattle.nfs_shared.specs.Seats.{fresh};
 
 use crate::outcome::{Ended, Outcome};
@@ -13,7 +12,7 @@ use crate::yielding::Yielding;
 use nfs_core::Core;
 use nfs_rows::{Handed, MemoryLink, serve_link};
 use nfs_server::{Done, serve_all, workers_keep_receipts};
-use nfs_shared::{Naming, Opened, Receipt, Seat, Shared};
+use nfs_shared::{Naming, Opened, Receipt, Seat, Shared, Sweeper};
 use nfs_tree::Tree;
 use std::alloc::{AllocError, Global};
 use std::marker::Brand;
@@ -52,15 +51,10 @@ fn run<N: Naming + Send + Sync, R: Threads + Wait + Sync>(
     tree: &Tree,
     plan: &Plan<'_>,
 ) -> Result<(Core, Outcome), AllocError>
-    requires roll { opened.roll ≡ N.roll }
-    requires ledger { opened.ledger ≡ N.name }
-    requires workers { opened.workers ≡ N.parts }
-    requires start { start_of core.journal ≡ N.start }
-    requires empty { core.journal.entries ≡ [] }
-    requires nobody { (number : ℕ) → IsFalse (is_live number core.stored.clients) }
+    requires begins { CanBegin N.run N.start opened core }
     requires nodes { core.journal.nodes ≡ tree.now.nodes }
 {
-    let Ok((shared, seats)) = Shared::<N>::new(alloc, opened, core) else {
+    let Ok((shared, seats, sweeper)) = Shared::<N>::new(alloc, opened, core) else {
         return Err(AllocError);
     };
     let Some((others, last)) = split_last(seats) else {
@@ -75,14 +69,14 @@ fn run<N: Naming + Send + Sync, R: Threads + Wait + Sync>(
         calls: &calls,
     };
     let (alone, seat, own) = server.serve_alone(plan.first, last)?;
-    let (served, sweeps) = server.serve_swept(plan.others.as_slice(), others)?;
+    let (served, sweeps, sweeper) = server.serve_swept(plan.others.as_slice(), others, sweeper)?;
     let Served {
         mut handed,
         mut connections,
     } = served;
     handed.hand_in(seat, own)?;
     connections.push(alone)?;
-    let (core, receipts) = handed.end(shared);
+    let (core, receipts) = handed.end(shared, sweeper);
     let outcome = Outcome {
         sweeps,
         connections,
@@ -93,10 +87,10 @@ fn run<N: Naming + Send + Sync, R: Threads + Wait + Sync>(
 
 // The seats before the last, and the last.
 fn split_last<N: Naming>(mut seats: Vec<Seat<N>>) -> Option<(Vec<Seat<N>>, Seat<N>)>
-    requires fresh { AreFresh N.parts seats.items }
+    requires fresh { AreFresh N.run.workers seats.items }
     ensures others { IfSome result (λ r. AreFresh (length r.0.items) r.0.items) }
     ensures last { IfSome result (λ r. r.1 ≡ fresh (length r.0.items)) }
-    ensures all { IfSome result (λ r. length r.0.items + 1 ≡ N.parts) }
+    ensures all { IfSome result (λ r. length r.0.items + 1 ≡ N.run.workers) }
 {
     let last = seats.pop()?;
     Some((seats, last))
@@ -127,7 +121,7 @@ impl<'a, N: Naming + Send + Sync, R: Threads + Wait + Sync> Server<'a, N, R> {
         seat: Seat<N>,
     ) -> Result<(Ended, Seat<N>, Vec<Receipt>), AllocError>
         requires nodes { N.start.nodes ≡ self.now.tree.now.nodes }
-        requires unused { seat.given ≡ 0 }
+        requires unused { seat.receipts.given ≡ 0 }
         ensures place { IfOk result (λ r. r.1.place ≡ seat.place) }
         ensures kept { IfOk result (λ r. IsKept r.1 r.2.items) }
     {
@@ -148,7 +142,8 @@ impl<'a, N: Naming + Send + Sync, R: Threads + Wait + Sync> Server<'a, N, R> {
         &self,
         inputs: &[&[u8]],
         seats: Vec<Seat<N>>,
-    ) -> Result<(Served<N>, Sweeps), AllocError>
+        sweeper: Sweeper<N>,
+    ) -> Result<(Served<N>, Sweeps, Sweeper<N>), AllocError>
         requires nodes { N.start.nodes ≡ self.now.tree.now.nodes }
         requires fresh { AreFresh (length seats.items) seats.items }
         ensures { IfOk result (λ r. length r.0.handed.seats ≡ length seats.items) }
@@ -156,16 +151,16 @@ impl<'a, N: Naming + Send + Sync, R: Threads + Wait + Sync> Server<'a, N, R> {
         let ended = &AtomicBool::new(false);
         let (rt, shared, calls) = (self.rt, self.shared, self.calls);
         // Where no thread can be made, the first is called after the second.
-        let (sweeps, served) = thread::join(
+        let ((sweeps, sweeper), served) = thread::join(
             rt,
-            move || sweep_until(rt, shared, calls, ended),
+            move || sweep_until(rt, shared, sweeper, calls, ended),
             move || -> Result<Served<N>, AllocError>
                 requires { (N.start.nodes ≡ self.now.tree.now.nodes)
                     × AreFresh (length seats.items) seats.items }
                 ensures { IfOk result (λ s. length s.handed.seats ≡ length seats.items) }
             { self.serve_and_tell(inputs, seats, ended) },
         );
-        Ok((served?, sweeps))
+        Ok((served?, sweeps, sweeper))
     }
 
     // Serves these connections at once, and tells when they have ended.

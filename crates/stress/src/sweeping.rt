@@ -1,6 +1,6 @@
 use crate::rising::Calls;
 use nfs_core::Moment;
-use nfs_shared::{Naming, Shared, Swept};
+use nfs_shared::{Naming, Shared, Sweeper, Swept};
 use std::sync::Wait;
 use std::sync::atomic::{AtomicBool, Ordering};
 use std::thread;
@@ -22,13 +22,14 @@ impl Sweeps {
     }
 }
 
-/// Sweeps once at each moment that comes, and once more when the connections have ended.
+/// Sweeps once at each moment that comes, and once more when the connections have ended. It gives the sweeper back.
 pub(crate) fn sweep_until<N: Naming, R: Wait>(
     rt: &R,
     shared: &Shared<N>,
+    mut sweeper: Sweeper<N>,
     calls: &Calls,
     ended: &AtomicBool,
-) -> Sweeps {
+) -> (Sweeps, Sweeper<N>) {
     let mut sweeps = Sweeps {
         count: 0,
         expired: 0,
@@ -38,11 +39,11 @@ pub(crate) fn sweep_until<N: Naming, R: Wait>(
         let is_last = ended.load(Ordering::SeqCst);
         let now = calls.moment();
         if now.seconds() != last.seconds() || is_last {
-            sweeps = sweeps.and(shared.sweep(rt, now));
+            sweeps = sweeps.and(shared.sweep(rt, &mut sweeper, now));
             last = now;
         }
         if is_last {
-            return sweeps;
+            return (sweeps, sweeper);
         }
         thread::yield_now();
     }

@@ -1,7 +1,7 @@
 -- A seat's receipts, as they are kept in order.
 use Rattle.std.proofs.Common.{◌≡◌, ◌⊎◌, ℕ, zero, suc, ◌<◌, ◌≤◌, List, [], ◌∷◌, ◌++◌, length, Some, slice_get, refl, sym, ap, ◌∙◌, subst, inl, inr, ⊎_elim, arith, length-append, append_assoc}
 use Rattle.nfs_shared.specs.Ends.{IsKept}
-use Rattle.nfs_shared.specs.Seats.{SeatView, fresh, Gives}
+use Rattle.nfs_shared.specs.Seats.{SeatReceipts, SeatView, fresh, Gives, GivesNothing}
 use Rattle.nfs_shared.specs.declared.receipt.Receipt.{Receipt}
 
 -- what stands in a list with one element more
@@ -36,11 +36,21 @@ kept_fresh place = record {
   given = refl;
 }
 
+-- A seat that is given nothing has the receipts that it had.
+pub kept_same : (old : SeatView) (receipts : List Receipt) (new : SeatView) → IsKept old receipts → GivesNothing old new → IsKept new receipts
+kept_same old receipts new kept same = record {
+  place = λ k r at. kept.place k r at ∙ sym same.0;
+  list = λ k r at. let h = kept.list k r at in (h.0, ap (λ (s : SeatReceipts). slice_get s.list h.0) same.1 ∙ h.1);
+  rising = kept.rising;
+  last = λ k r at. let h = kept.last k r at in (h.0, ap (λ (s : SeatReceipts). s.last) same.1 ∙ h.1, h.2);
+  given = kept.given ∙ ap (λ (s : SeatReceipts). s.given) (sym same.1);
+}
+
 -- A receipt that the seat is given comes at the end.
 pub kept_more : (old : SeatView) (receipts : List Receipt) (r : Receipt) (new : SeatView) → IsKept old receipts → Gives old r new → IsKept new (receipts ++ r ∷ [])
 kept_more old receipts r new kept gives = record {
   place = λ k x at. ⊎_elim (λ was. kept.place k x was ∙ sym gives.same) (λ now. ap (λ (y : Receipt). y.place) (sym now.1) ∙ gives.place ∙ sym gives.same) (at_more receipts r k x at);
-  list = λ k x at. ⊎_elim (λ was. let h = kept.list k x was in (h.0, in_new h.0 x h.1)) (λ now. (length (old.list ++ gives.list.0), subst (λ (y : Receipt). slice_get new.list (length (old.list ++ gives.list.0)) ≡ Some y) now.1 at_the_end)) (at_more receipts r k x at);
+  list = λ k x at. ⊎_elim (λ was. let h = kept.list k x was in (h.0, in_new h.0 x h.1)) (λ now. (length (old.receipts.list ++ gives.list.0), subst (λ (y : Receipt). slice_get new.receipts.list (length (old.receipts.list ++ gives.list.0)) ≡ Some y) now.1 at_the_end)) (at_more receipts r k x at);
   rising = λ j k q x less at_j at_k. ⊎_elim
       (λ was. kept.rising j k q x less (earlier j k q less (let h = within receipts k x was in omega arith) at_j) was)
       (λ now. let h = kept.last j q (earlier j k q less (omega arith) at_j) in let up = gives.above h.0 h.1 in let n = ap (λ (y : Receipt). y.number) now.1 in omega (arith, h.2, up, n))
@@ -56,12 +66,12 @@ kept_more old receipts r new kept gives = record {
   given = omega (arith, length-append receipts (r ∷ []), kept.given, gives.given);
 }
   where
-    in_new : (k : ℕ) (x : Receipt) → slice_get old.list k ≡ Some x → slice_get new.list k ≡ Some x
+    in_new : (k : ℕ) (x : Receipt) → slice_get old.receipts.list k ≡ Some x → slice_get new.receipts.list k ≡ Some x
     in_new k x at =
-        subst (λ (xs : List Receipt). slice_get xs k ≡ Some x) (sym (append_assoc old.list gives.list.0 (r ∷ [])) ∙ sym gives.list.1) (in_longer old.list (gives.list.0 ++ r ∷ []) k x at)
+        subst (λ (xs : List Receipt). slice_get xs k ≡ Some x) (sym (append_assoc old.receipts.list gives.list.0 (r ∷ [])) ∙ sym gives.list.1) (in_longer old.receipts.list (gives.list.0 ++ r ∷ []) k x at)
 
-    at_the_end : slice_get new.list (length (old.list ++ gives.list.0)) ≡ Some r
-    at_the_end = subst (λ (xs : List Receipt). slice_get xs (length (old.list ++ gives.list.0)) ≡ Some r) (sym gives.list.1) (at_end (old.list ++ gives.list.0) r)
+    at_the_end : slice_get new.receipts.list (length (old.receipts.list ++ gives.list.0)) ≡ Some r
+    at_the_end = subst (λ (xs : List Receipt). slice_get xs (length (old.receipts.list ++ gives.list.0)) ≡ Some r) (sym gives.list.1) (at_end (old.receipts.list ++ gives.list.0) r)
 
     earlier : (j k : ℕ) (q : Receipt) → j < k → k ≤ length receipts → slice_get (receipts ++ r ∷ []) j ≡ Some q → slice_get receipts j ≡ Some q
     earlier j k q less le at = ⊎_elim (λ was. was) (λ now. let e = now.0 in absurd (omega arith)) (at_more receipts r j q at)

@@ -2,7 +2,4 @@ use Rattle.nfs_shared.specs.Naming.{start_of}
 use Rattle.link_tests.proofs.two_links_at_once.serve_links.Given as goal
 
 abbrev pub ghosts-serve_links_in-N-Naming : goal.ghosts-serve_links_in-N-Naming
-ghosts-serve_links_in-N-Naming g a = record { roll = a.opened.roll; start = start_of a.core.journal }
-
-abbrev pub ghosts-serve_links_in-N-Ledger : goal.ghosts-serve_links_in-N-Ledger
-ghosts-serve_links_in-N-Ledger g a = record { name = a.opened.ledger; parts = a.opened.workers }
+ghosts-serve_links_in-N-Naming g a = record { run = a.opened; start = start_of a.core.journal }

@@ -2,7 +2,4 @@ use Rattle.nfs_shared.specs.Naming.{start_of}
 use Rattle.nfs_rows.proofs.share.run_shared.Given as goal
 
 abbrev pub ghosts-run-N-Naming : goal.ghosts-run-N-Naming
-ghosts-run-N-Naming g a = record { roll = a.opened.roll; start = start_of a.core.journal }
-
-abbrev pub ghosts-run-N-Ledger : goal.ghosts-run-N-Ledger
-ghosts-run-N-Ledger g a = record { name = a.opened.ledger; parts = a.opened.workers }
+ghosts-run-N-Naming g a = record { run = a.opened; start = start_of a.core.journal }

@@ -22,12 +22,13 @@ returns-clause-given g c =
     let receipt : Receipt = record { place = seat.place; number = c.args.number; call = c.args.call.call } in
     let whole = list_of c.args.register.now.writer in
     let signed = c.sign.ensures in
-    let old : SeatView = record { place = seat.place; last = seat.last; list = list_of seat.token; given = seat.share.amount } in
     let new : SeatView = record {
       place = seat.place;
-      last = Some c.args.number;
-      list = list_of c.sign.new.token;
-      given = c.add.new.share.amount;
+      receipts = record {
+        last = Some c.args.number;
+        list = list_of c.sign.new.token;
+        given = c.add.new.share.amount;
+      };
     } in
     subst (λ (s : SeatView). Gives s receipt new) c.seat.view_is
     (record {

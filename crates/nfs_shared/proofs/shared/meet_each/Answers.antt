@@ -13,9 +13,9 @@ loop-seat-preserved g c =
     let seat : SeatView = c.in-Some.seat in
     let whole = list_of c.args.writer.now in
     let met = c.meet.ensures in
-    let here : list_of c.seat.inside.token ≡ seat.list = ap (λ s. s.list) c.seat.view_is in
+    let here : list_of c.seat.inside.token ≡ seat.receipts.list = ap (λ s. s.receipts.list) c.seat.view_is in
     let all : list_of c.loop-seat.writer ≡ whole = ap (λ m. m.0.list) i.writer in
-    let begins : IsPrefix seat.list whole = subst (λ (p : List Receipt × List Receipt). IsPrefix p.0 p.1) (λ j. (here j, all j)) met.begins in
+    let begins : IsPrefix seat.receipts.list whole = subst (λ (p : List Receipt × List Receipt). IsPrefix p.0 p.1) (λ j. (here j, all j)) met.begins in
     let merged = c.merge.ensures in
     record {
       can = tt;
@@ -24,5 +24,5 @@ loop-seat-preserved g c =
       writer = met.writer.1 ∙ i.writer;
       begin = begin_more seats seat whole i.begin begins;
       parts = omega (arith, merged.parts, i.parts, c.seat.invariant.2, length-append seats (seat ∷ []));
-      amount = omega (arith, merged.amount, i.amount, ap (λ s. s.given) c.seat.view_is, given_more seats seat);
+      amount = omega (arith, merged.amount, i.amount, ap (λ s. s.receipts.given) c.seat.view_is, given_more seats seat);
     }

@@ -7,7 +7,7 @@ abbrev pub invariant-loop-seat : goal.invariant-loop-seat
 invariant-loop-seat g l = record {
   can : (goal.iterator-loop-seat g).can_next l.seat-iterator;
   ends : (goal.iterator-loop-seat g).is_finite l.seat-iterator;
-  table : IsOf g.N.Naming.roll l.writer;
+  table : IsOf g.N.Naming.run.roll l.writer;
   writer : l.writer.me ≡ l.initial.writer.me;
   begin : AllBegin l.yielded (list_of l.initial.writer);
   parts : l.rest.parts ≡ l.initial.rest.parts + length l.yielded;

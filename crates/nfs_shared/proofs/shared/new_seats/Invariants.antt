@@ -5,7 +5,7 @@ use Rattle.nfs_shared.proofs.shared.new_seats.Given as goal
 
 abbrev pub invariant-loop-place : goal.invariant-loop-place
 invariant-loop-place g l = record {
-  table : IsOf g.N.Naming.roll l.writer;
+  table : IsOf g.N.Naming.run.roll l.writer;
   writer : l.writer.me ≡ (writer_of [], []);
   parts : l.rest.parts + l.place ≡ l.workers;
   amount : l.rest.amount ≡ 0;

@@ -1,10 +1,9 @@
 -- The loop goes one turn further.
-use Rattle.std.proofs.Common.{ℕ, [], ◌∷◌, ◌++◌, Option, ap, sym, subst, ◌∙◌, arith}
-use Rattle.nfs_shared.specs.Sweeps.{IsTurn, none_swept}
+use Rattle.std.proofs.Common.{ℕ, [], ◌∷◌, ◌++◌, Option, sym, subst, arith}
+use Rattle.nfs_shared.specs.Sweeps.{IsTurn}
 use Rattle.nfs_shared.specs.Turn.{Turn}
 use Rattle.nfs_shared.specs.declared.swept.Swept.{Swept}
 use Rattle.nfs_shared.proofs.Comes.{AreLaws, Comes, Stays, book_further, comes_first, comes_further, comes_last, is_gone, stays, total_before}
-use Rattle.nfs_shared.proofs.Lists.{none_revoked}
 use Rattle.nfs_shared.proofs.sweeping.sweep_core.Goals as goal
 
 pub loop-next-init : goal.loop-next-init
@@ -75,14 +74,4 @@ returns-clause-sweeps g c =
     Comes g.B.LeaseBook.happens c.args.now i.0 c.args.core.now c.args.book.now c.loop-next.swept i.1
     c.loop-next.core c.loop-next.book next)
     c.in_default.is i.2 in
-    (i.1, comes_last _ _ _ _ _ _ _ _ _ at)
-
-pub returns-clause-revoked : goal.returns-clause-revoked
-returns-clause-revoked g c =
-    let i = c.loop-next.invariant in
-    ap (λ (s : Swept). s.revoked) i.2.counts ∙ (none_revoked none_swept i.1).0
-
-pub returns-clause-stopped : goal.returns-clause-stopped
-returns-clause-stopped g c =
-    let i = c.loop-next.invariant in
-    ap (λ (s : Swept). s.stopped) i.2.counts ∙ (none_revoked none_swept i.1).1
+    comes_last _ _ _ _ _ _ _ _ _ at
