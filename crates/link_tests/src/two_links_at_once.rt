@@ -43,7 +43,7 @@ fn serve_links_in<N: Naming + Send + Sync, R: Threads + Wait + Sleeper + Sync>(
     core: Core,
     tree: &Tree,
 ) -> Option<Outcome>
-    requires begins { CanBegin N.run N.start opened core }
+    requires beginning { CanBegin N.run N.start opened core }
     requires tree { N.start.nodes ≡ tree.now.nodes }
 {
     let Ok((shared, seats, sweeper)) = Shared::<N>::new(alloc, opened, core) else {

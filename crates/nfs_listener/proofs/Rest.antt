@@ -11,6 +11,6 @@ all_and_one P (y ∷ ys) x all here = (all.0, all_and_one P ys x all.1 here)
 
 -- where no seat of some links was given anything, the first was not, and no other
 pub unused_rest : {L : Type 0} (links left : List (L × SeatView)) (link : L × SeatView) → links ≡ link ∷ left → AreUnused (seats_of links)
-    → (link.1.given ≡ 0) × AreUnused (seats_of left)
+    → (link.1.receipts.given ≡ 0) × AreUnused (seats_of left)
 unused_rest links left link same unused =
     let here = subst (λ l. AreUnused (seats_of l)) same unused in (here 0 link.1 refl, λ k seat at. here (suc k) seat at)

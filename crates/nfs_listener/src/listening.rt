@@ -80,7 +80,7 @@ fn run<N: Naming + Send + Sync, R: Threads + Wait + Timer + Sync>(
     opened: Opened,
     core: Core,
 ) -> Result<(Core, Vec<Ended>), Core>
-    requires begins { CanBegin N.run N.start opened core }
+    requires beginning { CanBegin N.run N.start opened core }
     requires count { opened.workers ≡ connections }
     requires nodes { core.journal.nodes ≡ place.now.tree.now.nodes }
     ensures served { IfOk result

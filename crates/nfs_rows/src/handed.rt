@@ -3,7 +3,7 @@ ghost use Rattle.nfs_core.specs.Server.{IsLawful};
 ghost use Rattle.nfs_server.specs.Working.{receipts_back, seats_back};
 ghost use Rattle.nfs_shared.specs.Ends.{AllApart, AllStand, AreKept, IsKept, receipts_in};
 ghost use Rattle.nfs_shared.specs.Naming.{start_of};
-ghost use Rattle.nfs_shared.specs.Receipts.{calls_in};
+ghost use Rattle.nfs_shared.specs.Receipts.{calls_in, others_in};
 
 use nfs_core::Core;
 use nfs_server::Done;
@@ -73,7 +73,7 @@ impl<N: Naming> Handed<N> {
         Ok(())
     }
 
-    /// The core, once all workers have handed in their seats, and the sweeper has ended; and the receipts by the places of
+    /// The core, once the sweeper has ended and all workers have handed in their seats; and the receipts by the places of
     /// their seats.
     pub fn end(self, shared: Shared<N>, sweeper: Sweeper<N>) -> (Core, Vec<Vec<Receipt>>)
         requires all { length self.seats ≡ N.run.workers }
@@ -83,6 +83,7 @@ impl<N: Naming> Handed<N> {
         ensures stand { AllStand result.0.journal.entries self.receipts }
         ensures apart { AllApart self.receipts }
         ensures counted { calls_in result.0.journal.entries ≡ receipts_in self.receipts }
+        ensures others { others_in result.0.journal.entries ≡ sweeper.count }
     {
         let Handed { seats, receipts } = self;
         let core = shared.end(receipts.as_slice(), seats, sweeper);

@@ -19,7 +19,7 @@ pub fn serve_link<N: Naming + Send + Sync, L: Link + Drop + Send, R: Threads + W
     seat: Seat<N>,
 ) -> Result<Done<N>, AllocError>
     requires tree { N.start.nodes ≡ tree.now.nodes }
-    requires unused { seat.given ≡ 0 }
+    requires unused { seat.receipts.given ≡ 0 }
     ensures place { IfOk result (λ done. done.seat.place ≡ seat.place) }
     ensures kept { IfOk result (λ done. IsKept done.seat done.receipts.items) }
 {

@@ -117,7 +117,7 @@ fn run<N: Naming + Send + Sync, R: Threads + Wait + Sync>(
     tree: &Tree,
     mut course: Course<'_>,
 ) -> Result<Ended, AllocError>
-    requires begins { CanBegin N.run N.start opened core }
+    requires beginning { CanBegin N.run N.start opened core }
     requires nodes { core.journal.nodes ≡ tree.now.nodes }
 {
     let Ok((shared, seats, mut sweeper)) = Shared::<N>::new(alloc, opened, core) else {

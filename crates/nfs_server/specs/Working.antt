@@ -66,7 +66,8 @@ seats_of links = map (λ link. link.1) links
 
 -- no seat was given anything yet
 abbrev pub AreUnused : List SeatView → Type 0
-AreUnused seats = (k : ℕ) (seat : SeatView) → slice_get seats k ≡ Some seat → seat.receipts.given ≡ 0
+AreUnused seats =
+    (k : ℕ) (seat : SeatView) → slice_get seats k ≡ Some seat → seat.receipts.given ≡ 0
 
 -- the seats and the receipts that workers gave back
 abbrev pub seats_back : {N : Type 0} → List (Done N) → List SeatView

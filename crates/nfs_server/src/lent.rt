@@ -3,7 +3,7 @@ ghost use Rattle.nfs_core.specs.Server.{AreAlike};
 ghost use Rattle.nfs_owners.specs.Registry.{is_live};
 ghost use Rattle.nfs_server.specs.Leases.{IsLent};
 ghost use Rattle.nfs_shared.specs.PlainBook.{Happens};
-ghost use Rattle.nfs_shared.specs.Sweeps.{Sweeps, leased};
+ghost use Rattle.nfs_shared.specs.Sweeps.{Sweeps, leased_server};
 
 use crate::Service;
 use nfs_core::{Core, Moment};
@@ -51,8 +51,8 @@ impl Lent {
 
     /// Removes each client whose lease is over at this moment, with all that it has.
     pub fn sweep(&mut self, now: Moment) -> Swept
-        ensures sweeps { Sweeps Happens now (leased self.old.core self.old.book) result
-            (leased self.new.core self.new.book) }
+        ensures sweeps { Sweeps Happens now (leased_server self.old.core self.old.book) result
+            (leased_server self.new.core self.new.book) }
     {
         self.leased.sweep(now)
     }

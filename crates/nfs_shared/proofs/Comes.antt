@@ -11,7 +11,7 @@ use Rattle.nfs_owners.specs.LiveClients.{IsNextLive, can_become_live}
 use Rattle.nfs_owners.specs.Registry.{Registry, is_live}
 use Rattle.nfs_shared.specs.BookEvent.{BookEvent, Leads, is_open_after, was_opened_after}
 use Rattle.nfs_shared.specs.BookOf.{IsBookOf}
-use Rattle.nfs_shared.specs.Sweeps.{AreTurns, IsTurn, Sweeps, events_of_all, is_of, leased, none_swept, tally}
+use Rattle.nfs_shared.specs.Sweeps.{AreTurns, IsTurn, Sweeps, events_of_all, is_of, leased_server, none_swept, tally}
 use Rattle.nfs_shared.specs.Turn.{Gains, Turn, events_by, events_of, expiries, total, with_case}
 use Rattle.nfs_shared.specs.declared.case.Case.{Case}
 use Rattle.nfs_shared.specs.declared.case.Case.TheVariants as cases
@@ -145,7 +145,7 @@ comes_further happens now upto server book swept turns server' book' t server'' 
 pub comes_last : {Book : Type 0} (happens : Book → BookEvent → Book → Type 0) (now upto : ℕ) (server : Server)
     (book : Book) (swept : Swept) (turns : List Turn) (server' : Server) (book' : Book)
     → Comes happens now upto server book swept turns server' book' None
-    → Sweeps happens now (leased server book) swept (leased server' book')
+    → Sweeps happens now (leased_server server book) swept (leased_server server' book')
 comes_last happens now upto server book swept turns server' book' h = record {
   turns = turns;
   ends = record {

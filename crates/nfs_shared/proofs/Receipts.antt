@@ -5,7 +5,7 @@ use Rattle.std.proofs.lemmas.List.Elements.{filter-append, filter_map-append}
 use Rattle.std.proofs.lemmas.Option.{slice_get_within}
 use Rattle.std.specs.List.{cons_option, filter_map, zip}
 use Rattle.nfs_shared.specs.BookEvent.{BookEvent, Close}
-use Rattle.nfs_shared.specs.Receipts.{calls_in, numbered_calls, receipt_of, receipts_of, swept_in}
+use Rattle.nfs_shared.specs.Receipts.{calls_in, numbered_calls, receipt_of, receipts_of, others_in}
 use Rattle.nfs_shared.specs.Turn.{expiries}
 use Rattle.nfs_shared.specs.declared.closing.Closing.TheVariants as closing
 use Rattle.nfs_shared.specs.declared.receipt.Receipt.{Receipt}
@@ -56,21 +56,21 @@ expiries_no_calls (Close client seen now closing.Closed ∷ events) = expiries_n
 expiries_no_calls (event ∷ events) = expiries_no_calls events
 
 -- how many entries are no calls
-swept_in_append : (es more : List Entry) → swept_in (es ++ more) ≡ swept_in es + swept_in more
-swept_in_append es more =
+others_in_append : (es more : List Entry) → others_in (es ++ more) ≡ others_in es + others_in more
+others_in_append es more =
     ap (λ (xs : List Entry). length xs) (filter-append (λ (e : Entry). is_none (call_of e)) es more)
     ∙ length-append (filter (λ (e : Entry). is_none (call_of e)) es) (filter (λ (e : Entry). is_none (call_of e)) more)
 
-pub swept_in_call : (es : List Entry) (call : Call) → swept_in (es ++ entries.Call call ∷ []) ≡ swept_in es
-swept_in_call es call = omega (arith, swept_in_append es (entries.Call call ∷ []))
+pub others_in_call : (es : List Entry) (call : Call) → others_in (es ++ entries.Call call ∷ []) ≡ others_in es
+others_in_call es call = omega (arith, others_in_append es (entries.Call call ∷ []))
 
-expiries_are_swept : (events : List BookEvent) → swept_in (expiries events) ≡ length (expiries events)
-expiries_are_swept [] = refl
-expiries_are_swept (Close client seen now closing.Closed ∷ events) = ap suc (expiries_are_swept events)
-expiries_are_swept (event ∷ events) = expiries_are_swept events
+expiries_are_others : (events : List BookEvent) → others_in (expiries events) ≡ length (expiries events)
+expiries_are_others [] = refl
+expiries_are_others (Close client seen now closing.Closed ∷ events) = ap suc (expiries_are_others events)
+expiries_are_others (event ∷ events) = expiries_are_others events
 
-pub swept_in_more : (es : List Entry) (events : List BookEvent) → swept_in (es ++ expiries events) ≡ swept_in es + length (expiries events)
-swept_in_more es events = omega (arith, swept_in_append es (expiries events), expiries_are_swept events)
+pub others_in_more : (es : List Entry) (events : List BookEvent) → others_in (es ++ expiries events) ≡ others_in es + length (expiries events)
+others_in_more es events = omega (arith, others_in_append es (expiries events), expiries_are_others events)
 
 -- calls with their numbers
 numbered_append : (n : ℕ) (es more : List Entry)

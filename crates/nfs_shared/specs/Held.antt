@@ -44,9 +44,9 @@ pub record IsHeld (held : HeldView) : Type 0 where
   pub places : length held.places ≡ calls_in held.server.journal.entries
   pub receipts : held.receipts ≡ receipts_of 0 held.server.journal.entries held.places
 
--- The seat knows that the lock guarded this value, in a run with this start: the receipts that the seat knows of begin
--- those that were given by then. So the value is no older than the last call that was made with the seat.
-pub record IsKnownOf (origin : History) (seat : SeatView) (value : HeldView) : Type 0 where
+-- As far as the seat can tell, the lock may have guarded this value since the seat's last receipt, in a run with this
+-- start: it is one as the lock guards, and the receipts that the seat knows of begin those that were given.
+pub record MayBeHeld (origin : History) (seat : SeatView) (value : HeldView) : Type 0 where
   pub held : IsHeld value
   pub start : start_of value.server.journal ≡ origin
   pub begins : IsPrefix seat.receipts.list value.receipts

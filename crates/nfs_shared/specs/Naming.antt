@@ -12,10 +12,10 @@ pub record OpenedView : Type 0 where
   -- the roll of receipts
   pub roll : TableId
   -- the name of the ledger of receipts, and how many workers there are, each of which has a part of it
-  pub ledger : ℕ
+  pub receipt_ledger : ℕ
   pub workers : ℕ
   -- the name of the ledger of the entries that sweeps make
-  pub sweeps : ℕ
+  pub sweep_ledger : ℕ
 
 -- what the server was started with: the journal without its entries
 abbrev pub start_of : History → History
@@ -44,7 +44,7 @@ no_table = record {
 
 -- the run and the start that stand where none is named
 abbrev pub no_run : OpenedView
-no_run = record { roll = no_table; ledger = 0; workers = 0; sweeps = 0 }
+no_run = record { roll = no_table; receipt_ledger = 0; workers = 0; sweep_ledger = 0 }
 
 abbrev pub no_start : History
 no_start = record {

@@ -10,9 +10,9 @@ use Rattle.nfs_state.specs.declared.entry.Entry.{Entry}
 abbrev pub calls_in : List Entry → ℕ
 calls_in entries = length (filter_map call_of entries)
 
--- how many of the entries are no calls: those that sweeps make
-abbrev pub swept_in : List Entry → ℕ
-swept_in entries = length (filter (λ e. is_none (call_of e)) entries)
+-- how many of the entries are no calls: so far sweeps alone make such
+abbrev pub others_in : List Entry → ℕ
+others_in entries = length (filter (λ e. is_none (call_of e)) entries)
 
 -- the call of a numbered entry, if it records one, beside its number
 abbrev pub numbered_call : ℕ × Entry → Option (ℕ × Call)

@@ -20,9 +20,9 @@ pub record SeatView : Type 0 where
 abbrev pub fresh : ℕ → SeatView
 fresh place = record { place = place; receipts = record { last = None; list = []; given = 0 } }
 
--- the seat was given nothing: it has its place, and knows of receipts what it knew
-abbrev pub GivesNothing : SeatView → SeatView → Type 0
-GivesNothing old new = (new.place ≡ old.place) × (new.receipts ≡ old.receipts)
+-- the seat has its place, and knows of receipts what it knew
+abbrev pub KnowsTheSame : SeatView → SeatView → Type 0
+KnowsTheSame old new = (new.place ≡ old.place) × (new.receipts ≡ old.receipts)
 
 -- the number of a receipt, if one was given
 abbrev pub number_given : Option Receipt → Option ℕ

@@ -50,19 +50,19 @@ none_swept = record {
 -- what is needed to sweep
 pub record SweeperView : Type 0 where
   -- how many entries of the journal came by it
-  pub entries : ℕ
+  pub count : ℕ
 
 -- a core, and the book of its clients' leases
-pub record Leased (Book : Type 0) : Type 0 where
+pub record LeasedServer (Book : Type 0) : Type 0 where
   pub core : Server
   pub book : Book
 
-abbrev pub leased : {Book : Type 0} → Server → Book → Leased Book
-leased core book = record { core = core; book = book }
+abbrev pub leased_server : {Book : Type 0} → Server → Book → LeasedServer Book
+leased_server core book = record { core = core; book = book }
 
 -- The part of a sweep in which clients end, in these turns.
 pub record EndsClients {Book : Type 0} (happens : Book → BookEvent → Book → Type 0) (now : ℕ)
-    (turns : List Turn) (old new : Leased Book) : Type 0 where
+    (turns : List Turn) (old new : LeasedServer Book) : Type 0 where
   -- each client that was live before has a turn, and nobody else has; each has one, as they go up
   pub each : (client : ℕ)
       → list_any (is_of client) turns ≡ is_live client old.core.stored.clients
@@ -75,7 +75,7 @@ pub record EndsClients {Book : Type 0} (happens : Book → BookEvent → Book �
 
 -- A sweep, in its parts, and how it was counted. Clients end; nothing is revoked, as nothing is delegated yet.
 pub record Sweeps {Book : Type 0} (happens : Book → BookEvent → Book → Type 0) (now : ℕ)
-    (old : Leased Book) (swept : Swept) (new : Leased Book) : Type 0 where
+    (old : LeasedServer Book) (swept : Swept) (new : LeasedServer Book) : Type 0 where
   pub turns : List Turn
   pub ends : EndsClients happens now turns old new
   pub counts : swept ≡ tally none_swept turns

@@ -6,11 +6,11 @@ ghost use Rattle.nfs_core.specs.declared.entered.Entered.{Entered};
 ghost use Rattle.nfs_forms.specs.ClientId.{number_in};
 ghost use Rattle.nfs_shared.specs.BookEvent.{Leads};
 ghost use Rattle.nfs_shared.specs.BookOf.{events_entered};
-ghost use Rattle.nfs_shared.specs.Held.{IsKnownOf};
+ghost use Rattle.nfs_shared.specs.Held.{MayBeHeld};
 ghost use Rattle.nfs_shared.specs.PlainBook.{Happens, has_open_lease, with_renewal};
 ghost use Rattle.nfs_shared.specs.Renewals.{renewed_by};
-ghost use Rattle.nfs_shared.specs.Seats.{Gives, GivesNothing, number_given};
-ghost use Rattle.nfs_shared.specs.Sweeps.{Sweeps, leased};
+ghost use Rattle.nfs_shared.specs.Seats.{Gives, KnowsTheSame, number_given};
+ghost use Rattle.nfs_shared.specs.Sweeps.{Sweeps, leased_server};
 ghost use Rattle.nfs_state.specs.Entries.{IsFilehandle, request_of};
 ghost use Rattle.nfs_state.specs.declared.entry.Call.{Call};
 ghost use Rattle.nfs_state.specs.declared.entry.Entry.TheVariants as entries;
@@ -39,14 +39,14 @@ use std::sync::ledger::Book;
 pub struct Held<N: Naming> {
     pub(crate) leased: LeasedCore<PlainLeases>,
     pub(crate) register: Register<N>,
-    pub(crate) swept: Book<SweepLedger<N>>,
+    pub(crate) sweep_count: Book<SweepLedger<N>>,
 }
 
 impl<N: Naming> Model for Held<N> {
     ghost use Rattle.std.specs.Prelude.{◌≡◌};
     ghost use Rattle.nfs_shared.specs.Held.{HeldView, IsHeld, IsTied};
     ghost use Rattle.nfs_shared.specs.Naming.{start_of};
-    ghost use Rattle.nfs_shared.specs.Receipts.{swept_in};
+    ghost use Rattle.nfs_shared.specs.Receipts.{others_in};
     ghost use Rattle.nfs_shared.specs.Roll.{list_of};
 
     ghost Value = { HeldView };
@@ -68,7 +68,7 @@ impl<N: Naming> Model for Held<N> {
         × IsTied N.run.roll h.register.roll.shared.table_id h.register.writer h.register.count.total
         × (start_of h.leased.core.journal ≡ N.start)
         × (h.register.rest.parts ≡ 0) × (h.register.rest.amount ≡ 0)
-        × (h.swept.total ≡ swept_in h.leased.core.journal.entries) };
+        × (h.sweep_count.total ≡ others_in h.leased.core.journal.entries) };
 }
 
 /// Has the core answer an operation, and makes the receipt for its entry. The lease of the client that the operation
@@ -91,7 +91,7 @@ pub fn call_held<N: Naming>(
       answer = result.0;
     }) }
     ensures same { IfNone result.1 ((held.new.places ≡ held.old.places)
-        × (held.new.receipts ≡ held.old.receipts) × GivesNothing seat.old seat.new) }
+        × (held.new.receipts ≡ held.old.receipts) × KnowsTheSame seat.old seat.new) }
     ensures places { IfSome result.1 (λ r. held.new.places ≡ held.old.places ++ r.place ∷ []) }
     ensures receipts { IfSome result.1 (λ r. held.new.receipts ≡ held.old.receipts ++ r ∷ []) }
     ensures given { IfSome result.1 (λ r. Gives seat.old r seat.new) }
@@ -136,15 +136,16 @@ fn call_at(core: &Core, number: u32) -> SeenCall
 /// Goes through the live clients, and removes each whose lease is over at `now`. No receipt is made: the entries are the
 /// sweeper's.
 pub fn sweep_held<N: Naming>(held: &mut Held<N>, sweeper: &mut Sweeper<N>, now: Moment) -> Swept
-    ensures sweeps { Sweeps Happens now (leased held.old.server held.old.leases) result
-        (leased held.new.server held.new.leases) }
-    ensures entries { sweeper.new.entries ≡ sweeper.old.entries + result.expired }
+    ensures sweeps { Sweeps Happens now (leased_server held.old.server held.old.leases) result
+        (leased_server held.new.server held.new.leases) }
+    ensures count { sweeper.new.count ≡ sweeper.old.count + result.expired }
     ensures places { held.new.places ≡ held.old.places }
     ensures receipts { held.new.receipts ≡ held.old.receipts }
 {
     lawful_is_safe();
     let swept = held.leased.sweep(now);
-    held.swept.add(&mut sweeper.share, swept.expired as u64);
+    held.sweep_count
+        .add(&mut sweeper.share, swept.expired as u64);
     swept
 }
 
@@ -160,8 +161,8 @@ pub(crate) fn renew_held<N: Naming>(
       leases = with_renewal (number_in N.start.epoch client) moment held.old.leases;
     } }
     ensures open { result ≡ has_open_lease held.old.leases (number_in N.start.epoch client) }
-    ensures known { IsKnownOf N.start seat.old held.old }
-    ensures same { GivesNothing seat.old seat.new }
+    ensures known { MayBeHeld N.start seat.old held.old }
+    ensures same { KnowsTheSame seat.old seat.new }
 {
     let register = &mut held.register;
     meet(&register.roll, &mut register.writer, &mut seat.token);

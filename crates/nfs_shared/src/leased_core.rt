@@ -4,7 +4,7 @@ ghost use Rattle.nfs_core.specs.Server.{IsLawful};
 ghost use Rattle.nfs_shared.specs.BookEvent.{Leads};
 ghost use Rattle.nfs_shared.specs.BookOf.{IsBookOf, events_entered};
 ghost use Rattle.nfs_shared.specs.PlainBook.{has_open_lease, with_renewal};
-ghost use Rattle.nfs_shared.specs.Sweeps.{Sweeps, leased};
+ghost use Rattle.nfs_shared.specs.Sweeps.{Sweeps, leased_server};
 ghost use Rattle.nfs_state.specs.Entries.{IsFilehandle, request_of};
 ghost use Rattle.nfs_xdr.specs.Op.{has_entry, opnum_of};
 ghost use Rattle.nfs_xdr.specs.OpResult.{op_result};
@@ -70,8 +70,8 @@ impl<B: LeaseBook> LeasedCore<B> {
     /// Goes through the live clients, by rising numbers, and removes each whose lease is over at `now`, from the book
     /// and from the core.
     pub fn sweep(&mut self, now: Moment) -> Swept
-        ensures sweeps { Sweeps B.happens now (leased self.old.core self.old.book) result
-            (leased self.new.core self.new.book) }
+        ensures sweeps { Sweeps B.happens now (leased_server self.old.core self.old.book) result
+            (leased_server self.new.core self.new.book) }
         ensures lawful { IsLawful self.new.core }
     {
         sweep_core(&mut self.core, &mut self.book, now)

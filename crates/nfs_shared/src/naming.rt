@@ -26,7 +26,7 @@ pub struct ReceiptLedger<N> {
 }
 
 impl<N: Naming> Ledger for ReceiptLedger<N> {
-    ghost name = { N.run.ledger };
+    ghost name = { N.run.receipt_ledger };
 
     ghost parts = { N.run.workers };
 }
@@ -37,7 +37,7 @@ pub struct SweepLedger<N> {
 }
 
 impl<N: Naming> Ledger for SweepLedger<N> {
-    ghost name = { N.run.sweeps };
+    ghost name = { N.run.sweep_ledger };
 
     ghost parts = { 1 };
 }

@@ -11,8 +11,8 @@ use std::sync::ledger::Blank;
 pub struct Opened {
     pub(crate) roll: Roll,
     pub(crate) writer: Token,
-    pub(crate) blank: Blank,
-    pub(crate) sweeps: Blank,
+    pub(crate) receipt_ledger: Blank,
+    pub(crate) sweep_ledger: Blank,
     pub(crate) workers: u32,
 }
 
@@ -25,14 +25,14 @@ impl Model for Opened {
 
     ghost view = { λ o. record {
       roll = o.roll.shared.table_id;
-      ledger = o.blank.name;
+      receipt_ledger = o.receipt_ledger.name;
       workers = o.workers;
-      sweeps = o.sweeps.name;
+      sweep_ledger = o.sweep_ledger.name;
     } };
 
     ghost invariant = { λ o.
         IsOf o.roll.shared.table_id o.writer × (o.writer.me ≡ (writer_of [], []))
-        × (o.blank.parts ≡ o.workers) × (o.sweeps.parts ≡ 1) };
+        × (o.receipt_ledger.parts ≡ o.workers) × (o.sweep_ledger.parts ≡ 1) };
 }
 
 impl Opened {
@@ -44,8 +44,8 @@ impl Opened {
         Ok(Opened {
             roll,
             writer,
-            blank: Blank::new(workers as u64),
-            sweeps: Blank::new(1),
+            receipt_ledger: Blank::new(workers as u64),
+            sweep_ledger: Blank::new(1),
             workers,
         })
     }

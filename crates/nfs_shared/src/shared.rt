@@ -4,12 +4,12 @@ ghost use Rattle.nfs_core.specs.Safe.{IsSafe};
 ghost use Rattle.nfs_core.specs.Server.{IsLawful};
 ghost use Rattle.nfs_forms.specs.ClientId.{number_in};
 ghost use Rattle.nfs_shared.specs.Ends.{AreFresh, AreKept, AllStand, AllApart, AllBegin, receipts_in, given_in};
-ghost use Rattle.nfs_shared.specs.Held.{HeldView, IsKnownOf};
+ghost use Rattle.nfs_shared.specs.Held.{HeldView, MayBeHeld};
 ghost use Rattle.nfs_shared.specs.Naming.{CanBegin, start_of};
 ghost use Rattle.nfs_shared.specs.PlainBook.{has_open_lease};
-ghost use Rattle.nfs_shared.specs.Receipts.{calls_in, swept_in};
+ghost use Rattle.nfs_shared.specs.Receipts.{calls_in, others_in};
 ghost use Rattle.nfs_shared.specs.Roll.{IsOf, IsWriter, list_of, writer_of};
-ghost use Rattle.nfs_shared.specs.Seats.{Gives, GivesNothing, fresh};
+ghost use Rattle.nfs_shared.specs.Seats.{Gives, KnowsTheSame, fresh};
 ghost use Rattle.nfs_state.specs.Entries.{IsFilehandle, request_of, resource};
 ghost use Rattle.nfs_state.specs.Stored.{meaning};
 ghost use Rattle.nfs_xdr.specs.Op.{has_entry, opnum_of};
@@ -40,16 +40,16 @@ pub struct Shared<N: Naming> {
 }
 
 impl<N: Naming> Shared<N> {
-    /// The core under a lock, a seat for each worker, and what is needed to sweep. It fails only where memory is refused,
-    /// and gives the core back.
+    /// The core under a lock, a seat for each worker, and who sweeps. The core's journal is empty, and no client is live
+    /// in it. It fails only where memory is refused, and gives the core back.
     pub fn new(
         alloc: Global,
         opened: Opened,
         core: Core,
     ) -> Result<(Shared<N>, Vec<Seat<N>>, Sweeper<N>), Core>
-        requires begins { CanBegin N.run N.start opened core }
+        requires beginning { CanBegin N.run N.start opened core }
         ensures seats { IfOk result (λ r. AreFresh N.run.workers r.1.items) }
-        ensures sweeper { IfOk result (λ r. r.2.entries ≡ 0) }
+        ensures sweeper { IfOk result (λ r. r.2.count ≡ 0) }
         ensures err { IfErr result (λ c. c ≡ core) }
     {
         let Ok(leases) = PlainLeases::new(alloc, core.journal().lease()) else {
@@ -58,12 +58,12 @@ impl<N: Naming> Shared<N> {
         let Opened {
             roll,
             mut writer,
-            blank,
-            sweeps,
+            receipt_ledger,
+            sweep_ledger,
             workers,
         } = opened;
-        let (count, mut rest) = blank.open::<ReceiptLedger<N>>();
-        let (swept, share) = sweeps.open::<SweepLedger<N>>();
+        let (count, mut rest) = receipt_ledger.open::<ReceiptLedger<N>>();
+        let (sweep_count, share) = sweep_ledger.open::<SweepLedger<N>>();
         let Ok(seats) = new_seats(alloc, &roll, &mut writer, &mut rest, workers) else {
             return Err(core);
         };
@@ -77,7 +77,7 @@ impl<N: Naming> Shared<N> {
         let held = Held {
             leased: LeasedCore::new(core, leases),
             register,
-            swept,
+            sweep_count,
         };
         let held = Mutex::new(held);
         Ok((Shared { held }, seats, Sweeper { share }))
@@ -97,7 +97,7 @@ impl<N: Naming> Shared<N> {
         requires entry { IsTrue (has_entry op.now) }
         requires node { IsFilehandle N.start filehandle }
         ensures refused { IsNone result.1 ↔ (result.0 ≡ resource op.now) }
-        ensures same { IfNone result.1 (GivesNothing seat.old seat.new) }
+        ensures same { IfNone result.1 (KnowsTheSame seat.old seat.new) }
         ensures entry { IfSome result.1 (λ r. r.call ≡ record {
           request = request_of moment principal op.now filehandle;
           answer = result.0;
@@ -110,8 +110,8 @@ impl<N: Naming> Shared<N> {
         call_held(&mut *held, seat, moment, principal, op, filehandle)
     }
 
-    /// Renews the lease of this client in a hold of the lock, if it is open, and returns whether it is. What is answered
-    /// was so after the last call that was made with this seat.
+    /// Renews the lease of this client in a hold of the lock, if it is open, and returns whether it is. No clause says
+    /// that the lock guarded the value that answers, but that it may have, since this seat's last receipt.
     pub fn renew<R: Wait>(
         &self,
         rt: &R,
@@ -119,9 +119,9 @@ impl<N: Naming> Shared<N> {
         moment: Moment,
         client: ClientId,
     ) -> bool
-        ensures open { (held : HeldView) × IsKnownOf N.start seat.old held
+        ensures open { (held : HeldView) × MayBeHeld N.start seat.old held
             × (result ≡ has_open_lease held.leases (number_in N.start.epoch client)) }
-        ensures same { GivesNothing seat.old seat.new }
+        ensures same { KnowsTheSame seat.old seat.new }
     {
         let mut held = self.held.lock(rt);
         renew_held(&mut *held, seat, moment, client)
@@ -129,7 +129,7 @@ impl<N: Naming> Shared<N> {
 
     /// Removes each client whose lease is over at this moment, with all that it has, in one hold of the lock.
     pub fn sweep<R: Wait>(&self, rt: &R, sweeper: &mut Sweeper<N>, now: Moment) -> Swept
-        ensures entries { sweeper.new.entries ≡ sweeper.old.entries + result.expired }
+        ensures count { sweeper.new.count ≡ sweeper.old.count + result.expired }
         ensures revoked { result.revoked ≡ 0 }
         ensures stopped { result.stopped ≡ false }
     {
@@ -149,13 +149,13 @@ impl<N: Naming> Shared<N> {
         ensures apart { AllApart (map (λ v. v.items) receipts.now) }
         ensures counted { calls_in result.journal.entries
             ≡ receipts_in (map (λ v. v.items) receipts.now) }
-        ensures swept { swept_in result.journal.entries ≡ sweeper.entries }
+        ensures others { others_in result.journal.entries ≡ sweeper.count }
     {
         let held = self.held.into_inner();
         let Held {
             leased,
             register,
-            mut swept,
+            mut sweep_count,
         } = held;
         let Sweeper { mut share } = sweeper;
         let Register {
@@ -167,7 +167,7 @@ impl<N: Naming> Shared<N> {
         } = register;
         meet_each(&roll, &mut writer, &mut rest, seats);
         count.audit(&mut rest);
-        swept.audit(&mut share);
+        sweep_count.audit(&mut share);
         leased.into_core()
     }
 }
@@ -183,7 +183,8 @@ fn new_seats<N: Naming>(
     requires roll { roll.now.shared.table_id ≡ N.run.roll }
     requires writer { IsOf N.run.roll writer.old × (writer.old.me ≡ (writer_of [], [])) }
     requires rest { (rest.old.parts ≡ workers) × (rest.old.amount ≡ 0) }
-    ensures writer { IfOk result (λ s. IsOf N.run.roll writer.new × (writer.new.me ≡ (writer_of [], []))) }
+    ensures writer { IfOk result (λ s. IsOf N.run.roll writer.new
+        × (writer.new.me ≡ (writer_of [], []))) }
     ensures rest { IfOk result (λ s. (rest.new.parts ≡ 0) × (rest.new.amount ≡ 0)) }
     ensures seats { IfOk result (λ s. AreFresh workers s.items) }
 {

@@ -6,7 +6,7 @@ ghost use Rattle.nfs_core.specs.Server.{IsLawful};
 ghost use Rattle.nfs_owners.specs.Registry.{IsClientNumber, is_live};
 ghost use Rattle.nfs_shared.specs.BookEvent.{Close, Leads};
 ghost use Rattle.nfs_shared.specs.BookOf.{IsBookOf};
-ghost use Rattle.nfs_shared.specs.Sweeps.{Sweeps, leased};
+ghost use Rattle.nfs_shared.specs.Sweeps.{Sweeps, leased_server};
 ghost use Rattle.nfs_shared.specs.Turn.{Gains, IsRightBy, Turn, events_by, expiries};
 ghost use Rattle.nfs_state.specs.Lease.{is_over};
 ghost use Rattle.nfs_state.specs.Stored.{meaning};
@@ -23,8 +23,8 @@ use nfs_state::{Moment, is_over};
 pub fn sweep_core<B: LeaseBook>(core: &mut Core, book: &mut B, now: Moment) -> Swept
     requires agrees { IsBookOf (B.is_open book.old) (B.was_opened book.old) (B.lease book.old)
         core.old }
-    ensures sweeps { Sweeps B.happens now (leased core.old book.old) result
-        (leased core.new book.new) }
+    ensures sweeps { Sweeps B.happens now (leased_server core.old book.old) result
+        (leased_server core.new book.new) }
     ensures agrees { IsBookOf (B.is_open book.new) (B.was_opened book.new) (B.lease book.new)
         core.new }
     ensures lawful { IsLawful core.new }

@@ -51,7 +51,7 @@ fn run<N: Naming + Send + Sync, R: Threads + Wait + Sync>(
     tree: &Tree,
     plan: &Plan<'_>,
 ) -> Result<(Core, Outcome), AllocError>
-    requires begins { CanBegin N.run N.start opened core }
+    requires beginning { CanBegin N.run N.start opened core }
     requires nodes { core.journal.nodes ≡ tree.now.nodes }
 {
     let Ok((shared, seats, sweeper)) = Shared::<N>::new(alloc, opened, core) else {

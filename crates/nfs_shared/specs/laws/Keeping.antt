@@ -1,7 +1,7 @@
 -- A seat's receipts, as they are kept in order.
 use Rattle.std.proofs.Common.{◌≡◌, ◌⊎◌, ℕ, zero, suc, ◌<◌, ◌≤◌, List, [], ◌∷◌, ◌++◌, length, Some, slice_get, refl, sym, ap, ◌∙◌, subst, inl, inr, ⊎_elim, arith, length-append, append_assoc}
 use Rattle.nfs_shared.specs.Ends.{IsKept}
-use Rattle.nfs_shared.specs.Seats.{SeatReceipts, SeatView, fresh, Gives, GivesNothing}
+use Rattle.nfs_shared.specs.Seats.{SeatReceipts, SeatView, fresh, Gives, KnowsTheSame}
 use Rattle.nfs_shared.specs.declared.receipt.Receipt.{Receipt}
 
 -- what stands in a list with one element more
@@ -37,7 +37,7 @@ kept_fresh place = record {
 }
 
 -- A seat that is given nothing has the receipts that it had.
-pub kept_same : (old : SeatView) (receipts : List Receipt) (new : SeatView) → IsKept old receipts → GivesNothing old new → IsKept new receipts
+pub kept_same : (old : SeatView) (receipts : List Receipt) (new : SeatView) → IsKept old receipts → KnowsTheSame old new → IsKept new receipts
 kept_same old receipts new kept same = record {
   place = λ k r at. kept.place k r at ∙ sym same.0;
   list = λ k r at. let h = kept.list k r at in (h.0, ap (λ (s : SeatReceipts). slice_get s.list h.0) same.1 ∙ h.1);

@@ -26,7 +26,7 @@ end-requires-clause-parts g c =
     let all = c.serve_swept.result.0.items in
     let fresh = subst (λ (s : List SeatView). AreFresh g.N.Naming.run.workers s) (sym c.link_all.ensures.seats) c.in-Ok-new.ensures.seats in
     let law = c.workers_keep_receipts.ensures c.args.place.now.tree.now g.N.Naming.run.workers c.link_all.new.links.items all fresh c.serve_swept.ensures in
-    let many = sym (length-map all (λ d. d.seat)) ∙ law.0 ∙ sym (ap (λ (o : OpenedView). o.workers) c.requires.begins.run) ∙ c.requires.count in
+    let many = sym (length-map all (λ d. d.seat)) ∙ law.0 ∙ sym (ap (λ (o : OpenedView). o.workers) c.requires.beginning.run) ∙ c.requires.count in
     subst (λ n. HaveRoom n c.in-Ok.lists.parts) (sym many) c.in-Ok.ensures.parts
 
 pub end-requires-clause-room : goal.end-requires-clause-room
@@ -34,7 +34,7 @@ end-requires-clause-room g c =
     let all = c.serve_swept.result.0.items in
     let fresh = subst (λ (s : List SeatView). AreFresh g.N.Naming.run.workers s) (sym c.link_all.ensures.seats) c.in-Ok-new.ensures.seats in
     let law = c.workers_keep_receipts.ensures c.args.place.now.tree.now g.N.Naming.run.workers c.link_all.new.links.items all fresh c.serve_swept.ensures in
-    let many = sym (length-map all (λ d. d.seat)) ∙ law.0 ∙ sym (ap (λ (o : OpenedView). o.workers) c.requires.begins.run) ∙ c.requires.count in
+    let many = sym (length-map all (λ d. d.seat)) ∙ law.0 ∙ sym (ap (λ (o : OpenedView). o.workers) c.requires.beginning.run) ∙ c.requires.count in
     subst (λ n. n ≤ vec_capacity c.in-Ok.lists.ended) (sym many) c.in-Ok.ensures.ended
 
 pub returns-clause-served : goal.returns-clause-served
@@ -43,12 +43,12 @@ returns-clause-served g c =
     let links = c.link_all.new.links.items in
     let fresh = subst (λ (s : List SeatView). AreFresh g.N.Naming.run.workers s) (sym c.link_all.ensures.seats) c.in-Ok-new.ensures.seats in
     let law = c.workers_keep_receipts.ensures c.args.place.now.tree.now g.N.Naming.run.workers links all fresh c.serve_swept.ensures in
-    let many = sym (length-map all (λ d. d.seat)) ∙ law.0 ∙ sym (ap (λ (o : OpenedView). o.workers) c.requires.begins.run) ∙ c.requires.count in
+    let many = sym (length-map all (λ d. d.seat)) ∙ law.0 ∙ sym (ap (λ (o : OpenedView). o.workers) c.requires.beginning.run) ∙ c.requires.count in
     let ended = c.end.result.1.items in
     let receipts = c.end.ensures.receipts in record {
       all = sym (length-map ended (λ e. e.receipts.items)) ∙ ap (λ xs. length xs) receipts ∙ length-map all (λ d. d.receipts.items) ∙ many;
       each = connections_of tcp c.args.place.now.tree.now c.args.link.now g.N.Naming.run.workers links all ended fresh c.link_all.ensures.same c.serve_swept.ensures c.end.ensures.results receipts;
-      start = c.end.ensures.start ∙ sym c.requires.begins.start;
+      start = c.end.ensures.start ∙ sym c.requires.beginning.start;
       lawful = c.end.ensures.lawful;
       safe = c.end.ensures.safe;
       stand = subst (λ (r : List (List Receipt)). AllStand c.end.result.0.journal.entries r) (sym receipts) c.end.ensures.stand;

@@ -6,13 +6,13 @@ use Rattle.nfs_core.specs.Server.{IsLawful, Server}
 use Rattle.nfs_core.specs.declared.entered.Entered.{Entered}
 use Rattle.nfs_shared.proofs.Giving.{above_all, counted, last_entry, one_call}
 use Rattle.nfs_shared.proofs.Holding.{KeepsRules, held_call}
-use Rattle.nfs_shared.proofs.Receipts.{calls_in_length, swept_in_call}
+use Rattle.nfs_shared.proofs.Receipts.{calls_in_length, others_in_call}
 use Rattle.nfs_shared.proofs.Renewals.{renewed_named, told_named}
 use Rattle.nfs_shared.proofs.held.call_held.Goals as goal
 use Rattle.nfs_shared.specs.Held.{HeldView}
 use Rattle.nfs_shared.specs.Naming.{start_of}
 use Rattle.nfs_shared.specs.PlainBook.{with_renewal}
-use Rattle.nfs_shared.specs.Receipts.{calls_in, receipts_of, swept_in}
+use Rattle.nfs_shared.specs.Receipts.{calls_in, receipts_of, others_in}
 use Rattle.nfs_shared.specs.Renewals.{renewed_by}
 use Rattle.nfs_shared.specs.Roll.{list_of}
 use Rattle.nfs_forms.specs.declared.status.Refusal.TheVariants.{Resource}
@@ -109,8 +109,8 @@ invariant_of-held-in-Some g c =
       ap (λ s. s.parts) given.rest ∙ c.held.invariant.3,
       ap (λ s. s.amount) given.rest ∙ c.held.invariant.4,
       c.held.invariant.5
-          ∙ sym (swept_in_call held.leased.core.journal.entries call)
-          ∙ ap (λ (j : History). swept_in j.entries) (sym entered.0.1),
+          ∙ sym (others_in_call held.leased.core.journal.entries call)
+          ∙ ap (λ (j : History). others_in j.entries) (sym entered.0.1),
     )
 
 -- what is told of the entry, and the calls on the book, from the value that the call began with
@@ -156,7 +156,7 @@ invariant_of-held g c =
       ap (λ (s : Server). start_of s.journal) same ∙ c.held.invariant.2,
       c.held.invariant.3,
       c.held.invariant.4,
-      c.held.invariant.5 ∙ ap (λ (s : Server). swept_in s.journal.entries) (sym same),
+      c.held.invariant.5 ∙ ap (λ (s : Server). others_in s.journal.entries) (sym same),
     )
 
 pub returns-then-is_err-clause-leases : goal.returns-then-is_err-clause-leases

@@ -2,12 +2,12 @@
 use Rattle.std.proofs.Common.{◌∙◌, ap, refl, arith}
 use Rattle.nfs_shared.proofs.Holding.{KeepsRules, held_more}
 use Rattle.nfs_shared.proofs.Lists.{expired_tally}
-use Rattle.nfs_shared.proofs.Receipts.{expiries_no_calls, swept_in_more}
+use Rattle.nfs_shared.proofs.Receipts.{expiries_no_calls, others_in_more}
 use Rattle.nfs_shared.proofs.held.sweep_held.Goals as goal
 use Rattle.nfs_shared.specs.Held.{HeldView}
 use Rattle.nfs_shared.specs.Naming.{start_of}
 use Rattle.nfs_shared.specs.Roll.{list_of}
-use Rattle.nfs_shared.specs.Receipts.{swept_in}
+use Rattle.nfs_shared.specs.Receipts.{others_in}
 use Rattle.nfs_shared.specs.Sweeps.{events_of_all, none_swept}
 use Rattle.nfs_shared.specs.Turn.{expiries}
 use Rattle.nfs_shared.specs.declared.swept.Swept.{Swept}
@@ -47,8 +47,8 @@ invariant_of-held g c =
         arith,
         c.add.ensures.total,
         c.held.invariant.5,
-        ap (λ (j : History). swept_in j.entries) gains.journal,
-        swept_in_more es events,
+        ap (λ (j : History). others_in j.entries) gains.journal,
+        others_in_more es events,
         ap (λ (s : Swept). s.expired) sweeps.counts,
         expired_tally c.args.now none_swept sweeps.turns,
       ),
