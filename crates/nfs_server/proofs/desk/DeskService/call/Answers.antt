@@ -1,9 +1,9 @@
--- A receipt that the seat is given is kept after those before.
+-- A receipt that the seat is given is kept after those before. Without one the seat keeps those.
 use Rattle.std.proofs.Common.{◌≡◌, Option, Some, ap, subst}
-use Rattle.std.specs.Prelude.{IfSome}
-use Rattle.nfs_shared.specs.Seats.{Gives, SeatView}
+use Rattle.std.specs.Prelude.{IfNone, IfSome}
+use Rattle.nfs_shared.specs.Seats.{Gives, KnowsTheSame, SeatView}
 use Rattle.nfs_shared.specs.declared.receipt.Receipt.{Receipt}
-use Rattle.nfs_shared.specs.laws.Keeping.{kept_more}
+use Rattle.nfs_shared.specs.laws.Keeping.{kept_more, kept_same}
 use Rattle.nfs_state.specs.Entries.{request_of}
 use Rattle.nfs_server.specs.Holding.{Holding}
 use Rattle.nfs_server.proofs.Receiving.{received}
@@ -28,3 +28,8 @@ returns-in-Some-clause-gives g c =
         rw (← receipts) c.push_reserved.ensures.items,
       ),
     )
+
+pub invariant_of-self-in_default : goal.invariant_of-self-in_default
+invariant_of-self-in_default g c =
+    let same = subst (λ (o : Option Receipt). IfNone o (KnowsTheSame c.self.inside.seat c.call-answer.new.seat)) c.in_default.is c.call-answer.ensures.same in
+    kept_same c.self.inside.seat c.self.inside.receipts.items c.call-answer.new.seat c.self.invariant same
