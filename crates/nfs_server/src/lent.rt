@@ -8,7 +8,8 @@ ghost use Rattle.nfs_shared.specs.Sweeps.{Sweeps, leased_server};
 use crate::Service;
 use nfs_core::{Core, Moment};
 use nfs_shared::{LeasedCore, PlainLeases, Swept, renewal_answer, renewed_client};
-use nfs_xdr::{ClientId, Op, OpResult, Principal};
+use nfs_state::Request;
+use nfs_xdr::{ClientId, Op, OpResult, Principal, Refusal};
 use std::alloc::{AllocError, Global};
 use std::marker::Model;
 
@@ -85,7 +86,10 @@ impl Service for Lent {
     ) -> OpResult {
         let client = renewed_client(op, self.leased.core.journal().epoch());
         self.leased.renew(client, moment);
-        let (answer, _) = self.leased.call(moment, principal, op, filehandle);
+        let Ok(request) = Request::of_copy(moment, principal, op, filehandle) else {
+            return op.opnum().refusal(Refusal::Resource);
+        };
+        let (answer, _) = self.leased.call(request);
         answer
     }
 

@@ -11,19 +11,20 @@ ghost use Rattle.nfs_shared.specs.PlainBook.{Happens, has_open_lease, with_renew
 ghost use Rattle.nfs_shared.specs.Renewals.{renewed_by};
 ghost use Rattle.nfs_shared.specs.Seats.{Gives, KnowsTheSame, number_given};
 ghost use Rattle.nfs_shared.specs.Sweeps.{Sweeps, leased_server};
-ghost use Rattle.nfs_state.specs.Entries.{IsFilehandle, request_of};
+ghost use Rattle.nfs_state.specs.Entries.{IsFilehandle};
 ghost use Rattle.nfs_xdr.specs.Op.{has_entry, opnum_of};
 ghost use Rattle.nfs_xdr.specs.OpResult.{op_result};
 ghost use Rattle.nfs_xdr.specs.Opnum.{answer_limit};
 
 use crate::Swept;
-use crate::held::{Held, call_held, renew_held, sweep_held};
+use crate::held::{Held, call_held, renew_held, renew_named, sweep_held};
 use crate::naming::Naming;
 use crate::receipt::Receipt;
 use crate::seat::Seat;
 use crate::sweeper::Sweeper;
 use nfs_core::Moment;
-use nfs_xdr::{ClientId, Op, OpResult, Principal};
+use nfs_state::Request;
+use nfs_xdr::{ClientId, Op, OpResult};
 use std::marker::Model;
 use std::sync::MutexGuard;
 
@@ -42,38 +43,39 @@ impl<'a, N: Naming> Model for Hold<'a, N> {
 }
 
 impl<'a, N: Naming> Hold<'a, N> {
-    /// Has the core answer an operation, as `call_held` does.
-    pub fn call(
-        &mut self,
-        seat: &mut Seat<N>,
-        moment: Moment,
-        principal: Principal,
-        op: &Op,
-        filehandle: Option<u32>,
-    ) -> (OpResult, Option<Receipt>)
-        requires entry { IsTrue (has_entry op.now) }
-        requires node { IsFilehandle N.start filehandle }
-        ensures applies { Applies self.old.server self.new.server
-            (request_of moment principal op.now filehandle) result.0 (number_given result.1) }
-        ensures entry { IfSome result.1 (λ r. r.call ≡ record {
-          request = request_of moment principal op.now filehandle;
-          answer = result.0;
-        }) }
+    /// Has the core answer a request, as `call_held` does.
+    pub fn call(&mut self, seat: &mut Seat<N>, request: Request) -> (OpResult, Option<Receipt>)
+        requires entry { IsTrue (has_entry request.op) }
+        requires node { IsFilehandle N.start request.filehandle }
+        ensures applies { Applies self.old.server self.new.server request result.0
+            (number_given result.1) }
+        ensures entry { IfSome result.1
+            (λ r. r.call ≡ record { request = request; answer = result.0 }) }
         ensures same { IfNone result.1 ((self.new.places ≡ self.old.places)
             × (self.new.receipts ≡ self.old.receipts) × KnowsTheSame seat.old seat.new) }
         ensures places { IfSome result.1 (λ r. self.new.places ≡ self.old.places ++ r.place ∷ []) }
         ensures receipts { IfSome result.1 (λ r. self.new.receipts ≡ self.old.receipts ++ r ∷ []) }
         ensures given { IfSome result.1 (λ r. Gives seat.old r seat.new) }
-        ensures short { length (op_result.encoding result.0) ≤ answer_limit (opnum_of op.now) }
+        ensures short { length (op_result.encoding result.0)
+            ≤ answer_limit (opnum_of request.op) }
         ensures form { op_result.Fits result.0 }
         ensures leases { (entered : Option Entered)
-            × Answers self.old.server self.new.server
-            (request_of moment principal op.now filehandle) result.0 entered
+            × Answers self.old.server self.new.server request result.0 entered
             × (number_entered entered ≡ number_given result.1)
-            × Leads Happens (with_renewal (renewed_by N.start.epoch op.now) moment self.old.leases)
-            (events_entered entered moment) self.new.leases }
+            × Leads Happens
+            (with_renewal (renewed_by N.start.epoch request.op) request.moment self.old.leases)
+            (events_entered entered request.moment) self.new.leases }
     {
-        call_held(&mut *self.guard, seat, moment, principal, op, filehandle)
+        call_held(&mut *self.guard, seat, request)
+    }
+
+    /// Renews the lease of the client that the operation names, as a call of it does, where the call can't be made.
+    pub fn renew_named(&mut self, op: &Op, moment: Moment)
+        ensures { self.new ≡ record self.old {
+          leases = with_renewal (renewed_by N.start.epoch op.now) moment self.old.leases;
+        } }
+    {
+        renew_named(&mut *self.guard, op, moment)
     }
 
     /// Renews the lease of this client, if it is open, and returns whether it is.

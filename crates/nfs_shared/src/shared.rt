@@ -28,7 +28,8 @@ use crate::seat::Seat;
 use crate::sweeper::Sweeper;
 use crate::{PlainLeases, Swept};
 use nfs_core::{Core, Moment};
-use nfs_xdr::{ClientId, Op, OpResult, Principal};
+use nfs_state::Request;
+use nfs_xdr::{ClientId, Op, OpResult, Principal, Refusal};
 use std::alloc::{AllocError, Global};
 use std::sync::ledger::Share;
 use std::sync::{Mutex, Wait};
@@ -92,7 +93,8 @@ impl<N: Naming> Shared<N> {
     }
 
     /// Answers an operation that has an entry in the journal, in one hold of the lock, with a receipt for its entry. The
-    /// lease of the client that the operation names is renewed first. `filehandle` has to be a node of the tree.
+    /// lease of the client that the operation names is renewed first, also where memory is refused for the request.
+    /// `filehandle` has to be a node of the tree.
     pub fn call<R: Wait>(
         &self,
         rt: &R,
@@ -114,7 +116,11 @@ impl<N: Naming> Shared<N> {
         ensures short { length (op_result.encoding result.0) ≤ answer_limit (opnum_of op.now) }
         ensures form { op_result.Fits result.0 }
     {
-        self.hold(rt).call(seat, moment, principal, op, filehandle)
+        let Ok(request) = Request::of_copy(moment, principal, op, filehandle) else {
+            self.hold(rt).renew_named(op, moment);
+            return (op.opnum().refusal(Refusal::Resource), None);
+        };
+        self.hold(rt).call(seat, request)
     }
 
     /// Renews the lease of this client in a hold of the lock, if it is open, and returns whether it is. No clause says

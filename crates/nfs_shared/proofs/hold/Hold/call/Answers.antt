@@ -9,18 +9,17 @@ use Rattle.nfs_shared.specs.Held.{HeldView}
 use Rattle.nfs_shared.specs.PlainBook.{Happens, with_renewal}
 use Rattle.nfs_shared.specs.Renewals.{renewed_by}
 use Rattle.nfs_shared.specs.Seats.{number_given}
-use Rattle.nfs_state.specs.Entries.{request_of}
 
 pub returns-clause-leases : goal.returns-clause-leases
 returns-clause-leases g c =
     let called = c.call_held in
-    let request = request_of c.args.moment c.args.principal c.args.op.now c.args.filehandle in
+    let request = c.args.request in
     let same : c.deref_mut.result.now ≡ c.args.self.now = c.deref_mut.ensures.value ∙ c.self.view_is in
     subst
     (λ (h : HeldView).
     (entered : Option Entered)
     × Answers h.server called.new.held.server request called.result.0 entered
     × (number_entered entered ≡ number_given called.result.1)
-    × Leads Happens (with_renewal (renewed_by g.N.Naming.start.epoch c.args.op.now) c.args.moment h.leases)
-    (events_entered entered c.args.moment) called.new.held.leases)
+    × Leads Happens (with_renewal (renewed_by g.N.Naming.start.epoch request.op) request.moment h.leases)
+    (events_entered entered request.moment) called.new.held.leases)
     same called.ensures.leases
