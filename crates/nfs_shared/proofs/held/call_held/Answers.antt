@@ -2,7 +2,7 @@
 use Rattle.std.proofs.Common.{◌≡◌, ◌∙◌, ◌++◌, ◌∷◌, [], length, List, ℕ, ◌<◌, Option, None, Some, refl, ap, sym, subst, arith, length-append}
 use Rattle.nfs_core.specs.Entered.{Answers, IsEntered, number_entered}
 use Rattle.nfs_core.specs.Safe.{IsSafe}
-use Rattle.nfs_core.specs.Server.{IsLawful, Server}
+use Rattle.nfs_core.specs.Server.{Enters, IsLawful, Server}
 use Rattle.nfs_core.specs.declared.entered.Entered.{Entered}
 use Rattle.nfs_shared.proofs.Giving.{above_all, counted, last_entry, one_call}
 use Rattle.nfs_shared.proofs.Holding.{KeepsRules, held_call}
@@ -21,6 +21,7 @@ use Rattle.nfs_state.specs.Entries.{IsFilehandle, entry_of, resource}
 use Rattle.nfs_state.specs.State.{History}
 use Rattle.nfs_state.specs.Stored.{meaning}
 use Rattle.nfs_state.specs.declared.entry.Call.{Call}
+use Rattle.nfs_state.specs.declared.entry.Entry.{Entry}
 use Rattle.nfs_state.specs.declared.entry.Entry.TheVariants as entries
 use Rattle.nfs_state.specs.declared.entry.TheConstants.{JOURNAL_LIMIT}
 use Rattle.nfs_xdr.specs.OpResult.{refusal_of}
@@ -112,6 +113,29 @@ invariant_of-held-in-Some g c =
           ∙ sym (others_in_call held.leased.core.journal.entries call)
           ∙ ap (λ (j : History). others_in j.entries) (sym entered.0.1),
     )
+
+-- the answer is the core's, and the receipt has the number of its entry
+pub returns-in-Some-clause-applies : goal.returns-in-Some-clause-applies
+returns-in-Some-clause-applies g c =
+    let called = c.call-answer in
+    let request = c.args.request in
+    let entry : Entry = entry_of request called.result.0 in
+    let server : c.renew.new.self.core ≡ c.args.held.now.server = c.renew.ensures.core ∙ ap (λ (h : HeldView). h.server) c.held.view_is in
+    let entered : IsEntered c.renew.new.self.core called.new.self.core entry c.in-Some.entered =
+    subst (λ (o : Option Entered). Answers c.renew.new.self.core called.new.self.core request called.result.0 o) c.in-Some.is called.ensures.answers in
+    subst (λ (n : ℕ). Enters c.args.held.now.server called.new.self.core entry n) (sym (ap (λ (r : Receipt). r.number) c.give-receipt.ensures.receipt))
+    (subst (λ (s : Server). Enters s called.new.self.core entry c.in-Some.entered.number) server entered.0)
+
+pub returns-in-Some-clause-entry : goal.returns-in-Some-clause-entry
+returns-in-Some-clause-entry g c =
+    let called = c.call-answer in
+    let request = c.args.request in
+    let call : Call = record { request = request; answer = called.result.0 } in
+    let core = c.renew.new.self.core in
+    let entered : IsEntered core called.new.self.core (entries.Call call) c.in-Some.entered =
+    subst (λ (o : Option Entered). Answers core called.new.self.core request called.result.0 o) c.in-Some.is called.ensures.answers in
+    ap (λ (r : Receipt). r.call) c.give-receipt.ensures.receipt
+    ∙ one_call called.new.self.core.journal.entries c.in-Some.entered.number _ call c.call_at-call.ensures (last_entry core called.new.self.core (entries.Call call) c.in-Some.entered.number entered.0)
 
 -- what is told of the entry, and the calls on the book, from the value that the call began with
 pub returns-in-Some-clause-leases : goal.returns-in-Some-clause-leases
