@@ -1,6 +1,6 @@
 //! The end of a client whose lease has run out.
 
-ghost use Rattle.std.specs.Prelude.{◌≡◌, ◌≢◌, ◌<◌, ◌≤◌, Err, IfErr, IfOk, OnErr, length};
+ghost use Rattle.std.specs.Prelude.{◌≢◌, ◌<◌, ◌≤◌, Err, IfErr, IfOk, OnErr};
 ghost use Rattle.nfs_core.specs.Expiry.{IsNotEndedFor};
 ghost use Rattle.nfs_core.specs.Following.{IsNext, StoreAgrees};
 ghost use Rattle.nfs_core.specs.Server.{Enters};

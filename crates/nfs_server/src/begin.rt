@@ -1,4 +1,4 @@
-ghost use Rattle.std.specs.Prelude.{◌≡◌, ℕ};
+ghost use Rattle.std.specs.Prelude.{◌≡◌};
 ghost use Rattle.nfs_server.specs.Begun.{IsWorker};
 ghost use Rattle.nfs_server.specs.Working.{IsDone, linking};
 ghost use Rattle.nfs_shared.specs.Seats.{SeatView};

@@ -1,5 +1,5 @@
 //! The state that threads share, behind one lock.
-ghost use Rattle.std.specs.Prelude.{◌≡◌, ◌+◌, ◌<◌, ◌≤◌, ◌↔◌, [], ℕ, false, IfOk, IfErr, IfSome, IfNone, IsFalse, IsNone, IsTrue, length, map};
+ghost use Rattle.std.specs.Prelude.{◌≡◌, ◌+◌, ◌<◌, ◌≤◌, ◌↔◌, [], false, IfOk, IfErr, IfSome, IfNone, IsNone, IsTrue, length, map};
 ghost use Rattle.nfs_core.specs.Safe.{IsSafe};
 ghost use Rattle.nfs_core.specs.Server.{IsLawful};
 ghost use Rattle.nfs_forms.specs.ClientId.{number_in};

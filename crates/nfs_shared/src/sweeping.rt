@@ -1,13 +1,13 @@
 //! The sweep through the leases of all live clients.
 
-ghost use Rattle.std.specs.Prelude.{◌≡◌, ◌<◌, ◌≤◌, ◌∷◌, [], ℕ, List, IsTrue, false, length};
+ghost use Rattle.std.specs.Prelude.{◌≡◌, ◌<◌, ◌∷◌, [], ℕ, IsTrue, length};
 ghost use Rattle.nfs_core.specs.LiveClients.{AreOfOneRun};
 ghost use Rattle.nfs_core.specs.Server.{IsLawful};
 ghost use Rattle.nfs_owners.specs.Registry.{IsClientNumber, is_live};
 ghost use Rattle.nfs_shared.specs.BookEvent.{Close, Leads};
 ghost use Rattle.nfs_shared.specs.BookOf.{IsBookOf};
 ghost use Rattle.nfs_shared.specs.Sweeps.{Sweeps, leased_server};
-ghost use Rattle.nfs_shared.specs.Turn.{Gains, IsRightBy, Turn, events_by, expiries};
+ghost use Rattle.nfs_shared.specs.Turn.{Gains, IsRightBy, events_by, expiries};
 ghost use Rattle.nfs_state.specs.Lease.{is_over};
 ghost use Rattle.nfs_state.specs.Stored.{meaning};
 ghost use Rattle.nfs_state.specs.declared.entry.TheConstants.{JOURNAL_LIMIT};

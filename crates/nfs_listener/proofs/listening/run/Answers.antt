@@ -12,42 +12,42 @@ use Rattle.nfs_listener.proofs.listening.run.Goals as goal
 pub end-requires-clause-seats : goal.end-requires-clause-seats
 end-requires-clause-seats g c =
     let fresh = subst (λ (s : List SeatView). AreFresh g.N.Naming.run.workers s) (sym c.link_all.ensures.seats) c.in-Ok-new.ensures.seats in
-    let law = c.workers_keep_receipts.ensures c.args.place.now.tree.now g.N.Naming.run.workers c.link_all.new.links.items c.serve_swept.result.0.items fresh c.serve_swept.ensures in
+    let law = c.workers_keep_receipts.ensures c.args.place.now.tree.now g.N.Naming.run.workers c.link_all.new.links.items c.serve_swept-all.result.0.items fresh c.serve_swept-all.ensures in
     law.0
 
 pub end-requires-clause-kept : goal.end-requires-clause-kept
 end-requires-clause-kept g c =
     let fresh = subst (λ (s : List SeatView). AreFresh g.N.Naming.run.workers s) (sym c.link_all.ensures.seats) c.in-Ok-new.ensures.seats in
-    let law = c.workers_keep_receipts.ensures c.args.place.now.tree.now g.N.Naming.run.workers c.link_all.new.links.items c.serve_swept.result.0.items fresh c.serve_swept.ensures in
+    let law = c.workers_keep_receipts.ensures c.args.place.now.tree.now g.N.Naming.run.workers c.link_all.new.links.items c.serve_swept-all.result.0.items fresh c.serve_swept-all.ensures in
     law.1
 
 pub end-requires-clause-parts : goal.end-requires-clause-parts
 end-requires-clause-parts g c =
-    let all = c.serve_swept.result.0.items in
+    let all = c.serve_swept-all.result.0.items in
     let fresh = subst (λ (s : List SeatView). AreFresh g.N.Naming.run.workers s) (sym c.link_all.ensures.seats) c.in-Ok-new.ensures.seats in
-    let law = c.workers_keep_receipts.ensures c.args.place.now.tree.now g.N.Naming.run.workers c.link_all.new.links.items all fresh c.serve_swept.ensures in
+    let law = c.workers_keep_receipts.ensures c.args.place.now.tree.now g.N.Naming.run.workers c.link_all.new.links.items all fresh c.serve_swept-all.ensures in
     let many = sym (length-map all (λ d. d.seat)) ∙ law.0 ∙ sym (ap (λ (o : OpenedView). o.workers) c.requires.beginning.run) ∙ c.requires.count in
     subst (λ n. HaveRoom n c.in-Ok.lists.parts) (sym many) c.in-Ok.ensures.parts
 
 pub end-requires-clause-room : goal.end-requires-clause-room
 end-requires-clause-room g c =
-    let all = c.serve_swept.result.0.items in
+    let all = c.serve_swept-all.result.0.items in
     let fresh = subst (λ (s : List SeatView). AreFresh g.N.Naming.run.workers s) (sym c.link_all.ensures.seats) c.in-Ok-new.ensures.seats in
-    let law = c.workers_keep_receipts.ensures c.args.place.now.tree.now g.N.Naming.run.workers c.link_all.new.links.items all fresh c.serve_swept.ensures in
+    let law = c.workers_keep_receipts.ensures c.args.place.now.tree.now g.N.Naming.run.workers c.link_all.new.links.items all fresh c.serve_swept-all.ensures in
     let many = sym (length-map all (λ d. d.seat)) ∙ law.0 ∙ sym (ap (λ (o : OpenedView). o.workers) c.requires.beginning.run) ∙ c.requires.count in
     subst (λ n. n ≤ vec_capacity c.in-Ok.lists.ended) (sym many) c.in-Ok.ensures.ended
 
 pub returns-clause-served : goal.returns-clause-served
 returns-clause-served g c =
-    let all = c.serve_swept.result.0.items in
+    let all = c.serve_swept-all.result.0.items in
     let links = c.link_all.new.links.items in
     let fresh = subst (λ (s : List SeatView). AreFresh g.N.Naming.run.workers s) (sym c.link_all.ensures.seats) c.in-Ok-new.ensures.seats in
-    let law = c.workers_keep_receipts.ensures c.args.place.now.tree.now g.N.Naming.run.workers links all fresh c.serve_swept.ensures in
+    let law = c.workers_keep_receipts.ensures c.args.place.now.tree.now g.N.Naming.run.workers links all fresh c.serve_swept-all.ensures in
     let many = sym (length-map all (λ d. d.seat)) ∙ law.0 ∙ sym (ap (λ (o : OpenedView). o.workers) c.requires.beginning.run) ∙ c.requires.count in
     let ended = c.end.result.1.items in
     let receipts = c.end.ensures.receipts in record {
       all = sym (length-map ended (λ e. e.receipts.items)) ∙ ap (λ xs. length xs) receipts ∙ length-map all (λ d. d.receipts.items) ∙ many;
-      each = connections_of tcp c.args.place.now.tree.now c.args.link.now g.N.Naming.run.workers links all ended fresh c.link_all.ensures.same c.serve_swept.ensures c.end.ensures.results receipts;
+      each = connections_of tcp c.args.place.now.tree.now c.args.link.now g.N.Naming.run.workers links all ended fresh c.link_all.ensures.same c.serve_swept-all.ensures c.end.ensures.results receipts;
       start = c.end.ensures.start ∙ sym c.requires.beginning.start;
       lawful = c.end.ensures.lawful;
       safe = c.end.ensures.safe;

@@ -1,5 +1,5 @@
 use Rattle.nfs_shared.specs.Naming.{start_of}
 use Rattle.stress.proofs.serving.serve_plan.Given as goal
 
-abbrev pub ghosts-run-N-Naming : goal.ghosts-run-N-Naming
-ghosts-run-N-Naming g a = record { run = a.opened; start = start_of a.core.journal }
+abbrev pub ghosts-run : goal.ghosts-run
+ghosts-run g a = record { run = a.opened; start = start_of a.core.journal }
