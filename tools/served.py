@@ -69,6 +69,12 @@ class Served:
     def is_running(self):
         return self.program.poll() is None
 
+    def processor_seconds(self):
+        """Of a server that runs: what it has taken so far, in its own code and in the kernel, in whole ticks."""
+        with open(f"/proc/{self.program.pid}/stat", encoding="utf-8") as source:
+            fields = source.read().rpartition(")")[2].split()
+        return (int(fields[11]) + int(fields[12])) / os.sysconf("SC_CLK_TCK")
+
     def most_kilobytes(self, what):
         """Of a server that runs: VmHWM, the most memory that it ever had in use, or VmPeak, its most addresses."""
         with open(f"/proc/{self.program.pid}/status", encoding="utf-8") as source:

@@ -12,9 +12,18 @@ from tree import DEFAULT
 from wire import Opnum, opaque, u32, u64
 
 LEASE, EPOCH, PACE = 20, 7, 20
+# How many bytes a read brings at most: most calls in a few pieces; or many calls at once.
+PIECES = SMALL, LARGE = 100, 8_000
 LINKS = 64
-# Clients that are used all the time, and one that nobody uses again.
-CLIENTS, IDLE = 6, 7
+# Clients that are used all the time. Two more are used by nobody when they have been made.
+CLIENTS = 6
+# Clients that are used for a while, each by one kind of operation that renews its lease: by each link, the first of
+# them among its first FADE calls, the next one among twice as many, and so on.
+FADING = {9: "renew", 10: "lockt", 11: "release", 12: "open", 13: "open_confirm", 14: "open_downgrade", 15: "close",
+          16: "first_lock", 17: "next_lock", 18: "locku"}
+FADE = 5
+# How many clients the connection makes that comes alone.
+MADE = max(FADING)
 VERIFIER = b"verifier"
 # The nodes of the tree's files, with their paths.
 FILES = {1: (b"a",), 2: (b"b",), 4: (b"d", b"c")}
@@ -101,7 +110,7 @@ class First:
 
     def __init__(self, chance):
         self.chance, self.chunks, self.states = chance, [], 0
-        for number in range(1, CLIENTS + 2):
+        for number in range(1, MADE + 1):
             self.chunks.append(([setclientid(VERIFIER, b"client %d" % number), confirm(number, number)], True))
         self.opens = [self.make_open(link, turn) for turn in (0, 1) for link in range(LINKS)]
         for one in self.opens[:LINKS]:
@@ -137,8 +146,8 @@ class Link:
         makers = {
             self.lock: 8, self.locku: 5, self.lockt: 4, self.lock_common: 2, self.lock_of_new_owner: 3, self.open: 4,
             self.open_denying: 1, self.open_downgrade: 2, self.open_confirm: 1, self.close: 0.4, self.again: 1,
-            self.renew: 2, self.release: 3, self.setclientid: 1, self.setclientid_anew: 0.3, self.on_tree: 3, self.getattr: 2,
-            self.guess: 2, self.lock_of_other: 1}
+            self.renew: 2, self.fading: 5, self.release: 3, self.setclientid: 1, self.setclientid_anew: 0.3,
+            self.on_tree: 3, self.getattr: 2, self.guess: 2, self.lock_of_other: 1}
         for _ in range(self.count):
             self.chance.choices(list(makers), makers.values())[0]()
         self.bytes = compounds(self.chunks, self.chance, [None] * 15 + [5])
@@ -150,8 +159,8 @@ class Link:
         return self.chance.choice(self.opens)
 
     def a_client(self):
-        """Not the idle one, whose lease ends."""
-        others = [number for number in range(1, CLIENTS + 4) if number != IDLE]
+        """None of those whose leases end; but it may not be there."""
+        others = [*range(1, CLIENTS + 1), MADE + 1, MADE + 2]
         return self.chance.choice([1 + self.place % CLIENTS] * len(others) + others)
 
     def own_span(self, one):
@@ -281,9 +290,27 @@ class Link:
     def renew(self):
         self.add(u32(Opnum.RENEW, EPOCH, self.a_client()), may_fail=True)
 
+    def fading(self):
+        """The operation of a client that is used for a while. None of them needs to succeed to renew its lease."""
+        left = list(FADING.items())[len(self.chunks) // FADE:]
+        if not left:
+            return self.getattr()
+        client, kind = self.chance.choice(left)
+        state, owner = stateid(1, client, self.chance.randint(1, 2 * LINKS)), spelled(client, b"fading")
+        operation = {
+            "renew": u32(Opnum.RENEW, EPOCH, client), "lockt": u32(Opnum.LOCKT, READ) + span(0, 1) + owner,
+            "release": u32(Opnum.RELEASE_LOCKOWNER) + owner,
+            "open": u32(Opnum.OPEN, 1, READ, 0) + owner + u32(0, 0) + opaque(b"nothing"),
+            "open_confirm": u32(Opnum.OPEN_CONFIRM) + state + u32(2),
+            "open_downgrade": u32(Opnum.OPEN_DOWNGRADE) + state + u32(2, READ, 0),
+            "close": u32(Opnum.CLOSE, 2) + state, "locku": u32(Opnum.LOCKU, READ, 2) + state + span(0, 1),
+            "first_lock": u32(Opnum.LOCK, READ, 0) + span(0, 1) + u32(1, 2) + state + u32(1) + owner,
+            "next_lock": u32(Opnum.LOCK, READ, 0) + span(0, 1) + u32(0) + state + u32(2)}[kind]
+        self.add(putfh(1), operation, may_fail=True)
+
     def setclientid(self):
         """Of a client that is known, whose number stays; and guesses of the value that confirms it."""
-        number, value = self.chance.randint(1, CLIENTS), IDLE + 1 + len(self.chunks)
+        number, value = self.chance.randint(1, CLIENTS), MADE + 1 + len(self.chunks)
         self.add(setclientid(VERIFIER, b"client %d" % number), may_fail=True)
         for _ in range(4):
             self.add(confirm(number, value + self.chance.randint(-8, 8)), may_fail=True)
@@ -292,7 +319,7 @@ class Link:
         """Of a client that is new, or comes again with another verifier."""
         number = self.chance.choice([1, 100, 101, 102])
         self.add(setclientid(b"verified", b"client %d" % number), may_fail=True)
-        self.add(confirm(IDLE + self.chance.randint(1, 20), IDLE + 1 + len(self.chunks)), may_fail=True)
+        self.add(confirm(MADE + self.chance.randint(1, 20), MADE + 1 + len(self.chunks)), may_fail=True)
 
     def on_tree(self):
         self.add(*self.chance.choice([
@@ -306,10 +333,11 @@ class Link:
 
 
 class Plan:
-    """The input of the connection that comes alone, and those of the others; all by a seed."""
+    """The input of the connection that comes alone, and those of the others, all by a seed; and how many bytes a read
+    brings."""
 
-    def __init__(self, seed):
-        chance = random.Random(seed)
+    def __init__(self, seed, piece=SMALL):
+        chance, self.piece = random.Random(seed), piece
         first = First(chance)
         self.first = first.bytes
         self.others = [self.link(place, first, chance).bytes for place in range(LINKS)]
@@ -322,5 +350,5 @@ class Plan:
     def spelled(self):
         """As the program reads it."""
         parts = [DEFAULT.encode(), self.first]
-        head = u32(LEASE, EPOCH, PACE) + b"".join(u32(len(part)) + part for part in parts)
+        head = u32(LEASE, EPOCH, PACE, self.piece) + b"".join(u32(len(part)) + part for part in parts)
         return head + u32(len(self.others)) + b"".join(u32(len(part)) + part for part in self.others)

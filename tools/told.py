@@ -1,7 +1,12 @@
-"""Replies beside the journal: a server that answers as the entries of a journal say, in the order of their receipts."""
+"""Replies beside the journal: a server that answers as the entries of a journal say, in the order of their receipts;
+and RENEW, which has no entry, by one of the states that the journal leads through meanwhile. And the ends of leases
+beside the calls and the RENEWs that came before them."""
+from collections import namedtuple
+
 import messages  # It makes the model's modules known.
 
-from entries import Call
+from entries import Call, Expire, MOMENT_LIMIT
+from journal import states
 from model import Refusal, Result, Server
 from wire import Opnum, Status, split_records, u32
 
@@ -12,14 +17,23 @@ class Wrong(Exception):
 
 STALE_RENEWAL = u32(Opnum.RENEW, Status.STALE_CLIENTID)
 
+# A RENEW that was answered OK: whose it was, and the first and the last moment at which it may have come.
+Renewal = namedtuple("Renewal", "client first last")
+
 
 class Told(Server):
-    """Answers each operation on the state by the entry of the next receipt, and RENEW as it is told."""
+    """Answers each operation on the state by the entry of the next receipt, and RENEW as it was answered, if that is
+    right. `lives` has the clients that are live in each state: before the first entry, and after each."""
 
-    def __init__(self, journal, numbers):
+    def __init__(self, journal, lives, numbers):
         super().__init__(journal.tree, journal.lease, journal.epoch)
-        self.journal, self.numbers = journal.entries, list(numbers)
-        self.is_stale, self.moments = False, []
+        self.journal, self.lives, self.numbers = journal.entries, lives, list(numbers)
+        # Of the last call: the moments of its entries, and the clients whose RENEW was answered OK.
+        self.is_stale, self.moments, self.renewed = False, [], []
+        # Of each RENEW, whether it could be answered only so.
+        self.renews = []
+        # The earliest state in which the last answer may have been given.
+        self.state = 0
 
     def apply(self, opnum, arguments, filehandle, principal, is_refused=False):
         if not self.numbers:
@@ -28,47 +42,120 @@ class Told(Server):
         entry = self.journal[number]
         if not isinstance(entry, Call):
             raise Wrong(f"a receipt for entry {number}, which is no call")
-        if (entry.opnum, entry.arguments, entry.filehandle, entry.principal) != (opnum, arguments, filehandle, principal):
+        asked = opnum, arguments, filehandle, principal
+        if (entry.opnum, entry.arguments, entry.filehandle, entry.principal) != asked:
             raise Wrong(f"a receipt for entry {number}, which isn't the {opnum.name} that was sent")
         self.moments.append(entry.moment)
+        self.state = number + 1
         return Result(Status(entry.answer.status), entry.answer.rest)
 
     def run_next(self, call, handles, is_full, is_refused):
         self.is_stale = is_refused
         return super().run_next(call, handles, is_full, False)
 
-    def renew(self, _arguments):
+    def renew(self, arguments):
+        """By a state behind the entry of the last receipt, and not behind that of the next one. What comes after it is
+        answered by no earlier state."""
+        last = self.numbers[0] if self.numbers else len(self.journal)
+        between = range(self.state, last + 1)
+        fitting = [state for state in between if self.is_named(arguments, state) != self.is_stale]
+        if not fitting:
+            answered = "STALE_CLIENTID" if self.is_stale else "OK"
+            raise Wrong(f"RENEW of client {arguments.client} is answered {answered}, which it isn't after {self.state} "
+                        f"to {last} entries")
+        self.renews.append(len(fitting) == len(between))
+        self.state = fitting[0]
         if self.is_stale:
             raise Refusal(Status.STALE_CLIENTID)
+        self.renewed.append(arguments.client)
         return b""
+
+    def is_named(self, arguments, state):
+        """Whether the clientid is that of a client that is live in this state."""
+        return arguments.epoch == self.epoch and arguments.client in self.lives[state]
 
     def renew_by(self, _opnum, _arguments):
         """Leases are in no reply."""
 
     def expect_reply(self, record, reply):
-        """The reply is the one of the next receipts' entries, which all came at one moment."""
-        self.moments = []
+        """The reply is the one of the next receipts' entries, which all came at one moment: this moment, if there is an
+        entry, and whom a RENEW of the call renewed."""
+        self.moments, self.renewed = [], []
         stale = {int.from_bytes(reply[32:36], "big") - 1} if reply.endswith(STALE_RENEWAL) else frozenset()
         if self.reply(record, stale) != reply:
             raise Wrong(f"the reply {reply.hex()} isn't that of the receipts' entries")
         if len(set(self.moments)) > 1:
             raise Wrong("two moments in one call")
-        return self.moments[:1]
+        return self.moments[0] if self.moments else None, self.renewed
 
 
-def expect_link(journal, sent, replies, numbers):
-    """The replies to what a link sent are those of its receipts' entries, which have these numbers."""
-    if any(a >= b for a, b in zip(numbers, numbers[1:])):
-        raise Wrong("the numbers of its receipts don't rise")
-    if numbers and numbers[-1] >= len(journal.entries):
-        raise Wrong(f"a receipt for entry {numbers[-1]}, which isn't there")
-    asked, answered = split_records(sent)[0], split_records(replies)
-    if answered[1] or len(answered[0]) != len(asked):
-        raise Wrong(f"{len(answered[0])} replies to {len(asked)} calls")
-    server, moments = Told(journal, numbers), []
-    for record, reply in zip(asked, answered[0]):
-        moments += server.expect_reply(record, reply)
-    if server.numbers:
-        raise Wrong(f"{len(server.numbers)} receipts for nothing that it sent")
-    if moments != sorted(moments):
-        raise Wrong("a later call came at an earlier moment")
+def renewals_of(calls):
+    """The renewals among a link's calls, each of which is a moment, or None, and whom it renewed by RENEW. A moment
+    that isn't known lies between those that are."""
+    found, first = [], 0
+    for place, (moment, clients) in enumerate(calls):
+        first = first if moment is None else moment
+        last = next((later for later, _ in calls[place:] if later is not None), MOMENT_LIMIT)
+        found += [Renewal(client, first, last) for client in clients]
+    return found
+
+
+class Judge:
+    """Judges what links got beside the journal of their server, which is lawful; and at last how leases ended."""
+
+    def __init__(self, journal):
+        self.journal = journal
+        self.lives = [frozenset(server.renewals) for server in states(journal)]
+        # Of each RENEW, whether it could be answered only as it was; and those that were OK.
+        self.renews, self.renewals = [], []
+
+    def expect_link(self, sent, replies, numbers):
+        """The replies to what a link sent are those of its receipts' entries, which have these numbers."""
+        if any(a >= b for a, b in zip(numbers, numbers[1:])):
+            raise Wrong("the numbers of its receipts don't rise")
+        if numbers and numbers[-1] >= len(self.journal.entries):
+            raise Wrong(f"a receipt for entry {numbers[-1]}, which isn't there")
+        asked, answered = split_records(sent)[0], split_records(replies)
+        if answered[1] or len(answered[0]) != len(asked):
+            raise Wrong(f"{len(answered[0])} replies to {len(asked)} calls")
+        server = Told(self.journal, self.lives, numbers)
+        calls = [server.expect_reply(record, reply) for record, reply in zip(asked, answered[0])]
+        moments = [moment for moment, _ in calls if moment is not None]
+        if server.numbers:
+            raise Wrong(f"{len(server.numbers)} receipts for nothing that it sent")
+        if moments != sorted(moments):
+            raise Wrong("a later call came at an earlier moment")
+        self.renews, self.renewals = self.renews + server.renews, self.renewals + renewals_of(calls)
+
+    def expect_ends(self):
+        """Each client whose lease ended was heard of last when its entry says, where these are all links, and none of
+        their calls was refused for want of memory, which renews without an entry. The clients of a sweep come by rising
+        numbers. (That the leases were over is a part of what an audit says.)"""
+        server, heard = Server(epoch=self.journal.epoch), {}
+        for number, entry in enumerate(self.journal.entries):
+            before, after = self.lives[number:number + 2]
+            if isinstance(entry, Expire):
+                self.expect_end(entry, heard[entry.client])
+            elif isinstance(entry, Call):
+                # Besides, a confirmation begins the lease of who is live by it.
+                for client in (before & {server.renewed_by(entry.opnum, entry.arguments)}) | (after - before):
+                    heard.setdefault(client, []).append(entry.moment)
+        self.expect_order()
+
+    def expect_end(self, end, heard):
+        """The client was heard of at the moment that it was seen last, by a call with an entry or by RENEW, and at none
+        that is later."""
+        own = [renewal for renewal in self.renewals if renewal.client == end.client]
+        least = max(heard + [renewal.first for renewal in own])
+        if end.seen < least:
+            raise Wrong(f"client {end.client} ends, seen last at {end.seen}, but it was heard of at {least}")
+        if end.seen not in heard and not any(renewal.first <= end.seen <= renewal.last for renewal in own):
+            raise Wrong(f"client {end.client} ends, seen last at {end.seen}, when it wasn't heard of")
+
+    def expect_order(self):
+        """The ends of one sweep, which stand together, have one moment and rising clients; and no moment goes back."""
+        ends = [(number, entry) for number, entry in enumerate(self.journal.entries) if isinstance(entry, Expire)]
+        for (place, one), (other_place, other) in zip(ends, ends[1:]):
+            is_one_sweep = other_place == place + 1 and other.now == one.now
+            if other.now < one.now or is_one_sweep and other.client <= one.client:
+                raise Wrong(f"client {other.client} ends at {other.now} after client {one.client} at {one.now}")

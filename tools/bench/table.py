@@ -8,20 +8,26 @@ from collections import defaultdict
 from statistics import median
 
 HERE = os.path.dirname(os.path.abspath(__file__))
-OURS, THEIRS = "nfs4state", "nfs-ganesha"
+OURS, THEIRS, ECHO = "nfs4state", "nfs-ganesha", "echo"
 NAMES = {"null": "NULL", "getattr": "GETATTR", "renew": "RENEW", "open": "OPEN+CLOSE", "lock": "LOCK+LOCKU"}
 
 # How many times the calls a second of nfs-ganesha are wanted, by connections and calls under way on each.
 OPENS_AND_LOCKS = {(1, 1): 2, (1, 16): 5, (4, 1): 2.4, (4, 16): 6}
 LEAST_RATES = {
     "null": {(1, 1): 1.5, (1, 16): 11, (4, 1): 3, (4, 16): 30},
-    "getattr": {(1, 1): 2.2, (1, 16): 6.2, (4, 1): 2.5, (4, 16): 8.8},
+    "getattr": {(1, 1): 2.2, (1, 16): 8, (4, 1): 2.6, (4, 16): 10},
     "renew": {(1, 1): 1.6, (1, 16): 10, (4, 1): 3, (4, 16): 20},
     "open": OPENS_AND_LOCKS,
     "lock": OPENS_AND_LOCKS,
 }
 # And which part of its processor time a call may take, by calls under way.
 MOST_PROCESSOR = {"getattr": {1: 0.25, 16: 0.1}}
+# As many calls are under way in both, once on many connections and once on one alone; and how many times the calls a
+# second of the latter are wanted from the former.
+MANY, ALONE = (4, 16), (1, 64)
+LEAST_OF_MANY = {"getattr": 1.6, "open": 1, "lock": 1}
+# How many times the processor time that NULL takes the echo a call may take, by connections and calls under way.
+MOST_OF_ECHO = {"getattr": {(1, 1): 1.15}}
 
 
 def number(value):
@@ -32,6 +38,11 @@ def number(value):
 
 def spread(values):
     return f"{number(median(values))} [{number(min(values))} .. {number(max(values))}]"
+
+
+def quotients(values, others):
+    """The one by the other, round by round."""
+    return [value / other for value, other in zip(values, others) if other > 0]
 
 
 class Cell:
@@ -45,9 +56,8 @@ class Cell:
         return [line[field] for line in self.rounds[server]]
 
     def ratios(self, field):
-        """Ours by theirs, round by round."""
-        pairs = zip(self.values(OURS, field), self.values(THEIRS, field))
-        return [ours / theirs for ours, theirs in pairs if theirs > 0]
+        """Ours by theirs."""
+        return quotients(self.values(OURS, field), self.values(THEIRS, field))
 
     def rate(self, server):
         return spread([value / 1000 for value in self.values(server, "rate")])
@@ -58,23 +68,60 @@ class Cell:
     def processor(self, server):
         return spread(self.values(server, "processor"))
 
+    def pair(self):
+        return self.connections, self.under_way
+
     def least_rate(self):
-        return LEAST_RATES[self.workload].get((self.connections, self.under_way))
+        return LEAST_RATES[self.workload].get(self.pair())
 
     def most_processor(self):
         return MOST_PROCESSOR.get(self.workload, {}).get(self.under_way)
+
+    def least_of_many(self):
+        return LEAST_OF_MANY.get(self.workload)
+
+    def most_of_echo(self):
+        return MOST_OF_ECHO.get(self.workload, {}).get(self.pair())
 
     def row(self, servers, what):
         title = [NAMES[self.workload], str(self.connections), str(self.under_way)]
         return title + [what(self, server) if self.rounds[server] else "" for server in servers]
 
 
-def beside(ratios, bound, is_missed):
+class Cells:
+    """All that was measured, by workload, connections and calls under way."""
+
+    def __init__(self, lines):
+        self.found = {}
+        for line in lines:
+            key = line["workload"], line["connections"], line["under_way"]
+            self.found.setdefault(key, Cell(*key)).rounds[line["server"]].append(line)
+
+    def has(self, pair):
+        return any(cell.pair() == pair for cell in self.found.values())
+
+    def values(self, server, field, workload, pair):
+        cell = self.found.get((workload, *pair))
+        return cell.values(server, field) if cell else []
+
+    def of_many(self, cell):
+        """Our calls a second on many connections by those on one alone."""
+        alone = self.values(OURS, "rate", cell.workload, ALONE)
+        return quotients(cell.values(OURS, "rate"), alone) if cell.pair() == MANY else []
+
+    def of_echo(self, cell):
+        """Our processor time by that of the echo for NULL."""
+        return quotients(cell.values(OURS, "processor"), self.values(ECHO, "processor", "null", cell.pair()))
+
+
+def beside(ratios, least=None, most=None):
     """A ratio, and the bound that it is read beside, if there is one."""
     if not ratios:
         return ["", ""]
-    ratio, said = spread(ratios), "" if bound is None else f"{bound:g}"
-    return [ratio, f"**{said}: missed**" if said and is_missed(median(ratios)) else said]
+    ratio, bound = median(ratios), most if least is None else least
+    is_missed = least is not None and ratio < least or most is not None and ratio > most
+    said = "" if bound is None else f"{bound:g}"
+    return [spread(ratios), f"**{said}: missed**" if is_missed else said]
 
 
 def markdown(head, rows):
@@ -82,31 +129,46 @@ def markdown(head, rows):
     return "".join(f"| {' | '.join(line)} |\n" for line in lines)
 
 
+def table(cells, servers, what, *besides):
+    """What there is of each cell, a column for each server; and beside it what is asked for: two titles, and what
+    stands below them for a cell."""
+    head = ["Calls", "C", "P", *servers] + [title for titles, _ in besides for title in titles]
+    return markdown(head, [cell.row(servers, what) + [word for _, words_of in besides for word in words_of(cell)]
+                           for cell in cells.found.values()])
+
+
 def tables(lines, servers, how):
     """The text for docs/SPEED.md."""
-    found = {}
-    for line in lines:
-        key = line["workload"], line["connections"], line["under_way"]
-        found.setdefault(key, Cell(*key)).rounds[line["server"]].append(line)
-    cells, are_two = found.values(), {OURS, THEIRS} <= set(servers)
-    head = ["Calls", "C", "P", *servers]
-    rates = [cell.row(servers, Cell.rate) + are_two * beside(
-        cell.ratios("rate"), cell.least_rate(), lambda ratio: ratio < cell.least_rate()) for cell in cells]
-    latencies = [cell.row(servers, Cell.latency) for cell in cells]
-    processors = [cell.row(servers, Cell.processor) + are_two * beside(
-        cell.ratios("processor"), cell.most_processor(), lambda ratio: ratio > cell.most_processor()) for cell in cells]
-    return f"""{textwrap.fill(f"{how} {machine()} {others(lines)}", 120)}
+    cells, measured = Cells(lines), set(servers)
+    rates, processors, many, echoed = [], [], "", ""
+    if {OURS, THEIRS} <= measured:
+        rates.append((("ratio", "at least"), lambda cell: beside(cell.ratios("rate"), least=cell.least_rate())))
+        processors.append((("ratio", "at most"), lambda cell: beside(
+            cell.ratios("processor"), most=cell.most_processor())))
+    if OURS in measured and cells.has(MANY) and cells.has(ALONE):
+        rates.append((("by one's", "at least"), lambda cell: beside(cells.of_many(cell), least=cell.least_of_many())))
+        many = (f"; and beside C = {MANY[0]} and P = {MANY[1]} those of {OURS} by its own with C = {ALONE[0]} and "
+                f"P = {ALONE[1]}, where as many calls are under way")
+    if {OURS, ECHO} <= measured:
+        processors.append((("by echo's", "at most"), lambda cell: beside(
+            cells.of_echo(cell), most=cell.most_of_echo())))
+        echoed = f"; and that of {OURS} by that of the echo for NULL"
+    return f"""{filled(f"{how} {machine()} {others(lines)}")}
 
-Thousands of calls a second, median of the rounds [least .. greatest]:
+{filled(f"Thousands of calls a second, median of the rounds [least .. greatest]{many}:")}
 
-{markdown(head + are_two * ["ratio", "at least"], rates)}
+{table(cells, servers, Cell.rate, *rates)}
 Latency in microseconds, medians of the rounds: half of the calls had their reply within the first, 99 in 100 within
 the second:
 
-{markdown(head, latencies)}
-The server's processor time for a call in microseconds, median of the rounds [least .. greatest]:
+{table(cells, servers, Cell.latency)}
+{filled(f"The server's processor time for a call in microseconds, median of the rounds [least .. greatest]{echoed}:")}
 
-{markdown(head + are_two * ["ratio", "at most"], processors)}"""
+{table(cells, servers, Cell.processor, *processors)}"""
+
+
+def filled(text):
+    return textwrap.fill(text, 120)
 
 
 def others(lines):

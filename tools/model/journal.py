@@ -111,7 +111,14 @@ def read_node(reader):
 
 def audit(journal, limit=JOURNAL_LIMIT):
     """The server that the journal leads to; or WrongAnswer, or NoRule."""
+    *_, server = states(journal, limit)
+    return server
+
+
+def states(journal, limit=JOURNAL_LIMIT):
+    """The one server that follows the journal: before the first entry, and after each; or WrongAnswer, or NoRule."""
     server = Recorder(journal.tree, journal.lease, journal.epoch, limit)
+    yield server
     for number, entry in enumerate(journal.entries):
         if server.entries == limit:
             raise WrongAnswer(number)
@@ -119,7 +126,7 @@ def audit(journal, limit=JOURNAL_LIMIT):
             raise NoRule(number, type(entry).__name__)
         if not STEPS[type(entry)](server, entry):
             raise WrongAnswer(number)
-    return server
+        yield server
 
 
 def follow_call(server, call):

@@ -100,42 +100,38 @@ impl Core {
         ensures form { op_result.Fits result.0 }
         ensures lawful { IsLawful self.new }
     {
-        let (answer, entered) = self.answer(moment, principal, op, filehandle);
+        let Ok(request) = Request::of_copy(moment, principal, op, filehandle) else {
+            self.journal();
+            return (op.opnum().refusal(Refusal::Resource), None);
+        };
+        let (answer, entered) = self.answer(request);
         match entered {
             Some(entered) => (answer, Some(entered.number)),
             None => (answer, None),
         }
     }
 
-    /// The same as `apply`, and returns what came of the operation: with the entry's number who came to be live by it, or
-    /// is live no longer.
-    pub fn answer(
-        &mut self,
-        moment: Moment,
-        principal: Principal,
-        op: &Op,
-        filehandle: Option<u32>,
-    ) -> (OpResult, Option<Entered>)
-        requires entry { IsTrue (has_entry op.now) }
-        requires node { IsFilehandle self.old.journal filehandle }
-        ensures answers { Answers self.old self.new (request_of moment principal op.now filehandle)
-            result.0 result.1 }
+    /// The same as `apply` for a request, whose operation goes into the journal without a copy, and returns what came of
+    /// it: with the entry's number who came to be live by it, or is live no longer.
+    pub fn answer(&mut self, request: Request) -> (OpResult, Option<Entered>)
+        requires entry { IsTrue (has_entry request.op) }
+        requires node { IsFilehandle self.old.journal request.filehandle }
+        ensures answers { Answers self.old self.new request result.0 result.1 }
         ensures room { IfNone result.1 (self.old.room ≤ self.new.room) }
-        ensures short { length (op_result.encoding result.0) ≤ answer_limit (opnum_of op.now) }
+        ensures short { length (op_result.encoding result.0)
+            ≤ answer_limit (opnum_of request.op) }
         ensures form { op_result.Fits result.0 }
         ensures lawful { IsLawful self.new }
     {
         lawful_is_safe();
+        let opnum = request.op.opnum();
         let store = &mut self.store;
-        let Ok(request) = Request::of_copy(moment, principal, op, filehandle) else {
-            return (op.opnum().refusal(Refusal::Resource), None);
-        };
         match enter(self.alloc, store, request) {
             Ok((answer, entered)) => {
                 answer.fits();
                 (answer, Some(entered))
             }
-            Err(_) => (op.opnum().refusal(Refusal::Resource), None),
+            Err(_) => (opnum.refusal(Refusal::Resource), None),
         }
     }
 

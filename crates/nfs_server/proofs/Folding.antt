@@ -1,12 +1,10 @@
 -- Answering operations one after the other, and which questions and results follow from the service's answers.
-use Rattle.std.proofs.Common.{◌≡◌, ℕ, suc, ◌+◌, ◌<◌, ◌≤◌, Bool, true, false, List, [], ◌∷◌, ◌++◌, length, get_or, drop, refl, sym, ap, subst, ◌∙◌, append_assoc, arith}
+use Rattle.std.proofs.Common.{◌≡◌, ℕ, ◌+◌, Bool, true, false, List, [], ◌∷◌, ◌++◌, length, refl, sym, ap, subst, ◌∙◌, append_assoc, arith}
 use Rattle.std.specs.Prelude.{MatchBool}
 use Rattle.std.specs.List.{flat_map}
 use Rattle.std.proofs.lemmas.List.{append-nil, length-append}
 use Rattle.std.proofs.lemmas.List.Concat.{flat_map-cons}
 use Rattle.std.proofs.lemmas.Grind.{flat_map-append}
-use Rattle.std.proofs.Math.Seq.{drop-cons}
-use Rattle.std.proofs.Math.ListN.{drop_of_length-le}
 use Rattle.nfs_tree.specs.Effect.{Effect}
 use Rattle.nfs_server.specs.Answering.{Dispatch, Known, Ask, dispatch, is_ok, outcome_of}
 use Rattle.nfs_server.specs.Folding.{Asker, Place, HasEffect, IsAnswered, IsDetermined, place_after}
@@ -65,58 +63,61 @@ Completes {S = S} asker first ops now rest so_far =
     → IsDetermined asker first ops (so_far ++ results) new
 
 -- the next operation has this effect, and these results follow its answer
-completes : {S : Type 0} (asker : Asker S) (first now : Place S) (ops : List ArgOp)
-    (so_far : List OpResult) (i : ℕ) (op : ArgOp) (effect : Effect) (service : S)
+completes : {S : Type 0} (asker : Asker S) (first now : Place S) (ops rest rest' : List ArgOp)
+    (so_far : List OpResult) (op : ArgOp) (effect : Effect) (service : S)
     (results : List OpResult) (new : S) (ok : Bool)
-    → i < length ops → op ≡ get_or ops i op → IsAnswered asker now op effect service
-    → is_ok (status_of effect.answer) ≡ ok → Completes asker first ops now (drop i ops) so_far
-    → Follows asker (place_after now effect service) ok (drop (suc i) ops) results new
+    → rest ≡ op ∷ rest' → IsAnswered asker now op effect service
+    → is_ok (status_of effect.answer) ≡ ok → Completes asker first ops now rest so_far
+    → Follows asker (place_after now effect service) ok rest' results new
     → IsDetermined asker first ops (so_far ++ effect.answer ∷ results) new
-completes asker first now ops so_far i op effect service results new ok lt is has goes more rest =
-    let here = ap (λ (o : ArgOp). o ∷ drop (suc i) ops) (sym is) in
-    let left : drop i ops ≡ op ∷ drop (suc i) ops = drop-cons ops i op lt ∙ here in
+completes asker first now ops rest rest' so_far op effect service results new ok is has goes more follows =
     let how = dispatch asker.tree now.handles now.size op in
-    let after = drop (suc i) ops in
     let all =
-    determined_by asker now op after effect results service new ok how refl goes has rest in
+    determined_by asker now op rest' effect results service new ok how refl goes has follows in
     let Left : List ArgOp → Type 0 = λ o. IsDetermined asker now o (effect.answer ∷ results) new in
-    more (effect.answer ∷ results) new (subst Left (sym left) all)
+    more (effect.answer ∷ results) new (subst Left (sym is) all)
 
 -- the next operation is answered NFS4_OK, so more operations follow
-pub completes_more : {S : Type 0} (asker : Asker S) (first now : Place S) (ops : List ArgOp)
-    (so_far : List OpResult) (i : ℕ) (op : ArgOp) (effect : Effect) (service : S)
-    → i < length ops → op ≡ get_or ops i op → IsAnswered asker now op effect service
-    → is_ok (status_of effect.answer) ≡ true → Completes asker first ops now (drop i ops) so_far
-    → Completes asker first ops (place_after now effect service) (drop (i + 1) ops)
+pub completes_more : {S : Type 0} (asker : Asker S) (first now : Place S) (ops rest rest' : List ArgOp)
+    (so_far : List OpResult) (op : ArgOp) (effect : Effect) (service : S)
+    → rest ≡ op ∷ rest' → IsAnswered asker now op effect service
+    → is_ok (status_of effect.answer) ≡ true → Completes asker first ops now rest so_far
+    → Completes asker first ops (place_after now effect service) rest'
     (so_far ++ effect.answer ∷ [])
-completes_more asker first now ops so_far i op effect service lt is has goes more results new rest =
-    let next : i + 1 ≡ suc i = omega arith in
-    let more_rest = rw next at rest in
+completes_more asker first now ops rest rest' so_far op effect service is has goes more results new follows =
     rw append_assoc
-    (completes asker first now ops so_far i op effect service results new true lt is has goes more
-    more_rest)
+    (completes asker first now ops rest rest' so_far op effect service results new true is has goes more
+    follows)
 
 -- the next operation isn't answered NFS4_OK, so it is the last one
-pub completes_last : {S : Type 0} (asker : Asker S) (first now : Place S) (ops : List ArgOp)
-    (so_far : List OpResult) (i : ℕ) (op : ArgOp) (effect : Effect) (service : S)
-    → i < length ops → op ≡ get_or ops i op → IsAnswered asker now op effect service
-    → is_ok (status_of effect.answer) ≡ false → Completes asker first ops now (drop i ops) so_far
+pub completes_last : {S : Type 0} (asker : Asker S) (first now : Place S) (ops rest rest' : List ArgOp)
+    (so_far : List OpResult) (op : ArgOp) (effect : Effect) (service : S)
+    → rest ≡ op ∷ rest' → IsAnswered asker now op effect service
+    → is_ok (status_of effect.answer) ≡ false → Completes asker first ops now rest so_far
     → IsDetermined asker first ops (so_far ++ effect.answer ∷ []) service
-completes_last asker first now ops so_far i op effect service lt is has ends more =
-    completes asker first now ops so_far i op effect service [] service false lt is has ends more
+completes_last asker first now ops rest rest' so_far op effect service is has ends more =
+    completes asker first now ops rest rest' so_far op effect service [] service false is has ends more
     (refl, refl)
 
--- no operation is left
-pub completes_none : {S : Type 0} (asker : Asker S) (first now : Place S) (ops : List ArgOp)
-    (so_far : List OpResult) (i : ℕ)
-    → length ops ≤ i → Completes asker first ops now (drop i ops) so_far
-    → IsDetermined asker first ops so_far now.service
+-- nothing is asked where there is no operation
+pub determined_none : {S : Type 0} (asker : Asker S) (place : Place S) → IsDetermined asker place [] [] place.service
 unfolding outcome_of
-completes_none asker first now ops so_far i le more =
-    let none : drop i ops ≡ [] = drop_of_length-le ops le in
-    let all = more [] now.service (rw none ([], refl, refl)) in
+determined_none asker place = ([], refl, refl)
+
+-- no operation is left
+pub completes_none : {S : Type 0} (asker : Asker S) (first now : Place S) (ops rest : List ArgOp)
+    (so_far : List OpResult)
+    → rest ≡ [] → Completes asker first ops now rest so_far
+    → IsDetermined asker first ops so_far now.service
+completes_none asker first now ops rest so_far none more =
+    let all = more [] now.service (rw none (determined_none asker now)) in
     let With : List OpResult → Type 0 = λ r. IsDetermined asker first ops r now.service in
     subst With (append-nil so_far) all
+
+-- a list without length is empty
+pub nothing : {A : Type 0} (xs : List A) (n : ℕ) → length xs ≡ n → n ≡ 0 → xs ≡ []
+nothing [] n is none = refl
+nothing (x ∷ xs) n is none = absurd (omega arith)
 
 -- the bytes of results
 abbrev bytes_of : List OpResult → List ℕ

@@ -5,6 +5,7 @@ pub mod Replying
 pub mod Writing
 pub mod Exchanges
 pub mod Serving
+pub mod Batching
 pub mod Courses
 pub mod Views
 pub mod LentLeases

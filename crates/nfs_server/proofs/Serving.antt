@@ -1,10 +1,9 @@
 -- Answering records one after the other, while their replies wait to be written.
-use Rattle.std.proofs.Common.{◌≡◌, ℕ, List, [], ◌∷◌, ◌++◌, Result, Ok, Err, refl, sym, ap, subst, ◌∙◌, append_assoc}
+use Rattle.std.proofs.Common.{◌≡◌, ℕ, List, [], ◌∷◌, ◌++◌, Result, Ok, Err, refl, sym, ap, subst, ◌∙◌}
 use Rattle.std.specs.Prelude.{◌≢◌, OnOk, OnErr, IsErrOf}
 use Rattle.std.proofs.lemmas.List.{append-nil}
 use Rattle.std.proofs.lemmas.List.Concat.{flat_map-cons}
 use Rattle.std.proofs.lemmas.Grind.{flat_map-append}
-use Rattle.nfs_rpc.specs.Records.{Stream}
 use Rattle.nfs_tree.specs.Tree.{Files}
 use Rattle.nfs_server.specs.declared.serve_error.ServeError.{ServeError}
 use Rattle.nfs_server.specs.declared.serve_error.ServeError.TheVariants as errors
@@ -12,7 +11,6 @@ use Rattle.nfs_server.specs.Connection.{Scene, scene}
 use Rattle.nfs_server.specs.Device.{Device, IsCut, IsWritten}
 use Rattle.nfs_server.specs.Exchange.{Exchange, Rules, AreExchanged, AreLeft, IsExchanged, messages_of, written_for, written_for_all}
 use Rattle.nfs_server.specs.Serving.{IsServed}
-use Rattle.nfs_server.proofs.Exchanges.{IsAnswered}
 use Rattle.nfs_server.proofs.Writing.{cut_after, written_nothing, written_then}
 
 pub exchanged_then : {S C : Type 0} (rules : Rules S C) (es fs : List Exchange) (s mid new : S) (c between after : C)
@@ -31,14 +29,14 @@ pub messages-append : (es fs : List Exchange) → messages_of (es ++ fs) ≡ mes
 messages-append [] fs = refl
 messages-append (e ∷ es) fs = ap (λ (x : List (List ℕ)). e.message ∷ x) (messages-append es fs)
 
-messages-more : (es : List Exchange) (e : Exchange) (left : List (List ℕ)) → messages_of es ++ (e.message ∷ left) ≡ messages_of (es ++ e ∷ []) ++ left
+pub messages-more : (es : List Exchange) (e : Exchange) (left : List (List ℕ)) → messages_of es ++ (e.message ∷ left) ≡ messages_of (es ++ e ∷ []) ++ left
 messages-more [] e left = refl
 messages-more (f ∷ es) e left = ap (λ (x : List (List ℕ)). f.message ∷ x) (messages-more es e left)
 
 pub written-append : (tree : Files) (es fs : List Exchange) → written_for_all tree (es ++ fs) ≡ written_for_all tree es ++ written_for_all tree fs
 written-append tree es fs = flat_map-append (written_for tree) es fs
 
-written-more : (tree : Files) (es : List Exchange) (e : Exchange) → written_for_all tree (es ++ e ∷ []) ≡ written_for_all tree es ++ written_for tree e
+pub written-more : (tree : Files) (es : List Exchange) (e : Exchange) → written_for_all tree (es ++ e ∷ []) ≡ written_for_all tree es ++ written_for tree e
 written-more tree es e = written-append tree es (e ∷ []) ∙ ap (λ (x : List ℕ). written_for_all tree es ++ x) (flat_map-cons (written_for tree) e [] ∙ append-nil (written_for tree e))
 
 -- All messages except those that are left were answered; some bytes of the replies were written, and the others wait.
@@ -60,21 +58,6 @@ serves_none device rules before messages waiting none = record {
   written = written_nothing device before.device;
 }
 
--- one more record was answered
-pub serves_one : {D S C : Type 0} (device : Device D) (rules : Rules S C) (before mid after : Scene D S C) (messages left : List (List ℕ)) (message waiting more : List ℕ)
-    → HasServed device rules before messages (message ∷ left) waiting mid → IsAnswered rules mid.service mid.clock message waiting more after.service after.clock → after.device ≡ mid.device
-    → HasServed device rules before messages left more after
-serves_one {D = D} device rules before mid after messages left message waiting more s one same =
-    let e = one.0 in
-    record {
-      exchanges = s.exchanges ++ e ∷ [];
-      out = s.out;
-      served = s.served ∙ ap (λ (m : List ℕ). messages_of s.exchanges ++ (m ∷ left)) (sym one.1) ∙ messages-more s.exchanges e left;
-      exchanged = exchanged_more rules s.exchanges e before.service mid.service after.service before.clock mid.clock after.clock s.exchanged one.2;
-      all = written-more rules.tree s.exchanges e ∙ ap (λ (w : List ℕ). w ++ written_for rules.tree e) s.all ∙ append_assoc s.out waiting (written_for rules.tree e) ∙ ap (λ (w : List ℕ). s.out ++ w) (sym one.3);
-      written = subst (λ (d : D). IsWritten device before.device s.out d) (sym same) s.written;
-    }
-
 -- the replies that waited were written
 pub serves_sent : {D S C : Type 0} (device : Device D) (rules : Rules S C) (before mid : Scene D S C) (messages left : List (List ℕ)) (waiting none : List ℕ) (d : D)
     → HasServed device rules before messages left waiting mid → IsWritten device mid.device waiting d → none ≡ []
@@ -93,10 +76,6 @@ write_is_not_memory same = cc
 
 ok_is_no_error : {T : Type 0} {x : T} {e : ServeError} → IsErrOf {T = T} (Ok x) e → ⊥
 ok_is_no_error same = cc
-
--- for the first of the messages that are left room was made
-pub left_first : {S : Type 0} (alike : S → S → Type 0) (old new : S) (left : List (List ℕ)) (message : List ℕ) (others : List (List ℕ)) → left ≡ message ∷ others → alike old new → AreLeft alike old left new
-left_first alike old new left message others begins is_alike = rw begins is_alike
 
 -- nothing was done for the messages that are left
 pub left_so : {S : Type 0} (alike : S → S → Type 0) (same : (s : S) → alike s s) (s : S) (left : List (List ℕ)) → AreLeft alike s left s
@@ -178,17 +157,3 @@ ends_so {T = T} device rules before after messages result error failed is_write 
   some_left = λ same none. write_is_not_memory same;
   written = s.written;
 })
-
--- nothing more was answered, and the waiting replies are the same
-pub serves_same : {D S C : Type 0} (device : Device D) (rules : Rules S C) (before mid : Scene D S C) (messages left : List (List ℕ)) (waiting same : List ℕ) (clock : C)
-    → HasServed device rules before messages left waiting mid → same ≡ waiting → clock ≡ mid.clock
-    → HasServed device rules before messages left same (scene mid.device mid.service clock)
-serves_same device rules before mid messages left waiting same clock s is_same same_clock = rw (is_same, same_clock) s
-
--- a list with a first element isn't empty
-pub some_more : {A : Type 0} {xs ys : List A} {x : A} → xs ≡ x ∷ ys → xs ≢ []
-some_more begins none = cc
-
--- taking a record from a stream changes only the stream's ready records
-pub same_more : (old now next : Stream) (message : List ℕ) → now ≡ record old { ready = now.ready } → now ≡ record next { ready = message ∷ next.ready } → next ≡ record old { ready = next.ready }
-same_more old now next message same taken = ap (λ (s : Stream). record s { ready = next.ready }) (sym taken ∙ same)

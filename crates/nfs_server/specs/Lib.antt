@@ -8,6 +8,8 @@ pub mod Device
 pub mod Sides
 pub mod Pair
 pub mod Exchange
+pub mod PendingCall
+pub mod Batch
 pub mod Connection
 pub mod Serving
 pub mod CourseLaws

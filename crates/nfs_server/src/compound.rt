@@ -1,6 +1,6 @@
 ghost use Rattle.std.specs.Prelude.{◌≡◌, ◌+◌, ◌-◌, ◌^◌, ◌<◌, ◌≤◌, true, false, max, List, [], map, length, vec_capacity, IsFalse, IsOk, OnOk};
 ghost use Rattle.std.specs.List.{All, flat_map};
-ghost use Rattle.nfs_server.specs.Answering.{compound_outcome, compound_reply, handles_after_answer, head_size, is_ok, operations_of, question_for, request_status};
+ghost use Rattle.nfs_server.specs.Answering.{compound_outcome, compound_reply, handles_after_answer, head_size, is_ok, last_status, operations_of, question_for, request_status};
 ghost use Rattle.nfs_server.specs.Asking.{Asks, question_of};
 ghost use Rattle.nfs_rpc.specs.RpcCall.{HasFewOperations, IsWithinLimits};
 ghost use Rattle.nfs_tree.specs.Filehandles.{AreNodes};
@@ -14,6 +14,7 @@ ghost use Rattle.nfs_xdr.specs.Opnum.{answer_limit};
 use crate::Service;
 use nfs_core::Moment;
 use nfs_rpc::{ACCEPTED_LEN, CompoundReply, RECORD_LIMIT};
+use nfs_state::Request;
 use nfs_tree::{Filehandles, Tree};
 use nfs_xdr::{
     ArgOp, Compound, CompoundRequest, OPERATION_LIMIT, Op, OpResult, Opnum, Principal, Refusal,
@@ -58,12 +59,12 @@ pub fn run_compound<S: Service>(
         moment,
         principal,
     };
-    let ops = operations(&compound.request);
-    let size = head_len(&compound.tag);
-    answer_operations(service, &context, ops, size, &mut results);
+    let Compound { tag, request } = compound;
+    let size = head_len(&tag);
+    let status = answer_request(service, &context, request, size, &mut results);
     CompoundReply {
-        status: reply_status(&compound.request, results.as_slice()),
-        tag: compound.tag,
+        status,
+        tag,
         results: Sequence::new(results),
     }
 }
@@ -119,40 +120,34 @@ fn head_len(tag: &Bytes) -> usize
     ACCEPTED_LEN + 4 + 4 + len + padding_of(len) + 4
 }
 
-// The status of the whole COMPOUND: that of the last result, if its operations were answered.
-fn reply_status(request: &CompoundRequest, results: &[OpResult]) -> Status
-    ensures { result ≡ request_status results.now request.now }
-{
-    match request {
-        CompoundRequest::MinorVersion(_) => Status::Refused(Refusal::MinorVersMismatch),
-        CompoundRequest::TooMany(_) => Status::Refused(Refusal::Resource),
-        CompoundRequest::Operations(_) => match results.last() {
-            Some(answer) => answer.status(),
-            None => Status::Ok,
-        },
-    }
-}
-
-// Answers the operations one after the other. Their results follow the first `head` bytes of the reply's record.
-fn answer_operations<S: Service>(
+// Answers what a COMPOUND asks for: the operations, one after the other, or nothing if the whole of it is refused. Returns
+// the status of the reply. The results follow the first `head` bytes of the reply's record.
+fn answer_request<S: Service>(
     service: &mut S,
     context: &Context<'_>,
-    ops: &[ArgOp],
+    request: CompoundRequest,
     head: usize,
     results: &mut Vec<OpResult>,
-)
+) -> Status
     requires few { head < 2 ^ 40 }
-    requires ready { length ops.now ≤ S.room service.old }
+    requires limit { HasFewOperations request }
+    requires ready { length (operations_of request) ≤ S.room service.old }
     requires serves { S.serves service.old ≡ context.now.tree.now.nodes }
     requires empty { results.old.items ≡ [] }
-    requires room { length ops.now ≤ vec_capacity results.old }
-    ensures answers { IsDetermined (asker_of S.gives context.now) (start service.old head) ops.now
-        results.new.items service.new }
+    requires room { OPERATION_LIMIT ≤ vec_capacity results.old }
+    ensures answers { IsDetermined (asker_of S.gives context.now) (start service.old head)
+        (operations_of request) results.new.items service.new }
+    ensures status { result ≡ request_status results.new.items request }
     ensures serves { S.serves service.new ≡ context.now.tree.now.nodes }
     ensures fits { head + length (flat_map op_result.encoding results.new.items)
         ≤ max (head + 12) RECORD_LIMIT }
     ensures form { All op_result.Fits results.new.items }
 {
+    let ops = match request {
+        CompoundRequest::MinorVersion(_) => return Status::Refused(Refusal::MinorVersMismatch),
+        CompoundRequest::TooMany(_) => return Status::Refused(Refusal::Resource),
+        CompoundRequest::Operations(ops) => ops.into_vec(),
+    };
     let mut handles = Filehandles::new();
     let mut size = head;
     for op in ops {
@@ -161,8 +156,19 @@ fn answer_operations<S: Service>(
         let continues = is_ok(&answer);
         results.push_reserved(answer);
         if !continues {
-            return;
+            return last_status(results.as_slice());
         }
+    }
+    last_status(results.as_slice())
+}
+
+// The status of the last result, or NFS4_OK without one.
+fn last_status(results: &[OpResult]) -> Status
+    ensures { result ≡ last_status results.now }
+{
+    match results.last() {
+        Some(answer) => answer.status(),
+        None => Status::Ok,
     }
 }
 
@@ -179,7 +185,7 @@ fn answer_one<S: Service>(
     service: &mut S,
     context: &Context<'_>,
     handles: &mut Filehandles,
-    op: &ArgOp,
+    op: ArgOp,
     size: usize,
 ) -> OpResult
     requires few { size < 2 ^ 41 }
@@ -187,7 +193,7 @@ fn answer_one<S: Service>(
     requires serves { S.serves service.old ≡ context.now.tree.now.nodes }
     requires nodes { AreNodes context.now.tree.now handles.old }
     ensures answer { IsAnswered (asker_of S.gives context.now)
-        (record { service = service.old; handles = handles.old; size = size }) op.now
+        (record { service = service.old; handles = handles.old; size = size }) op
         (record { answer = result; after = handles.new }) service.new }
     ensures ready { S.room service.old ≤ S.room service.new + 1 }
     ensures serves { S.serves service.new ≡ context.now.tree.now.nodes }
@@ -201,7 +207,7 @@ fn answer_one<S: Service>(
     let op = match op {
         ArgOp::Run(op) => op,
         ArgOp::BadArgs(opnum) => return opnum.refusal(Refusal::BadXdr),
-        ArgOp::Unsupported(op) => return Opnum::Unsupported(*op).refusal(Refusal::NotSupp),
+        ArgOp::Unsupported(op) => return Opnum::Unsupported(op).refusal(Refusal::NotSupp),
         ArgOp::Illegal(_) => return Opnum::Illegal.refusal(Refusal::OpIllegal),
     };
     let opnum = op.opnum();
@@ -209,7 +215,7 @@ fn answer_one<S: Service>(
         return opnum.refusal(Refusal::Resource);
     }
     if op.is_on_tree() {
-        return handles.run(context.tree, op);
+        return handles.run(context.tree, &op);
     }
     ask(service, context, handles, op)
 }
@@ -220,29 +226,36 @@ fn ask<S: Service>(
     service: &mut S,
     context: &Context<'_>,
     handles: &mut Filehandles,
-    op: &Op,
+    op: Op,
 ) -> OpResult
-    requires more { IsFalse (is_on_tree op.now) }
+    requires more { IsFalse (is_on_tree op) }
     requires ready { 0 < S.room service.old }
     requires serves { S.serves service.old ≡ context.now.tree.now.nodes }
     requires nodes { AreNodes context.now.tree.now handles.old }
     ensures given { S.gives service.old
         (question_of context.now.moment context.now.principal
-        (question_for op.now handles.old.current)) result service.new }
+        (question_for op handles.old.current)) result service.new }
     ensures handles { handles.new ≡ handles_after_answer context.now.tree.now handles.old
-        (question_for op.now handles.old.current) result }
+        (question_for op handles.old.current) result }
     ensures ready { S.room service.old ≤ S.room service.new + 1 }
     ensures serves { S.serves service.new ≡ context.now.tree.now.nodes }
     ensures nodes { AreNodes context.now.tree.now handles.new }
     ensures form { op_result.Fits result }
-    ensures fits { length (op_result.encoding result) ≤ answer_limit (opnum_of op.now) }
+    ensures fits { length (op_result.encoding result) ≤ answer_limit (opnum_of op) }
 {
-    if let Op::Renew(args) = op {
+    if let Op::Renew(args) = &op {
         return service.renew(context.moment, args.client);
     }
-    let answer = service.call(context.moment, context.principal, op, handles.current);
+    let mut handles_after = *handles;
+    handles_after.follow(context.tree, &op);
+    let answer = service.call(Request {
+        moment: context.moment,
+        principal: context.principal,
+        op,
+        filehandle: handles.current,
+    });
     if is_ok(&answer) {
-        handles.follow(context.tree, op);
+        *handles = handles_after;
     }
     answer
 }

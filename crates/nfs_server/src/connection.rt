@@ -8,7 +8,7 @@ ghost use Rattle.nfs_server.specs.Serving.{IsServed};
 ghost use Rattle.nfs_rpc.specs.Records.{IsStream, TakesPiece};
 
 use crate::duplex::Pair;
-use crate::replies::Replies;
+use crate::replies::{GATHER_LIMIT, Replies};
 use crate::{Clock, Counted, DeviceFailed, Duplex, ServeError, Service, Sink, Source};
 use nfs_rpc::{RECORD_LIMIT, RecordError, Records};
 use nfs_tree::Tree;
@@ -20,9 +20,6 @@ pub const STREAM_LIMIT: u64 = 1 << 40;
 
 // The greatest number of bytes that one read asks a device for.
 const PIECE_LEN: usize = 65_536;
-
-// Once more bytes of replies than this are waiting, they are written before the next record is answered.
-const GATHER_LIMIT: usize = 262_144;
 
 /// Serves a connection until its input ends, and returns how many bytes came after the last whole record. It behaves
 /// like `serve_duplex`, and reads from the source and writes to the sink.
@@ -133,6 +130,7 @@ fn serve_ready<D: Duplex, S: Service, C: Clock>(
 ) -> Result<(), ServeError>
     requires limits { AllByRecursion (λ message. length message ≤ RECORD_LIMIT) records.old.ready }
     requires idle { replies.old.gathered.items ≡ [] }
+    requires none { replies.old.pending.items ≡ [] }
     requires writes { D.write_failures device.old < 2 ^ 64 - 1 }
     requires serves { S.serves service.old ≡ tree.now.nodes }
     ensures serves { S.serves service.new ≡ tree.now.nodes }
@@ -141,6 +139,7 @@ fn serve_ready<D: Duplex, S: Service, C: Clock>(
         (scene device.new service.new clock.new) }
     ensures taken { OnOk result (records.new ≡ record records.old { ready = [] }) }
     ensures idle { OnOk result (replies.new.gathered.items ≡ []) }
+    ensures none { OnOk result (replies.new.pending.items ≡ []) }
     ensures reads { D.read_failures device.new ≡ D.read_failures device.old }
     ensures ok { OnOk result (D.write_failures device.new ≡ D.write_failures device.old) }
     ensures write_failed { IsErrOf result ServeError.Write
@@ -148,9 +147,10 @@ fn serve_ready<D: Duplex, S: Service, C: Clock>(
     ensures errors { OnErr result
         (IsErrOf result ServeError.Write ⊎ IsErrOf result ServeError.Memory) }
 {
-    while let Some(message) = records.next() {
-        match replies.answer(message.as_slice(), service, tree, clock) {
-            Ok(()) => {}
+    loop {
+        match replies.answer_some(records, service, tree, clock) {
+            Ok(true) => {}
+            Ok(false) => return send(device, replies),
             Err(AllocError) => {
                 send(device, replies)?;
                 return Err(ServeError::Memory);
@@ -160,7 +160,6 @@ fn serve_ready<D: Duplex, S: Service, C: Clock>(
             send(device, replies)?;
         }
     }
-    send(device, replies)
 }
 
 // Writes the waiting replies, and removes them from the buffer.
@@ -170,6 +169,7 @@ fn send<D: Duplex>(device: &mut D, replies: &mut Replies) -> Result<(), ServeErr
     ensures err { OnErr result (IsCut D.device device.old replies.old.gathered.items device.new) }
     ensures write { OnErr result (result ≡ Err ServeError.Write) }
     ensures idle { OnOk result (replies.new.gathered.items ≡ []) }
+    ensures pending { replies.new.pending.items ≡ replies.old.pending.items }
     ensures reads { D.read_failures device.new ≡ D.read_failures device.old }
     ensures kept { OnOk result (D.write_failures device.new ≡ D.write_failures device.old) }
     ensures failed { OnErr result (D.write_failures device.old < D.write_failures device.new) }

@@ -1,21 +1,32 @@
-ghost use Rattle.std.specs.Prelude.{◌≡◌, [], refl};
+ghost use Rattle.std.specs.Prelude.{◌≡◌, ◌≤◌, ◌↔◌, [], IfNone, IfSome, IsNone, IsTrue, length, refl};
+ghost use Rattle.nfs_forms.specs.ClientId.{number_in};
 ghost use Rattle.nfs_server.specs.Holding.{AreAlikeButRoom, GivenBySeat};
 ghost use Rattle.nfs_shared.specs.Ends.{IsKept};
+ghost use Rattle.nfs_shared.specs.Held.{HeldView, MayBeHeld};
+ghost use Rattle.nfs_shared.specs.PlainBook.{has_open_lease};
+ghost use Rattle.nfs_shared.specs.Seats.{Gives, KnowsTheSame};
+ghost use Rattle.nfs_state.specs.Entries.{IsFilehandle, resource};
+ghost use Rattle.nfs_xdr.specs.Op.{has_entry, opnum_of};
+ghost use Rattle.nfs_xdr.specs.OpResult.{op_result};
+ghost use Rattle.nfs_xdr.specs.Opnum.{answer_limit};
 
 use crate::Service;
 use nfs_core::Moment;
-use nfs_shared::{Naming, Receipt, Seat, Shared, renewal_answer};
-use nfs_xdr::{ClientId, Op, OpResult, Principal};
+use nfs_shared::{Hold, Naming, Receipt, Seat, Shared, renewal_answer};
+use nfs_state::Request;
+use nfs_xdr::{ClientId, OpResult};
 use std::alloc::{AllocError, Global};
 use std::marker::Model;
 use std::sync::Wait;
 
-/// A worker at the state that threads share: the service of its connection. It keeps the receipts that it is given. The
-/// handle by which it may wait for the lock is part of it, as services are called without one.
+/// A worker at the state that threads share: the service of its connection. It keeps the receipts that it is given, and
+/// has a hold of the lock while it answers a batch. The handle by which it may wait for the lock is part of it, as
+/// services are called without one.
 #[derive(Drop)]
 pub struct Desk<'a, N: Naming, R: Wait> {
     rt: &'a R,
     shared: &'a Shared<N>,
+    hold: Option<Hold<'a, N>>,
     seat: Seat<N>,
     receipts: Vec<Receipt>,
 }
@@ -46,6 +57,7 @@ impl<'a, N: Naming, R: Wait> Desk<'a, N, R> {
         Desk {
             rt,
             shared,
+            hold: None,
             seat,
             receipts: Vec::new(alloc),
         }
@@ -60,6 +72,7 @@ impl<'a, N: Naming, R: Wait> Desk<'a, N, R> {
         let Desk {
             rt: _,
             shared: _,
+            hold: _,
             seat,
             receipts,
         } = self;
@@ -82,17 +95,19 @@ impl<'a, N: Naming, R: Wait> Service for Desk<'a, N, R> {
         self.receipts.reserve(questions)
     }
 
-    fn call(
-        &mut self,
-        moment: Moment,
-        principal: Principal,
-        op: &Op,
-        filehandle: Option<u32>,
-    ) -> OpResult {
-        let seat = &mut self.seat;
-        let (answer, receipt) = self
-            .shared
-            .call(self.rt, seat, moment, principal, op, filehandle);
+    fn begin_batch(&mut self) {
+        if self.hold.is_none() {
+            self.hold = Some(self.shared.hold(self.rt));
+        }
+    }
+
+    fn end_batch(&mut self) {
+        self.hold = None;
+    }
+
+    fn call(&mut self, request: Request) -> OpResult {
+        let (hold, seat) = (&mut self.hold, &mut self.seat);
+        let (answer, receipt) = call_in(self.rt, self.shared, hold, seat, request);
         if let Some(receipt) = receipt {
             self.receipts.push_reserved(receipt);
         }
@@ -100,10 +115,53 @@ impl<'a, N: Naming, R: Wait> Service for Desk<'a, N, R> {
     }
 
     fn renew(&mut self, moment: Moment, client: ClientId) -> OpResult {
-        let seat = &mut self.seat;
-        let is_open = self.shared.renew(self.rt, seat, moment, client);
+        let (hold, seat) = (&mut self.hold, &mut self.seat);
+        let is_open = renew_in(self.rt, self.shared, hold, seat, moment, client);
         let answer = OpResult::Renew(renewal_answer(is_open));
         answer.fits();
         answer
+    }
+}
+
+// Has the shared state answer a request, in this hold if there is one, and else in one of its own.
+fn call_in<'a, N: Naming, R: Wait>(
+    rt: &R,
+    shared: &'a Shared<N>,
+    hold: &mut Option<Hold<'a, N>>,
+    seat: &mut Seat<N>,
+    request: Request,
+) -> (OpResult, Option<Receipt>)
+    requires entry { IsTrue (has_entry request.op) }
+    requires node { IsFilehandle N.start request.filehandle }
+    ensures refused { IsNone result.1 ↔ (result.0 ≡ resource request.op) }
+    ensures same { IfNone result.1 (KnowsTheSame seat.old seat.new) }
+    ensures entry { IfSome result.1
+        (λ r. r.call ≡ record { request = request; answer = result.0 }) }
+    ensures given { IfSome result.1 (λ r. Gives seat.old r seat.new) }
+    ensures short { length (op_result.encoding result.0) ≤ answer_limit (opnum_of request.op) }
+    ensures form { op_result.Fits result.0 }
+{
+    match hold {
+        Some(hold) => hold.call(seat, request),
+        None => shared.hold(rt).call(seat, request),
+    }
+}
+
+// Renews the lease of this client, in this hold if there is one, and else in one of its own.
+fn renew_in<'a, N: Naming, R: Wait>(
+    rt: &R,
+    shared: &'a Shared<N>,
+    hold: &mut Option<Hold<'a, N>>,
+    seat: &mut Seat<N>,
+    moment: Moment,
+    client: ClientId,
+) -> bool
+    ensures open { (held : HeldView) × MayBeHeld N.start seat.old held
+        × (result ≡ has_open_lease held.leases (number_in N.start.epoch client)) }
+    ensures same { KnowsTheSame seat.old seat.new }
+{
+    match hold {
+        Some(hold) => hold.renew(seat, moment, client),
+        None => shared.renew(rt, seat, moment, client),
     }
 }

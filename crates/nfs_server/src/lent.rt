@@ -8,7 +8,8 @@ ghost use Rattle.nfs_shared.specs.Sweeps.{Sweeps, leased_server};
 use crate::Service;
 use nfs_core::{Core, Moment};
 use nfs_shared::{LeasedCore, PlainLeases, Swept, renewal_answer, renewed_client};
-use nfs_xdr::{ClientId, Op, OpResult, Principal};
+use nfs_state::Request;
+use nfs_xdr::{ClientId, OpResult};
 use std::alloc::{AllocError, Global};
 use std::marker::Model;
 
@@ -76,16 +77,15 @@ impl Service for Lent {
         Ok(())
     }
 
-    fn call(
-        &mut self,
-        moment: Moment,
-        principal: Principal,
-        op: &Op,
-        filehandle: Option<u32>,
-    ) -> OpResult {
-        let client = renewed_client(op, self.leased.core.journal().epoch());
-        self.leased.renew(client, moment);
-        let (answer, _) = self.leased.call(moment, principal, op, filehandle);
+    // Nobody else asks a core that is lent.
+    fn begin_batch(&mut self) {}
+
+    fn end_batch(&mut self) {}
+
+    fn call(&mut self, request: Request) -> OpResult {
+        let client = renewed_client(&request.op, self.leased.core.journal().epoch());
+        self.leased.renew(client, request.moment);
+        let (answer, _) = self.leased.call(request);
         answer
     }
 

@@ -18,6 +18,7 @@ mod link;
 mod links;
 mod numbers;
 mod once;
+mod pending_call;
 mod receipt_laws;
 mod replies;
 mod serve_error;

@@ -1,7 +1,6 @@
 ghost use Rattle.std.specs.Prelude.{◌≡◌, ◌+◌, ◌<◌, ◌≤◌, ℕ, IsTrue, IfSome, List, OnOk, length};
 ghost use Rattle.nfs_xdr.specs.Op.{has_entry, opnum_of};
 ghost use Rattle.nfs_server.specs.Asking.{Operation, Question, Renewal};
-ghost use Rattle.nfs_state.specs.Entries.{request_of};
 ghost use Rattle.nfs_tree.specs.Tree.{node_count};
 ghost use Rattle.nfs_tree.specs.declared.node.Node.{Node};
 ghost use Rattle.nfs_xdr.specs.declared.op_result.OpResult.{OpResult};
@@ -10,7 +9,8 @@ ghost use Rattle.nfs_xdr.specs.Opnum.{answer_limit};
 ghost use Rattle.nfs_xdr.specs.declared.opnum.Opnum.TheVariants.{Renew};
 
 use nfs_core::Moment;
-use nfs_xdr::{ClientId, Op, OpResult, Principal};
+use nfs_state::Request;
+use nfs_xdr::{ClientId, OpResult};
 use std::alloc::AllocError;
 
 /// Answers the operations that need the state or the leases.
@@ -30,22 +30,24 @@ pub trait Service {
         ensures alike { alike self.old self.new }
         ensures serves { serves self.new ≡ serves self.old };
 
-    /// Answers an operation that has an entry in the journal, with a current filehandle of the tree.
-    fn call(
-        &mut self,
-        moment: Moment,
-        principal: Principal,
-        op: &Op,
-        filehandle: Option<u32>,
-    ) -> OpResult
+    /// Begins to answer several calls in a row. A service that others share may keep them from coming in between until
+    /// `end_batch`.
+    fn begin_batch(&mut self)
+        ensures { self.new ≡ self.old };
+
+    /// Ends what `begin_batch` began.
+    fn end_batch(&mut self)
+        ensures { self.new ≡ self.old };
+
+    /// Answers a request for an operation that has an entry in the journal, with a current filehandle of the tree.
+    fn call(&mut self, request: Request) -> OpResult
         requires room { 0 < room self.old }
-        requires entry { IsTrue (has_entry op.now) }
-        requires node { IfSome filehandle (λ node. node < node_count (serves self.old)) }
-        ensures gives { gives self.old
-            (Operation (request_of moment principal op.now filehandle)) result self.new }
+        requires entry { IsTrue (has_entry request.op) }
+        requires node { IfSome request.filehandle (λ node. node < node_count (serves self.old)) }
+        ensures gives { gives self.old (Operation request) result self.new }
         ensures room { room self.old ≤ room self.new + 1 }
         ensures serves { serves self.new ≡ serves self.old }
-        ensures fits { length (op_result.encoding result) ≤ answer_limit (opnum_of op.now) }
+        ensures fits { length (op_result.encoding result) ≤ answer_limit (opnum_of request.op) }
         ensures form { op_result.Fits result };
 
     /// Answers RENEW: renews the lease of the client with this clientid.

@@ -9,7 +9,7 @@ use Rattle.nfs_core.specs.Expiry.{expire_of}
 use Rattle.nfs_core.specs.Step.{Step}
 use Rattle.nfs_owners.specs.LiveClients.{IsNextLive, can_become_live}
 use Rattle.nfs_owners.specs.Registry.{Registry, is_live}
-use Rattle.nfs_shared.specs.BookEvent.{BookEvent, Leads, is_open_after, was_opened_after}
+use Rattle.nfs_shared.specs.BookEvent.{BookEvent, IsNextOpen, Leads, is_open_after, was_opened_after}
 use Rattle.nfs_shared.specs.BookOf.{IsBookOf}
 use Rattle.nfs_shared.specs.Sweeps.{AreTurns, IsTurn, Sweeps, events_of_all, is_of, leased_server, none_swept, tally}
 use Rattle.nfs_shared.specs.Turn.{Gains, Turn, events_by, events_of, expiries, total, with_case}
@@ -69,6 +69,14 @@ stays ends cases.Changed client seen now old new lawful gains =
     stays_same client old.stored.clients new.stored.clients (ap (λ (s : State). s.clients) gains.leads)
 stays ends cases.Refused client seen now old new lawful gains =
     stays_same client old.stored.clients new.stored.clients (ap (λ (s : State). s.clients) gains.leads)
+
+-- whose lease is open next is live next, in a book whose open leases are those of the live clients
+pub next_live : (after : ℕ) (is_open : ℕ → Bool) (registry : Registry) (next : Option ℕ)
+    → ((client : ℕ) → is_open client ≡ is_live client registry)
+    → IsNextOpen after is_open next → IsNextLive after registry next
+next_live after is_open registry None same h = λ client live. h client (same client ∙ live)
+next_live after is_open registry (Some next) same h =
+    (sym (same next) ∙ h.0, h.1, λ client live above. h.2 client (same client ∙ live) above)
 
 -- The clients up to this number have had their turns, and `next` is the next one. The live clients above the number are
 -- those that were live at the beginning.

@@ -1,5 +1,6 @@
 pub mod Lists
 pub mod Comes
+pub mod NextOpen
 pub mod Books
 pub mod Prefixes
 pub mod Moves

@@ -3,7 +3,7 @@ use Rattle.std.proofs.Common.{◌≡◌, ℕ, ◌+◌, ◌<◌, ◌≤◌, ◌==
 use Rattle.std.proofs.lemmas.Grind.{common_steps}
 use Rattle.std.specs.List.{list_any}
 use Rattle.nfs_core.specs.Lawful as lawful
-use Rattle.nfs_core.specs.Server.{Server}
+use Rattle.nfs_core.specs.Server.{IsLawful, Server}
 use Rattle.nfs_shared.specs.BookEvent.{BookEvent, Look, Renew, Close, Open, Retire, Leads}
 use Rattle.nfs_shared.specs.Sweeps.{is_of, Ascend, AreTurns, IsTurn, events_of_all, tally}
 use Rattle.nfs_shared.specs.Turn.{Gains, Turn, events_by, events_of, expiries, total, with_case, with_entries}
@@ -12,7 +12,7 @@ use Rattle.nfs_shared.specs.declared.case.Case.TheVariants as cases
 use Rattle.nfs_shared.specs.declared.closing.Closing.TheVariants as closing
 use Rattle.nfs_shared.specs.declared.swept.Swept.{Swept}
 use Rattle.nfs_core.specs.Expiry.{expire_of}
-use Rattle.nfs_state.specs.State.{History, State}
+use Rattle.nfs_state.specs.State.{History, State, empty_server}
 use Rattle.nfs_state.specs.Stored.{meaning}
 use Rattle.nfs_state.specs.declared.entry.Entry.{Entry}
 use Rattle.nfs_state.specs.declared.entry.Entry.TheVariants as entries
@@ -142,6 +142,13 @@ states_more journal old mid new (e ∷ more) others h k = (
   states_more (with_entries (e ∷ []) journal) h.0 mid new more others h.2
       (subst (λ (j : History). lawful.Leads j mid others new) (sym (entries_more (e ∷ []) more journal)) k),
 )
+
+-- the journal of a server that gained entries leads to its state, if it did before
+pub lawful_more : (more : List Entry) (old new : Server) → IsLawful old → Gains more old new → IsLawful new
+lawful_more more old new h gains =
+    subst (λ (j : History). lawful.Lawful j (meaning new.stored)) (sym gains.journal)
+    (states_more (record old.journal { entries = [] }) (empty_server old.journal.nodes) (meaning old.stored)
+    (meaning new.stored) old.journal.entries more h gains.leads)
 
 pub gains_more : (more others : List Entry) (old mid new : Server)
     → Gains more old mid → Gains others mid new → Gains (more ++ others) old new

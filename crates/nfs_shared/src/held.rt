@@ -11,7 +11,7 @@ ghost use Rattle.nfs_shared.specs.PlainBook.{Happens, has_open_lease, with_renew
 ghost use Rattle.nfs_shared.specs.Renewals.{renewed_by};
 ghost use Rattle.nfs_shared.specs.Seats.{Gives, KnowsTheSame, number_given};
 ghost use Rattle.nfs_shared.specs.Sweeps.{Sweeps, leased_server};
-ghost use Rattle.nfs_state.specs.Entries.{IsFilehandle, request_of};
+ghost use Rattle.nfs_state.specs.Entries.{IsFilehandle};
 ghost use Rattle.nfs_state.specs.declared.entry.Call.{Call};
 ghost use Rattle.nfs_state.specs.declared.entry.Entry.TheVariants as entries;
 ghost use Rattle.nfs_xdr.specs.Op.{has_entry, opnum_of};
@@ -28,8 +28,8 @@ use crate::seat::Seat;
 use crate::sweeper::Sweeper;
 use crate::{PlainLeases, Swept};
 use nfs_core::{Core, Entry, Moment, lawful_is_safe};
-use nfs_state::SeenCall;
-use nfs_xdr::{ClientId, Op, OpResult, Principal, Refusal};
+use nfs_state::{Request, SeenCall};
+use nfs_xdr::{ClientId, Op, OpResult, Refusal};
 use std::marker::Model;
 use std::sync::ledger::Book;
 
@@ -77,40 +77,35 @@ impl<N: Naming> Model for Held<N> {
 pub fn call_held<N: Naming>(
     held: &mut Held<N>,
     seat: &mut Seat<N>,
-    moment: Moment,
-    principal: Principal,
-    op: &Op,
-    filehandle: Option<u32>,
+    request: Request,
 ) -> (OpResult, Option<Receipt>)
-    requires entry { IsTrue (has_entry op.now) }
-    requires node { IsFilehandle N.start filehandle }
-    ensures applies { Applies held.old.server held.new.server
-        (request_of moment principal op.now filehandle) result.0 (number_given result.1) }
-    ensures entry { IfSome result.1 (λ r. r.call ≡ record {
-      request = request_of moment principal op.now filehandle;
-      answer = result.0;
-    }) }
+    requires entry { IsTrue (has_entry request.op) }
+    requires node { IsFilehandle N.start request.filehandle }
+    ensures applies { Applies held.old.server held.new.server request result.0
+        (number_given result.1) }
+    ensures entry { IfSome result.1
+        (λ r. r.call ≡ record { request = request; answer = result.0 }) }
     ensures same { IfNone result.1 ((held.new.places ≡ held.old.places)
         × (held.new.receipts ≡ held.old.receipts) × KnowsTheSame seat.old seat.new) }
     ensures places { IfSome result.1 (λ r. held.new.places ≡ held.old.places ++ r.place ∷ []) }
     ensures receipts { IfSome result.1 (λ r. held.new.receipts ≡ held.old.receipts ++ r ∷ []) }
     ensures given { IfSome result.1 (λ r. Gives seat.old r seat.new) }
-    ensures short { length (op_result.encoding result.0) ≤ answer_limit (opnum_of op.now) }
+    ensures short { length (op_result.encoding result.0) ≤ answer_limit (opnum_of request.op) }
     ensures form { op_result.Fits result.0 }
     ensures leases { (entered : Option Entered)
-        × Answers held.old.server held.new.server
-        (request_of moment principal op.now filehandle) result.0 entered
+        × Answers held.old.server held.new.server request result.0 entered
         × (number_entered entered ≡ number_given result.1)
-        × Leads Happens (with_renewal (renewed_by N.start.epoch op.now) moment held.old.leases)
-        (events_entered entered moment) held.new.leases }
+        × Leads Happens
+        (with_renewal (renewed_by N.start.epoch request.op) request.moment held.old.leases)
+        (events_entered entered request.moment) held.new.leases }
 {
     lawful_is_safe();
-    let client = renewed_client(op, held.leased.core.journal().epoch());
-    held.leased.renew(client, moment);
+    let client = renewed_client(&request.op, held.leased.core.journal().epoch());
+    held.leased.renew(client, request.moment);
     if held.register.places.reserve(1).is_err() {
-        return (op.opnum().refusal(Refusal::Resource), None);
+        return (request.op.opnum().refusal(Refusal::Resource), None);
     }
-    let (answer, entered) = held.leased.call(moment, principal, op, filehandle);
+    let (answer, entered) = held.leased.call(request);
     match entered {
         None => (answer, None),
         Some(entered) => {
@@ -168,4 +163,14 @@ pub(crate) fn renew_held<N: Naming>(
     meet(&register.roll, &mut register.writer, &mut seat.token);
     let client = client.number_in(held.leased.core.journal().epoch());
     held.leased.renew(client, moment)
+}
+
+/// Renews the lease of the client that the operation names, as a call of it does, where the call can't be made.
+pub(crate) fn renew_named<N: Naming>(held: &mut Held<N>, op: &Op, moment: Moment)
+    ensures { held.new ≡ record held.old {
+      leases = with_renewal (renewed_by N.start.epoch op.now) moment held.old.leases;
+    } }
+{
+    let client = renewed_client(op, held.leased.core.journal().epoch());
+    held.leased.renew(client, moment);
 }

@@ -1,6 +1,6 @@
 ghost use Rattle.std.specs.Prelude.{◌≡◌, ◌≤◌, ℕ, Bool, IsTrue, true, false};
 ghost use Rattle.nfs_owners.specs.Registry.{IsClientNumber};
-ghost use Rattle.nfs_shared.specs.BookEvent.{BookEvent, Look, Renew, Close, Open, Retire};
+ghost use Rattle.nfs_shared.specs.BookEvent.{BookEvent, Look, Renew, Close, Open, Retire, IsNextOpen};
 ghost use Rattle.nfs_shared.specs.BookEvent.{is_done, is_known, is_renewed, shows_open, shows_opened};
 ghost use Rattle.nfs_shared.specs.BookEvent.{is_open_after, was_opened_after};
 ghost use Rattle.nfs_state.specs.Lease.{is_over};
@@ -27,6 +27,11 @@ pub trait LeaseBook {
         ensures happens { happens self.old (Look client result) self.new }
         ensures shows_open { shows_open result ≡ is_open self.old client }
         ensures shows_opened { shows_opened result ≡ was_opened self.old client };
+
+    /// The least number above this one whose lease is open, if there is one. It is a fact of the book, as nobody else
+    /// opens or closes a lease, and asking for it is no call that happens.
+    fn next_open(&self, after: u32) -> Option<u32>
+        ensures next { IsNextOpen after (is_open self.now) result };
 
     /// Renews a client's lease, where it is open. A moment before the last renewal's doesn't lower it.
     fn renew(&mut self, client: u32, moment: Moment) -> Renewal

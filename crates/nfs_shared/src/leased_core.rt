@@ -5,7 +5,7 @@ ghost use Rattle.nfs_shared.specs.BookEvent.{Leads};
 ghost use Rattle.nfs_shared.specs.BookOf.{IsBookOf, events_entered};
 ghost use Rattle.nfs_shared.specs.PlainBook.{has_open_lease, with_renewal};
 ghost use Rattle.nfs_shared.specs.Sweeps.{Sweeps, leased_server};
-ghost use Rattle.nfs_state.specs.Entries.{IsFilehandle, request_of};
+ghost use Rattle.nfs_state.specs.Entries.{IsFilehandle};
 ghost use Rattle.nfs_xdr.specs.Op.{has_entry, opnum_of};
 ghost use Rattle.nfs_xdr.specs.OpResult.{op_result};
 ghost use Rattle.nfs_xdr.specs.Opnum.{answer_limit};
@@ -15,8 +15,8 @@ use crate::renewing::renew_lease;
 use crate::sweeping::sweep_core;
 use crate::{LeaseBook, PlainLeases, Swept};
 use nfs_core::{Core, Entered, lawful_is_safe, live_clients_follow};
-use nfs_state::Moment;
-use nfs_xdr::{Op, OpResult, Principal};
+use nfs_state::{Moment, Request};
+use nfs_xdr::OpResult;
 
 /// A core with the book of its clients' leases, of which those of the live clients are open.
 #[derive(Drop)]
@@ -36,28 +36,24 @@ impl<B: LeaseBook> LeasedCore<B> {
         LeasedCore { core, book }
     }
 
-    /// Has the core answer an operation. The leases follow: where a client becomes live by it, its lease is opened at
-    /// this moment; where one is replaced, its lease is retired. No lease is renewed: the caller does that, before.
-    pub fn call(
-        &mut self,
-        moment: Moment,
-        principal: Principal,
-        op: &Op,
-        filehandle: Option<u32>,
-    ) -> (OpResult, Option<Entered>)
-        requires entry { IsTrue (has_entry op.now) }
-        requires node { IsFilehandle self.old.core.journal filehandle }
-        ensures answers { Answers self.old.core self.new.core
-            (request_of moment principal op.now filehandle) result.0 result.1 }
-        ensures short { length (op_result.encoding result.0) ≤ answer_limit (opnum_of op.now) }
+    /// Has the core answer a request. The leases follow: where a client becomes live by it, its lease is opened at the
+    /// request's moment; where one is replaced, its lease is retired. No lease is renewed: the caller does that, before.
+    pub fn call(&mut self, request: Request) -> (OpResult, Option<Entered>)
+        requires entry { IsTrue (has_entry request.op) }
+        requires node { IsFilehandle self.old.core.journal request.filehandle }
+        ensures answers { Answers self.old.core self.new.core request result.0 result.1 }
+        ensures short { length (op_result.encoding result.0)
+            ≤ answer_limit (opnum_of request.op) }
         ensures form { op_result.Fits result.0 }
-        ensures leases { Leads B.happens self.old.book (events_entered result.1 moment) self.new.book }
+        ensures leases { Leads B.happens self.old.book (events_entered result.1 request.moment)
+            self.new.book }
         ensures lawful { IsLawful self.new.core }
     {
         lawful_is_safe();
         live_clients_follow();
         cores_are_lawful(&self.core);
-        let (answer, entered) = self.core.answer(moment, principal, op, filehandle);
+        let moment = request.moment;
+        let (answer, entered) = self.core.answer(request);
         match entered {
             None => (answer, None),
             Some(made) => {

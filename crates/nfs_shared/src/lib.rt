@@ -7,6 +7,7 @@ mod case;
 mod closing;
 mod following;
 mod held;
+mod hold;
 mod laws;
 mod lease_book;
 mod lease_state;
@@ -27,6 +28,7 @@ mod swept;
 
 pub use closing::Closing;
 pub use held::{Held, call_held, sweep_held};
+pub use hold::Hold;
 pub use laws::seen_leases_close;
 pub use lease_book::LeaseBook;
 pub use lease_state::LeaseState;

@@ -1,5 +1,7 @@
 ghost use Rattle.std.specs.Prelude.{◌≡◌, ◌+◌, ℕ, IfOk, false, replicate, slice_index_or};
+ghost use Rattle.std.specs.List.{position};
 ghost use Rattle.nfs_owners.specs.declared.client_record.TheConstants.{CLIENT_LIMIT};
+ghost use Rattle.nfs_shared.specs.BookEvent.{shows_open};
 ghost use Rattle.nfs_shared.specs.PlainBook.{Happens, is_open_in, was_opened_in};
 
 use crate::{Closing, LeaseBook, LeaseState, Renewal};
@@ -54,6 +56,15 @@ fn lease_at(leases: &[LeaseState], client: u32) -> LeaseState
         .unwrap_or(LeaseState::Vacant)
 }
 
+// The first place of an open lease.
+fn open_place(leases: &[LeaseState]) -> Option<usize>
+    ensures { result ≡ position shows_open leases.now }
+{
+    leases
+        .iter()
+        .position(|lease| matches!(lease, LeaseState::Open(_)))
+}
+
 impl LeaseBook for PlainLeases {
     ghost use Rattle.nfs_shared.specs.laws.Following.{keeps_lease, open_follows, opened_follows, open_was_opened};
 
@@ -67,6 +78,12 @@ impl LeaseBook for PlainLeases {
 
     fn look(&mut self, client: u32) -> LeaseState {
         lease_at(&self.leases, client)
+    }
+
+    fn next_open(&self, after: u32) -> Option<u32> {
+        let first = after as usize + 1;
+        let place = open_place(self.leases.get(first..)?)?;
+        Some((first + place) as u32)
     }
 
     fn renew(&mut self, client: u32, moment: Moment) -> Renewal {

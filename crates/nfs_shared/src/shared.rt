@@ -16,7 +16,8 @@ ghost use Rattle.nfs_xdr.specs.Op.{has_entry, opnum_of};
 ghost use Rattle.nfs_xdr.specs.OpResult.{op_result};
 ghost use Rattle.nfs_xdr.specs.Opnum.{answer_limit};
 
-use crate::held::{Held, call_held, renew_held, sweep_held};
+use crate::held::Held;
+use crate::hold::Hold;
 use crate::leased_core::LeasedCore;
 use crate::naming::{Naming, ReceiptLedger, SweepLedger};
 use crate::opened::Opened;
@@ -27,7 +28,8 @@ use crate::seat::Seat;
 use crate::sweeper::Sweeper;
 use crate::{PlainLeases, Swept};
 use nfs_core::{Core, Moment};
-use nfs_xdr::{ClientId, Op, OpResult, Principal};
+use nfs_state::Request;
+use nfs_xdr::{ClientId, Op, OpResult, Principal, Refusal};
 use std::alloc::{AllocError, Global};
 use std::sync::ledger::Share;
 use std::sync::{Mutex, Wait};
@@ -83,8 +85,16 @@ impl<N: Naming> Shared<N> {
         Ok((Shared { held }, seats, Sweeper { share }))
     }
 
+    /// Takes the lock, for as long as the value lives that is returned.
+    pub fn hold<R: Wait>(&self, rt: &R) -> Hold<'_, N> {
+        Hold {
+            guard: self.held.lock(rt),
+        }
+    }
+
     /// Answers an operation that has an entry in the journal, in one hold of the lock, with a receipt for its entry. The
-    /// lease of the client that the operation names is renewed first. `filehandle` has to be a node of the tree.
+    /// lease of the client that the operation names is renewed first, also where memory is refused for the request.
+    /// `filehandle` has to be a node of the tree.
     pub fn call<R: Wait>(
         &self,
         rt: &R,
@@ -106,8 +116,11 @@ impl<N: Naming> Shared<N> {
         ensures short { length (op_result.encoding result.0) ≤ answer_limit (opnum_of op.now) }
         ensures form { op_result.Fits result.0 }
     {
-        let mut held = self.held.lock(rt);
-        call_held(&mut *held, seat, moment, principal, op, filehandle)
+        let Ok(request) = Request::of_copy(moment, principal, op, filehandle) else {
+            self.hold(rt).renew_named(op, moment);
+            return (op.opnum().refusal(Refusal::Resource), None);
+        };
+        self.hold(rt).call(seat, request)
     }
 
     /// Renews the lease of this client in a hold of the lock, if it is open, and returns whether it is. No clause says
@@ -123,8 +136,7 @@ impl<N: Naming> Shared<N> {
             × (result ≡ has_open_lease held.leases (number_in N.start.epoch client)) }
         ensures same { KnowsTheSame seat.old seat.new }
     {
-        let mut held = self.held.lock(rt);
-        renew_held(&mut *held, seat, moment, client)
+        self.hold(rt).renew(seat, moment, client)
     }
 
     /// Removes each client whose lease is over at this moment, with all that it has, in one hold of the lock.
@@ -133,8 +145,7 @@ impl<N: Naming> Shared<N> {
         ensures revoked { result.revoked ≡ 0 }
         ensures stopped { result.stopped ≡ false }
     {
-        let mut held = self.held.lock(rt);
-        sweep_held(&mut *held, sweeper, now)
+        self.hold(rt).sweep(sweeper, now)
     }
 
     /// The core, once the workers and the sweeper have ended. `receipts` has for each seat those that it was given, in

@@ -14,7 +14,7 @@ ghost use Rattle.nfs_state.specs.declared.entry.TheConstants.{JOURNAL_LIMIT};
 
 use crate::case::Case;
 use crate::{Closing, LeaseBook, LeaseState, Swept};
-use nfs_core::{Core, live_clients_follow};
+use nfs_core::{Core, lawful_is_safe, live_clients_follow};
 use nfs_state::{Moment, is_over};
 
 /// Goes through the live clients, by rising numbers, and removes each whose lease is over at `now`: from the book, where
@@ -30,11 +30,13 @@ pub fn sweep_core<B: LeaseBook>(core: &mut Core, book: &mut B, now: Moment) -> S
     ensures lawful { IsLawful core.new }
 {
     live_clients_follow();
+    lawful_is_safe();
+    core.journal();
     let mut swept = Swept::NONE;
-    let mut next = core.next_live(0);
+    let mut next = book.next_open(0);
     while let Some(client) = next {
         swept = swept.and(turn_of(core, book, client, now));
-        next = core.next_live(client);
+        next = book.next_open(client);
     }
     swept
 }

@@ -11,7 +11,7 @@ use Rattle.nfs_state.specs.declared.change.Change.TheVariants as changes
 use Rattle.nfs_state.specs.declared.owner_change.OwnerChange.{OwnerChange}
 use Rattle.nfs_state.specs.declared.owner_change.OwnerChange.TheVariants as owner_changes
 use Rattle.nfs_state.specs.declared.tables.Tables.{Tables}
-use Rattle.nfs_state.specs.Kept.{CanBeKept, update_by, update_of}
+use Rattle.nfs_state.specs.Kept.{CanBeKept, owners_after, update_by, update_of}
 use Rattle.nfs_state.specs.Owners as known
 use Rattle.nfs_forms.specs.OpenOwner.{is_same_owner}
 use Rattle.nfs_forms.specs.declared.open_owner.OpenOwner.{OpenOwner}
@@ -69,6 +69,11 @@ update_room (owner_changes.Drops name) kept tables place room = tt
 pub update_room_by : (change : OwnerChange) (found : Option (OwnerKind → Kept)) (tables : Tables) → HasOwnerPlace change (state_of tables) → HasOwnerRoom change tables → HasUpdateRoom (update_by change found) tables
 update_room_by change None tables place room = tt
 update_room_by change (Some kept) tables place room = update_room change kept tables place room
+
+-- what means nothing for the owners leaves them as they are, whatever there is to keep
+pub nothing_kept : (found : Option (OwnerKind → Kept)) (number : ℕ) (owners : List Owner) → owners_after (update_by owner_changes.Nothing found) number owners ≡ owners
+nothing_kept None number owners = refl
+nothing_kept (Some kept) number owners = refl
 
 -- an entry that may be kept changes the owners as its effect says
 pub owners_changed : (update : OwnerUpdate) (change : OwnerChange) (found : Option (OwnerKind → Kept)) (number : ℕ) (old new : State) → update ≡ update_by change found → CanBeKept found change

@@ -47,7 +47,7 @@ pub fn commit_entry(
     Ok(push_entry(&mut store.journal.entries, entry))
 }
 
-// Makes room for the effect of the entry, which gets this number, and then makes its changes.
+// Makes room for the effect of the entry, which gets this number, and then makes its changes, if there are any.
 fn make_changes(
     alloc: Global,
     tables: &mut Tables,
@@ -66,6 +66,9 @@ fn make_changes(
     ensures ready { TakesNoMemory entry.now effect tables.old → IsOk result }
     ensures same { OnErr result (stored_of tables.new ≡ stored_of tables.old) }
 {
+    if effect.is_nothing() {
+        return Ok(());
+    }
     tables.make_room(alloc, &effect.change, &effect.owner)?;
     let update = OwnerUpdate::of(effect.owner, entry)?;
     tables.commit_owner(update, number);

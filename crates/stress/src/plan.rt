@@ -12,6 +12,8 @@ pub(crate) struct Plan<'a> {
     pub(crate) epoch: u32,
     /// After so many calls the clock shows a second more.
     pub(crate) pace: u32,
+    /// The most bytes that a read of a connection gives.
+    pub(crate) piece: u32,
     /// The TOML document of the files.
     pub(crate) document: &'a str,
     /// What is sent on the connection that comes alone, before the others.
@@ -25,7 +27,10 @@ impl<'a> Plan<'a> {
     /// The plan that these bytes are, if they are one.
     pub(crate) fn read(alloc: Global, bytes: &'a [u8]) -> Result<Option<Plan<'a>>, AllocError> {
         let mut rest = Rest { bytes };
-        let Some((lease, epoch, pace)) = rest.three_words() else {
+        let Some((lease, epoch)) = rest.two_words() else {
+            return Ok(None);
+        };
+        let Some((pace, piece)) = rest.two_words() else {
             return Ok(None);
         };
         if lease < LEASE_MIN || lease > LEASE_MAX {
@@ -44,6 +49,7 @@ impl<'a> Plan<'a> {
             lease,
             epoch,
             pace,
+            piece,
             document,
             first,
             others,
@@ -70,9 +76,9 @@ impl<'a> Rest<'a> {
         Some(u32::from_be_bytes(word))
     }
 
-    fn three_words(&mut self) -> Option<(u32, u32, u32)> {
-        let (a, b, c) = (self.word()?, self.word()?, self.word()?);
-        Some((a, b, c))
+    fn two_words(&mut self) -> Option<(u32, u32)> {
+        let (a, b) = (self.word()?, self.word()?);
+        Some((a, b))
     }
 
     // Bytes behind their length.

@@ -67,6 +67,7 @@ fn run<N: Naming + Send + Sync, R: Threads + Wait + Sync>(
         shared: &shared,
         tree,
         calls: &calls,
+        piece: plan.piece as usize,
     };
     let (alone, seat, own) = server.serve_alone(plan.first, last)?;
     let (served, sweeps, sweeper) = server.serve_swept(plan.others.as_slice(), others, sweeper)?;
@@ -111,6 +112,7 @@ struct Server<'a, N: Naming, R> {
     shared: &'a Shared<N>,
     tree: &'a Tree,
     calls: &'a Calls,
+    piece: usize,
 }
 
 impl<'a, N: Naming + Send + Sync, R: Threads + Wait + Sync> Server<'a, N, R> {
@@ -126,7 +128,7 @@ impl<'a, N: Naming + Send + Sync, R: Threads + Wait + Sync> Server<'a, N, R> {
         ensures kept { IfOk result (λ r. IsKept r.1 r.2.items) }
     {
         let mut replies = Vec::new(self.alloc);
-        let source = Yielding::new(input);
+        let source = Yielding::new(input, self.piece);
         let link = MemoryLink::new(source, &mut replies, Rising::new(self.calls));
         let done = serve_link(self.alloc, self.rt, self.shared, self.tree, link, seat)?;
         let Done {
@@ -189,6 +191,7 @@ impl<'a, N: Naming + Send + Sync, R: Threads + Wait + Sync> Server<'a, N, R> {
         let links = links_of(
             self.alloc,
             self.calls,
+            self.piece,
             inputs,
             seats,
             replies.as_mut_slice(),
@@ -215,10 +218,12 @@ fn no_replies(alloc: Global, count: usize) -> Result<Vec<Vec<u8>>, AllocError> {
     Ok(replies)
 }
 
-// A link for each input, at the seat in the same place. There are as many lists for replies as inputs, and seats.
+// A link for each input, of which a read gives at most a piece, at the seat in the same place. There are as many lists
+// for replies as inputs, and seats.
 fn links_of<'c, 'i, 'r, N: Naming>(
     alloc: Global,
     calls: &'c Calls,
+    piece: usize,
     inputs: &[&'i [u8]],
     seats: Vec<Seat<N>>,
     replies: &'r mut [Vec<u8>],
@@ -235,7 +240,7 @@ fn links_of<'c, 'i, 'r, N: Naming>(
         let Some(own) = replies.next() else {
             return Err(AllocError);
         };
-        let source = Yielding::new(input);
+        let source = Yielding::new(input, piece);
         links.push((MemoryLink::new(source, own, Rising::new(calls)), seat))?;
     }
     Ok(links)

@@ -3,18 +3,17 @@ ghost use Rattle.std.specs.Prelude.{Some};
 use std::io::{self, Read};
 use std::thread;
 
-// The most bytes that a read gives: most calls come in a few pieces.
-const PIECE_LEN: usize = 100;
-
 /// Gives its bytes in order, in pieces, before each of which other threads are let go on.
 #[derive(Debug, Drop)]
 pub(crate) struct Yielding<'a> {
     rest: &'a [u8],
+    /// The most bytes that a read gives, but for one, which it gives at least.
+    piece: usize,
 }
 
 impl<'a> Yielding<'a> {
-    pub(crate) fn new(bytes: &'a [u8]) -> Yielding<'a> {
-        Yielding { rest: bytes }
+    pub(crate) fn new(bytes: &'a [u8], piece: usize) -> Yielding<'a> {
+        Yielding { rest: bytes, piece }
     }
 }
 
@@ -23,7 +22,7 @@ impl Read for Yielding<'_> {
 
     fn read(&mut self, buffer: &mut [u8]) -> io::Result<usize> {
         thread::yield_now();
-        let len = PIECE_LEN.min(buffer.len());
+        let len = self.piece.max(1).min(buffer.len());
         self.rest.read(&mut buffer[..len])
     }
 }

@@ -7,9 +7,9 @@ use crate::renewing::Renewing;
 use nfs_core::Core;
 use nfs_operations::setclientid::Setclientid;
 use nfs_shared::{LeaseBook, LeasedCore, PlainLeases, Swept};
-use nfs_state::Moment;
+use nfs_state::{Moment, Request};
 use nfs_tree::Tree;
-use nfs_xdr::{Address, Answer, Callback, Op, OpResult, Principal, Verifier};
+use nfs_xdr::{Address, Answer, Callback, Op, OpResult, Principal, Refusal, Verifier};
 use std::alloc::Global;
 use std::process::Abort;
 use std::test::Fail;
@@ -65,12 +65,22 @@ fn started(alloc: Global) -> Option<LeasedCore<Renewing>> {
 fn answer_to<B: LeaseBook>(leased: &mut LeasedCore<B>, op: &Op) -> OpResult
     requires entry { IsTrue (has_entry op.now) }
 {
-    let moment = Moment::new(100).unwrap();
-    let principal = Principal::AuthSys(1);
-    match leased.call(moment, principal, op, None) {
-        (answer, Some(_)) => answer,
-        (_, None) => leased.call(moment, principal, op, None).0,
+    match answer_once(leased, op) {
+        (answer, true) => answer,
+        (_, false) => answer_once(leased, op).0,
     }
+}
+
+/// The answer to the operation at the moment 100, and whether it has an entry.
+fn answer_once<B: LeaseBook>(leased: &mut LeasedCore<B>, op: &Op) -> (OpResult, bool)
+    requires entry { IsTrue (has_entry op.now) }
+{
+    let moment = Moment::new(100).unwrap();
+    let Ok(request) = Request::of_copy(moment, Principal::AuthSys(1), op, None) else {
+        return (op.opnum().refusal(Refusal::Resource), false);
+    };
+    let (answer, entered) = leased.call(request);
+    (answer, entered.is_some())
 }
 
 /// The client with this id becomes live.

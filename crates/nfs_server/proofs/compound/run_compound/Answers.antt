@@ -6,11 +6,11 @@ use Rattle.nfs_server.proofs.compound.run_compound.Goals as goal
 pub returns-clause-fits : goal.returns-clause-fits
 returns-clause-fits g c =
     rw c.new.ensures
-    (omega (arith, reply_len (record { status = c.reply_status.result; tag = c.args.compound.tag; results = c.answer_operations.new.results.items }), c.requires.limits.0, c.head_len-size.ensures, c.answer_operations.ensures.fits))
+    (omega (arith, reply_len (record { status = c.answer_request-status.result; tag = c.args.compound.tag; results = c.answer_request-status.new.results.items }), c.requires.limits.0, c.head_len-size.ensures, c.answer_request-status.ensures.fits))
 
 pub returns-clause-form : goal.returns-clause-form
 returns-clause-form g c =
     let head = c.head_len-size.ensures.short in
-    let fits = c.answer_operations.ensures.fits in
+    let fits = c.answer_request-status.ensures.fits in
     rw c.new.ensures
-    (reply_has_form c.reply_status.result c.args.compound.tag c.answer_operations.new.results.items (omega (arith, c.requires.limits.0)) (omega (arith, head, c.requires.limits.0, fits)) c.answer_operations.ensures.form)
+    (reply_has_form c.answer_request-status.result c.args.compound.tag c.answer_request-status.new.results.items (omega (arith, c.requires.limits.0)) (omega (arith, head, c.requires.limits.0, fits)) c.answer_request-status.ensures.form)

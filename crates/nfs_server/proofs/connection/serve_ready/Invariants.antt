@@ -1,21 +1,24 @@
-use Rattle.std.proofs.Common.{◌≡◌, ◌≤◌, length}
+use Rattle.std.proofs.Common.{◌≡◌, ◌≤◌, ◌++◌, length}
 use Rattle.std.specs.List.{AllByRecursion}
 use Rattle.nfs_rpc.specs.declared.records.TheConstants.{RECORD_LIMIT}
+use Rattle.nfs_server.specs.Batch.{messages_in}
 use Rattle.nfs_server.specs.Connection.{scene}
 use Rattle.nfs_server.specs.Exchange.{rules}
+use Rattle.nfs_server.specs.declared.replies.TheConstants.{GATHER_LIMIT}
 use Rattle.nfs_server.proofs.Serving.{HasServed}
 use Rattle.nfs_server.proofs.connection.serve_ready.Given as goal
 
--- the records so far were answered, and the remaining ones are still ready
-abbrev pub invariant-loop-message : goal.invariant-loop-message
-invariant-loop-message g l = record {
-  served : HasServed g.D.Duplex.device (rules l.fn.tree g.S.Service.gives g.S.Service.alike g.C.Clock.tells) (scene l.fn.device l.fn.service l.fn.clock) l.fn.records.ready l.records.ready l.replies.gathered.items (scene l.device l.service l.clock);
+-- the records so far were answered, and the remaining ones are pending or still ready
+abbrev pub invariant-loop-device : goal.invariant-loop-device
+invariant-loop-device g l = record {
+  served : HasServed g.D.Duplex.device (rules l.fn.tree g.S.Service.gives g.S.Service.alike g.C.Clock.tells) (scene l.fn.device l.fn.service l.fn.clock) l.fn.records.ready (messages_in l.replies.pending.items ++ l.records.ready) l.replies.gathered.items (scene l.device l.service l.clock);
   limits : AllByRecursion (λ message. length message ≤ RECORD_LIMIT) l.records.ready;
   same : l.records ≡ record l.fn.records { ready = l.records.ready };
+  within : length l.replies.gathered.items ≤ GATHER_LIMIT;
   serves : g.S.Service.serves l.service ≡ l.fn.tree.nodes;
   reads : g.D.Duplex.read_failures l.device ≡ g.D.Duplex.read_failures l.fn.device;
   writes : g.D.Duplex.write_failures l.device ≡ g.D.Duplex.write_failures l.fn.device;
 }
 
-abbrev pub decreases-loop-message : goal.decreases-loop-message
-decreases-loop-message g l = length l.records.ready
+abbrev pub decreases-loop-device : goal.decreases-loop-device
+decreases-loop-device g l = length (messages_in l.replies.pending.items ++ l.records.ready)

@@ -2,7 +2,7 @@
 use Rattle.std.proofs.Common.{◌≡◌, ◌∙◌, ◌++◌, ◌∷◌, [], length, List, ℕ, ◌<◌, Option, None, Some, refl, ap, sym, subst, arith, length-append}
 use Rattle.nfs_core.specs.Entered.{Answers, IsEntered, number_entered}
 use Rattle.nfs_core.specs.Safe.{IsSafe}
-use Rattle.nfs_core.specs.Server.{IsLawful, Server}
+use Rattle.nfs_core.specs.Server.{Enters, IsLawful, Server}
 use Rattle.nfs_core.specs.declared.entered.Entered.{Entered}
 use Rattle.nfs_shared.proofs.Giving.{above_all, counted, last_entry, one_call}
 use Rattle.nfs_shared.proofs.Holding.{KeepsRules, held_call}
@@ -17,22 +17,23 @@ use Rattle.nfs_shared.specs.Renewals.{renewed_by}
 use Rattle.nfs_shared.specs.Roll.{list_of}
 use Rattle.nfs_forms.specs.declared.status.Refusal.TheVariants.{Resource}
 use Rattle.nfs_shared.specs.declared.receipt.Receipt.{Receipt}
-use Rattle.nfs_state.specs.Entries.{IsFilehandle, entry_of, request_of, resource}
+use Rattle.nfs_state.specs.Entries.{IsFilehandle, entry_of, resource}
 use Rattle.nfs_state.specs.State.{History}
 use Rattle.nfs_state.specs.Stored.{meaning}
 use Rattle.nfs_state.specs.declared.entry.Call.{Call}
+use Rattle.nfs_state.specs.declared.entry.Entry.{Entry}
 use Rattle.nfs_state.specs.declared.entry.Entry.TheVariants as entries
 use Rattle.nfs_state.specs.declared.entry.TheConstants.{JOURNAL_LIMIT}
 use Rattle.nfs_xdr.specs.OpResult.{refusal_of}
 
 pub call-answer-requires-clause-node : goal.call-answer-requires-clause-node
 call-answer-requires-clause-node g c =
-    subst (λ (j : History). IsFilehandle j c.args.filehandle) (sym c.held.invariant.2 ∙ ap (λ (s : Server). start_of s.journal) (sym c.renew.ensures.core)) c.requires.node
+    subst (λ (j : History). IsFilehandle j c.args.request.filehandle) (sym c.held.invariant.2 ∙ ap (λ (s : Server). start_of s.journal) (sym c.renew.ensures.core)) c.requires.node
 
 pub call_at-call-requires : goal.call_at-call-requires
 call_at-call-requires g c =
     let called = c.call-answer in
-    let request = request_of c.args.moment c.args.principal c.args.op.now c.args.filehandle in
+    let request = c.args.request in
     let call : Call = record { request = request; answer = called.result.0 } in
     let core = c.renew.new.self.core in
     let entered : IsEntered core called.new.self.core (entries.Call call) c.in-Some.entered =
@@ -43,7 +44,7 @@ pub give-receipt-requires-clause-count : goal.give-receipt-requires-clause-count
 give-receipt-requires-clause-count g c =
     let held = c.held.inside in
     let h = c.held.invariant.0 in
-    let request = request_of c.args.moment c.args.principal c.args.op.now c.args.filehandle in
+    let request = c.args.request in
     let es = held.leased.core.journal.entries in
     let core = c.renew.new.self.core in
     let places : c.reserve.new.self.items ≡ held.register.places.items = c.reserve.ensures.items in
@@ -58,7 +59,7 @@ give-receipt-requires-clause-count g c =
 pub give-receipt-requires-clause-above : goal.give-receipt-requires-clause-above
 give-receipt-requires-clause-above g c =
     let held = c.held.inside in
-    let request = request_of c.args.moment c.args.principal c.args.op.now c.args.filehandle in
+    let request = c.args.request in
     let core = c.renew.new.self.core in
     let entered : IsEntered core c.call-answer.new.self.core (entry_of request c.call-answer.result.0) c.in-Some.entered =
     subst (λ (o : Option Entered). Answers core c.call-answer.new.self.core request c.call-answer.result.0 o) c.in-Some.is c.call-answer.ensures.answers in
@@ -70,7 +71,7 @@ invariant_of-held-in-Some g c =
     let called = c.call-answer in
     let given = c.give-receipt.ensures in
     let receipt = c.give-receipt.result in
-    let request = request_of c.args.moment c.args.principal c.args.op.now c.args.filehandle in
+    let request = c.args.request in
     let call : Call = record { request = request; answer = called.result.0 } in
     let entered : IsEntered held.leased.core called.new.self.core (entries.Call call) c.in-Some.entered =
     subst (λ (s : Server). IsEntered s called.new.self.core (entries.Call call) c.in-Some.entered) c.renew.ensures.core
@@ -113,27 +114,50 @@ invariant_of-held-in-Some g c =
           ∙ ap (λ (j : History). others_in j.entries) (sym entered.0.1),
     )
 
+-- the answer is the core's, and the receipt has the number of its entry
+pub returns-in-Some-clause-applies : goal.returns-in-Some-clause-applies
+returns-in-Some-clause-applies g c =
+    let called = c.call-answer in
+    let request = c.args.request in
+    let entry : Entry = entry_of request called.result.0 in
+    let server : c.renew.new.self.core ≡ c.args.held.now.server = c.renew.ensures.core ∙ ap (λ (h : HeldView). h.server) c.held.view_is in
+    let entered : IsEntered c.renew.new.self.core called.new.self.core entry c.in-Some.entered =
+    subst (λ (o : Option Entered). Answers c.renew.new.self.core called.new.self.core request called.result.0 o) c.in-Some.is called.ensures.answers in
+    subst (λ (n : ℕ). Enters c.args.held.now.server called.new.self.core entry n) (sym (ap (λ (r : Receipt). r.number) c.give-receipt.ensures.receipt))
+    (subst (λ (s : Server). Enters s called.new.self.core entry c.in-Some.entered.number) server entered.0)
+
+pub returns-in-Some-clause-entry : goal.returns-in-Some-clause-entry
+returns-in-Some-clause-entry g c =
+    let called = c.call-answer in
+    let request = c.args.request in
+    let call : Call = record { request = request; answer = called.result.0 } in
+    let core = c.renew.new.self.core in
+    let entered : IsEntered core called.new.self.core (entries.Call call) c.in-Some.entered =
+    subst (λ (o : Option Entered). Answers core called.new.self.core request called.result.0 o) c.in-Some.is called.ensures.answers in
+    ap (λ (r : Receipt). r.call) c.give-receipt.ensures.receipt
+    ∙ one_call called.new.self.core.journal.entries c.in-Some.entered.number _ call c.call_at-call.ensures (last_entry core called.new.self.core (entries.Call call) c.in-Some.entered.number entered.0)
+
 -- what is told of the entry, and the calls on the book, from the value that the call began with
 pub returns-in-Some-clause-leases : goal.returns-in-Some-clause-leases
 returns-in-Some-clause-leases g c =
     let held = c.held.inside in
     let called = c.call-answer in
-    let request = request_of c.args.moment c.args.principal c.args.op.now c.args.filehandle in
-    let book : c.renew.new.self.book ≡ with_renewal (renewed_by g.N.Naming.start.epoch c.args.op.now) c.args.moment c.args.held.now.leases =
-    renewed_named g.N.Naming.start held.leased.core.journal c.journal.result.now.history c.epoch.result c.renewed_client-client.result c.args.op.now c.args.moment c.args.held.now.leases held.leased.book c.renew.new.self.book c.held.invariant.2 c.journal.ensures.journal c.epoch.ensures c.renewed_client-client.ensures (ap (λ (h : HeldView). h.leases) c.held.view_is) c.renew.ensures.book in
+    let request = c.args.request in
+    let book : c.renew.new.self.book ≡ with_renewal (renewed_by g.N.Naming.start.epoch c.args.request.op) c.args.request.moment c.args.held.now.leases =
+    renewed_named g.N.Naming.start held.leased.core.journal c.journal.result.now.history c.epoch.result c.renewed_client-client.result c.args.request.op c.args.request.moment c.args.held.now.leases held.leased.book c.renew.new.self.book c.held.invariant.2 c.journal.ensures.journal c.epoch.ensures c.renewed_client-client.ensures (ap (λ (h : HeldView). h.leases) c.held.view_is) c.renew.ensures.book in
     let server : c.renew.new.self.core ≡ c.args.held.now.server = c.renew.ensures.core ∙ ap (λ (h : HeldView). h.server) c.held.view_is in
-    let told = told_named request called.result.0 c.args.moment c.renew.new.self.core c.args.held.now.server called.new.self.core called.result.1 c.renew.new.self.book _ called.new.self.book called.ensures.answers called.ensures.leases server book in
+    let told = told_named request called.result.0 c.args.request.moment c.renew.new.self.core c.args.held.now.server called.new.self.core called.result.1 c.renew.new.self.book _ called.new.self.book called.ensures.answers called.ensures.leases server book in
     (called.result.1, told.0, ap number_entered c.in-Some.is ∙ ap (λ (r : Receipt). Some r.number) (sym c.give-receipt.ensures.receipt), told.1)
 
 pub returns-in-None-clause-leases : goal.returns-in-None-clause-leases
 returns-in-None-clause-leases g c =
     let held = c.held.inside in
     let called = c.call-answer in
-    let request = request_of c.args.moment c.args.principal c.args.op.now c.args.filehandle in
-    let book : c.renew.new.self.book ≡ with_renewal (renewed_by g.N.Naming.start.epoch c.args.op.now) c.args.moment c.args.held.now.leases =
-    renewed_named g.N.Naming.start held.leased.core.journal c.journal.result.now.history c.epoch.result c.renewed_client-client.result c.args.op.now c.args.moment c.args.held.now.leases held.leased.book c.renew.new.self.book c.held.invariant.2 c.journal.ensures.journal c.epoch.ensures c.renewed_client-client.ensures (ap (λ (h : HeldView). h.leases) c.held.view_is) c.renew.ensures.book in
+    let request = c.args.request in
+    let book : c.renew.new.self.book ≡ with_renewal (renewed_by g.N.Naming.start.epoch c.args.request.op) c.args.request.moment c.args.held.now.leases =
+    renewed_named g.N.Naming.start held.leased.core.journal c.journal.result.now.history c.epoch.result c.renewed_client-client.result c.args.request.op c.args.request.moment c.args.held.now.leases held.leased.book c.renew.new.self.book c.held.invariant.2 c.journal.ensures.journal c.epoch.ensures c.renewed_client-client.ensures (ap (λ (h : HeldView). h.leases) c.held.view_is) c.renew.ensures.book in
     let server : c.renew.new.self.core ≡ c.args.held.now.server = c.renew.ensures.core ∙ ap (λ (h : HeldView). h.server) c.held.view_is in
-    let told = told_named request called.result.0 c.args.moment c.renew.new.self.core c.args.held.now.server called.new.self.core called.result.1 c.renew.new.self.book _ called.new.self.book called.ensures.answers called.ensures.leases server book in
+    let told = told_named request called.result.0 c.args.request.moment c.renew.new.self.core c.args.held.now.server called.new.self.core called.result.1 c.renew.new.self.book _ called.new.self.book called.ensures.answers called.ensures.leases server book in
     (called.result.1, told.0, ap number_entered c.in-None.is, told.1)
 
 -- where there is no room for a place, the lease is renewed, and nobody comes or goes
@@ -162,8 +186,8 @@ invariant_of-held g c =
 pub returns-then-is_err-clause-leases : goal.returns-then-is_err-clause-leases
 returns-then-is_err-clause-leases g c =
     let held = c.held.inside in
-    let book : c.renew.new.self.book ≡ with_renewal (renewed_by g.N.Naming.start.epoch c.args.op.now) c.args.moment c.args.held.now.leases =
-    renewed_named g.N.Naming.start held.leased.core.journal c.journal.result.now.history c.epoch.result c.renewed_client-client.result c.args.op.now c.args.moment c.args.held.now.leases held.leased.book c.renew.new.self.book c.held.invariant.2 c.journal.ensures.journal c.epoch.ensures c.renewed_client-client.ensures (ap (λ (h : HeldView). h.leases) c.held.view_is) c.renew.ensures.book in
+    let book : c.renew.new.self.book ≡ with_renewal (renewed_by g.N.Naming.start.epoch c.args.request.op) c.args.request.moment c.args.held.now.leases =
+    renewed_named g.N.Naming.start held.leased.core.journal c.journal.result.now.history c.epoch.result c.renewed_client-client.result c.args.request.op c.args.request.moment c.args.held.now.leases held.leased.book c.renew.new.self.book c.held.invariant.2 c.journal.ensures.journal c.epoch.ensures c.renewed_client-client.ensures (ap (λ (h : HeldView). h.leases) c.held.view_is) c.renew.ensures.book in
     let server : c.renew.new.self.core ≡ c.args.held.now.server = c.renew.ensures.core ∙ ap (λ (h : HeldView). h.server) c.held.view_is in
-    let refused : c.refusal.result ≡ resource c.args.op.now = c.refusal.ensures.value ∙ ap (λ o. refusal_of o Resource) c.opnum.ensures in
+    let refused : c.refusal.result ≡ resource c.args.request.op = c.refusal.ensures.value ∙ ap (λ o. refusal_of o Resource) c.opnum.ensures in
     (None, (refused, (ap (λ (s : Server). s.journal) server, ap (λ (s : Server). s.stored) server)), refl, book)

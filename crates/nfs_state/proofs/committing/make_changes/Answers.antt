@@ -3,8 +3,20 @@ use Rattle.nfs_state.specs.Kept.{Agrees, kept_in, owners_after, update_by}
 use Rattle.nfs_state.specs.Changes.{after, with_owner_change, with_state_change}
 use Rattle.nfs_state.specs.Room.{HasGivenNumbers, HasOwnerPlace, HasUpdateRoom, IsWithinLimits, state_of}
 use Rattle.nfs_state.specs.Stored.{Stored, meaning}
-use Rattle.nfs_state.proofs.OwnerRoom.{given_after, limits_after, owners_changed, update_room_by}
+use Rattle.nfs_state.specs.declared.effect.Effect.{Effect}
+use Rattle.nfs_state.proofs.OwnerRoom.{given_after, limits_after, nothing_kept, owners_changed, update_room_by}
 use Rattle.nfs_state.proofs.committing.make_changes.Goals as goal
+
+-- an entry that changes nothing leaves the state as it is
+pub returns-then-is_nothing-clause-state : goal.returns-then-is_nothing-clause-state
+returns-then-is_nothing-clause-state c =
+    sym (ap (λ (e : Effect). after c.args.number c.args.entry.now e (state_of c.args.tables.now)) (c.is_nothing.ensures.0 c.if-is_nothing.true))
+
+pub returns-then-is_nothing-clause-kept : goal.returns-then-is_nothing-clause-kept
+returns-then-is_nothing-clause-kept c = λ journal agrees.
+    let owners = c.args.tables.now.owners.owners in
+    let nothing = ap (λ (e : Effect). owners_after (update_by e.owner (kept_in c.args.entry.now)) c.args.number owners) (c.is_nothing.ensures.0 c.if-is_nothing.true) in
+    subst (Agrees journal) (nothing ∙ nothing_kept (kept_in c.args.entry.now) c.args.number owners) agrees
 
 pub commit_owner-requires : goal.commit_owner-requires
 commit_owner-requires c =

@@ -4,47 +4,44 @@ use Rattle.nfs_core.proofs.Entering.{can_ask}
 use Rattle.nfs_core.proofs.Journals.{Lawful-entered, Lawful-same}
 use Rattle.nfs_core.proofs.Storing.{store_agrees}
 use Rattle.nfs_core.proofs.core_state.Core.answer.Goals as goal
-use Rattle.nfs_core.proofs.core_state.Core.answer.Goals.{in-Ok-enter, in-Err}
+use Rattle.nfs_core.proofs.core_state.Core.answer.Goals.{in-Ok, in-Err}
 use Rattle.nfs_core.specs.Entered.{Answers, IsEntered}
 use Rattle.nfs_core.specs.Server.{AreAlike, Server}
 use Rattle.nfs_core.specs.declared.entered.Entered.{Entered}
-use Rattle.nfs_state.specs.Entries.{entry_of, request_of}
+use Rattle.nfs_state.specs.Entries.{entry_of}
 use Rattle.nfs_state.specs.Store.{server_of}
-use Rattle.nfs_state.specs.declared.request.Request.{Request}
 use Rattle.nfs_xdr.specs.declared.op_result.OpResult.{OpResult}
 
 pub enter-requires-clause-asked : goal.enter-requires-clause-asked
-enter-requires-clause-asked c = can_ask c.self.inside.store.journal.history c.in-Ok.request (search rules) (search rules)
+enter-requires-clause-asked c = can_ask c.self.inside.store.journal.history c.args.request (search rules) (search rules)
 
 pub enter-requires-clause-stored : goal.enter-requires-clause-stored
 enter-requires-clause-stored c =
     store_agrees c.lawful_is_safe.ensures.safe c.self.inside.store c.self.invariant.0 c.self.invariant.1
 
-pub invariant_of-self-2 : goal.invariant_of-self-2
-invariant_of-self-2 c =
+pub invariant_of-self : goal.invariant_of-self
+invariant_of-self c =
     let before = c.self.inside.store in
     let after = c.enter.new.store in
     elim c.match-enter.branch [
-      | in-Ok-enter w ↦
-          let entered = w.in-Ok-enter.ensures.entered in
-          (Lawful-entered before.journal.history after.journal.history (state_of before.tables) (state_of after.tables) _ c.self.invariant.0 entered.0.1 entered.0.2, w.in-Ok-enter.ensures.kept)
+      | in-Ok w ↦
+          let entered = w.in-Ok.ensures.entered in
+          (Lawful-entered before.journal.history after.journal.history (state_of before.tables) (state_of after.tables) _ c.self.invariant.0 entered.0.1 entered.0.2, w.in-Ok.ensures.kept)
       | in-Err w ↦ (Lawful-same before.journal.history after.journal.history (stored_of before.tables) (stored_of after.tables) w.in-Err.ensures.same.0 w.in-Err.ensures.same.1 c.self.invariant.0, w.in-Err.ensures.kept)
     ]
 
 pub returns-clause-lawful : goal.returns-clause-lawful
-returns-clause-lawful c = (invariant_of-self-2 c).0
+returns-clause-lawful c = (invariant_of-self c).0
 
 pub returns-clause-answers : goal.returns-clause-answers
 returns-clause-answers c =
-    let request = request_of c.args.moment c.args.principal c.args.op.now c.args.filehandle in
+    let request = c.args.request in
     let old = server_of c.self.inside.store in
     let new = server_of c.enter.new.store in
     elim c.match-enter.branch [
-      | in-Ok-enter w ↦
-          let told : IsEntered old new (entry_of request w.in-Ok-enter.answer) w.in-Ok-enter.entered =
-          subst (λ (r : Request). IsEntered old new (entry_of r w.in-Ok-enter.answer) w.in-Ok-enter.entered) c.in-Ok.ensures w.in-Ok-enter.ensures.entered in
-          let from : IsEntered c.args.self.now new (entry_of request w.in-Ok-enter.answer) w.in-Ok-enter.entered =
-          subst (λ (s : Server). IsEntered s new (entry_of request w.in-Ok-enter.answer) w.in-Ok-enter.entered) c.self.view_is told in
+      | in-Ok w ↦
+          let from : IsEntered c.args.self.now new (entry_of request w.in-Ok.answer) w.in-Ok.entered =
+          subst (λ (s : Server). IsEntered s new (entry_of request w.in-Ok.answer) w.in-Ok.entered) c.self.view_is w.in-Ok.ensures.entered in
           subst (λ (r : OpResult × Option Entered). Answers c.args.self.now new request r.0 r.1) (sym w.result-is) from
       | in-Err w ↦
           let alike : AreAlike c.args.self.now new = subst (λ (s : Server). AreAlike s new) c.self.view_is w.in-Err.ensures.same in

@@ -4,32 +4,31 @@ use Rattle.std.specs.Prelude.{IfNone, IfSome}
 use Rattle.nfs_shared.specs.Seats.{Gives, KnowsTheSame, SeatView}
 use Rattle.nfs_shared.specs.declared.receipt.Receipt.{Receipt}
 use Rattle.nfs_shared.specs.laws.Keeping.{kept_more, kept_same}
-use Rattle.nfs_state.specs.Entries.{request_of}
 use Rattle.nfs_server.specs.Holding.{Holding}
 use Rattle.nfs_server.proofs.Receiving.{received}
 use Rattle.nfs_server.proofs.desk.DeskService.call.Goals as goal
 
 pub invariant_of-self : goal.invariant_of-self
 invariant_of-self g c =
-    let given = subst (λ (o : Option Receipt). IfSome o (λ r. Gives c.self.inside.seat r c.call-answer.new.seat)) c.in-Some.is c.call-answer.ensures.given in
-    rw c.push_reserved.ensures.items (kept_more c.self.inside.seat c.self.inside.receipts.items c.in-Some.receipt c.call-answer.new.seat c.self.invariant given)
+    let given = subst (λ (o : Option Receipt). IfSome o (λ r. Gives c.self.inside.seat r c.call_in-answer.new.seat)) c.in-Some.is c.call_in-answer.ensures.given in
+    rw c.push_reserved.ensures.items (kept_more c.self.inside.seat c.self.inside.receipts.items c.in-Some.receipt c.call_in-answer.new.seat c.self.invariant given)
 
 pub returns-in-Some-clause-gives : goal.returns-in-Some-clause-gives
 returns-in-Some-clause-gives g c =
-    let request = request_of c.args.moment c.args.principal c.args.op.now c.args.filehandle in
+    let request = c.args.request in
     let seat : c.self.inside.seat ≡ c.args.self.now.seat = ap (λ (h : Holding). h.seat) c.self.view_is in
     let receipts : c.self.inside.receipts.items ≡ c.args.self.now.receipts = ap (λ (h : Holding). h.receipts) c.self.view_is in
-    let is = received request c.call-answer.result.0 c.call-answer.result.1 c.in-Some.receipt c.self.inside.seat c.call-answer.new.seat c.in-Some.is c.call-answer.ensures.refused c.call-answer.ensures.entry c.call-answer.ensures.given in (
+    let is = received request c.call_in-answer.result.0 c.call_in-answer.result.1 c.in-Some.receipt c.self.inside.seat c.call_in-answer.new.seat c.in-Some.is c.call_in-answer.ensures.refused c.call_in-answer.ensures.entry c.call_in-answer.ensures.given in (
       Some c.in-Some.receipt,
       (
         is.0,
         is.1,
-        subst (λ (s : SeatView). Gives s c.in-Some.receipt c.call-answer.new.seat) seat is.2,
+        subst (λ (s : SeatView). Gives s c.in-Some.receipt c.call_in-answer.new.seat) seat is.2,
         rw (← receipts) c.push_reserved.ensures.items,
       ),
     )
 
 pub invariant_of-self-in_default : goal.invariant_of-self-in_default
 invariant_of-self-in_default g c =
-    let same = subst (λ (o : Option Receipt). IfNone o (KnowsTheSame c.self.inside.seat c.call-answer.new.seat)) c.in_default.is c.call-answer.ensures.same in
-    kept_same c.self.inside.seat c.self.inside.receipts.items c.call-answer.new.seat c.self.invariant same
+    let same = subst (λ (o : Option Receipt). IfNone o (KnowsTheSame c.self.inside.seat c.call_in-answer.new.seat)) c.in_default.is c.call_in-answer.ensures.same in
+    kept_same c.self.inside.seat c.self.inside.receipts.items c.call_in-answer.new.seat c.self.invariant same

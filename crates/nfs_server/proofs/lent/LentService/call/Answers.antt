@@ -8,22 +8,21 @@ use Rattle.nfs_shared.specs.BookEvent.{Leads}
 use Rattle.nfs_shared.specs.BookOf.{events_entered}
 use Rattle.nfs_shared.specs.PlainBook.{Happens, PlainBook, with_renewal}
 use Rattle.nfs_shared.specs.Renewals.{renewed_by}
-use Rattle.nfs_state.specs.Entries.{request_of}
 use Rattle.nfs_state.specs.State.{History}
 
 pub returns-clause-gives : goal.returns-clause-gives
 returns-clause-gives c =
     let called = c.call-answer in
-    let request = request_of c.args.moment c.args.principal c.args.op.now c.args.filehandle in
+    let request = c.args.request in
     let old : LentCore = c.args.self.now in
     let server : c.renew.new.self.core ≡ old.core = c.renew.ensures.core ∙ ap (λ (l : LentCore). l.core) c.self.view_is in
     let epoch : c.epoch.result ≡ old.core.journal.epoch =
     c.epoch.ensures ∙ ap (λ (j : History). j.epoch) c.journal.ensures.journal ∙ ap (λ (s : Server). s.journal.epoch) (ap (λ (l : LentCore). l.core) c.self.view_is) in
-    let client = c.renewed_client-client.ensures ∙ ap (λ (n : ℕ). renewed_by n c.args.op.now) epoch in
+    let client = c.renewed_client-client.ensures ∙ ap (λ (n : ℕ). renewed_by n request.op) epoch in
     let before = ap (λ (l : LentCore). l.book) c.self.view_is in
-    let book : c.renew.new.self.book ≡ with_renewal (renewed_by old.core.journal.epoch c.args.op.now) c.args.moment old.book =
-    c.renew.ensures.book ∙ (λ i. with_renewal (client i) c.args.moment (before i)) in (
+    let book : c.renew.new.self.book ≡ with_renewal (renewed_by old.core.journal.epoch request.op) request.moment old.book =
+    c.renew.ensures.book ∙ (λ i. with_renewal (client i) request.moment (before i)) in (
       called.result.1,
       subst (λ (s : Server). Answers s called.new.self.core request called.result.0 called.result.1) server called.ensures.answers,
-      subst (λ (b : PlainBook). Leads Happens b (events_entered called.result.1 c.args.moment) called.new.self.book) book called.ensures.leases,
+      subst (λ (b : PlainBook). Leads Happens b (events_entered called.result.1 request.moment) called.new.self.book) book called.ensures.leases,
     )

@@ -14,12 +14,12 @@ put_compound-requires-clause-short g c =
 
 pub returns-in-Silent-clause-ok : goal.returns-in-Silent-clause-ok
 returns-in-Silent-clause-ok g c =
-    answers_silence (rules c.args.tree.now g.S.Service.gives g.S.Service.alike g.C.Clock.tells) c.args.service.now c.args.clock.now c.args.message.now c.args.self.now.gathered.items c.reserve.new.self.items c.in-Silent.ensures.call c.in_ok-reserve.ensures.items
+    answers_silence (rules c.args.tree.now g.S.Service.gives g.S.Service.alike g.C.Clock.tells) c.args.service.now c.args.clock.now c.args.pending.message c.args.self.now.gathered.items c.reserve.new.self.items c.in-Silent.ensures.call c.in_ok-reserve.ensures.items
 
 pub returns-in-Null-clause-ok : goal.returns-in-Null-clause-ok
 returns-in-Null-clause-ok g c =
     on_ok c.put_record.result _ _
-    (λ written. answers_null (rules c.args.tree.now g.S.Service.gives g.S.Service.alike g.C.Clock.tells) c.args.service.now c.args.clock.now c.args.message.now c.args.self.now.gathered.items c.put_record.new.out.items c.in-Null.xid c.in-Null.ensures.call (rw (← c.in_ok-reserve.ensures.items) written)) c.put_record.ensures.ok
+    (λ written. answers_null (rules c.args.tree.now g.S.Service.gives g.S.Service.alike g.C.Clock.tells) c.args.service.now c.args.clock.now c.args.pending.message c.args.self.now.gathered.items c.put_record.new.out.items c.in-Null.xid c.in-Null.ensures.call (rw (← c.in_ok-reserve.ensures.items) written)) c.put_record.ensures.ok
 
 pub returns-in-Null-clause-err : goal.returns-in-Null-clause-err
 returns-in-Null-clause-err g c =
@@ -28,12 +28,12 @@ returns-in-Null-clause-err g c =
 pub returns-in-Answer-clause-ok : goal.returns-in-Answer-clause-ok
 returns-in-Answer-clause-ok g c =
     on_ok c.put_record-in-Answer.result _ _
-    (λ written. answers_alone (rules c.args.tree.now g.S.Service.gives g.S.Service.alike g.C.Clock.tells) c.args.service.now c.args.clock.now c.args.message.now c.args.self.now.gathered.items c.put_record-in-Answer.new.out.items c.in-Answer.xid c.in-Answer.reply c.in-Answer.ensures.call (rw (← c.in_ok-reserve.ensures.items) written)) c.put_record-in-Answer.ensures.ok
+    (λ written. answers_alone (rules c.args.tree.now g.S.Service.gives g.S.Service.alike g.C.Clock.tells) c.args.service.now c.args.clock.now c.args.pending.message c.args.self.now.gathered.items c.put_record-in-Answer.new.out.items c.in-Answer.xid c.in-Answer.reply c.in-Answer.ensures.call (rw (← c.in_ok-reserve.ensures.items) written)) c.put_record-in-Answer.ensures.ok
 
 pub returns-in_ok-room-in-Compound-clause-ok : goal.returns-in_ok-room-in-Compound-clause-ok
 returns-in_ok-room-in-Compound-clause-ok g c =
     on_ok c.put_compound.result _ _
-    (λ written. answers_compound (rules c.args.tree.now g.S.Service.gives g.S.Service.alike g.C.Clock.tells) c.args.service.now c.room.new.self c.run_compound-reply.new.service c.args.clock.now c.now-moment.new.self c.args.message.now c.args.self.now.gathered.items c.put_compound.new.self.gathered.items c.in-Compound.xid c.now-moment.result c.in-Compound.principal c.in-Compound.compound c.run_compound-reply.result c.in-Compound.ensures.call c.room.ensures.alike c.now-moment.ensures c.run_compound-reply.ensures.answers (rw (← c.in_ok-reserve.ensures.items) written)) c.put_compound.ensures.ok
+    (λ written. answers_compound (rules c.args.tree.now g.S.Service.gives g.S.Service.alike g.C.Clock.tells) c.args.service.now c.room.new.self c.run_compound-reply.new.service c.args.clock.now c.now-moment.new.self c.args.pending.message c.args.self.now.gathered.items c.put_compound.new.self.gathered.items c.in-Compound.xid c.now-moment.result c.in-Compound.principal c.in-Compound.compound c.run_compound-reply.result c.in-Compound.ensures.call c.room.ensures.alike c.now-moment.ensures c.run_compound-reply.ensures.answers (rw (← c.in_ok-reserve.ensures.items) written)) c.put_compound.ensures.ok
 
 pub returns-in_ok-room-in-Compound-clause-err :
     goal.returns-in_ok-room-in-Compound-clause-err

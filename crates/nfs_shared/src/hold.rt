@@ -1,0 +1,104 @@
+//! A hold of the lock of the shared state, as a value.
+ghost use Rattle.std.specs.Prelude.{◌≡◌, ◌+◌, ◌≤◌, ◌++◌, ◌∷◌, ◌↔◌, [], IfNone, IfSome, IsNone, IsTrue, Option, length};
+ghost use Rattle.nfs_core.specs.Entered.{Answers, number_entered};
+ghost use Rattle.nfs_core.specs.Server.{Applies};
+ghost use Rattle.nfs_core.specs.declared.entered.Entered.{Entered};
+ghost use Rattle.nfs_forms.specs.ClientId.{number_in};
+ghost use Rattle.nfs_shared.specs.BookEvent.{Leads};
+ghost use Rattle.nfs_shared.specs.BookOf.{events_entered};
+ghost use Rattle.nfs_shared.specs.Held.{MayBeHeld};
+ghost use Rattle.nfs_shared.specs.PlainBook.{Happens, has_open_lease, with_renewal};
+ghost use Rattle.nfs_shared.specs.Renewals.{renewed_by};
+ghost use Rattle.nfs_shared.specs.Seats.{Gives, KnowsTheSame, number_given};
+ghost use Rattle.nfs_shared.specs.Sweeps.{Sweeps, leased_server};
+ghost use Rattle.nfs_state.specs.Entries.{IsFilehandle, resource};
+ghost use Rattle.nfs_xdr.specs.Op.{has_entry, opnum_of};
+ghost use Rattle.nfs_xdr.specs.OpResult.{op_result};
+ghost use Rattle.nfs_xdr.specs.Opnum.{answer_limit};
+
+use crate::Swept;
+use crate::held::{Held, call_held, renew_held, renew_named, sweep_held};
+use crate::naming::Naming;
+use crate::receipt::Receipt;
+use crate::seat::Seat;
+use crate::sweeper::Sweeper;
+use nfs_core::Moment;
+use nfs_state::Request;
+use nfs_xdr::{ClientId, Op, OpResult};
+use std::marker::Model;
+use std::sync::MutexGuard;
+
+/// A hold of the lock. Contracts see the value that the lock guards. The lock is given back when this is dropped.
+#[derive(Drop)]
+pub struct Hold<'a, N: Naming> {
+    pub(crate) guard: MutexGuard<'a, Held<N>>,
+}
+
+impl<'a, N: Naming> Model for Hold<'a, N> {
+    ghost use Rattle.nfs_shared.specs.Held.{HeldView};
+
+    ghost Value = { HeldView };
+
+    ghost view = { λ h. h.guard.value };
+}
+
+impl<'a, N: Naming> Hold<'a, N> {
+    /// Has the core answer a request, as `call_held` does.
+    pub fn call(&mut self, seat: &mut Seat<N>, request: Request) -> (OpResult, Option<Receipt>)
+        requires entry { IsTrue (has_entry request.op) }
+        requires node { IsFilehandle N.start request.filehandle }
+        ensures applies { Applies self.old.server self.new.server request result.0
+            (number_given result.1) }
+        ensures refused { IsNone result.1 ↔ (result.0 ≡ resource request.op) }
+        ensures entry { IfSome result.1
+            (λ r. r.call ≡ record { request = request; answer = result.0 }) }
+        ensures same { IfNone result.1 ((self.new.places ≡ self.old.places)
+            × (self.new.receipts ≡ self.old.receipts) × KnowsTheSame seat.old seat.new) }
+        ensures places { IfSome result.1 (λ r. self.new.places ≡ self.old.places ++ r.place ∷ []) }
+        ensures receipts { IfSome result.1 (λ r. self.new.receipts ≡ self.old.receipts ++ r ∷ []) }
+        ensures given { IfSome result.1 (λ r. Gives seat.old r seat.new) }
+        ensures short { length (op_result.encoding result.0)
+            ≤ answer_limit (opnum_of request.op) }
+        ensures form { op_result.Fits result.0 }
+        ensures leases { (entered : Option Entered)
+            × Answers self.old.server self.new.server request result.0 entered
+            × (number_entered entered ≡ number_given result.1)
+            × Leads Happens
+            (with_renewal (renewed_by N.start.epoch request.op) request.moment self.old.leases)
+            (events_entered entered request.moment) self.new.leases }
+    {
+        call_held(&mut *self.guard, seat, request)
+    }
+
+    /// Renews the lease of the client that the operation names, as a call of it does, where the call can't be made.
+    pub fn renew_named(&mut self, op: &Op, moment: Moment)
+        ensures { self.new ≡ record self.old {
+          leases = with_renewal (renewed_by N.start.epoch op.now) moment self.old.leases;
+        } }
+    {
+        renew_named(&mut *self.guard, op, moment)
+    }
+
+    /// Renews the lease of this client, if it is open, and returns whether it is.
+    pub fn renew(&mut self, seat: &mut Seat<N>, moment: Moment, client: ClientId) -> bool
+        ensures held { self.new ≡ record self.old {
+          leases = with_renewal (number_in N.start.epoch client) moment self.old.leases;
+        } }
+        ensures open { result ≡ has_open_lease self.old.leases (number_in N.start.epoch client) }
+        ensures known { MayBeHeld N.start seat.old self.old }
+        ensures same { KnowsTheSame seat.old seat.new }
+    {
+        renew_held(&mut *self.guard, seat, moment, client)
+    }
+
+    /// Goes through the live clients, and removes each whose lease is over at `now`. The entries are the sweeper's.
+    pub fn sweep(&mut self, sweeper: &mut Sweeper<N>, now: Moment) -> Swept
+        ensures sweeps { Sweeps Happens now (leased_server self.old.server self.old.leases) result
+            (leased_server self.new.server self.new.leases) }
+        ensures count { sweeper.new.count ≡ sweeper.old.count + result.expired }
+        ensures places { self.new.places ≡ self.old.places }
+        ensures receipts { self.new.receipts ≡ self.old.receipts }
+    {
+        sweep_held(&mut *self.guard, sweeper, now)
+    }
+}
