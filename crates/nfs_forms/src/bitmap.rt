@@ -4,7 +4,7 @@ ghost use Rattle.nfs_forms.specs.Bitmap as forms;
 use smallvec::SmallVec;
 use std::alloc::{AllocError, Global};
 use std::marker::Model;
-use xdr::{Measure, NO_LIMIT, Sequence, Wire, WireError, write_many};
+use xdr::{Measure, NO_LIMIT, Wire, WireError, read_few, write_many};
 
 /// A set of attributes (bitmap4): bit b is bit (b mod 32) of word (b / 32), rounded down. Contracts see the list of the
 /// words, so bitmaps that differ only in the number of zero words at the end are different values.
@@ -75,8 +75,8 @@ impl Wire for Bitmap {
     ghost form = { forms.bitmap };
 
     fn read(alloc: Global, bytes: &[u8]) -> Result<(Bitmap, &[u8]), WireError> {
-        let (words, rest) = Sequence::<u32>::read(alloc, bytes)?;
-        Ok((Bitmap::new(words.into_vec()), rest))
+        let (words, rest) = read_few(alloc, bytes, NO_LIMIT)?;
+        Ok((Bitmap { words }, rest))
     }
 
     fn write(&self, out: &mut Vec<u8>) -> Result<(), WireError> {

@@ -1,5 +1,6 @@
 ghost use Rattle.std.specs.Prelude.{◌≡◌, ◌==◌, IfOk};
 
+use smallvec::SmallVec;
 use std::alloc::{AllocError, Global};
 use std::marker::Model;
 
@@ -7,9 +8,11 @@ use std::marker::Model;
 pub const NO_LIMIT: u32 = u32::MAX;
 
 /// Owned bytes (opaque<>), which can be written if there are at most `NO_LIMIT` of them. Contracts see the list of them.
+/// Up to 32 take no memory of the allocator, which is enough for most names and for the attributes that are asked for
+/// most.
 #[derive(Debug, Drop)]
 pub struct Bytes {
-    items: Vec<u8>,
+    items: SmallVec<u8, 32>,
 }
 
 impl Model for Bytes {
@@ -25,7 +28,9 @@ impl Bytes {
     pub fn new(items: Vec<u8>) -> Bytes
         ensures { result ≡ items.items }
     {
-        Bytes { items }
+        Bytes {
+            items: SmallVec::from_vec(items),
+        }
     }
 
     /// A copy of these bytes.
@@ -33,7 +38,7 @@ impl Bytes {
         ensures { IfOk result (λ b. b ≡ items.now) }
     {
         Ok(Bytes {
-            items: Vec::from_slice(alloc, items)?,
+            items: SmallVec::from_slice(alloc, items)?,
         })
     }
 
@@ -63,8 +68,6 @@ impl Clone for Bytes {
     ghost is_clone = { λ x y. y ≡ x };
 
     fn clone(&self) -> Result<Bytes, AllocError> {
-        Ok(Bytes {
-            items: self.items.clone()?,
-        })
+        Bytes::copy_of(*self.items.allocator(), self.as_slice())
     }
 }

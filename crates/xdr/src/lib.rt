@@ -19,7 +19,7 @@ pub use basic::{
 pub use bytes::{Bytes, NO_LIMIT};
 pub use fields::{write_five, write_four, write_three, write_two};
 pub use laws::written_is_read_again;
-pub use many::{read_many, write_many};
+pub use many::{read_few, read_many, write_many};
 pub use measure::Measure;
 pub use opaque::Opaque;
 pub use sequence::Sequence;

@@ -8,6 +8,7 @@ ghost use Rattle.xdr.specs.Writing.{Writes};
 
 use crate::basic::{read_u32, write_u32};
 use crate::{Sequence, Wire, WireError};
+use smallvec::SmallVec;
 use std::alloc::Global;
 
 /// The values that follow their count at the front, and the bytes after them. TooLong if the count is above `limit`,
@@ -45,6 +46,43 @@ fn read_each<T: Wire>(
         }
     }
     Ok((Sequence::new(values), rest))
+}
+
+/// The same values in the same cases, of a type that has a default. Up to `FEW` take no memory of the allocator.
+#[tactic(auto, unfolding(crate::specs::Reading::many_at))]
+pub fn read_few<T: Wire + Default, const FEW: usize>(
+    alloc: Global,
+    bytes: &[u8],
+    limit: u32,
+) -> Result<(SmallVec<T, FEW>, &[u8]), WireError>
+    ensures { Gives (λ x. (x.0.items, x.1.now)) result
+        ((forms.many limit T.form).at bytes.now) }
+{
+    let (count, rest) = read_u32(bytes)?;
+    if count > limit {
+        return Err(WireError::TooLong);
+    }
+    read_each_of_few(alloc, count, rest)
+}
+
+// Reads `count` values.
+fn read_each_of_few<T: Wire + Default, const FEW: usize>(
+    alloc: Global,
+    count: u32,
+    bytes: &[u8],
+) -> Result<(SmallVec<T, FEW>, &[u8]), WireError>
+    ensures { Gives (λ x. (x.0.items, x.1.now)) result (each_at T.form.at count bytes.now) }
+{
+    let mut values = SmallVec::new(alloc);
+    let mut rest = bytes;
+    for _ in 0..count {
+        let (value, beyond) = T::read(alloc, rest)?;
+        match values.push(value) {
+            Ok(()) => rest = beyond,
+            Err(_) => return Err(WireError::Memory),
+        }
+    }
+    Ok((values, rest))
 }
 
 /// Writes the count and the values at the end, or nothing. TooLong if there are more than `limit`, or one doesn't fit

@@ -1,6 +1,6 @@
 -- The layout of values that are made from some values of another form.
 use Rattle.std.proofs.Common.{◌≡◌, ℕ, List, ◌++◌, Option, Some, None, Ok, refl, sym, ap, subst, ◌∙◌}
-use Rattle.xdr.specs.Reading.{Read, Reads, ◌>>=◌, some_at, or_short}
+use Rattle.xdr.specs.Reading.{Read, Reads, some_at, or_short}
 use Rattle.xdr.specs.laws.Reads.{bind_ok, ok_is}
 
 some_is : {B : Type 0} (o : Option B) (rest : List ℕ) (y : B × List ℕ) → or_short o rest ≡ Ok y
