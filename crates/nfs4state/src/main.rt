@@ -11,7 +11,7 @@ use crate::new_file::NewFile;
 use nfs_core::{Core, CoreError, LEASE_MAX, LEASE_MIN, Moment};
 use nfs_listener::{end_run, serve_on};
 use nfs_options::{Declined, OnceOptions, ServeOptions, Subcommand, options};
-use nfs_server::{Counted, Fault, Sides, read_tree, run_audit, run_once};
+use nfs_server::{Counted, Fault, Sides, file_buffer, read_tree, run_audit, run_once};
 use nfs_tree::{DEFAULT_TREE, Tree};
 use std::alloc::Global;
 use std::net::TcpListener;
@@ -95,14 +95,17 @@ fn serve<R: Threads + Wait + Clock + Sync>(
         Err(fault) => return report(rt, fault),
     };
     let alloc = rt.alloc();
+    let mut journal = journal_file(rt, options.journal);
+    let Ok(mut buffer) = file_buffer(alloc, &journal) else {
+        return report(rt, Fault::NoMemory);
+    };
     let served = serve_on(alloc, threads, &listener, core, &tree, options.connections);
     let Ok((core, connections)) = served else {
         return report(rt, Fault::NoMemory);
     };
     let mut errors = rt.stderr();
-    let mut journal = journal_file(rt, options.journal);
     end_run(
-        alloc,
+        &mut buffer,
         &core,
         connections.as_slice(),
         &mut errors,

@@ -15,12 +15,12 @@ use xdr::WireError;
 pub fn write_journal(out: &mut Vec<u8>, journal: &Journal) -> Result<(), AuditError>
     ensures { WritesFile out.old out.new result journal.now.history }
 {
-    let opening = Opening {
-        epoch: journal.epoch(),
-        lease: journal.lease(),
-        policy: journal.policy(),
-    };
-    match write_parts(out, &opening, journal.tree().nodes(), journal.entries()) {
+    match write_parts(
+        out,
+        &Opening::of(journal),
+        journal.tree().nodes(),
+        journal.entries(),
+    ) {
         Ok(()) => Ok(()),
         Err(WireError::Memory) => Err(AuditError::Memory),
         Err(_) => Err(AuditError::Format),

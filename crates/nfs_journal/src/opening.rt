@@ -1,5 +1,8 @@
+ghost use Rattle.std.specs.Prelude.{◌≡◌};
 ghost use Rattle.nfs_journal.specs.File as forms;
+ghost use Rattle.nfs_journal.specs.Journals.{file_of};
 
+use nfs_state::Journal;
 use nfs_tree::Policy;
 use std::alloc::Global;
 use xdr::{Wire, WireError, read_constant, write_five};
@@ -18,6 +21,19 @@ pub struct Opening {
     /// The lease in seconds.
     pub lease: u32,
     pub policy: Policy,
+}
+
+impl Opening {
+    /// What the server of this journal began with.
+    pub fn of(journal: &Journal) -> Opening
+        ensures { result ≡ (file_of journal.now.history).opening }
+    {
+        Opening {
+            epoch: journal.epoch(),
+            lease: journal.lease(),
+            policy: journal.policy(),
+        }
+    }
 }
 
 impl Wire for Opening {

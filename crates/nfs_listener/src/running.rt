@@ -8,14 +8,13 @@ ghost use Rattle.nfs_server.specs.declared.fault.Fault.{Fault};
 use crate::{Ended, first_fault};
 use nfs_core::Core;
 use nfs_server::{Sink, exit_status, file_journal};
-use std::alloc::Global;
 use std::io::Write;
 
 /// Ends a run that served these connections, which left this core. The file of the core's journal is written, also after a
-/// fault, if there is a sink for it. Returns the program's exit status: 0, or 1 after a fault. The fault of the first
+/// fault, if there is a sink for it, by the memory of this buffer. Returns the program's exit status: 0, or 1 after a fault. The fault of the first
 /// connection in the list that had one, or else that of the journal's file, is reported by a line on `errors`.
 pub fn end_run<E: Write, J: Sink>(
-    alloc: Global,
+    buffer: &mut Vec<u8>,
     core: &Core,
     connections: &[Ended],
     errors: &mut E,
@@ -28,6 +27,6 @@ pub fn end_run<E: Write, J: Sink>(
         core.now.journal filed
         × (result ≡ status_of (option_or (first_fault_of connections.now) filed)) }
 {
-    let filed = file_journal(alloc, core.journal(), journal);
+    let filed = file_journal(buffer, core.journal(), journal);
     exit_status(errors, first_fault(connections).or(filed))
 }

@@ -3,6 +3,7 @@ pub mod Folding
 pub mod Receiving
 pub mod Replying
 pub mod Writing
+pub mod Putting
 pub mod Exchanges
 pub mod Serving
 pub mod Batching

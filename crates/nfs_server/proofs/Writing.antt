@@ -1,5 +1,5 @@
 -- Writes that follow each other.
-use Rattle.std.proofs.Common.{◌≡◌, ℕ, List, [], ◌∷◌, ◌++◌, take, drop, refl, sym, ap, subst, ◌∙◌, append_assoc}
+use Rattle.std.proofs.Common.{◌≡◌, ◌≢◌, ℕ, List, [], ◌∷◌, ◌++◌, take, drop, refl, sym, ap, subst, ◌∙◌, append_assoc}
 use Rattle.std.specs.List.{flat_map}
 use Rattle.std.proofs.lemmas.List.{append-nil, take-append-drop}
 use Rattle.std.proofs.lemmas.List.Concat.{flat_map-cons}
@@ -46,4 +46,20 @@ goes_out device a b c bytes rest n so_far more = (
   so_far.0 ++ take n rest,
   so_far.1 ∙ ap (λ (x : List ℕ). so_far.0 ++ x) (sym (take-append-drop n rest)) ∙ sym (append_assoc so_far.0 (take n rest) (drop n rest)),
   written_more device a b c so_far.0 (take n rest) so_far.2 more,
+)
+
+some_of_both : (back more : List ℕ) → back ≢ [] → back ++ more ≢ []
+some_of_both [] more some none = some refl
+some_of_both (byte ∷ bytes) more some none = absurd cc
+
+-- what was cut is cut as the beginning of more
+pub cut_before : {D : Type 0} (device : Device D) (a c : D) (bytes more : List ℕ) → IsCut device a bytes c → IsCut device a (bytes ++ more) c
+cut_before device a c bytes more cut = (
+  cut.0,
+  cut.1 ++ more,
+  cut.2,
+  ap (λ (x : List ℕ). x ++ more) cut.3 ∙ append_assoc cut.0 cut.1 more,
+  some_of_both cut.1 more cut.4,
+  cut.5,
+  cut.6,
 )

@@ -5,6 +5,7 @@ pub mod LentAnswers
 pub mod Entries
 pub mod Folding
 pub mod Device
+pub mod Pieces
 pub mod Sides
 pub mod Pair
 pub mod Exchange

@@ -20,13 +20,13 @@ use std::marker::Model;
 use std::sync::Wait;
 
 /// A worker at the state that threads share: the service of its connection. It keeps the receipts that it is given, and
-/// has a hold of the lock while it answers a batch. The handle by which it may wait for the lock is part of it, as
+/// has a hold of the lock while it answers a batch, from its first question on. The handle by which it may wait for the lock is part of it, as
 /// services are called without one.
 #[derive(Drop)]
 pub struct Desk<'a, N: Naming, R: Wait> {
     rt: &'a R,
     shared: &'a Shared<N>,
-    hold: Option<Hold<'a, N>>,
+    hold: BatchHold<'a, N>,
     seat: Seat<N>,
     receipts: Vec<Receipt>,
 }
@@ -57,7 +57,7 @@ impl<'a, N: Naming, R: Wait> Desk<'a, N, R> {
         Desk {
             rt,
             shared,
-            hold: None,
+            hold: BatchHold::NoBatch,
             seat,
             receipts: Vec::new(alloc),
         }
@@ -96,13 +96,11 @@ impl<'a, N: Naming, R: Wait> Service for Desk<'a, N, R> {
     }
 
     fn begin_batch(&mut self) {
-        if self.hold.is_none() {
-            self.hold = Some(self.shared.hold(self.rt));
-        }
+        self.hold = BatchHold::NotAsked;
     }
 
     fn end_batch(&mut self) {
-        self.hold = None;
+        self.hold = BatchHold::NoBatch;
     }
 
     fn call(&mut self, request: Request) -> OpResult {
@@ -123,11 +121,28 @@ impl<'a, N: Naming, R: Wait> Service for Desk<'a, N, R> {
     }
 }
 
-// Has the shared state answer a request, in this hold if there is one, and else in one of its own.
+// The hold of the lock in which a batch is answered, if one is under way. What asks nothing takes none.
+#[derive(Drop)]
+enum BatchHold<'a, N: Naming> {
+    NoBatch,
+    NotAsked,
+    Taken(Hold<'a, N>),
+}
+
+impl<'a, N: Naming> BatchHold<'a, N> {
+    // Takes the lock for a batch that now asks for the first time.
+    fn ask<R: Wait>(&mut self, rt: &R, shared: &'a Shared<N>) {
+        if matches!(self, BatchHold::NotAsked) {
+            *self = BatchHold::Taken(shared.hold(rt));
+        }
+    }
+}
+
+// Has the shared state answer a request, in the hold of the batch if there is one, and else in one of its own.
 fn call_in<'a, N: Naming, R: Wait>(
     rt: &R,
     shared: &'a Shared<N>,
-    hold: &mut Option<Hold<'a, N>>,
+    hold: &mut BatchHold<'a, N>,
     seat: &mut Seat<N>,
     request: Request,
 ) -> (OpResult, Option<Receipt>)
@@ -141,17 +156,18 @@ fn call_in<'a, N: Naming, R: Wait>(
     ensures short { length (op_result.encoding result.0) ≤ answer_limit (opnum_of request.op) }
     ensures form { op_result.Fits result.0 }
 {
+    hold.ask(rt, shared);
     match hold {
-        Some(hold) => hold.call(seat, request),
-        None => shared.hold(rt).call(seat, request),
+        BatchHold::Taken(hold) => hold.call(seat, request),
+        _ => shared.hold(rt).call(seat, request),
     }
 }
 
-// Renews the lease of this client, in this hold if there is one, and else in one of its own.
+// Renews the lease of this client, in the hold of the batch if there is one, and else in one of its own.
 fn renew_in<'a, N: Naming, R: Wait>(
     rt: &R,
     shared: &'a Shared<N>,
-    hold: &mut Option<Hold<'a, N>>,
+    hold: &mut BatchHold<'a, N>,
     seat: &mut Seat<N>,
     moment: Moment,
     client: ClientId,
@@ -160,8 +176,9 @@ fn renew_in<'a, N: Naming, R: Wait>(
         × (result ≡ has_open_lease held.leases (number_in N.start.epoch client)) }
     ensures same { KnowsTheSame seat.old seat.new }
 {
+    hold.ask(rt, shared);
     match hold {
-        Some(hold) => hold.renew(seat, moment, client),
-        None => shared.renew(rt, seat, moment, client),
+        BatchHold::Taken(hold) => hold.renew(seat, moment, client),
+        _ => shared.renew(rt, seat, moment, client),
     }
 }

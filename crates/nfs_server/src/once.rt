@@ -10,7 +10,7 @@ ghost use Rattle.nfs_server.specs.declared.fault.Fault.{Fault};
 ghost use Rattle.nfs_server.specs.declared.serve_error.ServeError.{ServeError};
 ghost use Rattle.nfs_server.specs.Leases.{IsLent, LentCore};
 
-use crate::journal_file::file_journal;
+use crate::journal_file::{file_buffer, file_journal};
 use crate::{
     Clock, Duplex, Fault, Lent, ServeError, Service, Sink, Stopped, exit_status, serve_duplex,
 };
@@ -58,12 +58,15 @@ pub fn run_once<D: Duplex, E: Write, J: Sink>(
         ↔ D.write_failures device.old < D.write_failures device.new)
         × (result ≡ status_of (option_or (fault_of outcome) filed)) }
 {
+    let Ok(mut buffer) = file_buffer(alloc, journal) else {
+        return exit_status(errors, Some(Fault::NoMemory));
+    };
     let Ok(mut lent) = Lent::new(alloc, core) else {
         return exit_status(errors, Some(Fault::NoMemory));
     };
     let mut clock = Stopped::at(now);
     let outcome = serve_duplex(alloc, device, &mut lent, tree, &mut clock);
     let core = lent.into_core();
-    let filed = file_journal(alloc, core.journal(), journal);
+    let filed = file_journal(&mut buffer, core.journal(), journal);
     exit_status(errors, Fault::of(outcome).or(filed))
 }

@@ -22,7 +22,7 @@ use xdr::write_u32;
 const REPLY_ROOM: usize = RECORD_LIMIT + 64;
 
 /// The most records that are answered in one batch.
-const BATCH_RECORDS: usize = 16;
+pub(crate) const BATCH_RECORDS: usize = 16;
 
 /// The most questions that a service is asked in one batch: as many as one COMPOUND may have operations.
 pub(crate) const BATCH_QUESTIONS: usize = OPERATION_LIMIT as usize;
@@ -144,13 +144,14 @@ impl Replies {
         Ok(())
     }
 
-    // Makes room for pending calls, and for the replies that may wait together.
+    // Makes room for as many calls as a batch may have, and for the replies that may wait together.
     fn make_room(&mut self) -> Result<(), AllocError>
+        requires few { length self.old.pending.items ≤ BATCH_RECORDS }
         requires within { length self.old.gathered.items ≤ GATHER_LIMIT }
         ensures pending { self.new.pending.items ≡ self.old.pending.items }
         ensures same { self.new.gathered.items ≡ self.old.gathered.items }
     {
-        self.pending.reserve(BATCH_RECORDS)?;
+        self.pending.reserve(BATCH_RECORDS - self.pending.len())?;
         self.gathered
             .reserve(GATHER_LIMIT + REPLY_ROOM - self.gathered.len())
     }
