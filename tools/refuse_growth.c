@@ -1,6 +1,8 @@
-/* Refuses one growth of memory of the program that it is loaded into (LD_PRELOAD): the one whose number, from 1 on, is
-   in REFUSED_GROWTH. Where a growth was refused, the file that REFUSED_MARK names is made. Of the blocks of memory that
-   begin as the file of a journal does, the last one that is given back goes into the file that FREED_JOURNAL names. */
+/* Refuses growths of memory of the program that it is loaded into (LD_PRELOAD): the one whose number, from 1 on, is in
+   REFUSED_GROWTH, and with REFUSED_SINCE all after it as well; with REFUSED_END all after the end of standard input, or
+   of a connection. Where a growth was refused, the file that REFUSED_MARK names is made; it has a byte where the run
+   had begun before: standard input had been read, or a connection accepted. Of the blocks of memory that begin as the
+   file of a journal does, the last one that is given back goes into the file that FREED_JOURNAL names. */
 #define _GNU_SOURCE
 #include <dlfcn.h>
 #include <errno.h>
@@ -10,18 +12,54 @@
 #include <stddef.h>
 #include <stdlib.h>
 #include <string.h>
+#include <sys/socket.h>
 #include <unistd.h>
 
 static atomic_long growths;
+static atomic_int has_begun, has_ended;
+
+static int is_numbered(void) {
+    const char *refused = getenv("REFUSED_GROWTH");
+    if (!refused) return 0;
+    long number = atomic_fetch_add(&growths, 1) + 1, first = strtol(refused, NULL, 10);
+    return getenv("REFUSED_SINCE") ? number >= first : number == first;
+}
 
 static int is_refused(void) {
-    const char *refused = getenv("REFUSED_GROWTH");
-    if (!refused || atomic_fetch_add(&growths, 1) + 1 != strtol(refused, NULL, 10)) return 0;
+    int is_late = atomic_load(&has_ended) && getenv("REFUSED_END");
+    if (!is_numbered() && !is_late) return 0;
     const char *mark = getenv("REFUSED_MARK");
-    int file = mark ? open(mark, O_CREAT | O_WRONLY, 0600) : -1;
+    /* The first refusal makes it. */
+    int file = mark ? open(mark, O_CREAT | O_EXCL | O_WRONLY, 0600) : -1;
+    if (file >= 0 && atomic_load(&has_begun) && write(file, "+", 1) != 1) abort();
     if (file >= 0) close(file);
     errno = ENOMEM;
     return 1;
+}
+
+ssize_t read(int file, void *buffer, size_t size) {
+    static ssize_t (*next)(int, void *, size_t);
+    if (!next) next = (ssize_t (*)(int, void *, size_t))dlsym(RTLD_NEXT, "read");
+    ssize_t count = next(file, buffer, size);
+    if (file == 0) atomic_store(&has_begun, 1);
+    if (file == 0 && count == 0) atomic_store(&has_ended, 1);
+    return count;
+}
+
+int accept4(int listener, struct sockaddr *address, socklen_t *length, int flags) {
+    static int (*next)(int, struct sockaddr *, socklen_t *, int);
+    if (!next) next = (int (*)(int, struct sockaddr *, socklen_t *, int))dlsym(RTLD_NEXT, "accept4");
+    int file = next(listener, address, length, flags);
+    if (file >= 0) atomic_store(&has_begun, 1);
+    return file;
+}
+
+ssize_t recv(int file, void *buffer, size_t size, int flags) {
+    static ssize_t (*next)(int, void *, size_t, int);
+    if (!next) next = (ssize_t (*)(int, void *, size_t, int))dlsym(RTLD_NEXT, "recv");
+    ssize_t count = next(file, buffer, size, flags);
+    if (count == 0) atomic_store(&has_ended, 1);
+    return count;
 }
 
 void *malloc(size_t size) {
