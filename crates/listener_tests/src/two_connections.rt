@@ -50,7 +50,7 @@ fn serve_two<R: Threads + Wait + Clock + Sync>(
                 × ((number : ℕ) → IsFalse (is_live number core.stored.clients))
                 × (core.journal.nodes ≡ tree.now.nodes) }
         {
-            let (core, all) = serve_on(alloc, rt, listener, core, tree, 2).ok()?;
+            let (core, all, _) = serve_on(alloc, rt, listener, core, tree, 2).ok()?;
             Some((count(all.as_slice()), core.journal().entries().len()))
         },
     );

@@ -100,7 +100,7 @@ fn serve<R: Threads + Wait + Clock + Sync>(
         return report(rt, Fault::NoMemory);
     };
     let served = serve_on(alloc, threads, &listener, core, &tree, options.connections);
-    let Ok((core, connections)) = served else {
+    let Ok((core, connections, is_swept)) = served else {
         return report(rt, Fault::NoMemory);
     };
     let mut errors = rt.stderr();
@@ -108,6 +108,7 @@ fn serve<R: Threads + Wait + Clock + Sync>(
         &mut buffer,
         &core,
         connections.as_slice(),
+        is_swept,
         &mut errors,
         &mut journal,
     )

@@ -1,5 +1,5 @@
 ghost use Rattle.std.specs.Prelude.{◌≡◌, map};
-ghost use Rattle.nfs_listener.specs.Faults.{first_fault_of};
+ghost use Rattle.nfs_listener.specs.Faults.{fault_of_run, first_fault_of};
 
 use crate::Ended;
 use nfs_server::Fault;
@@ -14,4 +14,20 @@ pub fn first_fault(connections: &[Ended]) -> Option<Fault>
         }
     }
     None
+}
+
+/// The fault of a run: that nobody swept, since no thread could be made for that; or else that of the first connection in
+/// the list that ended with one; or else that of the journal's file.
+pub(crate) fn run_fault(
+    is_swept: bool,
+    connections: &[Ended],
+    filed: Option<Fault>,
+) -> Option<Fault>
+    ensures { result ≡ fault_of_run is_swept connections.now filed }
+{
+    if is_swept {
+        first_fault(connections).or(filed)
+    } else {
+        Some(Fault::NoMemory)
+    }
 }

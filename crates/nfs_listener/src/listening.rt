@@ -26,13 +26,14 @@ use std::marker::Brand;
 use std::net::TcpListener;
 use std::sync::Wait;
 use std::thread;
-use std::thread::Threads;
+use std::thread::{Scope, Threads};
 use std::time::{Clock as Timer, Duration};
 
 /// Serves the next connections that come to the listener, as many as `connections` says, each in a thread of its own,
-/// and ends when all of them have ended. Meanwhile clients are removed whose leases are over. It returns the core as the
-/// connections left it, and how each of them ended. If memory is refused for the state, the core comes back; if it is for
-/// the workers, each connection ends with the error `Memory`, and none is accepted.
+/// and ends when all of them have ended. Meanwhile clients are removed whose leases are over, by one more thread. It
+/// returns the core as the connections left it, how each of them ended, and whether that thread could be made: if not,
+/// the connections are served all the same, and no lease ends. If memory is refused for the state, the core comes back;
+/// if it is for the workers, each connection ends with the error `Memory`, and none is accepted.
 pub fn serve_on<R: Threads + Wait + Timer + Sync>(
     alloc: Global,
     rt: &R,
@@ -40,7 +41,7 @@ pub fn serve_on<R: Threads + Wait + Timer + Sync>(
     core: Core,
     tree: &Tree,
     connections: u32,
-) -> Result<(Core, Vec<Ended>), Core>
+) -> Result<(Core, Vec<Ended>, bool), Core>
     requires empty { core.journal.entries ≡ [] }
     requires nobody { (number : ℕ) → IsFalse (is_live number core.stored.clients) }
     requires nodes { core.journal.nodes ≡ tree.now.nodes }
@@ -53,23 +54,26 @@ pub fn serve_on<R: Threads + Wait + Timer + Sync>(
     };
     // Where the clock can't be read now and can be later, moments count from its own beginning.
     let start = rt.monotonic().unwrap_or(Duration::ZERO);
+    let bell = Bell::new();
     let place = Place {
         alloc,
         rt,
         tree,
         start,
+        bell: &bell,
     };
     let link = TcpLink::new(rt, start, listener);
     run::<Brand, R>(&place, &link, connections, opened, core)
 }
 
-// What all connections have in common.
+// What all connections have in common, and the bell that tells their end.
 #[derive(Drop)]
 struct Place<'a, R> {
     alloc: Global,
     rt: &'a R,
     tree: &'a Tree,
     start: Duration,
+    bell: &'a Bell,
 }
 
 // Serves in a run of this name. No type of the signature may rest on the name.
@@ -79,7 +83,7 @@ fn run<N: Naming + Send + Sync, R: Threads + Wait + Timer + Sync>(
     connections: u32,
     opened: Opened,
     core: Core,
-) -> Result<(Core, Vec<Ended>), Core>
+) -> Result<(Core, Vec<Ended>, bool), Core>
     requires beginning { CanBegin N.run N.start opened core }
     requires count { opened.workers ≡ connections }
     requires nodes { core.journal.nodes ≡ place.now.tree.now.nodes }
@@ -101,9 +105,10 @@ fn run<N: Naming + Send + Sync, R: Threads + Wait + Timer + Sync>(
         ended,
     } = lists;
     link_all(link, seats, &mut links);
-    let (all, sweeper) = serve_swept(place, &shared, sweeper, links, spare);
+    let (all, sweeper, is_swept) = serve_swept(place, &shared, sweeper, links, spare);
     workers_keep_receipts::<N, TcpLink<'_, R>>();
-    Ok(end(shared, sweeper, all, parts, ended))
+    let (core, connections) = end(shared, sweeper, all, parts, ended);
+    Ok((core, connections, is_swept))
 }
 
 // The link, for each of the seats.
@@ -122,43 +127,71 @@ fn link_all<'a, N: Naming, R>(
     }
 }
 
-// Serves the links, while another thread sweeps. What the workers give back is put into `spare` if they can't begin.
+// Serves the links, while another thread sweeps, and says whether one did. What the workers give back is put into `spare`
+// if they can't begin.
 fn serve_swept<N: Naming + Send + Sync, R: Threads + Wait + Timer + Sync>(
     place: &Place<'_, R>,
     shared: &Shared<N>,
-    mut sweeper: Sweeper<N>,
+    sweeper: Sweeper<N>,
     links: Vec<(TcpLink<'_, R>, Seat<N>)>,
     spare: Vec<Done<N>>,
-) -> (Vec<Done<N>>, Sweeper<N>)
+) -> (Vec<Done<N>>, Sweeper<N>, bool)
     requires nodes { N.start.nodes ≡ place.now.tree.now.nodes }
     requires unused { AreUnused (seats_of links.items) }
     requires empty { spare.items ≡ [] }
     requires room { length links.items ≤ vec_capacity spare }
     ensures { AreDone tcp place.now.tree.now links.entry.items result.0.items }
 {
-    let bell = &Bell::new();
-    // Where no thread can be made, the first is called after the second, and finds the end told.
-    let (sweeper, all) = thread::join(
+    thread::scope(
+        thread::scope_env(),
         place.rt,
-        move || {
-            let mut uptime = Uptime::since(place.rt, place.start);
-            sweep_until(place.rt, shared, &mut sweeper, &mut uptime, bell);
-            sweeper
-        },
-        move || -> Vec<Done<N>>
+        |scope| -> (Vec<Done<N>>, Sweeper<N>, bool)
             requires { (N.start.nodes ≡ place.now.tree.now.nodes) × AreUnused (seats_of links.items)
                 × (spare.items ≡ []) × (length links.items ≤ vec_capacity spare) }
-            ensures { AreDone tcp place.entry.now.tree.now links.entry.items result.items }
-        { serve_and_ring(place, shared, bell, links, spare) },
-    );
-    (all, sweeper)
+            ensures { AreDone tcp place.entry.now.tree.now links.entry.items result.0.items }
+        { serve_in(scope, place, shared, sweeper, links, spare) },
+    )
+}
+
+// Serves the links, while a thread of this scope sweeps. Where none can be made, the sweeper is asked for once the links
+// are served: it finds the end told, and comes back without a sweep.
+fn serve_in<'s, E, N: Naming + Send + Sync + 's, R: Threads + Wait + Timer + Sync>(
+    scope: &Scope<'s, E>,
+    place: &'s Place<'s, R>,
+    shared: &'s Shared<N>,
+    sweeper: Sweeper<N>,
+    links: Vec<(TcpLink<'_, R>, Seat<N>)>,
+    spare: Vec<Done<N>>,
+) -> (Vec<Done<N>>, Sweeper<N>, bool)
+    requires nodes { N.start.nodes ≡ place.now.tree.now.nodes }
+    requires unused { AreUnused (seats_of links.items) }
+    requires empty { spare.items ≡ [] }
+    requires room { length links.items ≤ vec_capacity spare }
+    ensures { AreDone tcp place.now.tree.now links.entry.items result.0.items }
+{
+    let begun = scope.spawn(move || sweep(place, shared, sweeper));
+    let all = serve_and_ring(place, shared, links, spare);
+    match begun {
+        Ok(handle) => (all, handle.join(place.rt), true),
+        Err(back) => (all, (back.value)(), false),
+    }
+}
+
+// Sweeps until the end of the connections is told, and gives the sweeper back.
+fn sweep<N: Naming, R: Wait + Timer>(
+    place: &Place<'_, R>,
+    shared: &Shared<N>,
+    mut sweeper: Sweeper<N>,
+) -> Sweeper<N> {
+    let mut uptime = Uptime::since(place.rt, place.start);
+    sweep_until(place.rt, shared, &mut sweeper, &mut uptime, place.bell);
+    sweeper
 }
 
 // Serves the links, and tells their end.
 fn serve_and_ring<N: Naming + Send + Sync, R: Threads + Wait + Timer + Sync>(
     place: &Place<'_, R>,
     shared: &Shared<N>,
-    bell: &Bell,
     links: Vec<(TcpLink<'_, R>, Seat<N>)>,
     spare: Vec<Done<N>>,
 ) -> Vec<Done<N>>
@@ -172,7 +205,7 @@ fn serve_and_ring<N: Naming + Send + Sync, R: Threads + Wait + Timer + Sync>(
         Ok(all) => all,
         Err(links) => refuse_all(place.alloc, place.tree, links, spare),
     };
-    bell.ring(place.rt);
+    place.bell.ring(place.rt);
     all
 }
 

@@ -9,28 +9,28 @@ use Rattle.nfs_listener.specs.Links.{tcp}
 use Rattle.nfs_listener.specs.Rooms.{HaveRoom}
 use Rattle.nfs_listener.proofs.listening.run.Goals as goal
 
-pub end-requires-clause-seats : goal.end-requires-clause-seats
-end-requires-clause-seats g c =
+pub end-core-requires-clause-seats : goal.end-core-requires-clause-seats
+end-core-requires-clause-seats g c =
     let fresh = subst (λ (s : List SeatView). AreFresh g.N.Naming.run.workers s) (sym c.link_all.ensures.seats) c.in-Ok-new.ensures.seats in
     let law = c.workers_keep_receipts.ensures c.args.place.now.tree.now g.N.Naming.run.workers c.link_all.new.links.items c.serve_swept-all.result.0.items fresh c.serve_swept-all.ensures in
     law.0
 
-pub end-requires-clause-kept : goal.end-requires-clause-kept
-end-requires-clause-kept g c =
+pub end-core-requires-clause-kept : goal.end-core-requires-clause-kept
+end-core-requires-clause-kept g c =
     let fresh = subst (λ (s : List SeatView). AreFresh g.N.Naming.run.workers s) (sym c.link_all.ensures.seats) c.in-Ok-new.ensures.seats in
     let law = c.workers_keep_receipts.ensures c.args.place.now.tree.now g.N.Naming.run.workers c.link_all.new.links.items c.serve_swept-all.result.0.items fresh c.serve_swept-all.ensures in
     law.1
 
-pub end-requires-clause-parts : goal.end-requires-clause-parts
-end-requires-clause-parts g c =
+pub end-core-requires-clause-parts : goal.end-core-requires-clause-parts
+end-core-requires-clause-parts g c =
     let all = c.serve_swept-all.result.0.items in
     let fresh = subst (λ (s : List SeatView). AreFresh g.N.Naming.run.workers s) (sym c.link_all.ensures.seats) c.in-Ok-new.ensures.seats in
     let law = c.workers_keep_receipts.ensures c.args.place.now.tree.now g.N.Naming.run.workers c.link_all.new.links.items all fresh c.serve_swept-all.ensures in
     let many = sym (length-map all (λ d. d.seat)) ∙ law.0 ∙ sym (ap (λ (o : OpenedView). o.workers) c.requires.beginning.run) ∙ c.requires.count in
     subst (λ n. HaveRoom n c.in-Ok.lists.parts) (sym many) c.in-Ok.ensures.parts
 
-pub end-requires-clause-room : goal.end-requires-clause-room
-end-requires-clause-room g c =
+pub end-core-requires-clause-room : goal.end-core-requires-clause-room
+end-core-requires-clause-room g c =
     let all = c.serve_swept-all.result.0.items in
     let fresh = subst (λ (s : List SeatView). AreFresh g.N.Naming.run.workers s) (sym c.link_all.ensures.seats) c.in-Ok-new.ensures.seats in
     let law = c.workers_keep_receipts.ensures c.args.place.now.tree.now g.N.Naming.run.workers c.link_all.new.links.items all fresh c.serve_swept-all.ensures in
@@ -44,14 +44,14 @@ returns-clause-served g c =
     let fresh = subst (λ (s : List SeatView). AreFresh g.N.Naming.run.workers s) (sym c.link_all.ensures.seats) c.in-Ok-new.ensures.seats in
     let law = c.workers_keep_receipts.ensures c.args.place.now.tree.now g.N.Naming.run.workers links all fresh c.serve_swept-all.ensures in
     let many = sym (length-map all (λ d. d.seat)) ∙ law.0 ∙ sym (ap (λ (o : OpenedView). o.workers) c.requires.beginning.run) ∙ c.requires.count in
-    let ended = c.end.result.1.items in
-    let receipts = c.end.ensures.receipts in record {
+    let ended = c.end-core.result.1.items in
+    let receipts = c.end-core.ensures.receipts in record {
       all = sym (length-map ended (λ e. e.receipts.items)) ∙ ap (λ xs. length xs) receipts ∙ length-map all (λ d. d.receipts.items) ∙ many;
-      each = connections_of tcp c.args.place.now.tree.now c.args.link.now g.N.Naming.run.workers links all ended fresh c.link_all.ensures.same c.serve_swept-all.ensures c.end.ensures.results receipts;
-      start = c.end.ensures.start ∙ sym c.requires.beginning.start;
-      lawful = c.end.ensures.lawful;
-      safe = c.end.ensures.safe;
-      stand = subst (λ (r : List (List Receipt)). AllStand c.end.result.0.journal.entries r) (sym receipts) c.end.ensures.stand;
-      apart = subst (λ (r : List (List Receipt)). AllApart r) (sym receipts) c.end.ensures.apart;
-      counted = c.end.ensures.counted ∙ ap receipts_in (sym receipts);
+      each = connections_of tcp c.args.place.now.tree.now c.args.link.now g.N.Naming.run.workers links all ended fresh c.link_all.ensures.same c.serve_swept-all.ensures c.end-core.ensures.results receipts;
+      start = c.end-core.ensures.start ∙ sym c.requires.beginning.start;
+      lawful = c.end-core.ensures.lawful;
+      safe = c.end-core.ensures.safe;
+      stand = subst (λ (r : List (List Receipt)). AllStand c.end-core.result.0.journal.entries r) (sym receipts) c.end-core.ensures.stand;
+      apart = subst (λ (r : List (List Receipt)). AllApart r) (sym receipts) c.end-core.ensures.apart;
+      counted = c.end-core.ensures.counted ∙ ap receipts_in (sym receipts);
     }

@@ -1,5 +1,4 @@
 use Rattle.std.proofs.Common.{◌∙◌, ap, subst}
-use Rattle.std.specs.Option.{option_or}
 use Rattle.nfs_server.specs.Device.{device_of_sink}
 use Rattle.nfs_server.specs.Once.{IsFiled, status_of}
 use Rattle.nfs_listener.proofs.running.end_run.Goals as goal
@@ -10,6 +9,6 @@ returns g c =
       ended = (
         filed,
         subst (λ h. IsFiled (device_of_sink g.J.Sink.takes g.J.Sink.fails) g.J.Sink.failures c.args.journal.now c.file_journal-filed.new.file h filed) c.journal.ensures.journal c.file_journal-filed.ensures,
-        c.exit_status.ensures ∙ ap status_of (c.or.ensures ∙ ap (λ x. option_or x filed) c.first_fault.ensures),
+        c.exit_status.ensures ∙ ap status_of c.run_fault.ensures,
       );
     }
