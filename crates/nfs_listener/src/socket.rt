@@ -4,10 +4,21 @@ ghost use Rattle.nfs_listener.specs.Sockets.{HasFailed, KeepsConnection};
 use nfs_server::{DeviceFailed, Duplex};
 use std::io;
 use std::io::{Read, Write};
-use std::net::{TcpListener, TcpStream};
+use std::net::{Shutdown, TcpListener, TcpStream};
+use std::time::Duration;
 
-/// A connection of a listener. It is accepted by the first read, which waits for it.
-#[derive(Drop)]
+// How many reads are made of a connection that has ended. So of a peer that goes on sending 32 MiB are read, and one that
+// sends a little now and then keeps its worker for some four minutes.
+const LAST_READS: u32 = 512;
+
+// The greatest number of bytes that one of them takes.
+const LAST_PIECE_LEN: usize = 65_536;
+
+// For how many milliseconds one of them may wait.
+const LAST_WAIT_MILLIS: u64 = 500;
+
+/// A connection of a listener. It is accepted by the first read, which waits for it. Where it is dropped it is closed, but
+/// not before what its peer still sends is read, within bounds.
 pub struct Socket<'a> {
     listener: &'a TcpListener,
     stream: Option<TcpStream>,
@@ -86,6 +97,41 @@ fn write_to(mut stream: &TcpStream, bytes: &[u8]) -> Option<usize>
     match stream.write(bytes) {
         Ok(n) if n > 0 => Some(n),
         _ => None,
+    }
+}
+
+// Tells the peer that no more replies come, and reads what it still sends until it has ended that, too, within the bounds
+// above. For where a connection is closed with bytes unread, as after a record that is too long, the system resets it, and
+// replies that are on their way may be lost.
+fn read_out(stream: &TcpStream) {
+    if stream.shutdown(Shutdown::Write).is_err() {
+        return;
+    }
+    // Without a bound on the waits, a silent peer would be waited for.
+    let most = Duration::from_millis(LAST_WAIT_MILLIS);
+    if stream.set_read_timeout(Some(most)).is_err() {
+        return;
+    }
+    let mut buffer = [0u8; LAST_PIECE_LEN];
+    for _ in 0..LAST_READS {
+        match read_from(stream, &mut buffer) {
+            Ok(n) if n > 0 => {}
+            _ => return,
+        }
+    }
+}
+
+impl Drop for Socket<'_> {
+    fn drop(self) {
+        let Socket {
+            listener: _,
+            stream,
+            read_failures: _,
+            write_failures: _,
+        } = self;
+        if let Some(stream) = stream {
+            read_out(&stream);
+        }
     }
 }
 
