@@ -13,3 +13,15 @@ returns-in_default g c = record {
     c.exit_status.ensures,
   );
 }
+
+pub returns-in_default-new : goal.returns-in_default-new
+returns-in_default-new g c = record {
+  served = (
+    Err errors.Memory,
+    None,
+    inr (refl, refl, refl, refl),
+    ((λ h. absurd cc), (λ h. absurd (omega (arith, h)))),
+    ((λ h. absurd cc), (λ h. absurd (omega (arith, h)))),
+    c.exit_status-in_default-new.ensures,
+  );
+}
