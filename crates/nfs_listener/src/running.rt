@@ -1,7 +1,8 @@
-ghost use Rattle.std.specs.Prelude.{◌≡◌, ◌-◌, ◌^◌, ◌<◌, IfSome, Option};
+ghost use Rattle.std.specs.Prelude.{◌≡◌, ◌-◌, ◌^◌, ◌<◌, vec_capacity, IfSome, Option, Some};
 ghost use Rattle.nfs_listener.specs.Faults.{fault_of_run};
 ghost use Rattle.nfs_server.specs.Device.{device_of_sink};
 ghost use Rattle.nfs_server.specs.Once.{IsFiled, status_of};
+ghost use Rattle.nfs_server.specs.Pieces.{HasRoomForFileOf};
 ghost use Rattle.nfs_server.specs.declared.fault.Fault.{Fault};
 
 use crate::Ended;
@@ -23,11 +24,13 @@ pub fn end_run<E: Write, J: Sink>(
     journal: &mut Option<J>,
 ) -> u8
     requires files { IfSome journal.old (λ sink. J.failures sink < 2 ^ 64 - 1) }
-    // The file was seen to, and the status is that of the run's fault: that it wasn't swept, or else the first of a
-    // connection, or else the file's.
+    // The file was seen to: memory for it was wanting only where the buffer had no room for a part of it. And the status is
+    // that of the run's fault: that it wasn't swept, or else the first of a connection, or else the file's.
     ensures ended { (filed : Option Fault)
         × IsFiled (device_of_sink J.takes J.fails) J.failures journal.old journal.new
         core.now.journal filed
+        × (filed ≡ Some Fault.NoMemory
+        → ¬ (HasRoomForFileOf (vec_capacity buffer.old) core.now.journal))
         × (result ≡ status_of (fault_of_run is_swept connections.now filed)) }
 {
     let filed = file_journal(buffer, core.journal(), journal);

@@ -7,8 +7,8 @@ use std::io::{Read, Write};
 use std::net::{Shutdown, TcpListener, TcpStream};
 use std::time::Duration;
 
-// How many reads are made of a connection that has ended. So of a peer that goes on sending 4 MiB are read, and one that
-// sends a little now and then keeps its worker for half a minute.
+// How many reads are made of a connection that has ended. So at most 4 MiB are read of a peer that goes on sending, and
+// one that sends a little now and then keeps its worker for half a minute.
 const LAST_READS: u32 = 64;
 
 // The greatest number of bytes that one of them takes.

@@ -1,6 +1,7 @@
-ghost use Rattle.std.specs.Prelude.{◌≡◌, ◌≤◌, ◌↔◌, [], IfNone, IfSome, IsNone, IsTrue, length, refl};
+ghost use Rattle.std.specs.Prelude.{◌≡◌, ◌≢◌, ◌≤◌, ◌↔◌, [], IfNone, IfSome, IsNone, IsTrue, length, refl};
 ghost use Rattle.nfs_forms.specs.ClientId.{number_in};
 ghost use Rattle.nfs_server.specs.Holding.{AreAlikeButRoom, GivenBySeat};
+ghost use Rattle.nfs_server.specs.declared.desk.BatchHold.{BatchHold};
 ghost use Rattle.nfs_shared.specs.Ends.{IsKept};
 ghost use Rattle.nfs_shared.specs.Held.{HeldView, MayBeHeld};
 ghost use Rattle.nfs_shared.specs.PlainBook.{has_open_lease};
@@ -20,8 +21,8 @@ use std::marker::Model;
 use std::sync::Wait;
 
 /// A worker at the state that threads share: the service of its connection. It keeps the receipts that it is given, and
-/// has a hold of the lock while it answers a batch, from its first question on. The handle by which it may wait for the lock is part of it, as
-/// services are called without one.
+/// has a hold of the lock while it answers a batch, from its first question on. The handle by which it may wait for the
+/// lock is part of it, as services are called without one.
 #[derive(Drop)]
 pub struct Desk<'a, N: Naming, R: Wait> {
     rt: &'a R,
@@ -131,7 +132,10 @@ enum BatchHold<'a, N: Naming> {
 
 impl<'a, N: Naming> BatchHold<'a, N> {
     // Takes the lock for a batch that now asks for the first time.
-    fn ask<R: Wait>(&mut self, rt: &R, shared: &'a Shared<N>) {
+    fn ask<R: Wait>(&mut self, rt: &R, shared: &'a Shared<N>)
+        ensures asked { self.new ≢ BatchHold.NotAsked }
+        ensures none { self.old ≡ BatchHold.NoBatch → self.new ≡ BatchHold.NoBatch }
+    {
         if matches!(self, BatchHold::NotAsked) {
             *self = BatchHold::Taken(shared.hold(rt));
         }
@@ -159,7 +163,8 @@ fn call_in<'a, N: Naming, R: Wait>(
     hold.ask(rt, shared);
     match hold {
         BatchHold::Taken(hold) => hold.call(seat, request),
-        _ => shared.hold(rt).call(seat, request),
+        BatchHold::NoBatch => shared.hold(rt).call(seat, request),
+        BatchHold::NotAsked => unreachable!(),
     }
 }
 
@@ -179,6 +184,7 @@ fn renew_in<'a, N: Naming, R: Wait>(
     hold.ask(rt, shared);
     match hold {
         BatchHold::Taken(hold) => hold.renew(seat, moment, client),
-        _ => shared.renew(rt, seat, moment, client),
+        BatchHold::NoBatch => shared.renew(rt, seat, moment, client),
+        BatchHold::NotAsked => unreachable!(),
     }
 }

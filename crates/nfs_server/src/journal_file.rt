@@ -1,10 +1,11 @@
 //! The journal's file, written at the end of a run.
 
-ghost use Rattle.std.specs.Prelude.{◌≡◌, ◌+◌, ◌-◌, ◌^◌, ◌<◌, ◌≤◌, [], length, vec_capacity, IfOk, IfSome, IsErrOf, OnErr, OnOk};
+ghost use Rattle.std.specs.Prelude.{◌≡◌, ◌+◌, ◌-◌, ◌^◌, ◌<◌, ◌≤◌, [], Some, length, vec_capacity, IfOk, IfSome, IsErrOf, OnErr, OnOk};
 ghost use Rattle.nfs_journal.specs.File as forms;
 ghost use Rattle.nfs_server.specs.Device.{IsCut, IsWritten, device_of_sink};
 ghost use Rattle.nfs_server.specs.Once.{IsFiled, IsFiledBy};
-ghost use Rattle.nfs_server.specs.Pieces.{HasPlace, HavePlace};
+ghost use Rattle.nfs_server.specs.Pieces.{HasPlace, HasRoomForFile, HasRoomForFileOf, HavePlace};
+ghost use Rattle.nfs_server.specs.declared.fault.Fault.{Fault};
 ghost use Rattle.nfs_state.specs.EntryForm.{entry};
 ghost use Rattle.nfs_tree.specs.NodeForm.{node};
 ghost use Rattle.xdr.specs.Form.{◌and◌, many};
@@ -36,16 +37,19 @@ pub fn file_buffer<J>(alloc: Global, file: &Option<J>) -> Result<Vec<u8>, AllocE
     }
 }
 
-/// Writes the file of the journal, if there is a sink for it, by the memory of this buffer, whatever it has. Returns why
-/// the file wasn't written, if it should have been.
+/// Writes the file of the journal, if there is a sink for it, by the memory of this buffer, whose bytes are lost, and
+/// which grows where it has no room for a part of the file. Returns why the file wasn't written, if it should have been:
+/// for want of memory only where there is a part that the buffer had no room for.
 pub fn file_journal<J: Sink>(
     buffer: &mut Vec<u8>,
     journal: &Journal,
     file: &mut Option<J>,
 ) -> Option<Fault>
     requires writes { IfSome file.old (λ sink. J.failures sink < 2 ^ 64 - 1) }
-    ensures { IsFiled (device_of_sink J.takes J.fails) J.failures file.old file.new
+    ensures filed { IsFiled (device_of_sink J.takes J.fails) J.failures file.old file.new
         journal.now.history result }
+    ensures memory { result ≡ Some Fault.NoMemory
+        → ¬ (HasRoomForFileOf (vec_capacity buffer.old) journal.now.history) }
 {
     match file {
         None => None,
@@ -56,8 +60,10 @@ pub fn file_journal<J: Sink>(
 #[tactic(auto, unfolding(nfs_journal::specs::File::file))]
 fn write_file<J: Sink>(buffer: &mut Vec<u8>, journal: &Journal, file: &mut J) -> Option<Fault>
     requires writes { J.failures file.old < 2 ^ 64 - 1 }
-    ensures { IsFiledBy (device_of_sink J.takes J.fails) J.failures file.old file.new
+    ensures filed { IsFiledBy (device_of_sink J.takes J.fails) J.failures file.old file.new
         journal.now.history result }
+    ensures memory { result ≡ Some Fault.NoMemory
+        → ¬ (HasRoomForFileOf (vec_capacity buffer.old) journal.now.history) }
 {
     let opening = Opening::of(journal);
     let (nodes, entries) = (journal.tree().nodes(), journal.entries());
@@ -83,6 +89,8 @@ fn make_room(
     ensures ok { OnOk result (HasPlace forms.opening (vec_capacity buffer.new) opening.now
         × HavePlace node (vec_capacity buffer.new) nodes.now
         × HavePlace entry (vec_capacity buffer.new) entries.now) }
+    ensures memory { IsErrOf result errors.Memory → ¬ (HasRoomForFile (vec_capacity buffer.old)
+        (record { opening = opening.now; nodes = nodes.now; entries = entries.now })) }
     ensures long { IsErrOf result errors.TooLong
         → ¬ ((forms.opening and many NO_LIMIT node and many NO_LIMIT entry).Fits
         (opening.now, (nodes.now, entries.now))) }

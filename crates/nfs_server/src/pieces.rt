@@ -2,7 +2,7 @@
 
 ghost use Rattle.std.specs.Prelude.{◌≡◌, ◌+◌, ◌-◌, ◌^◌, ◌<◌, ◌≤◌, length, vec_capacity, IsErrOf, OnErr, OnOk};
 ghost use Rattle.nfs_server.specs.Device.{device_of_sink};
-ghost use Rattle.nfs_server.specs.Pieces.{ArePut, HasPlace, HavePlace, waiting};
+ghost use Rattle.nfs_server.specs.Pieces.{ArePut, HasPlace, HasRoom, HavePlace, HaveRoom, waiting};
 ghost use Rattle.xdr.specs.Form.{many};
 ghost use Rattle.xdr.specs.Layout.{NO_LIMIT};
 ghost use Rattle.xdr.specs.declared.wire_error.WireError.TheVariants as errors;
@@ -14,10 +14,12 @@ use xdr::{Wire, WireError};
 /// Once more bytes than this wait, they are written before the next value is put behind them.
 pub(crate) const WAIT_LIMIT: usize = 65_536;
 
-/// Makes room in the buffer for a value behind the bytes that may wait there, and removes what the buffer has. TooLong if
-/// the value doesn't fit its form.
+/// Looks whether the value fits its form, and has the buffer grow until there is room for it behind the bytes that may
+/// wait there. The bytes in the buffer are lost. TooLong if the value doesn't fit, Memory only if there was no room.
 pub(crate) fn make_place<T: Wire>(buffer: &mut Vec<u8>, value: &T) -> Result<(), WireError>
     ensures ok { OnOk result (HasPlace T.form (vec_capacity buffer.new) value.now) }
+    ensures memory { IsErrOf result errors.Memory
+        → ¬ (HasRoom T.form (vec_capacity buffer.old) value.now) }
     ensures long { IsErrOf result errors.TooLong → ¬ (T.form.Fits value.now) }
     ensures short { IsErrOf result errors.Short → ⊥ }
     ensures room { vec_capacity buffer.old ≤ vec_capacity buffer.new }
@@ -31,6 +33,8 @@ pub(crate) fn make_place<T: Wire>(buffer: &mut Vec<u8>, value: &T) -> Result<(),
 /// The same for each value of a list, and for their count.
 pub(crate) fn make_places<T: Wire>(buffer: &mut Vec<u8>, values: &[T]) -> Result<(), WireError>
     ensures ok { OnOk result (HavePlace T.form (vec_capacity buffer.new) values.now) }
+    ensures memory { IsErrOf result errors.Memory
+        → ¬ (HaveRoom T.form (vec_capacity buffer.old) values.now) }
     ensures long { IsErrOf result errors.TooLong → ¬ ((many NO_LIMIT T.form).Fits values.now) }
     ensures short { IsErrOf result errors.Short → ⊥ }
     ensures room { vec_capacity buffer.old ≤ vec_capacity buffer.new }
