@@ -1,5 +1,5 @@
 -- Values that are written to a sink one after the other, many together, by a buffer that has room for each of them.
-use Rattle.std.specs.Prelude.{◌≡◌, ℕ, ◌+◌, ◌^◌, ◌<◌, ◌≤◌, List, ◌++◌, length, Result, Ok, Err}
+use Rattle.std.specs.Prelude.{◌≡◌, ℕ, ◌+◌, ◌≤◌, List, ◌++◌, length, Result, Ok, Err}
 use Rattle.std.specs.List.{All}
 use Rattle.nfs_journal.specs.File.{opening}
 use Rattle.nfs_journal.specs.Journals.{file_of}

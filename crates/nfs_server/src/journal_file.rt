@@ -1,6 +1,6 @@
 //! The journal's file, written at the end of a run.
 
-ghost use Rattle.std.specs.Prelude.{◌≡◌, ◌+◌, ◌-◌, ◌^◌, ◌<◌, ◌≤◌, [], Some, length, vec_capacity, IfOk, IfSome, IsErrOf, OnErr, OnOk};
+ghost use Rattle.std.specs.Prelude.{◌≡◌, ◌+◌, ◌-◌, ◌^◌, ◌<◌, ◌≤◌, [], Some, vec_capacity, IfOk, IfSome, IsErrOf, OnErr, OnOk};
 ghost use Rattle.nfs_journal.specs.File as forms;
 ghost use Rattle.nfs_server.specs.Device.{IsCut, IsWritten, device_of_sink};
 ghost use Rattle.nfs_server.specs.Once.{IsFiled, IsFiledBy};

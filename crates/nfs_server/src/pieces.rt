@@ -1,6 +1,6 @@
 //! Values that are written to a sink one after the other, many together.
 
-ghost use Rattle.std.specs.Prelude.{◌≡◌, ◌+◌, ◌-◌, ◌^◌, ◌<◌, ◌≤◌, length, vec_capacity, IsErrOf, OnErr, OnOk};
+ghost use Rattle.std.specs.Prelude.{◌≡◌, ◌+◌, ◌-◌, ◌^◌, ◌<◌, ◌≤◌, vec_capacity, IsErrOf, OnErr, OnOk};
 ghost use Rattle.nfs_server.specs.Device.{device_of_sink};
 ghost use Rattle.nfs_server.specs.Pieces.{ArePut, HasPlace, HasRoom, HavePlace, HaveRoom, waiting};
 ghost use Rattle.xdr.specs.Form.{many};

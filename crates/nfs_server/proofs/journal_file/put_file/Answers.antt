@@ -1,4 +1,4 @@
-use Rattle.std.proofs.Common.{◌≡◌, ◌∙◌, ℕ, List, [], ◌++◌, Ok, Err, ap, sym, subst, append_assoc}
+use Rattle.std.proofs.Common.{ℕ, List, [], ◌++◌, Ok, Err, subst, append_assoc}
 use Rattle.nfs_server.specs.Device.{IsCut, IsWritten, device_of_sink}
 use Rattle.nfs_server.specs.Pieces.{ArePut, waiting}
 use Rattle.nfs_server.proofs.Batching.{on_err}

@@ -1,4 +1,4 @@
-use Rattle.std.proofs.Common.{◌≡◌, ℕ, ◌<◌, ◌≤◌, get_or, length}
+use Rattle.std.proofs.Common.{ℕ, ◌<◌, ◌≤◌, get_or, length}
 use Rattle.std.specs.Prelude.{vec_capacity}
 use Rattle.nfs_server.specs.Pieces.{HasPlace}
 use Rattle.nfs_server.proofs.pieces.make_places.Given as goal

@@ -1,4 +1,4 @@
-use Rattle.std.proofs.Common.{◌≡◌, ℕ, ◌++◌, Ok, length, take}
+use Rattle.std.proofs.Common.{◌≡◌, ◌++◌, Ok, length, take}
 use Rattle.std.specs.Prelude.{◌≤◌, vec_capacity}
 use Rattle.std.specs.List.{flat_map}
 use Rattle.nfs_server.specs.Device.{device_of_sink}
