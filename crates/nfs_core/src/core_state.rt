@@ -101,6 +101,7 @@ impl Core {
         ensures lawful { IsLawful self.new }
     {
         let Ok(request) = Request::of_copy(moment, principal, op, filehandle) else {
+            // For its clause alone: the state is lawful as it is.
             self.journal();
             return (op.opnum().refusal(Refusal::Resource), None);
         };

@@ -48,7 +48,7 @@ fn read_each<T: Wire>(
     Ok((Sequence::new(values), rest))
 }
 
-/// The same values in the same cases, of a type that has a default. Up to `FEW` take no memory of the allocator.
+/// As `read_many`, for values of a type that has a default. Up to `FEW` of them take no memory of the allocator.
 #[tactic(auto, unfolding(crate::specs::Reading::many_at))]
 pub fn read_few<T: Wire + Default, const FEW: usize>(
     alloc: Global,
