@@ -1,6 +1,6 @@
 ghost use Rattle.std.specs.Prelude.{◌≡◌, ◌∷◌, ◌++◌, [], IfOk, OnErr, OnOk, length, map};
 ghost use Rattle.nfs_core.specs.Server.{IsLawful};
-ghost use Rattle.nfs_server.specs.Working.{receipts_back, seats_back};
+ghost use Rattle.nfs_threads.specs.Working.{receipts_back, seats_back};
 ghost use Rattle.nfs_shared.specs.Ends.{AllApart, AllStand, AreKept, IsKept, receipts_in};
 ghost use Rattle.nfs_shared.specs.Naming.{start_of};
 ghost use Rattle.nfs_shared.specs.Receipts.{calls_in, others_in};

@@ -1,5 +1,5 @@
 ghost use Rattle.std.specs.Prelude.{◌≡◌, ◌+◌, IfOk, IfSome, length};
-ghost use Rattle.nfs_server.specs.Working.{seats_of};
+ghost use Rattle.nfs_threads.specs.Working.{seats_of};
 ghost use Rattle.nfs_shared.specs.Ends.{AreFresh, IsKept};
 ghost use Rattle.nfs_shared.specs.Naming.{CanBegin};
 ghost use Rattle.nfs_shared.specs.Seats.{fresh};
