@@ -27,7 +27,8 @@ INSIDE = "input ends inside a record"
 
 # What came of a connection: the fault that ended it, or None; its replies; and the numbers of its receipts.
 Ended = namedtuple("Ended", "fault replies receipts")
-# What came of those that were served at once; and how many sweeps there were meanwhile, and how many clients they removed.
+# What came of those that were served at once; and of the sweeps meanwhile: how many they were, and how many clients they
+# removed.
 Served = namedtuple("Served", "ended sweeps expired")
 # What came of a sweep.
 Swept = namedtuple("Swept", "expired kept changed refused revoked stopped")
@@ -46,10 +47,13 @@ def build(path=PROGRAM):
     if os.path.exists(path):
         return
     folder = os.path.dirname(os.path.dirname(path))
-    print(f"{os.path.relpath(path)} isn't there: `rt run` in {os.path.relpath(folder)} proves and builds it",
+    print(f"rows: {os.path.relpath(path)} isn't there: `rt run` in {os.path.relpath(folder)} proves and builds it",
           file=sys.stderr)
-    # It runs what it has built. This run has nothing but its head.
-    subprocess.run(["rt", "run"], cwd=folder, input=head(ALONE), stdout=subprocess.DEVNULL, check=True)
+    try:
+        # It also runs what it has built. This run has nothing but its head.
+        subprocess.run(["rt", "run"], cwd=folder, input=head(ALONE), stdout=subprocess.DEVNULL, check=True)
+    except (OSError, subprocess.CalledProcessError) as error:
+        raise Failed(f"it can't be built ({error}); tools/model/check_rows.py runs rows without it") from None
 
 
 def part(data):

@@ -21,9 +21,9 @@ Outcome = namedtuple("Outcome", "wrong journal")
 
 
 def run(row, way, piece, is_again=False, **program):
-    """Runs a row on a server of its own. Its parts are served one after another; with `is_again`, one that goes wrong is
-    sent once more to the same server, as by a client that asks again where it was refused memory, and a sweep is made
-    once more, which removes the clients for whose end there was none."""
+    """Runs a row on a server of its own. Its parts are served one after another; with `is_again`, one that goes wrong
+    is sent once more to the same server, as by a client that asks again where it was refused memory, and a sweep is
+    made once more, which removes the clients for whose end there was none."""
     seats = sum(isinstance(step, Part) for step in row.steps) * (2 if is_again else 1)
     document = DEFAULT if row.document is None else row.document
     with Driver(**program) as driver:
@@ -100,8 +100,8 @@ def run_shared_again(row, **program):
 
 def way_of(is_shared, is_again, **program):
     """How to run a row."""
-    ways = {(False, False): run_once, (False, True): run_again, (True, False): run_shared, (True, True): run_shared_again}
-    return partial(ways[is_shared, is_again], **program)
+    once, again = (run_shared, run_shared_again) if is_shared else (run_once, run_again)
+    return partial(again if is_again else once, **program)
 
 
 # Reports.
