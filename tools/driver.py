@@ -20,7 +20,7 @@ PROGRAM = os.path.join(TOP, "crates/rows/out/rows")
 ALONE, SHARED = 0, 1
 SERVE, SWEEP = 1, 2
 # The seconds in which an order has to be answered, on however busy a machine.
-PATIENCE = 120
+PATIENCE = 300
 # By the number of an error: the fault with which a connection ends.
 FAULTS = {1: "input not read", 2: "output not written", 3: "record too long", 4: "no memory", 5: "input too long"}
 INSIDE = "input ends inside a record"
