@@ -1,4 +1,4 @@
--- One run of the program, which serves one input and output.
+-- The faults with which a connection or a tree ends a run, the exit status, and what becomes of the journal's file.
 use Rattle.std.specs.Prelude.{◌≡◌, ◌⊎◌, ℕ, ◌+◌, Option, Some, None, Result, Ok, Err, zero, suc}
 use Rattle.nfs_journal.specs.File.{file}
 use Rattle.nfs_journal.specs.Journals.{file_of}

@@ -9,7 +9,7 @@ mod journal_file;
 mod numbers;
 mod once;
 mod pieces;
-mod run_end;
+mod serve_end;
 mod tree_file;
 
 pub use audit::run_audit;
@@ -18,5 +18,5 @@ pub use faults::first_fault;
 pub use journal_file::{BUFFER_LEN, file_buffer, file_journal};
 pub use numbers::limits_of_files;
 pub use once::run_once;
-pub use run_end::end_run;
+pub use serve_end::end_run;
 pub use tree_file::read_tree;

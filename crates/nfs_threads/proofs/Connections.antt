@@ -14,7 +14,7 @@ use Rattle.nfs_threads.proofs.Courses.{ends_unread}
 use Rattle.nfs_threads.specs.Links.{tcp}
 use Rattle.nfs_threads.specs.Sockets.{socket_device}
 use Rattle.nfs_threads.specs.Uptimes.{GoesOn}
-use Rattle.nfs_threads.specs.Run.{AreConnections, IsConnection, receipts_of}
+use Rattle.nfs_threads.specs.Run.{AreConnections, IsConnection, receipts_by_connection}
 use Rattle.nfs_threads.specs.declared.connection_end.ConnectionEnd.{ConnectionEnd}
 use Rattle.nfs_threads.specs.declared.socket.Socket.{Socket}
 use Rattle.nfs_threads.specs.declared.tcp_link.TcpLink.{TcpLink}
@@ -94,7 +94,7 @@ fresh_from place (seat ∷ seats) each = (each 0 seat refl ∙ ap fresh (omega a
 
 connected : {N L D C : Type 0} (linking : Linking L D C) (tree : Files) (link : L) (place : ℕ) (links : List (L × SeatView)) (dones : List (WorkerEnd N)) (connections : List ConnectionEnd)
     → FreshFrom place (seats_of links) → AllByRecursion (λ l. l.0 ≡ link) links → AreEndsOf linking tree links dones
-    → map (λ e. e.result) connections ≡ map (λ d. d.result) dones → receipts_of connections ≡ receipts_back dones
+    → map (λ e. e.result) connections ≡ map (λ d. d.result) dones → receipts_by_connection connections ≡ receipts_back dones
     → AreConnections linking tree link place connections
 connected linking tree link place links dones [] new same are results receipts = tt
 connected linking tree link place links [] (e ∷ es) new same are results receipts = absurd cc
@@ -103,7 +103,7 @@ connected linking tree link place (l ∷ links) (d ∷ dones) (e ∷ es) new sam
     let result : e.result ≡ d.result = cc in
     let more_results : map (λ x. x.result) es ≡ map (λ x. x.result) dones = cc in
     let own : e.receipts.items ≡ d.receipts.items = cc in
-    let more_receipts : receipts_of es ≡ receipts_back dones = cc in (
+    let more_receipts : receipts_by_connection es ≡ receipts_back dones = cc in (
       of_done linking tree link (fresh place) d e (subst (λ x. IsEndOf linking tree x (fresh place) d) same.0 (subst (λ s. IsEndOf linking tree l.0 s d) new.0 are.0)) result own,
       connected linking tree link (suc place) links dones es new.1 same.1 are.1 more_results more_receipts,
     )
@@ -111,7 +111,7 @@ connected linking tree link place (l ∷ links) (d ∷ dones) (e ∷ es) new sam
 -- the connections that workers served, one link at fresh seats
 pub connections_of : {N L D C : Type 0} (linking : Linking L D C) (tree : Files) (link : L) (count : ℕ) (links : List (L × SeatView)) (dones : List (WorkerEnd N)) (connections : List ConnectionEnd)
     → AreFresh count (seats_of links) → AllByRecursion (λ l. l.0 ≡ link) links → AreEndsOf linking tree links dones
-    → map (λ e. e.result) connections ≡ map (λ d. d.result) dones → receipts_of connections ≡ receipts_back dones
+    → map (λ e. e.result) connections ≡ map (λ d. d.result) dones → receipts_by_connection connections ≡ receipts_back dones
     → AreConnections linking tree link 0 connections
 connections_of linking tree link count links dones connections new same are results receipts =
     connected linking tree link 0 links dones connections (fresh_from 0 (seats_of links) (λ k seat at. new.1 k seat at ∙ ap fresh (omega arith))) same are results receipts

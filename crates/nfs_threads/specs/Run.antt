@@ -47,8 +47,8 @@ AreConnections linking tree link place (ended ∷ rest) =
     × AreConnections linking tree link (suc place) rest
 
 -- the receipts of each connection
-abbrev pub receipts_of : List ConnectionEnd → List (List Receipt)
-receipts_of connections = map (λ ended. ended.receipts.items) connections
+abbrev pub receipts_by_connection : List ConnectionEnd → List (List Receipt)
+receipts_by_connection connections = map (λ ended. ended.receipts.items) connections
 
 -- The core `old` was shared by connections of the link, so many, and `new` is what they left. Clients may have ended
 -- between them: of that is said only that it was lawful.
@@ -61,6 +61,6 @@ pub record IsRun {R : Type 0} (link : TcpLink R) (tree : Files) (count : ℕ) (o
   pub lawful : IsLawful new
   pub safe : IsSafe (meaning new.stored)
   -- the calls of the journal are those of the receipts, each at its number, and no others
-  pub stand : AllStand new.journal.entries (receipts_of connections)
-  pub apart : AllApart (receipts_of connections)
-  pub counted : calls_in new.journal.entries ≡ receipts_in (receipts_of connections)
+  pub stand : AllStand new.journal.entries (receipts_by_connection connections)
+  pub apart : AllApart (receipts_by_connection connections)
+  pub counted : calls_in new.journal.entries ≡ receipts_in (receipts_by_connection connections)

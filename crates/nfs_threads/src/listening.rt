@@ -4,7 +4,7 @@ ghost use Rattle.nfs_core.specs.Safe.{IsSafe};
 ghost use Rattle.nfs_core.specs.Server.{IsLawful};
 ghost use Rattle.nfs_threads.specs.Links.{tcp};
 ghost use Rattle.nfs_threads.specs.Rooms.{HaveRoom};
-ghost use Rattle.nfs_threads.specs.Run.{IsRun, receipts_of};
+ghost use Rattle.nfs_threads.specs.Run.{IsRun, receipts_by_connection};
 ghost use Rattle.nfs_threads.specs.declared.tcp_link.TcpLink.{TcpLink};
 ghost use Rattle.nfs_owners.specs.Registry.{is_live};
 ghost use Rattle.nfs_threads.specs.Worker.{AreEndsOf, AreUnused, receipts_back, seats_back, seats_of};
@@ -153,13 +153,13 @@ fn serve_swept<N: Naming + Send + Sync, R: Threads + Wait + Timer + Sync>(
             requires { (N.start.nodes ≡ setting.now.tree.now.nodes) × AreUnused (seats_of links.items)
                 × (spare.items ≡ []) × (length links.items ≤ vec_capacity spare) }
             ensures { AreEndsOf tcp setting.entry.now.tree.now links.entry.items result.0.items }
-        { serve_in(scope, setting, shared, sweeper, links, spare) },
+        { serve_beside_sweep(scope, setting, shared, sweeper, links, spare) },
     )
 }
 
 // Serves the links, while a thread of this scope sweeps, and tells it their end. Where none can be made, the sweeper is
 // asked for once the links are served: it finds the end told, and comes back without a sweep.
-fn serve_in<'s, E, N: Naming + Send + Sync + 's, R: Threads + Wait + Timer + Sync>(
+fn serve_beside_sweep<'s, E, N: Naming + Send + Sync + 's, R: Threads + Wait + Timer + Sync>(
     scope: &Scope<'s, E>,
     setting: &'s Setting<'s, R>,
     shared: &'s Shared<N>,
@@ -239,7 +239,7 @@ fn end<N: Naming>(
     ensures apart { AllApart (receipts_back all.items) }
     ensures counted { calls_in result.0.journal.entries ≡ receipts_in (receipts_back all.items) }
     ensures results { map (λ e. e.result) result.1.items ≡ map (λ d. d.result) all.items }
-    ensures receipts { receipts_of result.1.items ≡ receipts_back all.items }
+    ensures receipts { receipts_by_connection result.1.items ≡ receipts_back all.items }
 {
     parts.take(all);
     let Parts {
@@ -251,7 +251,7 @@ fn end<N: Naming>(
     (core, pair(results.as_slice(), receipts, ended))
 }
 
-// Each result with the receipts at its setting.
+// Each result with the receipts at its place.
 fn pair(
     results: &[Result<usize, ServeError>],
     receipts: Vec<Vec<Receipt>>,
@@ -261,7 +261,7 @@ fn pair(
     requires empty { ended.items ≡ [] }
     requires room { vec_len receipts ≤ vec_capacity ended }
     ensures results { map (λ e. e.result) result.items ≡ results.now }
-    ensures receipts { receipts_of result.items ≡ map (λ v. v.items) receipts.items }
+    ensures receipts { receipts_by_connection result.items ≡ map (λ v. v.items) receipts.items }
 {
     let mut all = ended;
     for receipts in receipts {

@@ -13,7 +13,7 @@ pub struct TcpLink<'a, R> {
 }
 
 impl<'a, R> TcpLink<'a, R> {
-    /// `start` is what the monotonic clock showed when the service began.
+    /// `start` is what the monotonic clock showed when the run began.
     pub(crate) fn new(rt: &'a R, start: Duration, listener: &'a TcpListener) -> TcpLink<'a, R>
         ensures { result ≡ record {
           rt = rt.entry;

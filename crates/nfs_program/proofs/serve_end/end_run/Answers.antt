@@ -5,7 +5,7 @@ use Rattle.nfs_program.specs.Faults.{fault_of_run}
 use Rattle.nfs_program.specs.Once.{IsFiled, status_of}
 use Rattle.nfs_program.specs.Pieces.{HasRoomForFileOf}
 use Rattle.nfs_program.specs.declared.fault.Fault.TheVariants.{NoMemory}
-use Rattle.nfs_program.proofs.run_end.end_run.Goals as goal
+use Rattle.nfs_program.proofs.serve_end.end_run.Goals as goal
 
 pub returns : goal.returns
 returns g c =
