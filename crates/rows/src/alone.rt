@@ -1,76 +1,92 @@
-//! A server over memory.
+//! A server with a core of its own.
 
-ghost use Rattle.std.specs.Prelude.{◌≡◌, ◌<◌, ◌≤◌};
-ghost use Rattle.nfs_state.specs.declared.journal.TheConstants.{LEASE_MAX, LEASE_MIN};
+ghost use Rattle.std.specs.Prelude.{◌≡◌, ℕ, IsFalse};
+ghost use Rattle.nfs_owners.specs.Registry.{is_live};
 
-use crate::{Connection, Got, Pieces, Step};
-use nfs_core::Core;
-use nfs_server::{Counted, Fault, Lent, Stopped, serve_connection};
-use nfs_tree::{Tree, TreeError};
+use crate::batch::{Batch, Connection};
+use crate::calls::Calls;
+use crate::failure::Failure;
+use crate::outcome::{ConnectionEnd, Outcome};
+use crate::server::Server;
+use crate::session::Session;
+use crate::sweeping::Sweeps;
+use nfs_core::{Core, Moment};
+use nfs_server::{Lent, Link, serve_duplex};
+use nfs_shared::Swept;
+use nfs_tree::Tree;
 use std::alloc::Global;
+use std::io::{Read, Write};
 
-/// A server that takes one step after another, and serves each connection to its end.
-#[derive(Drop)]
-pub struct Server {
-    tree: Tree,
-    lent: Lent,
-    ghost nodes: { lent.core.journal.nodes ≡ tree.nodes },
+/// Has a server with this core do what it is told, and gives the core back.
+pub(crate) fn serve_alone<I: Read + Drop, O: Write + Drop>(
+    session: &mut Session<I, O>,
+    tree: &Tree,
+    core: Core,
+) -> Result<Core, Failure>
+    requires nodes { core.journal.nodes ≡ tree.now.nodes }
+    requires nobody { (number : ℕ) → IsFalse (is_live number core.stored.clients) }
+{
+    let alloc = session.alloc;
+    let lent = Lent::new(alloc, core)?;
+    let server = session.direct(Alone { alloc, tree, lent })?;
+    Ok(server.into_core())
 }
 
-impl Server {
-    /// A new server with the files of this TOML document, a lease in seconds, and the number of its run.
-    pub fn open(alloc: Global, document: &str, lease: u32, epoch: u32) -> Result<Server, TreeError>
-        requires { (LEASE_MIN ≤ lease) × (lease ≤ LEASE_MAX) }
-    {
-        let tree = Tree::from_toml(alloc, document)?;
-        let core = Core::new(alloc, &tree, lease, epoch, tree.policy());
-        let Ok(core) = core else {
-            return Err(TreeError::Memory);
-        };
-        match Lent::new(alloc, core) {
-            Ok(lent) => Ok(Server { lent, tree }),
-            Err(_) => Err(TreeError::Memory),
-        }
-    }
+// A server that serves one connection after the other, each to its end.
+#[derive(Drop)]
+struct Alone<'a> {
+    alloc: Global,
+    tree: &'a Tree,
+    lent: Lent,
+    ghost nodes: { lent.core.journal.nodes ≡ tree.now.nodes },
+}
 
-    /// Takes a step. What is sent comes in pieces of at most `piece_len` bytes, and the replies are appended to `out`.
-    pub fn take(&mut self, alloc: Global, step: &Step, piece_len: usize, out: Vec<u8>) -> Got
-        requires { 0 < piece_len }
-    {
-        match step {
-            Step::Connection(connection) => self.converse(alloc, connection, piece_len, out),
-            Step::Sweep(sweep) => Got::Swept(self.lent.sweep(sweep.moment)),
-        }
-    }
-
-    /// The tree, and the core.
-    pub fn into_parts(self) -> (Tree, Core)
-        ensures { result.1.journal.nodes ≡ result.0.nodes }
-    {
-        let Server { tree, lent } = self;
-        (tree, lent.into_core())
-    }
-
-    fn converse(
-        &mut self,
-        alloc: Global,
-        connection: &Connection,
-        piece_len: usize,
-        out: Vec<u8>,
-    ) -> Got
-        requires { 0 < piece_len }
-    {
-        let mut source = Counted::new(Pieces::new(connection.sent.as_slice(), piece_len));
-        let mut sink = Counted::new(out);
-        let mut clock = Stopped::at(connection.moment);
-        let outcome = serve_connection(
-            alloc,
-            &mut source,
-            &mut sink,
+impl Alone<'_> {
+    fn converse(&mut self, calls: &Calls, piece: usize, mut connection: Connection) -> ConnectionEnd {
+        let (mut device, mut clock) = connection.link(calls, piece).open();
+        let result = serve_duplex(
+            self.alloc,
+            &mut device,
             &mut self.lent,
-            &self.tree,
+            self.tree,
             &mut clock,
         );
-        Got::Replies(sink.into_device(), Fault::of(outcome))
+        ConnectionEnd {
+            result,
+            replies: connection.into_replies(),
+            receipts: Vec::new(self.alloc),
+        }
+    }
+
+    fn into_core(self) -> Core {
+        let Alone {
+            alloc: _,
+            tree: _,
+            lent,
+        } = self;
+        lent.into_core()
+    }
+}
+
+impl Server for Alone<'_> {
+    fn serve(mut self, batch: Batch) -> Result<(Outcome, Self), Failure> {
+        // There is no other thread that could sweep.
+        if batch.is_swept {
+            return Err(Failure::Input);
+        }
+        let calls = Calls::new(batch.start, batch.pace);
+        let mut ends = Vec::with_capacity(self.alloc, batch.connections.len())?;
+        for connection in batch.connections {
+            ends.push_reserved(self.converse(&calls, batch.piece, connection));
+        }
+        let outcome = Outcome {
+            ends,
+            sweeps: Sweeps::NONE,
+        };
+        Ok((outcome, self))
+    }
+
+    fn sweep(&mut self, now: Moment) -> Swept {
+        self.lent.sweep(now)
     }
 }

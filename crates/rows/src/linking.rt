@@ -1,36 +1,81 @@
 ghost use Rattle.std.specs.Prelude.{◌≡◌, IfOk};
-ghost use Rattle.nfs_shared.specs.Ends.{IsKept};
+ghost use Rattle.nfs_server.specs.Working.{AreUnused, seats_of};
+ghost use Rattle.rows.specs.Places.{AreServed};
 
-use crate::Pieces;
+use crate::calls::Calls;
+use crate::failure::Failure;
+use crate::sweeping::{Sweeps, sweep_until};
+use crate::yielding::Yielding;
 use nfs_server::{Counted, Done, Link, receipts_are_questions, serve_all};
-use nfs_shared::{Naming, Seat, Shared};
+use nfs_shared::{Naming, Seat, Shared, Sweeper};
 use nfs_tree::Tree;
-use std::alloc::{AllocError, Global};
+use std::alloc::Global;
 use std::sync::Wait;
+use std::sync::atomic::{AtomicBool, Ordering};
+use std::thread;
 use std::thread::Threads;
 
-/// Serves one link at a seat that was given nothing yet, in a thread of its own, and waits for its end.
-pub fn serve_link<N: Naming + Send + Sync, L: Link + Drop + Send, R: Threads + Wait + Sync>(
-    alloc: Global,
-    rt: &R,
-    shared: &Shared<N>,
-    tree: &Tree,
-    link: L,
-    seat: Seat<N>,
-) -> Result<Done<N>, AllocError>
-    requires tree { N.start.nodes ≡ tree.now.nodes }
-    requires unused { seat.receipts.given ≡ 0 }
-    ensures place { IfOk result (λ done. done.seat.place ≡ seat.place) }
-    ensures kept { IfOk result (λ done. IsKept done.seat done.receipts.items) }
-{
-    let mut links = Vec::with_capacity(alloc, 1)?;
-    links.push_reserved((link, seat));
-    let Ok(mut all) = serve_all(alloc, rt, shared, tree, links) else {
-        return Err(AllocError);
-    };
-    receipts_are_questions::<L::Device, Counted<Pieces<'_>>, Counted<Vec<u8>>, L::Clock>();
-    let Some(done) = all.pop() else {
-        return Err(AllocError);
-    };
-    Ok(done)
+/// What all links of a run are served with.
+#[derive(Drop)]
+pub(crate) struct Common<'a, N: Naming, R> {
+    pub(crate) rt: &'a R,
+    pub(crate) alloc: Global,
+    pub(crate) shared: &'a Shared<N>,
+    pub(crate) tree: &'a Tree,
+    ghost nodes: { N.start.nodes ≡ tree.now.nodes },
+}
+
+impl<'a, N: Naming + Send + Sync, R: Threads + Wait + Sync> Common<'a, N, R> {
+    /// Serves these links at once, each at its seat and in a thread of its own, and waits for their ends.
+    pub(crate) fn serve<L: Link + Drop + Send>(
+        &self,
+        links: Vec<(L, Seat<N>)>,
+    ) -> Result<Vec<Done<N>>, Failure>
+        requires unused { AreUnused (seats_of links.items) }
+        ensures { IfOk result (λ dones. AreServed links.items dones.items) }
+    {
+        let Ok(dones) = serve_all(self.alloc, self.rt, self.shared, self.tree, links) else {
+            return Err(Failure::Memory);
+        };
+        receipts_are_questions::<L::Device, Counted<Yielding<'_>>, Counted<Vec<u8>>, L::Clock>();
+        Ok(dones)
+    }
+
+    /// The same, while another thread sweeps. It gives the sweeper back.
+    pub(crate) fn serve_swept<L: Link + Drop + Send>(
+        &self,
+        links: Vec<(L, Seat<N>)>,
+        calls: &Calls,
+        sweeper: Sweeper<N>,
+    ) -> Result<(Vec<Done<N>>, Sweeps, Sweeper<N>), Failure>
+        requires unused { AreUnused (seats_of links.items) }
+        ensures { IfOk result (λ r. AreServed links.items r.0.items) }
+    {
+        let is_over = &AtomicBool::new(false);
+        let (rt, shared) = (self.rt, self.shared);
+        // Where no thread can be made, the first is called after the second.
+        let ((sweeps, sweeper), dones) = thread::join(
+            rt,
+            move || sweep_until(rt, shared, sweeper, calls, is_over),
+            move || -> Result<Vec<Done<N>>, Failure>
+                requires { AreUnused (seats_of links.items) }
+                ensures { IfOk result (λ dones. AreServed links.items dones.items) }
+            { self.serve_and_tell(links, is_over) },
+        );
+        Ok((dones?, sweeps, sweeper))
+    }
+
+    // Serves these links at once, and tells when they have ended.
+    fn serve_and_tell<L: Link + Drop + Send>(
+        &self,
+        links: Vec<(L, Seat<N>)>,
+        is_over: &AtomicBool,
+    ) -> Result<Vec<Done<N>>, Failure>
+        requires unused { AreUnused (seats_of links.items) }
+        ensures { IfOk result (λ dones. AreServed links.items dones.items) }
+    {
+        let dones = self.serve(links);
+        is_over.store(true, Ordering::SeqCst);
+        dones
+    }
 }

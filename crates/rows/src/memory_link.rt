@@ -5,14 +5,14 @@ use std::io::Read;
 
 /// A link over memory: a source that it reads from, a vector that its replies are appended to, and a clock.
 #[derive(Drop)]
-pub struct MemoryLink<'a, S, C> {
+pub(crate) struct MemoryLink<'a, S, C> {
     source: S,
     replies: &'a mut Vec<u8>,
     clock: C,
 }
 
 impl<'a, S, C> MemoryLink<'a, S, C> {
-    pub fn new(source: S, replies: &'a mut Vec<u8>, clock: C) -> MemoryLink<'a, S, C> {
+    pub(crate) fn new(source: S, replies: &'a mut Vec<u8>, clock: C) -> MemoryLink<'a, S, C> {
         MemoryLink {
             source,
             replies,

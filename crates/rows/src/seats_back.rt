@@ -1,64 +1,59 @@
-ghost use Rattle.std.specs.Prelude.{◌≡◌, ◌∷◌, ◌++◌, [], IfOk, OnErr, OnOk, length, map};
+ghost use Rattle.std.specs.Prelude.{◌≡◌, ◌+◌, ◌∷◌, ◌++◌, [], OnErr, OnOk, length, map};
+ghost use Rattle.std.specs.Vec.Iter.{into_iter_items};
 ghost use Rattle.nfs_core.specs.Server.{IsLawful};
-ghost use Rattle.nfs_server.specs.Working.{receipts_back, seats_back};
 ghost use Rattle.nfs_shared.specs.Ends.{AllApart, AllStand, AreKept, IsKept, receipts_in};
 ghost use Rattle.nfs_shared.specs.Naming.{start_of};
 ghost use Rattle.nfs_shared.specs.Receipts.{calls_in, others_in};
+ghost use Rattle.rows.specs.Places.{AreBackFrom, AreFreshFrom};
 
 use nfs_core::Core;
 use nfs_server::Done;
 use nfs_shared::{Naming, Receipt, Seat, Shared, Sweeper};
 use std::alloc::{AllocError, Global};
 use std::marker::Model;
+use std::vec::IntoIter;
 
-/// What workers hand in when they have ended: their seats, in the order of their places, and with each the receipts that
-/// it was given.
+/// What came back of a run: seats, in the order of their places, and with each the receipts that it was given.
 #[derive(Drop)]
-pub struct Handed<N: Naming> {
+pub(crate) struct SeatsBack<N: Naming> {
+    alloc: Global,
     seats: Vec<Seat<N>>,
     receipts: Vec<Vec<Receipt>>,
 }
 
-impl<N: Naming> Model for Handed<N> {
+impl<N: Naming> Model for SeatsBack<N> {
     ghost use Rattle.std.specs.Prelude.{map};
-    ghost use Rattle.nfs_rows.specs.Handed.{HandedView};
     ghost use Rattle.nfs_shared.specs.Ends.{AreKept};
+    ghost use Rattle.rows.specs.Places.{BackView};
 
-    ghost Value = { HandedView };
+    ghost Value = { BackView };
 
-    ghost view = { λ h. record {
-      seats = h.seats.items;
-      receipts = map (λ v. v.items) h.receipts.items;
+    ghost view = { λ b. record {
+      seats = b.seats.items;
+      receipts = map (λ v. v.items) b.receipts.items;
     } };
 
-    ghost invariant = { λ h. AreKept h.seats.items (map (λ v. v.items) h.receipts.items) };
+    ghost invariant = { λ b. AreKept b.seats.items (map (λ v. v.items) b.receipts.items) };
 }
 
-impl<N: Naming> Handed<N> {
-    /// Nothing was handed in yet.
-    pub fn new(alloc: Global) -> Handed<N>
+impl<N: Naming> SeatsBack<N> {
+    /// Nothing came back yet.
+    pub(crate) fn new(alloc: Global) -> SeatsBack<N>
         ensures { result ≡ record { seats = []; receipts = [] } }
     {
-        Handed {
+        SeatsBack {
+            alloc,
             seats: Vec::new(alloc),
             receipts: Vec::new(alloc),
         }
     }
 
-    /// What these workers gave back, in the order of the places of their seats.
-    pub fn of(alloc: Global, all: Vec<Done<N>>) -> Result<Handed<N>, AllocError>
-        requires kept { AreKept (seats_back all.items) (receipts_back all.items) }
-        ensures seats { IfOk result (λ h. h.seats ≡ seats_back all.items) }
-        ensures receipts { IfOk result (λ h. h.receipts ≡ receipts_back all.items) }
-    {
-        match Done::split(alloc, all) {
-            Ok((receipts, seats)) => Ok(Handed { seats, receipts }),
-            Err(_) => Err(AllocError),
-        }
-    }
-
     /// A worker hands in the seat of the next place, and all of its receipts.
-    pub fn hand_in(&mut self, seat: Seat<N>, receipts: Vec<Receipt>) -> Result<(), AllocError>
+    pub(crate) fn hand_in(
+        &mut self,
+        seat: Seat<N>,
+        receipts: Vec<Receipt>,
+    ) -> Result<(), AllocError>
         requires place { seat.place ≡ length self.old.seats }
         requires kept { IsKept seat receipts.items }
         ensures seats { OnOk result (self.new.seats ≡ self.old.seats ++ seat ∷ []) }
@@ -73,9 +68,38 @@ impl<N: Naming> Handed<N> {
         Ok(())
     }
 
+    /// Workers hand in the seats of the next places, and all of their receipts.
+    pub(crate) fn hand_in_all(&mut self, dones: Vec<Done<N>>) -> Result<(), AllocError>
+        requires next { AreBackFrom (length self.old.seats) dones.items }
+        ensures { OnOk result
+            (length self.new.seats ≡ length self.old.seats + length dones.items) }
+    {
+        for done in dones {
+            let Done {
+                result: _,
+                seat,
+                receipts,
+            } = done;
+            self.hand_in(seat, receipts)?;
+        }
+        Ok(())
+    }
+
+    /// The seats of the next places come back as they were made.
+    pub(crate) fn hand_in_unused(&mut self, seats: IntoIter<Seat<N>>) -> Result<(), AllocError>
+        requires next { AreFreshFrom (length self.old.seats) (into_iter_items seats) }
+        ensures { OnOk result
+            (length self.new.seats ≡ length self.old.seats + length (into_iter_items seats)) }
+    {
+        for seat in seats {
+            self.hand_in(seat, Vec::new(self.alloc))?;
+        }
+        Ok(())
+    }
+
     /// The core, once the sweeper has ended and all workers have handed in their seats; and the receipts by the places of
     /// their seats.
-    pub fn end(self, shared: Shared<N>, sweeper: Sweeper<N>) -> (Core, Vec<Vec<Receipt>>)
+    pub(crate) fn end(self, shared: Shared<N>, sweeper: Sweeper<N>) -> (Core, Vec<Vec<Receipt>>)
         requires all { length self.seats ≡ N.run.workers }
         ensures start { start_of result.0.journal ≡ N.start }
         ensures lawful { IsLawful result.0 }
@@ -85,7 +109,11 @@ impl<N: Naming> Handed<N> {
         ensures counted { calls_in result.0.journal.entries ≡ receipts_in self.receipts }
         ensures others { others_in result.0.journal.entries ≡ sweeper.count }
     {
-        let Handed { seats, receipts } = self;
+        let SeatsBack {
+            alloc: _,
+            seats,
+            receipts,
+        } = self;
         let core = shared.end(receipts.as_slice(), seats, sweeper);
         (core, receipts)
     }

@@ -1,4 +1,4 @@
-use crate::rising::Calls;
+use crate::calls::Calls;
 use nfs_core::Moment;
 use nfs_shared::{Naming, Shared, Sweeper, Swept};
 use std::sync::Wait;
@@ -13,6 +13,11 @@ pub(crate) struct Sweeps {
 }
 
 impl Sweeps {
+    pub(crate) const NONE: Sweeps = Sweeps {
+        count: 0,
+        expired: 0,
+    };
+
     // One sweep more.
     fn and(self, swept: Swept) -> Sweeps {
         Sweeps {
@@ -28,19 +33,16 @@ pub(crate) fn sweep_until<N: Naming, R: Wait>(
     shared: &Shared<N>,
     mut sweeper: Sweeper<N>,
     calls: &Calls,
-    ended: &AtomicBool,
+    is_over: &AtomicBool,
 ) -> (Sweeps, Sweeper<N>) {
-    let mut sweeps = Sweeps {
-        count: 0,
-        expired: 0,
-    };
-    let mut last = Moment::new(0).unwrap();
+    let mut sweeps = Sweeps::NONE;
+    let mut last: Option<u64> = None;
     for _ in rt.forever() {
-        let is_last = ended.load(Ordering::SeqCst);
+        let is_last = is_over.load(Ordering::SeqCst);
         let now = calls.moment();
-        if now.seconds() != last.seconds() || is_last {
+        if last != Some(now.seconds()) || is_last {
             sweeps = sweeps.and(shared.sweep(rt, &mut sweeper, now));
-            last = now;
+            last = Some(now.seconds());
         }
         if is_last {
             return (sweeps, sweeper);

@@ -1,0 +1,14 @@
+use crate::batch::Batch;
+use crate::failure::Failure;
+use crate::outcome::Outcome;
+use nfs_core::Moment;
+use nfs_shared::Swept;
+
+/// Who does what the program is told.
+pub(crate) trait Server: Sized + Drop {
+    /// Serves these connections. After a failure the server is gone.
+    fn serve(self, batch: Batch) -> Result<(Outcome, Self), Failure>;
+
+    /// Looks through the leases, as at this moment.
+    fn sweep(&mut self, now: Moment) -> Swept;
+}
