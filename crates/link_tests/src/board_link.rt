@@ -2,7 +2,8 @@ ghost use Rattle.std.specs.Prelude.{◌≡◌, ◌≤◌, length};
 
 use crate::board::Board;
 use nfs_core::Moment;
-use nfs_server::{DeviceFailed, Duplex, Link, Stopped};
+use nfs_server::{DeviceFailed, Duplex, Stopped};
+use nfs_threads::Link;
 use std::thread;
 use std::time::{Clock as Sleeper, Duration};
 

@@ -1,11 +1,12 @@
 ghost use Rattle.std.specs.Prelude.{◌≡◌, IfSome};
-ghost use Rattle.nfs_server.specs.Working.{seats_of};
+ghost use Rattle.nfs_threads.specs.Worker.{seats_of};
 ghost use Rattle.nfs_shared.specs.Naming.{CanBegin};
 
 use crate::board::Board;
 use crate::board_link::BoardLink;
 use nfs_core::{Core, Moment};
-use nfs_server::{Done, ServeError, serve_all, workers_keep_receipts};
+use nfs_server::ServeError;
+use nfs_threads::{WorkerEnd, serve_all, workers_keep_receipts};
 use nfs_shared::{Naming, Opened, Seat, Shared};
 use nfs_tree::Tree;
 use std::alloc::Global;
@@ -55,7 +56,7 @@ fn serve_links_in<N: Naming + Send + Sync, R: Threads + Wait + Sleeper + Sync>(
         return None;
     };
     let (served, read_failures) = count(&all);
-    let Ok((receipts, seats)) = Done::split(alloc, all) else {
+    let Ok((receipts, seats)) = WorkerEnd::split(alloc, all) else {
         return None;
     };
     workers_keep_receipts::<N, BoardLink<'_, R>>();
@@ -88,7 +89,7 @@ fn links_at<'a, N: Naming, R: Sleeper>(
 }
 
 // How many were served to the end, each with its own receipt, and in how many a read failed.
-fn count<N: Naming>(all: &Vec<Done<N>>) -> (u32, u32) {
+fn count<N: Naming>(all: &Vec<WorkerEnd<N>>) -> (u32, u32) {
     let mut served = 0u32;
     let mut read_failures = 0u32;
     for done in all.iter() {

@@ -3,7 +3,7 @@ ghost use Rattle.nfs_owners.specs.Registry.{is_live};
 
 use crate::client::converse;
 use nfs_core::Core;
-use nfs_listener::{Ended, serve_on};
+use nfs_threads::{ConnectionEnd, serve_on};
 use nfs_tree::Tree;
 use std::alloc::Global;
 use std::net::{TcpListener, TcpStream};
@@ -50,8 +50,9 @@ fn serve_two<R: Threads + Wait + Clock + Sync>(
                 × ((number : ℕ) → IsFalse (is_live number core.stored.clients))
                 × (core.journal.nodes ≡ tree.now.nodes) }
         {
-            let (core, all, _) = serve_on(alloc, rt, listener, core, tree, 2).ok()?;
-            Some((count(all.as_slice()), core.journal().entries().len()))
+            let run = serve_on(alloc, rt, listener, core, tree, 2).ok()?;
+            let entries = run.core.journal().entries().len();
+            Some((count(run.connections.as_slice()), entries))
         },
     );
     let (served, entries) = served?;
@@ -63,7 +64,7 @@ fn serve_two<R: Threads + Wait + Clock + Sync>(
 }
 
 // How many were served to the end, each with its own receipt.
-fn count(all: &[Ended]) -> u32 {
+fn count(all: &[ConnectionEnd]) -> u32 {
     let mut served = 0u32;
     for ended in all {
         if ended.result == Ok(0) && ended.receipts.len() == 1 {

@@ -9,9 +9,11 @@ mod new_file;
 
 use crate::new_file::NewFile;
 use nfs_core::{Core, CoreError, LEASE_MAX, LEASE_MIN, Moment};
-use nfs_listener::{end_run, serve_on};
+use nfs_program::end_run;
+use nfs_threads::serve_on;
 use nfs_options::{Declined, OnceOptions, ServeOptions, Subcommand, options};
-use nfs_server::{Counted, Fault, Sides, file_buffer, read_tree, run_audit, run_once};
+use nfs_program::{Fault, file_buffer, read_tree, run_audit, run_once};
+use nfs_server::{Counted, Sides};
 use nfs_tree::{DEFAULT_TREE, Tree};
 use std::alloc::Global;
 use std::net::TcpListener;
@@ -100,18 +102,11 @@ fn serve<R: Threads + Wait + Clock + Sync>(
         return report(rt, Fault::NoMemory);
     };
     let served = serve_on(alloc, threads, &listener, core, &tree, options.connections);
-    let Ok((core, connections, is_swept)) = served else {
+    let Ok(run) = served else {
         return report(rt, Fault::NoMemory);
     };
     let mut errors = rt.stderr();
-    end_run(
-        &mut buffer,
-        &core,
-        connections.as_slice(),
-        is_swept,
-        &mut errors,
-        &mut journal,
-    )
+    end_run(&mut buffer, &run, &mut errors, &mut journal)
 }
 
 // A listener at this address. The address that it got is told by a line on standard error, by which a script can know

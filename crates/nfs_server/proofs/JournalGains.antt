@@ -16,25 +16,13 @@ use Rattle.nfs_server.specs.Entries.{AreEntries, QuestionsAreEntries}
 use Rattle.nfs_server.specs.Exchange.{rules as answered_by}
 use Rattle.nfs_server.specs.LentAnswers.{IsGiven}
 use Rattle.nfs_server.specs.Leases.{LentCore}
-use Rattle.nfs_server.proofs.Gaining.{IsGain, asked_gain, course_gains}
+use Rattle.nfs_server.specs.laws.Gaining.{IsGain, asked_gain, course_gains, entries_then}
 use Rattle.nfs_xdr.specs.declared.op_result.OpResult.{OpResult}
 
 -- Answering questions with these answers, the journal gained their entries and didn't change otherwise.
 abbrev pub Gains : List Question → List OpResult → History → History → Type 0
 Gains questions answers old new =
     (entries : List Entry) × AreEntries questions answers entries × (new ≡ record old { entries = old.entries ++ entries })
-
--- the entries of questions and of more questions after them
-pub entries_then : (questions more : List Question) (answers others : List OpResult) (entries last : List Entry) → AreEntries questions answers entries → AreEntries more others last → AreEntries (questions ++ more) (answers ++ others) (entries ++ last)
-entries_then [] more [] others entries last are rest = rw are rest
-entries_then (Operation request ∷ questions) more (answer ∷ answers) others entries last (inl refused) rest =
-    inl (refused.0, entries_then questions more answers others entries last refused.1 rest)
-entries_then (Operation request ∷ questions) more (answer ∷ answers) others entries last (inr entered) rest =
-    inr (entered.0, entered.1 ++ last, ap (λ (es : List Entry). es ++ last) entered.2, entries_then questions more answers others entered.1 last entered.3 rest)
-entries_then (Renewal moment client ∷ questions) more (answer ∷ answers) others entries last are rest =
-    entries_then questions more answers others entries last are rest
-entries_then [] more (answer ∷ answers) others entries last are rest = absurd are
-entries_then (question ∷ questions) more [] others entries last are rest = absurd are
 
 gains_then : (questions more : List Question) (answers others : List OpResult) (old mid new : History) → Gains questions answers old mid → Gains more others mid new → Gains (questions ++ more) (answers ++ others) old new
 gains_then questions more answers others old mid new first second = (

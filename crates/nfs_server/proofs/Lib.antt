@@ -1,9 +1,6 @@
 pub mod Limits
 pub mod Folding
-pub mod Receiving
 pub mod Replying
-pub mod Writing
-pub mod Putting
 pub mod Exchanges
 pub mod Serving
 pub mod Batching
@@ -11,8 +8,4 @@ pub mod Courses
 pub mod Views
 pub mod LentLeases
 pub mod CourseLaws
-pub mod Gaining
 pub mod JournalGains
-pub mod Receipts
-pub mod Workers
-pub mod Kept

@@ -11,14 +11,8 @@ use Rattle.nfs_server.specs.Connection.{Scene, scene}
 use Rattle.nfs_server.specs.Device.{Device, IsCut, IsWritten}
 use Rattle.nfs_server.specs.Exchange.{Exchange, Rules, AreExchanged, AreLeft, IsExchanged, messages_of, written_for, written_for_all}
 use Rattle.nfs_server.specs.Serving.{IsServed}
-use Rattle.nfs_server.proofs.Writing.{cut_after, written_nothing, written_then}
-
-pub exchanged_then : {S C : Type 0} (rules : Rules S C) (es fs : List Exchange) (s mid new : S) (c between after : C)
-    → AreExchanged rules s c es mid between → AreExchanged rules mid between fs new after → AreExchanged rules s c (es ++ fs) new after
-exchanged_then {S = S} {C = C} rules [] fs s mid new c between after first second =
-    subst (λ (x : S). AreExchanged rules x c fs new after) first.0 (subst (λ (y : C). AreExchanged rules mid y fs new after) first.1 second)
-exchanged_then rules (e ∷ es) fs s mid new c between after first second =
-    (first.0, first.1, first.2, exchanged_then rules es fs first.0 mid new first.1 between after first.3 second)
+use Rattle.nfs_server.specs.laws.Exchanges.{exchanged_then}
+use Rattle.nfs_server.specs.laws.Writing.{cut_after, written_nothing, written_then}
 
 pub exchanged_more : {S C : Type 0} (rules : Rules S C) (es : List Exchange) (e : Exchange) (s mid new : S) (c between after : C)
     → AreExchanged rules s c es mid between → IsExchanged rules mid between e new after → AreExchanged rules s c (es ++ e ∷ []) new after

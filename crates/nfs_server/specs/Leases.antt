@@ -1,7 +1,7 @@
 -- A lent core, and the book of its clients' leases.
 use Rattle.nfs_core.specs.Server.{Server}
-use Rattle.nfs_shared.specs.BookOf.{IsBookOf}
-use Rattle.nfs_shared.specs.PlainBook.{PlainBook, is_open_in, was_opened_in}
+use Rattle.nfs_leases.specs.BookOf.{IsBookOf}
+use Rattle.nfs_leases.specs.PlainBook.{PlainBook, is_open_in, was_opened_in}
 
 -- a lent core, and the book of its clients' leases
 pub record LentCore : Type 0 where

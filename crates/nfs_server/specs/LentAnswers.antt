@@ -5,11 +5,11 @@ use Rattle.nfs_owners.specs.Registry.{Registry, is_live}
 use Rattle.nfs_core.specs.Entered.{Answers}
 use Rattle.nfs_core.specs.declared.entered.Entered.{Entered}
 use Rattle.nfs_server.specs.Asking.{Operation, Question, Renewal}
-use Rattle.nfs_shared.specs.BookEvent.{Leads}
-use Rattle.nfs_shared.specs.BookOf.{events_entered}
+use Rattle.nfs_leases.specs.BookEvent.{AllHappen}
+use Rattle.nfs_leases.specs.BookOf.{events_entered}
 use Rattle.nfs_server.specs.Leases.{LentCore}
-use Rattle.nfs_shared.specs.PlainBook.{Happens, with_renewal}
-use Rattle.nfs_shared.specs.Renewals.{renewal_answer, renewed_by}
+use Rattle.nfs_leases.specs.PlainBook.{Happens, with_renewal}
+use Rattle.nfs_leases.specs.Renewals.{renewal_answer, renewed_by}
 use Rattle.nfs_xdr.specs.declared.op.Op.{Op}
 use Rattle.nfs_xdr.specs.declared.op.Op.TheVariants as ops
 use Rattle.nfs_xdr.specs.declared.op_result.OpResult.{OpResult}
@@ -32,7 +32,7 @@ IsGiven old (Operation request) answer new =
     let client = renewed_by old.core.journal.epoch request.op in
     (entered : Option Entered)
     × Answers old.core new.core request answer entered
-    × Leads Happens (with_renewal client request.moment old.book)
+    × AllHappen Happens (with_renewal client request.moment old.book)
     (events_entered entered request.moment) new.book
 IsGiven old (Renewal moment client) answer new =
     let number = renewed_by old.core.journal.epoch (renewal_of client) in

@@ -5,7 +5,6 @@ pub mod LentAnswers
 pub mod Entries
 pub mod Folding
 pub mod Device
-pub mod Pieces
 pub mod Sides
 pub mod Pair
 pub mod Exchange
@@ -14,10 +13,5 @@ pub mod Batch
 pub mod Connection
 pub mod Serving
 pub mod CourseLaws
-pub mod Holding
-pub mod Receipts
-pub mod Working
-pub mod Begun
-pub mod Once
-pub mod Audit
 pub mod ServeError
+pub mod laws

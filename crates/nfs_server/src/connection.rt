@@ -180,7 +180,7 @@ fn send<D: Duplex>(device: &mut D, replies: &mut Replies) -> Result<(), ServeErr
 }
 
 /// Writes all of the bytes to the sink.
-pub(crate) fn write_to<W: Sink>(sink: &mut W, bytes: &[u8]) -> Result<(), DeviceFailed>
+pub fn write_to<W: Sink>(sink: &mut W, bytes: &[u8]) -> Result<(), DeviceFailed>
     requires room { W.failures sink.old < 2 ^ 64 - 1 }
     ensures ok { OnOk result
         (IsWritten (device_of_sink W.takes W.fails) sink.old bytes.now sink.new) }

@@ -2,12 +2,12 @@ ghost use Rattle.std.specs.Prelude.{◌≡◌, ◌^◌, IfOk, IsFalse, ℕ, refl
 ghost use Rattle.nfs_core.specs.Server.{AreAlike};
 ghost use Rattle.nfs_owners.specs.Registry.{is_live};
 ghost use Rattle.nfs_server.specs.Leases.{IsLent};
-ghost use Rattle.nfs_shared.specs.PlainBook.{Happens};
-ghost use Rattle.nfs_shared.specs.Sweeps.{Sweeps, leased_server};
+ghost use Rattle.nfs_leases.specs.PlainBook.{Happens};
+ghost use Rattle.nfs_leases.specs.Sweeps.{Sweeps, leased_server};
 
 use crate::Service;
 use nfs_core::{Core, Moment};
-use nfs_shared::{LeasedCore, PlainLeases, Swept, renewal_answer, renewed_client};
+use nfs_leases::{LeasedCore, PlainLeases, Swept, renewal_answer, renewed_client};
 use nfs_state::Request;
 use nfs_xdr::{ClientId, OpResult};
 use std::alloc::{AllocError, Global};

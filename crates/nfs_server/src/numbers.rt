@@ -1,15 +1,11 @@
 ghost use Rattle.std.specs.Prelude.{◌≡◌, ◌^◌};
 
 use crate::connection::STREAM_LIMIT;
-use crate::journal_file::BUFFER_LEN;
-use crate::pieces::WAIT_LIMIT;
 use crate::replies::{BATCH_QUESTIONS, BATCH_RECORDS, GATHER_LIMIT};
 
-/// The limits in the rules of a connection and of a run: how many bytes its input may have; and how many records and questions a batch
-/// may have, which doesn't go on once more bytes of replies wait than the last limit says; and those by which a journal's file is
-/// written: how many bytes there is room for, and after how many they are written.
+/// The limits in the rules of a connection: how many bytes its input may have; and how many records and questions a
+/// batch may have, which doesn't go on once more bytes of replies wait than the last limit says.
 pub fn limits_of_connections()
     ensures input { STREAM_LIMIT ≡ 2 ^ 40 }
     ensures batch { (BATCH_RECORDS ≡ 16) × (BATCH_QUESTIONS ≡ 64) × (GATHER_LIMIT ≡ 262140) }
-    ensures file { (BUFFER_LEN ≡ 524288) × (WAIT_LIMIT ≡ 65536) }
 {}

@@ -2,11 +2,11 @@
 use Rattle.std.proofs.Common.{◌≡◌, ℕ, suc, List, [], ◌∷◌, ◌++◌, length, sym, ap, ◌∙◌, arith, length-append}
 use Rattle.nfs_core.specs.Safe.{IsSafe}
 use Rattle.nfs_core.specs.Server.{Enters, IsLawful, Server}
-use Rattle.nfs_shared.specs.BookOf.{IsBookOf}
+use Rattle.nfs_leases.specs.BookOf.{IsBookOf}
 use Rattle.nfs_shared.specs.Held.{HeldView, IsHeld}
-use Rattle.nfs_shared.specs.PlainBook.{PlainBook, is_open_in, was_opened_in}
+use Rattle.nfs_leases.specs.PlainBook.{PlainBook, is_open_in, was_opened_in}
 use Rattle.nfs_shared.specs.Receipts.{calls_in, receipts_of}
-use Rattle.nfs_shared.specs.Turn.{Gains}
+use Rattle.nfs_leases.specs.Visit.{Gains}
 use Rattle.nfs_shared.specs.declared.receipt.Receipt.{Receipt}
 use Rattle.nfs_shared.proofs.Receipts.{calls_in_call, calls_in_more, receipts_call, receipts_more}
 use Rattle.nfs_state.specs.State.{History}

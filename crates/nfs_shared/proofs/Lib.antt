@@ -1,7 +1,3 @@
-pub mod Lists
-pub mod Comes
-pub mod NextOpen
-pub mod Books
 pub mod Prefixes
 pub mod Moves
 pub mod Receipts

@@ -4,10 +4,10 @@ use Rattle.std.proofs.lemmas.List.{append-nil}
 use Rattle.std.proofs.lemmas.List.Elements.{filter-append, filter_map-append}
 use Rattle.std.proofs.lemmas.Option.{slice_get_within}
 use Rattle.std.specs.List.{cons_option, filter_map, zip}
-use Rattle.nfs_shared.specs.BookEvent.{BookEvent, Close}
+use Rattle.nfs_leases.specs.BookEvent.{BookEvent, Close}
 use Rattle.nfs_shared.specs.Receipts.{calls_in, numbered_calls, receipt_of, receipts_of, others_in}
-use Rattle.nfs_shared.specs.Turn.{expiries}
-use Rattle.nfs_shared.specs.declared.closing.Closing.TheVariants as closing
+use Rattle.nfs_leases.specs.Visit.{expiries}
+use Rattle.nfs_leases.specs.declared.closing.Closing.TheVariants as closing
 use Rattle.nfs_shared.specs.declared.receipt.Receipt.{Receipt}
 use Rattle.nfs_state.specs.Entries.{call_of}
 use Rattle.nfs_state.specs.declared.entry.Call.{Call}

@@ -5,9 +5,9 @@ use Rattle.atomic_table.specs.Seated.{TableId}
 use Rattle.atomic_table.specs.declared.shared.Seat as tokens
 use Rattle.nfs_core.specs.Safe.{IsSafe}
 use Rattle.nfs_core.specs.Server.{IsLawful, Server}
-use Rattle.nfs_shared.specs.BookOf.{IsBookOf}
+use Rattle.nfs_leases.specs.BookOf.{IsBookOf}
 use Rattle.nfs_shared.specs.Naming.{start_of}
-use Rattle.nfs_shared.specs.PlainBook.{PlainBook, is_open_in, was_opened_in}
+use Rattle.nfs_leases.specs.PlainBook.{PlainBook, is_open_in, was_opened_in}
 use Rattle.nfs_shared.specs.Receipts.{calls_in, receipts_of}
 use Rattle.nfs_shared.specs.Roll.{IsOf, IsWriter, list_of}
 use Rattle.nfs_shared.specs.Seats.{SeatView}

@@ -1,15 +1,9 @@
-pub mod BookEvent
-pub mod BookOf
 pub mod Ends
 pub mod Held
 pub mod Naming
-pub mod PlainBook
-pub mod PlainLaws
 pub mod Receipt
 pub mod Receipts
-pub mod Renewals
 pub mod Roll
 pub mod Seats
-pub mod Sweeps
-pub mod Turn
+pub mod Sweeper
 pub mod laws

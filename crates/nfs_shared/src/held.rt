@@ -4,13 +4,13 @@ ghost use Rattle.nfs_core.specs.Entered.{Answers, number_entered};
 ghost use Rattle.nfs_core.specs.Server.{Applies};
 ghost use Rattle.nfs_core.specs.declared.entered.Entered.{Entered};
 ghost use Rattle.nfs_forms.specs.ClientId.{number_in};
-ghost use Rattle.nfs_shared.specs.BookEvent.{Leads};
-ghost use Rattle.nfs_shared.specs.BookOf.{events_entered};
+ghost use Rattle.nfs_leases.specs.BookEvent.{AllHappen};
+ghost use Rattle.nfs_leases.specs.BookOf.{events_entered};
 ghost use Rattle.nfs_shared.specs.Held.{MayBeHeld};
-ghost use Rattle.nfs_shared.specs.PlainBook.{Happens, has_open_lease, with_renewal};
-ghost use Rattle.nfs_shared.specs.Renewals.{renewed_by};
+ghost use Rattle.nfs_leases.specs.PlainBook.{Happens, has_open_lease, with_renewal};
+ghost use Rattle.nfs_leases.specs.Renewals.{renewed_by};
 ghost use Rattle.nfs_shared.specs.Seats.{Gives, KnowsTheSame, number_given};
-ghost use Rattle.nfs_shared.specs.Sweeps.{Sweeps, leased_server};
+ghost use Rattle.nfs_leases.specs.Sweeps.{Sweeps, leased_server};
 ghost use Rattle.nfs_state.specs.Entries.{IsFilehandle};
 ghost use Rattle.nfs_state.specs.declared.entry.Call.{Call};
 ghost use Rattle.nfs_state.specs.declared.entry.Entry.TheVariants as entries;
@@ -18,16 +18,14 @@ ghost use Rattle.nfs_xdr.specs.Op.{has_entry, opnum_of};
 ghost use Rattle.nfs_xdr.specs.OpResult.{op_result};
 ghost use Rattle.nfs_xdr.specs.Opnum.{answer_limit};
 
-use crate::leased_core::LeasedCore;
 use crate::naming::{Naming, SweepLedger};
 use crate::receipt::Receipt;
 use crate::register::{Register, give};
-use crate::renewing::renewed_client;
 use crate::roll::meet;
 use crate::seat::Seat;
 use crate::sweeper::Sweeper;
-use crate::{PlainLeases, Swept};
 use nfs_core::{Core, Entry, Moment, lawful_is_safe};
+use nfs_leases::{LeasedCore, PlainLeases, Swept, renewed_client};
 use nfs_state::{Request, SeenCall};
 use nfs_xdr::{ClientId, Op, OpResult, Refusal};
 use std::marker::Model;
@@ -95,7 +93,7 @@ pub fn call_held<N: Naming>(
     ensures leases { (entered : Option Entered)
         × Answers held.old.server held.new.server request result.0 entered
         × (number_entered entered ≡ number_given result.1)
-        × Leads Happens
+        × AllHappen Happens
         (with_renewal (renewed_by N.start.epoch request.op) request.moment held.old.leases)
         (events_entered entered request.moment) held.new.leases }
 {

@@ -4,25 +4,25 @@ ghost use Rattle.nfs_core.specs.Entered.{Answers, number_entered};
 ghost use Rattle.nfs_core.specs.Server.{Applies};
 ghost use Rattle.nfs_core.specs.declared.entered.Entered.{Entered};
 ghost use Rattle.nfs_forms.specs.ClientId.{number_in};
-ghost use Rattle.nfs_shared.specs.BookEvent.{Leads};
-ghost use Rattle.nfs_shared.specs.BookOf.{events_entered};
+ghost use Rattle.nfs_leases.specs.BookEvent.{AllHappen};
+ghost use Rattle.nfs_leases.specs.BookOf.{events_entered};
 ghost use Rattle.nfs_shared.specs.Held.{MayBeHeld};
-ghost use Rattle.nfs_shared.specs.PlainBook.{Happens, has_open_lease, with_renewal};
-ghost use Rattle.nfs_shared.specs.Renewals.{renewed_by};
+ghost use Rattle.nfs_leases.specs.PlainBook.{Happens, has_open_lease, with_renewal};
+ghost use Rattle.nfs_leases.specs.Renewals.{renewed_by};
 ghost use Rattle.nfs_shared.specs.Seats.{Gives, KnowsTheSame, number_given};
-ghost use Rattle.nfs_shared.specs.Sweeps.{Sweeps, leased_server};
+ghost use Rattle.nfs_leases.specs.Sweeps.{Sweeps, leased_server};
 ghost use Rattle.nfs_state.specs.Entries.{IsFilehandle, resource};
 ghost use Rattle.nfs_xdr.specs.Op.{has_entry, opnum_of};
 ghost use Rattle.nfs_xdr.specs.OpResult.{op_result};
 ghost use Rattle.nfs_xdr.specs.Opnum.{answer_limit};
 
-use crate::Swept;
 use crate::held::{Held, call_held, renew_held, renew_named, sweep_held};
 use crate::naming::Naming;
 use crate::receipt::Receipt;
 use crate::seat::Seat;
 use crate::sweeper::Sweeper;
 use nfs_core::Moment;
+use nfs_leases::Swept;
 use nfs_state::Request;
 use nfs_xdr::{ClientId, Op, OpResult};
 use std::marker::Model;
@@ -63,7 +63,7 @@ impl<'a, N: Naming> Hold<'a, N> {
         ensures leases { (entered : Option Entered)
             × Answers self.old.server self.new.server request result.0 entered
             × (number_entered entered ≡ number_given result.1)
-            × Leads Happens
+            × AllHappen Happens
             (with_renewal (renewed_by N.start.epoch request.op) request.moment self.old.leases)
             (events_entered entered request.moment) self.new.leases }
     {

@@ -11,7 +11,7 @@ pub struct Sweeper<N: Naming> {
 
 impl<N: Naming> Model for Sweeper<N> {
     ghost use Rattle.std.specs.Prelude.{◌≡◌};
-    ghost use Rattle.nfs_shared.specs.Sweeps.{SweeperView};
+    ghost use Rattle.nfs_shared.specs.Sweeper.{SweeperView};
 
     ghost Value = { SweeperView };
 

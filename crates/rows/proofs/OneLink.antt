@@ -2,10 +2,10 @@
 use Rattle.std.proofs.Common.{◌≡◌, List, [], ◌∷◌, ◌++◌, ◌∙◌, suc, length, ap, arith, refl, subst, length-append}
 use Rattle.nfs_server.specs.Connection.{scene}
 use Rattle.nfs_server.specs.Exchange.{rules}
-use Rattle.nfs_server.specs.Holding.{AreAlikeButRoom, GivenBySeat}
-use Rattle.nfs_server.specs.Receipts.{ReceiptsAreQuestions}
-use Rattle.nfs_server.specs.Working.{AreDone, IsDone, Linking}
-use Rattle.nfs_server.specs.declared.done.Done.{Done}
+use Rattle.nfs_threads.specs.Holding.{AreAlikeButRoom, GivenBySeat}
+use Rattle.nfs_threads.specs.Receipts.{ReceiptsAreQuestions}
+use Rattle.nfs_threads.specs.Working.{AreDone, IsDone, Linking}
+use Rattle.nfs_threads.specs.declared.done.Done.{Done}
 use Rattle.nfs_shared.specs.Ends.{IsKept}
 use Rattle.nfs_shared.specs.Seats.{SeatView}
 use Rattle.nfs_tree.specs.Tree.{Files}

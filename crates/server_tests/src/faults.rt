@@ -1,6 +1,7 @@
 //! The line of the one fault that no run of the program can have.
 
-use nfs_server::{Fault, ServeError};
+use nfs_program::Fault;
+use nfs_server::ServeError;
 use std::test::Fail;
 
 /// No run of the program can be given as much as that; `tools/try_program` has the lines of all other faults.

@@ -4,7 +4,8 @@ ghost use Rattle.std.specs.Prelude.{◌≡◌, [], IfOk};
 ghost use Rattle.nfs_owners.specs.Registry.{no_clients};
 
 use nfs_core::{Core, CoreError, Moment};
-use nfs_server::{Counted, Sides, run_audit, run_once};
+use nfs_program::{run_audit, run_once};
+use nfs_server::{Counted, Sides};
 use nfs_tree::{DEFAULT_TREE, Tree};
 use std::alloc::Global;
 use std::test::Fail;

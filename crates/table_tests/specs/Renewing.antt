@@ -1,10 +1,10 @@
 -- A book of leases in which somebody else renews a lease after each call.
 use Rattle.std.specs.Prelude.{◌≡◌, ℕ, true}
 use Rattle.std.proofs.Common.{◌∙◌}
-use Rattle.nfs_shared.specs.BookEvent.{BookEvent, Renew, is_open_after, was_opened_after}
-use Rattle.nfs_shared.specs.PlainBook.{Happens, PlainBook, is_open_in, was_opened_in}
-use Rattle.nfs_shared.specs.declared.renewal.Renewal.{Renewal}
-use Rattle.nfs_shared.specs.laws.Following as laws
+use Rattle.nfs_leases.specs.BookEvent.{BookEvent, Renew, is_open_after, was_opened_after}
+use Rattle.nfs_leases.specs.PlainBook.{Happens, PlainBook, is_open_in, was_opened_in}
+use Rattle.nfs_leases.specs.declared.renewal.Renewal.{Renewal}
+use Rattle.nfs_leases.specs.laws.Following as laws
 
 -- the call leads from the one book to another, and a renewal from there
 abbrev pub AfterEach : PlainBook → BookEvent → PlainBook → Type 0

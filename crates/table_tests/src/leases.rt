@@ -1,9 +1,9 @@
 //! Leases that are opened, renewed and seen.
 
 ghost use Rattle.std.specs.Prelude.{◌≡◌, ℕ, IfOk, false};
-ghost use Rattle.nfs_shared.specs.PlainBook.{was_opened_in};
+ghost use Rattle.nfs_leases.specs.PlainBook.{was_opened_in};
 
-use nfs_shared::{Closing, LeaseBook, LeaseState, PlainLeases, Renewal};
+use nfs_leases::{Closing, LeaseBook, LeaseState, PlainLeases, Renewal};
 use nfs_state::Moment;
 use std::alloc::{AllocError, Global};
 use std::test::Fail;

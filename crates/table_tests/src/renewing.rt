@@ -1,6 +1,6 @@
 //! A book of leases in which somebody else renews.
 
-use nfs_shared::{Closing, LeaseBook, LeaseState, PlainLeases, Renewal};
+use nfs_leases::{Closing, LeaseBook, LeaseState, PlainLeases, Renewal};
 use nfs_state::Moment;
 
 /// A book that is a plain list, where after each call somebody else renews the client's lease, at this moment.
@@ -12,7 +12,7 @@ pub struct Renewing {
 
 impl LeaseBook for Renewing {
     ghost use Rattle.table_tests.specs.Renewing.{AfterEach, keeps_lease, open_follows, opened_follows, open_was_opened};
-    ghost use Rattle.nfs_shared.specs.PlainBook.{is_open_in, was_opened_in};
+    ghost use Rattle.nfs_leases.specs.PlainBook.{is_open_in, was_opened_in};
 
     ghost lease = { λ b. b.leases.lease };
 

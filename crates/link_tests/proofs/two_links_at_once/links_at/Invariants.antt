@@ -1,5 +1,5 @@
 use Rattle.std.proofs.Common.{◌≡◌}
-use Rattle.nfs_server.specs.Working.{seats_of}
+use Rattle.nfs_threads.specs.Worker.{seats_of}
 use Rattle.link_tests.proofs.two_links_at_once.links_at.Given as goal
 
 abbrev pub invariant-loop-seat : goal.invariant-loop-seat

@@ -1,5 +1,5 @@
 use Rattle.std.proofs.Common.{List, map, length, ap, subst, sym, ◌∙◌}
-use Rattle.nfs_server.specs.Working.{seats_back}
+use Rattle.nfs_threads.specs.Worker.{seats_back}
 use Rattle.nfs_shared.specs.Ends.{AreFresh, AreKept}
 use Rattle.nfs_shared.specs.Seats.{SeatView}
 use Rattle.link_tests.proofs.two_links_at_once.serve_links_in.Goals as goal

@@ -1,5 +1,5 @@
 use Rattle.std.proofs.Common.{◌∙◌}
-use Rattle.nfs_server.proofs.Writing.{goes_out}
+use Rattle.nfs_server.specs.laws.Writing.{goes_out}
 use Rattle.nfs_server.proofs.connection.write_all.Goals as goal
 
 pub loop-rest-preserved : goal.loop-rest-preserved

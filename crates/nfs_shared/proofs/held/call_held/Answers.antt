@@ -11,9 +11,9 @@ use Rattle.nfs_shared.proofs.Renewals.{renewed_named, told_named}
 use Rattle.nfs_shared.proofs.held.call_held.Goals as goal
 use Rattle.nfs_shared.specs.Held.{HeldView}
 use Rattle.nfs_shared.specs.Naming.{start_of}
-use Rattle.nfs_shared.specs.PlainBook.{with_renewal}
+use Rattle.nfs_leases.specs.PlainBook.{with_renewal}
 use Rattle.nfs_shared.specs.Receipts.{calls_in, receipts_of, others_in}
-use Rattle.nfs_shared.specs.Renewals.{renewed_by}
+use Rattle.nfs_leases.specs.Renewals.{renewed_by}
 use Rattle.nfs_shared.specs.Roll.{list_of}
 use Rattle.nfs_forms.specs.declared.status.Refusal.TheVariants.{Resource}
 use Rattle.nfs_shared.specs.declared.receipt.Receipt.{Receipt}

@@ -1,16 +1,16 @@
 -- A sweep enters no call.
 use Rattle.std.proofs.Common.{◌∙◌, ap, refl, arith}
 use Rattle.nfs_shared.proofs.Holding.{KeepsRules, held_more}
-use Rattle.nfs_shared.proofs.Lists.{expired_tally}
+use Rattle.nfs_leases.specs.laws.Counting.{expired_tally}
 use Rattle.nfs_shared.proofs.Receipts.{expiries_no_calls, others_in_more}
 use Rattle.nfs_shared.proofs.held.sweep_held.Goals as goal
 use Rattle.nfs_shared.specs.Held.{HeldView}
 use Rattle.nfs_shared.specs.Naming.{start_of}
 use Rattle.nfs_shared.specs.Roll.{list_of}
 use Rattle.nfs_shared.specs.Receipts.{others_in}
-use Rattle.nfs_shared.specs.Sweeps.{events_of_all, none_swept}
-use Rattle.nfs_shared.specs.Turn.{expiries}
-use Rattle.nfs_shared.specs.declared.swept.Swept.{Swept}
+use Rattle.nfs_leases.specs.Sweeps.{events_of_all, none_swept}
+use Rattle.nfs_leases.specs.Visit.{expiries}
+use Rattle.nfs_leases.specs.declared.swept.Swept.{Swept}
 use Rattle.nfs_state.specs.State.{History}
 
 pub invariant_of-held : goal.invariant_of-held
@@ -35,7 +35,7 @@ invariant_of-held g c =
       agrees = swept.new.self.agrees;
     } in
     let sweeps = swept.ensures.sweeps in
-    let events = events_of_all c.args.now sweeps.turns in
+    let events = events_of_all c.args.now sweeps.visits in
     let gains = sweeps.ends.entries in
     let es = held.leased.core.journal.entries in (
       held_more old new (expiries events) c.held.invariant.0 gains (expiries_no_calls events) keeps refl refl,
@@ -50,6 +50,6 @@ invariant_of-held g c =
         ap (λ (j : History). others_in j.entries) gains.journal,
         others_in_more es events,
         ap (λ (s : Swept). s.expired) sweeps.counts,
-        expired_tally c.args.now none_swept sweeps.turns,
+        expired_tally c.args.now none_swept sweeps.visits,
       ),
     )

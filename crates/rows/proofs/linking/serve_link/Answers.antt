@@ -1,5 +1,5 @@
 use Rattle.std.proofs.Common.{◌∙◌, ◌++◌, ◌∷◌, [], ap}
-use Rattle.nfs_server.specs.Working.{linking}
+use Rattle.nfs_threads.specs.Working.{linking}
 use Rattle.nfs_rows.proofs.OneLink.{last_came_back}
 use Rattle.nfs_rows.proofs.linking.serve_link.Goals as goal
 

@@ -1,5 +1,5 @@
 use Rattle.std.proofs.Common.{◌≡◌}
-use Rattle.nfs_server.specs.Working.{seats_of}
+use Rattle.nfs_threads.specs.Working.{seats_of}
 use Rattle.stress.proofs.serving.links_of.Given as goal
 
 abbrev pub invariant-loop-seat : goal.invariant-loop-seat

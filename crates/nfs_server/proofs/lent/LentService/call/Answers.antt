@@ -4,10 +4,10 @@ use Rattle.nfs_core.specs.Entered.{Answers}
 use Rattle.nfs_core.specs.Server.{Server}
 use Rattle.nfs_server.proofs.lent.LentService.call.Goals as goal
 use Rattle.nfs_server.specs.Leases.{LentCore}
-use Rattle.nfs_shared.specs.BookEvent.{Leads}
-use Rattle.nfs_shared.specs.BookOf.{events_entered}
-use Rattle.nfs_shared.specs.PlainBook.{Happens, PlainBook, with_renewal}
-use Rattle.nfs_shared.specs.Renewals.{renewed_by}
+use Rattle.nfs_leases.specs.BookEvent.{AllHappen}
+use Rattle.nfs_leases.specs.BookOf.{events_entered}
+use Rattle.nfs_leases.specs.PlainBook.{Happens, PlainBook, with_renewal}
+use Rattle.nfs_leases.specs.Renewals.{renewed_by}
 use Rattle.nfs_state.specs.State.{History}
 
 pub returns-clause-gives : goal.returns-clause-gives
@@ -24,5 +24,5 @@ returns-clause-gives c =
     c.renew.ensures.book ∙ (λ i. with_renewal (client i) request.moment (before i)) in (
       called.result.1,
       subst (λ (s : Server). Answers s called.new.self.core request called.result.0 called.result.1) server called.ensures.answers,
-      subst (λ (b : PlainBook). Leads Happens b (events_entered called.result.1 request.moment) called.new.self.book) book called.ensures.leases,
+      subst (λ (b : PlainBook). AllHappen Happens b (events_entered called.result.1 request.moment) called.new.self.book) book called.ensures.leases,
     )

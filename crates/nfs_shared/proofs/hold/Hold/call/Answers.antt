@@ -3,11 +3,11 @@ use Rattle.std.proofs.Common.{◌≡◌, ◌∙◌, Option, subst}
 use Rattle.nfs_core.specs.Entered.{Answers, number_entered}
 use Rattle.nfs_core.specs.declared.entered.Entered.{Entered}
 use Rattle.nfs_shared.proofs.hold.Hold.call.Goals as goal
-use Rattle.nfs_shared.specs.BookEvent.{Leads}
-use Rattle.nfs_shared.specs.BookOf.{events_entered}
+use Rattle.nfs_leases.specs.BookEvent.{AllHappen}
+use Rattle.nfs_leases.specs.BookOf.{events_entered}
 use Rattle.nfs_shared.specs.Held.{HeldView}
-use Rattle.nfs_shared.specs.PlainBook.{Happens, with_renewal}
-use Rattle.nfs_shared.specs.Renewals.{renewed_by}
+use Rattle.nfs_leases.specs.PlainBook.{Happens, with_renewal}
+use Rattle.nfs_leases.specs.Renewals.{renewed_by}
 use Rattle.nfs_shared.specs.Seats.{number_given}
 
 pub returns-clause-leases : goal.returns-clause-leases
@@ -20,6 +20,6 @@ returns-clause-leases g c =
     (entered : Option Entered)
     × Answers h.server called.new.held.server request called.result.0 entered
     × (number_entered entered ≡ number_given called.result.1)
-    × Leads Happens (with_renewal (renewed_by g.N.Naming.start.epoch request.op) request.moment h.leases)
+    × AllHappen Happens (with_renewal (renewed_by g.N.Naming.start.epoch request.op) request.moment h.leases)
     (events_entered entered request.moment) called.new.held.leases)
     same called.ensures.leases

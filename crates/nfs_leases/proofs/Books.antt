@@ -1,0 +1,161 @@
+-- A book that follows what an entry did is again the book of the core's clients.
+use Rattle.std.proofs.Common.{◌≡◌, ℕ, Bool, true, false, not, ◌==◌, ◌&&◌, ◌||◌, [], ◌∷◌, refl, sym, ap, ◌∙◌}
+use Rattle.std.proofs.lemmas.Bool.{eqb-true}
+use Rattle.std.specs.Prelude.{IsFalse, IsTrue}
+use Rattle.nfs_core.specs.LiveClients.{AreNumbered, LiveFollows}
+use Rattle.nfs_core.specs.Server.{AreAlike, Server}
+use Rattle.nfs_owners.specs.LiveClients.{can_become_live}
+use Rattle.nfs_owners.specs.Registry.{Registry, is_live}
+use Rattle.nfs_owners.specs.declared.live_change.LiveChange.{LiveChange}
+use Rattle.nfs_owners.specs.declared.live_change.LiveChange.TheVariants as changes
+use Rattle.nfs_leases.specs.BookEvent.{BookEvent, AllHappen, Open, Retire}
+use Rattle.nfs_leases.specs.BookOf.{CanFollow, IsBookOf, events_of_change}
+use Rattle.nfs_leases.proofs.Comes.{AreLaws, lease_after}
+use Rattle.nfs_state.specs.State.{History}
+use Rattle.nfs_state.specs.Stored.{Stored}
+
+fresh_by : (opened can : Bool) → (IsTrue opened → IsFalse can) → IsTrue can → IsFalse opened
+fresh_by true can h k = sym k ∙ h refl
+fresh_by false can h k = refl
+
+-- who comes never had a lease, and who goes has one
+pub can_follow : (change : LiveChange) (is_open was_opened : ℕ → Bool) (lease : ℕ) (old : Server) (new : Registry)
+    → ((client : ℕ) → is_open client ≡ true → was_opened client ≡ true)
+    → AreNumbered old.stored.clients
+    → IsBookOf is_open was_opened lease old
+    → LiveFollows change old.stored.clients new
+    → CanFollow was_opened change
+can_follow changes.Same is_open was_opened lease old new known numbered book follows = tt
+can_follow (changes.Comes comes) is_open was_opened lease old new known numbered book follows =
+    (follows.fits.1, fresh_by (was_opened comes) (can_become_live comes old.stored.clients) (book.past comes) follows.fits.0)
+can_follow (changes.Replaces comes goes) is_open was_opened lease old new known numbered book follows = (
+  (follows.fits.0.1, fresh_by (was_opened comes) (can_become_live comes old.stored.clients) (book.past comes) follows.fits.0.0),
+  (numbered goes follows.fits.1, known goes (book.live goes ∙ follows.fits.1)),
+)
+can_follow (changes.Goes goes) is_open was_opened lease old new known numbered book follows =
+    (numbered goes follows.fits, known goes (book.live goes ∙ follows.fits))
+
+or_swap : (a b : Bool) → (a || b) ≡ (b || a)
+or_swap true true = refl
+or_swap true false = refl
+or_swap false true = refl
+or_swap false false = refl
+
+-- an opening and then a retiring, of two clients
+live_by : (was here gone : Bool) → (here ≡ true → gone ≡ true → ⊥)
+    → ((was || here) && not gone) ≡ (here || (was && not gone))
+live_by was true true apart = absurd (apart refl refl)
+live_by true true false apart = refl
+live_by false true false apart = refl
+live_by true false gone apart = refl
+live_by false false gone apart = refl
+
+-- who comes isn't the one who goes: a client that has a lease can't become live
+apart_by : (q comes goes : ℕ) (can : ℕ → Bool) → IsTrue (can comes) → IsFalse (can goes)
+    → (q == comes) ≡ true → (q == goes) ≡ true → ⊥
+apart_by q comes goes can comes_can goes_cannot here gone =
+    let one : q ≡ comes = eqb-true q comes here in
+    let other : q ≡ goes = eqb-true q goes gone in
+    cc (ap can one, ap can other, comes_can, goes_cannot)
+
+-- whose lease was opened, by this change or before, can't become live
+past_by : (was here can can' live' : Bool) → (IsTrue was → IsFalse can)
+    → (IsTrue can' → IsTrue can × IsFalse live') → (here ≡ true → live' ≡ true)
+    → (was || here) ≡ true → IsFalse can'
+past_by was here can false live' past once came h = refl
+past_by true here can true live' past once came h = sym (once refl).0 ∙ past refl
+past_by false true can true live' past once came h = sym (came refl) ∙ (once refl).1
+past_by false false can true live' past once came h = cc
+
+or_false : (b : Bool) → (b || false) ≡ b
+or_false true = refl
+or_false false = refl
+
+module _ {Book : Type 0} (happens : Book → BookEvent → Book → Type 0) (lease : Book → ℕ)
+    (is_open was_opened : Book → ℕ → Bool) (laws : AreLaws happens lease is_open was_opened)
+    (known : (book : Book) (client : ℕ) → is_open book client ≡ true → was_opened book client ≡ true) where
+  pub book_follows : (change : LiveChange) (moment : ℕ) (old new : Server) (book book' : Book)
+      → new.journal.lease ≡ old.journal.lease
+      → LiveFollows change old.stored.clients new.stored.clients
+      → AllHappen happens book (events_of_change change moment) book'
+      → IsBookOf (is_open book) (was_opened book) (lease book) old
+      → IsBookOf (is_open book') (was_opened book') (lease book') new
+  book_follows changes.Same moment old new book book' same follows leads of = record {
+    lasts = ap lease leads ∙ of.lasts ∙ sym same;
+    live = λ q. ap (λ (b : Book). is_open b q) leads ∙ of.live q ∙ sym (follows.live q);
+    past = λ q h.
+        past_by (was_opened book q) false (can_become_live q old.stored.clients)
+        (can_become_live q new.stored.clients) (is_live q new.stored.clients) (of.past q) (follows.once q) (λ k. cc)
+        (or_false (was_opened book q) ∙ sym (ap (λ (b : Book). was_opened b q) leads) ∙ h);
+  }
+  book_follows (changes.Comes comes) moment old new book book' same follows leads of = record {
+    lasts =
+        lease_after happens lease laws.keeps_lease (Open comes moment ∷ []) book book' leads ∙ of.lasts ∙ sym same;
+    live = λ q.
+        ap (λ (b : Book). is_open b q) leads.2
+        ∙ laws.open_follows book (Open comes moment) leads.0 leads.1 q
+        ∙ ap (λ (b : Bool). b || (q == comes)) (of.live q)
+        ∙ or_swap (is_live q old.stored.clients) (q == comes)
+        ∙ sym (follows.live q);
+    past = λ q h.
+        past_by (was_opened book q) (q == comes) (can_become_live q old.stored.clients)
+        (can_become_live q new.stored.clients) (is_live q new.stored.clients) (of.past q) (follows.once q)
+        (λ here. follows.live q ∙ ap (λ (b : Bool). b || is_live q old.stored.clients) here)
+        (sym (laws.opened_follows book (Open comes moment) leads.0 leads.1 q)
+        ∙ sym (ap (λ (b : Book). was_opened b q) leads.2)
+        ∙ h);
+  }
+  book_follows (changes.Replaces comes goes) moment old new book book' same follows leads of =
+      let mid = leads.0 in
+      let last = leads.2.0 in
+      record {
+        lasts =
+            lease_after happens lease laws.keeps_lease (Open comes moment ∷ Retire goes ∷ []) book book' leads
+            ∙ of.lasts
+            ∙ sym same;
+        live = λ q.
+            ap (λ (b : Book). is_open b q) leads.2.2
+            ∙ laws.open_follows mid (Retire goes) last leads.2.1 q
+            ∙ ap (λ (b : Bool). b && not (q == goes))
+            (laws.open_follows book (Open comes moment) mid leads.1 q
+            ∙ ap (λ (b : Bool). b || (q == comes)) (of.live q))
+            ∙ live_by (is_live q old.stored.clients) (q == comes) (q == goes)
+            (apart_by q comes goes (λ (n : ℕ). can_become_live n old.stored.clients) follows.fits.0.0
+            (of.past goes (known book goes (of.live goes ∙ follows.fits.1))))
+            ∙ sym (follows.live q);
+        past = λ q h.
+            past_by (was_opened book q) (q == comes) (can_become_live q old.stored.clients)
+            (can_become_live q new.stored.clients) (is_live q new.stored.clients) (of.past q) (follows.once q)
+            (λ here.
+            follows.live q
+            ∙ ap (λ (b : Bool). b || (is_live q old.stored.clients && not (q == goes))) here)
+            (sym (laws.opened_follows book (Open comes moment) mid leads.1 q)
+            ∙ sym (laws.opened_follows mid (Retire goes) last leads.2.1 q)
+            ∙ sym (ap (λ (b : Book). was_opened b q) leads.2.2)
+            ∙ h);
+      }
+  book_follows (changes.Goes goes) moment old new book book' same follows leads of = record {
+    lasts =
+        lease_after happens lease laws.keeps_lease (Retire goes ∷ []) book book' leads ∙ of.lasts ∙ sym same;
+    live = λ q.
+        ap (λ (b : Book). is_open b q) leads.2
+        ∙ laws.open_follows book (Retire goes) leads.0 leads.1 q
+        ∙ ap (λ (b : Bool). b && not (q == goes)) (of.live q)
+        ∙ sym (follows.live q);
+    past = λ q h.
+        past_by (was_opened book q) false (can_become_live q old.stored.clients)
+        (can_become_live q new.stored.clients) (is_live q new.stored.clients) (of.past q) (follows.once q) (λ k. cc)
+        (or_false (was_opened book q)
+        ∙ sym (laws.opened_follows book (Retire goes) leads.0 leads.1 q)
+        ∙ sym (ap (λ (b : Book). was_opened b q) leads.2)
+        ∙ h);
+  }
+
+-- a server that stores the same, with the same journal, has the same book
+pub book_alike : (is_open was_opened : ℕ → Bool) (lease : ℕ) (old new : Server) → AreAlike old new
+    → IsBookOf is_open was_opened lease old → IsBookOf is_open was_opened lease new
+book_alike is_open was_opened lease old new alike of = record {
+  lasts = of.lasts ∙ ap (λ (j : History). j.lease) (sym alike.0);
+  live = λ q. of.live q ∙ ap (λ (s : Stored). is_live q s.clients) (sym alike.1);
+  past = λ q h. ap (λ (s : Stored). can_become_live q s.clients) alike.1 ∙ of.past q h;
+}

@@ -1,0 +1,152 @@
+-- Lists of visits, of calls on a book and of entries, with more at the end.
+use Rattle.std.proofs.Common.{◌≡◌, ℕ, ◌+◌, ◌<◌, ◌≤◌, ◌==◌, ◌||◌, List, [], ◌∷◌, ◌++◌, length, refl, sym, ap, subst, ◌∙◌, append_assoc, arith, length-append}
+use Rattle.std.proofs.lemmas.Grind.{common_steps}
+use Rattle.std.specs.List.{list_any}
+use Rattle.nfs_core.specs.Lawful as lawful
+use Rattle.nfs_core.specs.Server.{IsLawful, Server}
+use Rattle.nfs_leases.specs.BookEvent.{BookEvent, Look, Renew, Close, Open, Retire, AllHappen}
+use Rattle.nfs_leases.specs.laws.Counting.{expiries_more}
+use Rattle.nfs_leases.specs.Sweeps.{is_of, Ascend, AreVisits, IsVisit, events_of_all, tally}
+use Rattle.nfs_leases.specs.Visit.{Gains, Visit, events_by, events_of, expiries, total, with_case, with_entries}
+use Rattle.nfs_leases.specs.declared.visit_case.VisitCase.{VisitCase}
+use Rattle.nfs_leases.specs.declared.visit_case.VisitCase.TheVariants as cases
+use Rattle.nfs_leases.specs.declared.closing.Closing.TheVariants as closing
+use Rattle.nfs_leases.specs.declared.swept.Swept.{Swept}
+use Rattle.nfs_core.specs.Expiry.{expire_of}
+use Rattle.nfs_state.specs.State.{History, State, empty_server}
+use Rattle.nfs_state.specs.Stored.{meaning}
+use Rattle.nfs_state.specs.declared.entry.Entry.{Entry}
+use Rattle.nfs_state.specs.declared.entry.Entry.TheVariants as entries
+
+pub append-nil : {A : Type 0} (xs : List A) → xs ++ [] ≡ xs
+append-nil [] = refl
+append-nil (x ∷ xs) = ap (λ ys. x ∷ ys) (append-nil xs)
+
+-- calls that lead to a book, and more that lead on from it
+pub happen_more : {Book : Type 0} (happens : Book → BookEvent → Book → Type 0) (old mid new : Book)
+    (events more : List BookEvent)
+    → AllHappen happens old events mid → AllHappen happens mid more new → AllHappen happens old (events ++ more) new
+happen_more happens old mid new [] more h k = subst (λ b. AllHappen happens b more new) h k
+happen_more happens old mid new (e ∷ events) more h k = (h.0, h.1, happen_more happens h.0 mid new events more h.2 k)
+
+pub events_more : (now : ℕ) (visits : List Visit) (t : Visit)
+    → events_of_all now (visits ++ t ∷ []) ≡ events_of_all now visits ++ events_of now t
+events_more now [] t = append-nil (events_of now t)
+events_more now (u ∷ visits) t =
+    ap (λ es. events_of now u ++ es) (events_more now visits t)
+    ∙ sym (append_assoc (events_of now u) (events_of_all now visits) (events_of now t))
+
+pub tally_more : (swept : Swept) (visits : List Visit) (t : Visit)
+    → tally swept (visits ++ t ∷ []) ≡ with_case (tally swept visits) t.case
+tally_more swept [] t = refl
+tally_more swept (u ∷ visits) t = tally_more (with_case swept u.case) visits t
+
+one_counted : (swept : Swept) (case : VisitCase) → total (with_case swept case) ≡ total swept + 1
+one_counted swept cases.Expired = omega arith
+one_counted swept cases.Kept = omega arith
+one_counted swept cases.Changed = omega arith
+one_counted swept cases.Refused = omega arith
+
+-- each visit is counted once
+pub total_tally : (swept : Swept) (visits : List Visit) → total (tally swept visits) ≡ total swept + length visits
+total_tally swept [] = omega arith
+total_tally swept (u ∷ visits) =
+    omega (arith, total_tally (with_case swept u.case) visits, one_counted swept u.case)
+
+-- no visit revokes, and none stops the sweep
+revoked_case : (swept : Swept) (case : VisitCase)
+    → ((with_case swept case).revoked ≡ swept.revoked) × ((with_case swept case).stopped ≡ swept.stopped)
+revoked_case swept cases.Expired = (refl, refl)
+revoked_case swept cases.Kept = (refl, refl)
+revoked_case swept cases.Changed = (refl, refl)
+revoked_case swept cases.Refused = (refl, refl)
+
+pub none_revoked : (swept : Swept) (visits : List Visit)
+    → ((tally swept visits).revoked ≡ swept.revoked) × ((tally swept visits).stopped ≡ swept.stopped)
+none_revoked swept [] = (refl, refl)
+none_revoked swept (u ∷ visits) =
+    let rest = none_revoked (with_case swept u.case) visits in
+    let first = revoked_case swept u.case in
+    (rest.0 ∙ first.0, rest.1 ∙ first.1)
+
+-- the visits go up, from above the first number to at most the second one
+abbrev pub Reaches : ℕ → List Visit → ℕ → Type 0
+Reaches after [] upto = after ≤ upto
+Reaches after (t ∷ visits) upto = (after < t.client) × Reaches t.client visits upto
+
+pub reaches_more : (after : ℕ) (visits : List Visit) (upto : ℕ) (t : Visit)
+    → Reaches after visits upto → upto < t.client → Reaches after (visits ++ t ∷ []) t.client
+reaches_more after [] upto t h k = (omega arith, omega arith)
+reaches_more after (u ∷ visits) upto t h k = (h.0, reaches_more u.client visits upto t h.1 k)
+
+pub ascend_from_reaches : (after : ℕ) (visits : List Visit) (upto : ℕ) → Reaches after visits upto → Ascend after visits
+ascend_from_reaches after [] upto h = tt
+ascend_from_reaches after (u ∷ visits) upto h = (h.0, ascend_from_reaches u.client visits upto h.1)
+
+-- so there are no more visits than numbers between
+pub reaches_length : (after : ℕ) (visits : List Visit) (upto : ℕ) → Reaches after visits upto → after + length visits ≤ upto
+reaches_length after [] upto h = omega arith
+reaches_length after (u ∷ visits) upto h = omega (arith, reaches_length u.client visits upto h.1)
+
+-- whose visits there are, with one more
+pub visits_more : (visits : List Visit) (t : Visit) (client : ℕ)
+    → list_any (is_of client) (visits ++ t ∷ []) ≡ (list_any (is_of client) visits || (t.client == client))
+visits_more [] t client = grind (arith, common_steps)
+visits_more (u ∷ visits) t client = grind (arith, common_steps, visits_more visits t client)
+
+-- a journal that gains entries, and then others
+entries_more : (more others : List Entry) (journal : History)
+    → with_entries others (with_entries more journal) ≡ with_entries (more ++ others) journal
+entries_more more others journal =
+    ap (λ (es : List Entry). record journal { entries = es }) (append_assoc journal.entries more others)
+
+entries_none : (journal : History) → with_entries [] journal ≡ journal
+entries_none journal = ap (λ (es : List Entry). record journal { entries = es }) (append-nil journal.entries)
+
+-- entries that lead to a state, and others that lead on from it
+states_more : (journal : History) (old mid new : State) (more others : List Entry)
+    → lawful.Leads journal old more mid → lawful.Leads (with_entries more journal) mid others new
+    → lawful.Leads journal old (more ++ others) new
+states_more journal old mid new [] others h k =
+    subst (λ (s : State). lawful.Leads journal s others new) h
+    (subst (λ (j : History). lawful.Leads j mid others new) (entries_none journal) k)
+states_more journal old mid new (e ∷ more) others h k = (
+  h.0,
+  h.1,
+  states_more (with_entries (e ∷ []) journal) h.0 mid new more others h.2
+      (subst (λ (j : History). lawful.Leads j mid others new) (sym (entries_more (e ∷ []) more journal)) k),
+)
+
+-- the journal of a server that gained entries leads to its state, if it did before
+pub lawful_more : (more : List Entry) (old new : Server) → IsLawful old → Gains more old new → IsLawful new
+lawful_more more old new h gains =
+    subst (λ (j : History). lawful.Lawful j (meaning new.stored)) (sym gains.journal)
+    (states_more (record old.journal { entries = [] }) (empty_server old.journal.nodes) (meaning old.stored)
+    (meaning new.stored) old.journal.entries more h gains.leads)
+
+pub gains_more : (more others : List Entry) (old mid new : Server)
+    → Gains more old mid → Gains others mid new → Gains (more ++ others) old new
+gains_more more others old mid new h k = record {
+  journal =
+      k.journal ∙ ap (λ (j : History). with_entries others j) h.journal ∙ entries_more more others old.journal;
+  leads =
+      states_more old.journal (meaning old.stored) (meaning mid.stored) (meaning new.stored) more others h.leads
+      (subst (λ (j : History). lawful.Leads j (meaning mid.stored) others (meaning new.stored)) h.journal k.leads);
+}
+
+pub gains_none : (server : Server) → Gains [] server server
+gains_none server = record { journal = sym (entries_none server.journal); leads = refl }
+
+pub right_more : (now : ℕ) (visits : List Visit) (t : Visit) (old mid new : Server)
+    → AreVisits now visits old mid → IsVisit now t mid new → AreVisits now (visits ++ t ∷ []) old new
+right_more now [] t old mid new h k = (new, subst (λ (s : Server). IsVisit now t s new) h k, refl)
+right_more now (u ∷ visits) t old mid new h k = (h.0, h.1, right_more now visits t h.0 mid new h.2 k)
+
+-- what the journal gains in all visits
+pub gains_of_all : (now : ℕ) (visits : List Visit) (old new : Server)
+    → AreVisits now visits old new → Gains (expiries (events_of_all now visits)) old new
+gains_of_all now [] old new h = subst (λ (s : Server). Gains [] old s) (sym h) (gains_none old)
+gains_of_all now (t ∷ visits) old new h =
+    subst (λ (es : List Entry). Gains es old new) (sym (expiries_more (events_of now t) (events_of_all now visits)))
+    (gains_more (expiries (events_of now t)) (expiries (events_of_all now visits)) old h.0 new h.1.gains
+    (gains_of_all now visits h.0 new h.2))

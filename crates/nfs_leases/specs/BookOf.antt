@@ -1,0 +1,45 @@
+-- A book has the leases of a core's clients.
+use Rattle.std.specs.Prelude.{◌≡◌, ℕ, ⊤, Bool, IsFalse, IsTrue, List, [], ◌∷◌, Option, Some, None}
+use Rattle.nfs_core.specs.Server.{Server}
+use Rattle.nfs_core.specs.declared.entered.Entered.{Entered}
+use Rattle.nfs_owners.specs.LiveClients.{can_become_live}
+use Rattle.nfs_owners.specs.Registry.{IsClientNumber, is_live}
+use Rattle.nfs_owners.specs.declared.live_change.LiveChange.{LiveChange}
+use Rattle.nfs_owners.specs.declared.live_change.LiveChange.TheVariants as changes
+use Rattle.nfs_leases.specs.BookEvent.{BookEvent, Open, Retire}
+
+-- A book with these open leases, these that were opened, and this lease in seconds is the book of this core's clients.
+pub record IsBookOf (is_open was_opened : ℕ → Bool) (lease : ℕ) (server : Server) : Type 0 where
+  pub lasts : lease ≡ server.journal.lease
+  -- the leases that are open are those of the live clients
+  pub live : (client : ℕ) → is_open client ≡ is_live client server.stored.clients
+  -- no client whose lease was opened can become live, so that no lease has to be opened twice
+  pub past : (client : ℕ) → IsTrue (was_opened client)
+      → IsFalse (can_become_live client server.stored.clients)
+
+-- What is asked of the book at this moment when clients come and go: the lease of one that becomes live is opened, and
+-- that of one that isn't live any more is retired.
+abbrev pub events_of_change : LiveChange → ℕ → List BookEvent
+events_of_change changes.Same moment = []
+events_of_change (changes.Comes comes) moment = Open comes moment ∷ []
+events_of_change (changes.Replaces comes goes) moment = Open comes moment ∷ Retire goes ∷ []
+events_of_change (changes.Goes goes) moment = Retire goes ∷ []
+
+-- the same after an operation, if it made an entry
+abbrev pub events_entered : Option Entered → ℕ → List BookEvent
+events_entered None moment = []
+events_entered (Some entered) moment = events_of_change entered.live moment
+
+-- the lease of the client can be opened, as it never was; it can be retired, as it was opened
+abbrev pub CanOpen : (ℕ → Bool) → ℕ → Type 0
+CanOpen was_opened client = IsClientNumber client × IsFalse (was_opened client)
+
+abbrev pub CanRetire : (ℕ → Bool) → ℕ → Type 0
+CanRetire was_opened client = IsClientNumber client × IsTrue (was_opened client)
+
+-- the book can be asked what a change wants
+abbrev pub CanFollow : (ℕ → Bool) → LiveChange → Type 0
+CanFollow was_opened changes.Same = ⊤
+CanFollow was_opened (changes.Comes comes) = CanOpen was_opened comes
+CanFollow was_opened (changes.Replaces comes goes) = CanOpen was_opened comes × CanRetire was_opened goes
+CanFollow was_opened (changes.Goes goes) = CanRetire was_opened goes

@@ -1,0 +1,101 @@
+ghost use Rattle.std.specs.Prelude.{◌≡◌, ◌≤◌, IsTrue, length};
+ghost use Rattle.nfs_core.specs.Entered.{Answers};
+ghost use Rattle.nfs_core.specs.Server.{IsLawful};
+ghost use Rattle.nfs_leases.specs.BookEvent.{AllHappen};
+ghost use Rattle.nfs_leases.specs.BookOf.{IsBookOf, events_entered};
+ghost use Rattle.nfs_leases.specs.PlainBook.{has_open_lease, with_renewal};
+ghost use Rattle.nfs_leases.specs.Sweeps.{Sweeps, leased_server};
+ghost use Rattle.nfs_state.specs.Entries.{IsFilehandle};
+ghost use Rattle.nfs_xdr.specs.Op.{has_entry, opnum_of};
+ghost use Rattle.nfs_xdr.specs.OpResult.{op_result};
+ghost use Rattle.nfs_xdr.specs.Opnum.{answer_limit};
+
+use crate::following::follow;
+use crate::renewing::renew_lease;
+use crate::sweeping::sweep_core;
+use crate::{LeaseBook, PlainLeases, Swept};
+use nfs_core::{Core, Entered, lawful_is_safe, live_clients_follow};
+use nfs_state::{Moment, Request};
+use nfs_xdr::OpResult;
+
+/// A core with the book of its clients' leases, of which those of the live clients are open.
+#[derive(Drop)]
+pub struct LeasedCore<B: LeaseBook> {
+    pub core: Core,
+    pub book: B,
+    pub ghost agrees: { IsBookOf (B.is_open book) (B.was_opened book) (B.lease book) core },
+}
+
+impl<B: LeaseBook> LeasedCore<B> {
+    /// The core, with the book of its clients' leases.
+    pub fn new(core: Core, book: B) -> LeasedCore<B>
+        requires agrees { IsBookOf (B.is_open book) (B.was_opened book) (B.lease book) core }
+        ensures core { result.core ≡ core }
+        ensures book { result.book ≡ book }
+    {
+        LeasedCore { core, book }
+    }
+
+    /// Has the core answer a request. The leases follow: where a client becomes live by it, its lease is opened at the
+    /// request's moment; where one is replaced, its lease is retired. No lease is renewed: the caller does that, before.
+    pub fn call(&mut self, request: Request) -> (OpResult, Option<Entered>)
+        requires entry { IsTrue (has_entry request.op) }
+        requires node { IsFilehandle self.old.core.journal request.filehandle }
+        ensures answers { Answers self.old.core self.new.core request result.0 result.1 }
+        ensures short { length (op_result.encoding result.0)
+            ≤ answer_limit (opnum_of request.op) }
+        ensures form { op_result.Fits result.0 }
+        ensures leases { AllHappen B.happens self.old.book (events_entered result.1 request.moment)
+            self.new.book }
+        ensures lawful { IsLawful self.new.core }
+    {
+        lawful_is_safe();
+        live_clients_follow();
+        cores_are_lawful(&self.core);
+        let moment = request.moment;
+        let (answer, entered) = self.core.answer(request);
+        match entered {
+            None => (answer, None),
+            Some(made) => {
+                follow(&mut self.book, made.live, moment);
+                (answer, Some(made))
+            }
+        }
+    }
+
+    /// Goes through the live clients, by rising numbers, and removes each whose lease is over at `now`, from the book
+    /// and from the core.
+    pub fn sweep(&mut self, now: Moment) -> Swept
+        ensures sweeps { Sweeps B.happens now (leased_server self.old.core self.old.book) result
+            (leased_server self.new.core self.new.book) }
+        ensures lawful { IsLawful self.new.core }
+    {
+        sweep_core(&mut self.core, &mut self.book, now)
+    }
+}
+
+impl LeasedCore<PlainLeases> {
+    /// Renews the lease of the client with this number, if there is one. Returns whether the lease is open.
+    pub fn renew(&mut self, client: Option<u32>, moment: Moment) -> bool
+        ensures core { self.new.core ≡ self.old.core }
+        ensures book { self.new.book ≡ with_renewal client moment self.old.book }
+        ensures open { result ≡ has_open_lease self.old.book client }
+    {
+        renew_lease(&mut self.book, client, moment)
+    }
+
+    /// The core, without the leases.
+    pub fn into_core(self) -> Core
+        ensures { result ≡ self.core }
+    {
+        let LeasedCore { core, .. } = self;
+        core
+    }
+}
+
+// The law that the journal of a core leads to what it stores.
+fn cores_are_lawful(core: &Core)
+    ensures { IsLawful core.now }
+{
+    let _ = core.journal();
+}

@@ -1,0 +1,98 @@
+//! The sweep through the leases of all live clients.
+
+ghost use Rattle.std.specs.Prelude.{◌≡◌, ◌<◌, ◌∷◌, [], ℕ, IsTrue, length};
+ghost use Rattle.nfs_core.specs.LiveClients.{AreOfOneRun};
+ghost use Rattle.nfs_core.specs.Server.{IsLawful};
+ghost use Rattle.nfs_owners.specs.Registry.{IsClientNumber, is_live};
+ghost use Rattle.nfs_leases.specs.BookEvent.{Close, AllHappen};
+ghost use Rattle.nfs_leases.specs.BookOf.{IsBookOf};
+ghost use Rattle.nfs_leases.specs.Sweeps.{Sweeps, leased_server};
+ghost use Rattle.nfs_leases.specs.Visit.{Gains, IsRightBy, events_by, expiries};
+ghost use Rattle.nfs_state.specs.Lease.{is_over};
+ghost use Rattle.nfs_state.specs.Stored.{meaning};
+ghost use Rattle.nfs_state.specs.declared.entry.TheConstants.{JOURNAL_LIMIT};
+
+use crate::visit_case::VisitCase;
+use crate::{Closing, LeaseBook, LeaseState, Swept};
+use nfs_core::{Core, lawful_is_safe, live_clients_follow};
+use nfs_state::{Moment, is_over};
+
+/// Goes through the live clients, by rising numbers, and removes each whose lease is over at `now`: from the book, where
+/// the lease is still as it was seen, and then from the core. A client whose lease isn't over stays, and so does one
+/// whose lease was renewed meanwhile, or for whose entry there is no room.
+pub fn sweep_core<B: LeaseBook>(core: &mut Core, book: &mut B, now: Moment) -> Swept
+    requires agrees { IsBookOf (B.is_open book.old) (B.was_opened book.old) (B.lease book.old)
+        core.old }
+    ensures sweeps { Sweeps B.happens now (leased_server core.old book.old) result
+        (leased_server core.new book.new) }
+    ensures agrees { IsBookOf (B.is_open book.new) (B.was_opened book.new) (B.lease book.new)
+        core.new }
+    ensures lawful { IsLawful core.new }
+{
+    live_clients_follow();
+    lawful_is_safe();
+    core.journal();
+    let mut swept = Swept::NONE;
+    let mut next = book.next_open(0);
+    while let Some(client) = next {
+        swept = swept.and(visit_of(core, book, client, now));
+        next = book.next_open(client);
+    }
+    swept
+}
+
+// Treats one live client.
+fn visit_of<B: LeaseBook>(core: &mut Core, book: &mut B, client: u32, now: Moment) -> VisitCase
+    requires live { IsTrue (is_live client core.old.stored.clients) }
+    requires number { IsClientNumber client }
+    requires run { AreOfOneRun core.old.journal (meaning core.old.stored) }
+    requires agrees { IsBookOf (B.is_open book.old) (B.was_opened book.old) (B.lease book.old)
+        core.old }
+    ensures visit { (seen : ℕ)
+        × IsRightBy result seen now core.old
+        × AllHappen B.happens book.old (events_by result client seen now) book.new
+        × Gains (expiries (events_by result client seen now)) core.old core.new }
+{
+    let LeaseState::Open(seen) = book.look(client) else {
+        unreachable!()
+    };
+    if !is_over(seen, core.journal().lease(), now) {
+        return VisitCase::Kept;
+    }
+    if core.prepare().is_err() {
+        return VisitCase::Refused;
+    }
+    match close_and_expire(core, book, client, seen, now) {
+        Closing::Closed => VisitCase::Expired,
+        Closing::Changed => VisitCase::Changed,
+    }
+}
+
+// Closes the lease of a live client, where it is still as it was seen, and then removes the client from the core, which
+// has room for the entry.
+fn close_and_expire<B: LeaseBook>(
+    core: &mut Core,
+    book: &mut B,
+    client: u32,
+    seen: Moment,
+    now: Moment,
+) -> Closing
+    requires live { IsTrue (is_live client core.old.stored.clients) }
+    requires number { IsClientNumber client }
+    requires run { AreOfOneRun core.old.journal (meaning core.old.stored) }
+    requires lease { B.lease book.old ≡ core.old.journal.lease }
+    requires due { IsTrue (is_over seen core.old.journal.lease now) }
+    requires room { 0 < core.old.room }
+    requires below { length core.old.journal.entries < JOURNAL_LIMIT }
+    ensures book { B.happens book.old (Close client seen now result) book.new }
+    ensures core { Gains (expiries (Close client seen now result ∷ [])) core.old core.new }
+{
+    let closing = book.close(client, seen, now);
+    match closing {
+        Closing::Changed => closing,
+        Closing::Closed => match core.expire(client, seen, now) {
+            Ok(_) => closing,
+            Err(_) => unreachable!(),
+        },
+    }
+}

@@ -1,0 +1,58 @@
+ghost use Rattle.std.specs.Prelude.{◌≡◌, ◌-◌, ◌<◌, ◌^◌};
+ghost use Rattle.nfs_leases.specs.Visit.{total, with_case};
+
+use crate::visit_case::VisitCase;
+
+/// How many clients a sweep treated in which way.
+#[derive(Clone, Copy, Debug, PartialEq, Eq)]
+pub struct Swept {
+    /// Those whose leases were closed, and that were removed.
+    pub expired: u32,
+    /// Those whose leases aren't over.
+    pub kept: u32,
+    /// Those whose leases were renewed between the look and the attempt to close them.
+    pub changed: u32,
+    /// Those that stay because the journal had no room for an entry.
+    pub refused: u32,
+    /// How many delegations were revoked: none, as nothing is delegated yet.
+    pub revoked: u32,
+    /// Whether the sweep stopped before it had come to each delegation: it didn't, as nothing is delegated yet.
+    pub stopped: bool,
+}
+
+impl Swept {
+    /// Of no client.
+    pub const NONE: Swept = Swept {
+        expired: 0,
+        kept: 0,
+        changed: 0,
+        refused: 0,
+        revoked: 0,
+        stopped: false,
+    };
+
+    /// One client more.
+    pub(crate) fn and(self, case: VisitCase) -> Swept
+        requires { total self < 2 ^ 32 - 1 }
+        ensures { result ≡ with_case self case }
+    {
+        match case {
+            VisitCase::Expired => Swept {
+                expired: self.expired + 1,
+                ..self
+            },
+            VisitCase::Kept => Swept {
+                kept: self.kept + 1,
+                ..self
+            },
+            VisitCase::Changed => Swept {
+                changed: self.changed + 1,
+                ..self
+            },
+            VisitCase::Refused => Swept {
+                refused: self.refused + 1,
+                ..self
+            },
+        }
+    }
+}

@@ -1,0 +1,4 @@
+pub mod Once
+pub mod Audit
+pub mod Pieces
+pub mod Faults

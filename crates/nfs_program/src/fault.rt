@@ -1,0 +1,103 @@
+ghost use Rattle.std.specs.Prelude.{◌≡◌};
+ghost use Rattle.nfs_program.specs.Once.{fault_of, status_of};
+
+use nfs_journal::AuditError;
+use nfs_server::ServeError;
+use nfs_tree::TreeError;
+use std::io::Write;
+use thiserror::Error;
+
+/// Why a run of the program failed, displayed as the line that it writes on standard error.
+#[derive(Clone, Copy, Debug, PartialEq, Eq, Error)]
+pub enum Fault {
+    /// The tree's file doesn't describe a tree, with the number of the error.
+    #[error("fault: tree refused ({0})")]
+    TreeRefused(u32),
+    /// A file can't be read: the tree's, or the journal's that is audited.
+    #[error("fault: file not read")]
+    FileNotRead,
+    /// The journal's file can't be written whole.
+    #[error("fault: file not written")]
+    FileNotWritten,
+    #[error("fault: input not read")]
+    InputNotRead,
+    #[error("fault: output not written")]
+    OutputNotWritten,
+    #[error("fault: record too long")]
+    RecordTooLong,
+    #[error("fault: input too long")]
+    InputTooLong,
+    #[error("fault: input ends inside a record")]
+    EndsInsideRecord,
+    #[error("fault: no memory")]
+    NoMemory,
+    /// No listener can be had at the address that is asked for.
+    #[error("fault: socket")]
+    Socket,
+    /// The bytes are no journal.
+    #[error("fault: not a journal")]
+    NotJournal,
+    /// The entries of the journal before the one with this number are lawful, and it can't follow them.
+    #[error("fault: wrong answer at entry {0}")]
+    WrongAnswer(u32),
+}
+
+impl From<TreeError> for Fault {
+    ghost use Rattle.nfs_program.specs.Once.{fault_of_tree};
+
+    ghost from_gives = { λ e f. f ≡ fault_of_tree e };
+
+    fn from(refused: TreeError) -> Fault {
+        Fault::TreeRefused(refused.number())
+    }
+}
+
+impl From<AuditError> for Fault {
+    ghost use Rattle.nfs_program.specs.Audit.{fault_of_audit};
+
+    ghost from_gives = { λ e f. f ≡ fault_of_audit e };
+
+    fn from(error: AuditError) -> Fault {
+        match error {
+            AuditError::Format => Fault::NotJournal,
+            AuditError::WrongAnswer(number) => Fault::WrongAnswer(number),
+            AuditError::Memory => Fault::NoMemory,
+        }
+    }
+}
+
+impl Fault {
+    /// The fault with which a connection ended, if there is one. An input that ends inside a record is also a fault.
+    pub fn of(outcome: Result<usize, ServeError>) -> Option<Fault>
+        ensures { result ≡ fault_of outcome }
+    {
+        match outcome {
+            Ok(0) => None,
+            Ok(_) => Some(Fault::EndsInsideRecord),
+            Err(ServeError::Read) => Some(Fault::InputNotRead),
+            Err(ServeError::Write) => Some(Fault::OutputNotWritten),
+            Err(ServeError::TooLong) => Some(Fault::RecordTooLong),
+            Err(ServeError::Memory) => Some(Fault::NoMemory),
+            Err(ServeError::TooMuch) => Some(Fault::InputTooLong),
+        }
+    }
+
+    /// Reports the fault by a line, and returns the program's exit status, which is 1.
+    pub fn report<E: Write>(self, errors: &mut E) -> u8
+        ensures { result ≡ 1 }
+    {
+        // If this line can't be written, there is no other place to report it.
+        let _ = writeln!(errors, "{self}");
+        1
+    }
+}
+
+/// Reports the fault of a run, if there is one. Returns the program's exit status.
+pub fn exit_status<E: Write>(errors: &mut E, fault: Option<Fault>) -> u8
+    ensures { result ≡ status_of fault }
+{
+    match fault {
+        None => 0,
+        Some(fault) => fault.report(errors),
+    }
+}

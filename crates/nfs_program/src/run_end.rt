@@ -1,0 +1,37 @@
+ghost use Rattle.std.specs.Prelude.{◌≡◌, ◌-◌, ◌^◌, ◌<◌, vec_capacity, IfSome, Option, Some};
+ghost use Rattle.nfs_program.specs.Faults.{fault_of_run};
+ghost use Rattle.nfs_server.specs.Device.{device_of_sink};
+ghost use Rattle.nfs_program.specs.Once.{IsFiled, status_of};
+ghost use Rattle.nfs_program.specs.Pieces.{HasRoomForFileOf};
+ghost use Rattle.nfs_program.specs.declared.fault.Fault.{Fault};
+
+use crate::faults::run_fault;
+use crate::{exit_status, file_journal};
+use nfs_server::Sink;
+use nfs_threads::RunEnd;
+use std::io::Write;
+
+/// Ends a run of connections by what it left. The file of the core's journal is written, also after a
+/// fault, if there is a sink for it, by the memory of this buffer. Returns the program's exit status: 0, or 1 after a
+/// fault. If the run wasn't swept, the fault is that there was no memory for it; or else it is that of the first connection
+/// in the list that had one, or else that of the journal's file. It is reported by a line on `errors`.
+pub fn end_run<E: Write, J: Sink>(
+    buffer: &mut Vec<u8>,
+    run: &RunEnd,
+    errors: &mut E,
+    journal: &mut Option<J>,
+) -> u8
+    requires files { IfSome journal.old (λ sink. J.failures sink < 2 ^ 64 - 1) }
+    // The file was seen to: memory for it was wanting only where the buffer had no room for a part of it. And the status is
+    // that of the run's fault: that it wasn't swept, or else the first of a connection, or else the file's.
+    ensures ended { (filed : Option Fault)
+        × IsFiled (device_of_sink J.takes J.fails) J.failures journal.old journal.new
+        run.now.core.journal filed
+        × (filed ≡ Some Fault.NoMemory
+        → ¬ (HasRoomForFileOf (vec_capacity buffer.old) run.now.core.journal))
+        × (result ≡ status_of (fault_of_run run.now.is_swept run.now.connections.items filed)) }
+{
+    let filed = file_journal(buffer, run.core.journal(), journal);
+    let fault = run_fault(run.is_swept, run.connections.as_slice(), filed);
+    exit_status(errors, fault)
+}

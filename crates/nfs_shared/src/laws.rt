@@ -1,6 +1,0 @@
-ghost use Rattle.nfs_shared.specs.PlainLaws.{SeenLeasesClose};
-
-/// The law that in a plain book nothing comes between a look and the attempt to close the lease that it showed.
-pub fn seen_leases_close()
-    ensures { SeenLeasesClose }
-{}

@@ -1,0 +1,14 @@
+use Rattle.std.proofs.Common.{◌≡◌, ◌+◌, ◌≤◌, vec_capacity, vec_len}
+use Rattle.std.specs.List.{AllByRecursion}
+use Rattle.std.specs.Vec.Iter.{into_iter_len}
+use Rattle.nfs_threads.specs.Worker.{seats_of}
+use Rattle.nfs_threads.proofs.listening.link_all.Given as goal
+
+abbrev pub invariant-loop-seat : goal.invariant-loop-seat
+invariant-loop-seat g l = record {
+  can : (goal.iterator-loop-seat g).can_next l.seat-iterator;
+  finite : (goal.iterator-loop-seat g).is_finite l.seat-iterator;
+  room : vec_len l.links + into_iter_len l.seat-iterator ≤ vec_capacity l.links;
+  same : AllByRecursion (λ x. x.0 ≡ l.link) l.links.items;
+  seats : seats_of l.links.items ≡ l.yielded;
+}

@@ -1,0 +1,19 @@
+use Rattle.std.proofs.Common.{refl, rules}
+use Rattle.std.specs.Vec.Iter.{into_iter_items}
+use Rattle.nfs_threads.proofs.Connections.{is_refused, one_more_done}
+use Rattle.nfs_threads.proofs.Rest.{unused_rest}
+use Rattle.nfs_threads.specs.Links.{tcp}
+use Rattle.nfs_threads.proofs.listening.refuse_all.Goals as goal
+
+pub loop-seat-preserved : goal.loop-seat-preserved
+loop-seat-preserved g c =
+    let link = c.in-Some.field-0-0 in
+    let seat = c.in-Some.seat in
+    let rest = unused_rest (into_iter_items c.loop-seat.seat-iterator) (into_iter_items c.next.new.self) (link, seat) c.in-Some.ensures.steps.0 c.loop-seat.invariant.unused in record {
+      can = tt;
+      finite = tt;
+      room = search rules;
+      unused = rest.1;
+      done = rw c.push_reserved.ensures.items (one_more_done tcp c.args.tree.now c.loop-seat.yielded c.loop-seat.all.items (link, seat) _ c.loop-seat.invariant.done
+          (is_refused c.args.tree.now link seat _ rest.0 refl refl c.new.ensures.items));
+    }

@@ -1,0 +1,57 @@
+use Rattle.std.proofs.Common.{◌≤◌, List, ap, length, subst, sym, vec_capacity, ◌∙◌}
+use Rattle.std.proofs.lemmas.List.{length-map}
+use Rattle.nfs_shared.specs.Ends.{AllApart, AllStand, AreFresh, receipts_in}
+use Rattle.nfs_shared.specs.Naming.{OpenedView}
+use Rattle.nfs_shared.specs.Seats.{SeatView}
+use Rattle.nfs_shared.specs.declared.receipt.Receipt.{Receipt}
+use Rattle.nfs_threads.proofs.Connections.{connections_of}
+use Rattle.nfs_threads.specs.Links.{tcp}
+use Rattle.nfs_threads.specs.Rooms.{HaveRoom}
+use Rattle.nfs_threads.proofs.listening.run.Goals as goal
+
+pub end-core-requires-clause-seats : goal.end-core-requires-clause-seats
+end-core-requires-clause-seats g c =
+    let fresh = subst (λ (s : List SeatView). AreFresh g.N.Naming.run.workers s) (sym c.link_all.ensures.seats) c.in-Ok-new.ensures.seats in
+    let law = c.workers_keep_receipts.ensures c.args.setting.now.tree.now g.N.Naming.run.workers c.link_all.new.links.items c.serve_swept-all.result.0.items fresh c.serve_swept-all.ensures in
+    law.0
+
+pub end-core-requires-clause-kept : goal.end-core-requires-clause-kept
+end-core-requires-clause-kept g c =
+    let fresh = subst (λ (s : List SeatView). AreFresh g.N.Naming.run.workers s) (sym c.link_all.ensures.seats) c.in-Ok-new.ensures.seats in
+    let law = c.workers_keep_receipts.ensures c.args.setting.now.tree.now g.N.Naming.run.workers c.link_all.new.links.items c.serve_swept-all.result.0.items fresh c.serve_swept-all.ensures in
+    law.1
+
+pub end-core-requires-clause-parts : goal.end-core-requires-clause-parts
+end-core-requires-clause-parts g c =
+    let all = c.serve_swept-all.result.0.items in
+    let fresh = subst (λ (s : List SeatView). AreFresh g.N.Naming.run.workers s) (sym c.link_all.ensures.seats) c.in-Ok-new.ensures.seats in
+    let law = c.workers_keep_receipts.ensures c.args.setting.now.tree.now g.N.Naming.run.workers c.link_all.new.links.items all fresh c.serve_swept-all.ensures in
+    let many = sym (length-map all (λ d. d.seat)) ∙ law.0 ∙ sym (ap (λ (o : OpenedView). o.workers) c.requires.beginning.run) ∙ c.requires.count in
+    subst (λ n. HaveRoom n c.in-Ok.lists.parts) (sym many) c.in-Ok.ensures.parts
+
+pub end-core-requires-clause-room : goal.end-core-requires-clause-room
+end-core-requires-clause-room g c =
+    let all = c.serve_swept-all.result.0.items in
+    let fresh = subst (λ (s : List SeatView). AreFresh g.N.Naming.run.workers s) (sym c.link_all.ensures.seats) c.in-Ok-new.ensures.seats in
+    let law = c.workers_keep_receipts.ensures c.args.setting.now.tree.now g.N.Naming.run.workers c.link_all.new.links.items all fresh c.serve_swept-all.ensures in
+    let many = sym (length-map all (λ d. d.seat)) ∙ law.0 ∙ sym (ap (λ (o : OpenedView). o.workers) c.requires.beginning.run) ∙ c.requires.count in
+    subst (λ n. n ≤ vec_capacity c.in-Ok.lists.ended) (sym many) c.in-Ok.ensures.ended
+
+pub returns-clause-served : goal.returns-clause-served
+returns-clause-served g c =
+    let all = c.serve_swept-all.result.0.items in
+    let links = c.link_all.new.links.items in
+    let fresh = subst (λ (s : List SeatView). AreFresh g.N.Naming.run.workers s) (sym c.link_all.ensures.seats) c.in-Ok-new.ensures.seats in
+    let law = c.workers_keep_receipts.ensures c.args.setting.now.tree.now g.N.Naming.run.workers links all fresh c.serve_swept-all.ensures in
+    let many = sym (length-map all (λ d. d.seat)) ∙ law.0 ∙ sym (ap (λ (o : OpenedView). o.workers) c.requires.beginning.run) ∙ c.requires.count in
+    let ended = c.end-core.result.1.items in
+    let receipts = c.end-core.ensures.receipts in record {
+      all = sym (length-map ended (λ e. e.receipts.items)) ∙ ap (λ xs. length xs) receipts ∙ length-map all (λ d. d.receipts.items) ∙ many;
+      each = connections_of tcp c.args.setting.now.tree.now c.args.link.now g.N.Naming.run.workers links all ended fresh c.link_all.ensures.same c.serve_swept-all.ensures c.end-core.ensures.results receipts;
+      start = c.end-core.ensures.start ∙ sym c.requires.beginning.start;
+      lawful = c.end-core.ensures.lawful;
+      safe = c.end-core.ensures.safe;
+      stand = subst (λ (r : List (List Receipt)). AllStand c.end-core.result.0.journal.entries r) (sym receipts) c.end-core.ensures.stand;
+      apart = subst (λ (r : List (List Receipt)). AllApart r) (sym receipts) c.end-core.ensures.apart;
+      counted = c.end-core.ensures.counted ∙ ap receipts_in (sym receipts);
+    }

@@ -1,0 +1,9 @@
+pub mod Holding
+pub mod Receipts
+pub mod Worker
+pub mod WorkerThread
+pub mod Sockets
+pub mod Uptimes
+pub mod Links
+pub mod Run
+pub mod Rooms

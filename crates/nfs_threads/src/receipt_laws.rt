@@ -1,0 +1,18 @@
+ghost use Rattle.nfs_server.specs.Exchange.{rules};
+ghost use Rattle.nfs_threads.specs.Holding.{AreAlikeButRoom, GivenBySeat};
+ghost use Rattle.nfs_threads.specs.Receipts.{ReceiptsAreQuestions};
+ghost use Rattle.nfs_server.specs.Sides.{device_of};
+ghost use Rattle.nfs_tree.specs.Tree.{Files};
+
+use nfs_server::{Clock, Duplex, Sink, Source};
+
+/// The law that the receipts which a desk is given in a connection are for the operations that it was asked, with their
+/// answers and in order, except those that were answered `NFS4ERR_RESOURCE`; that they bear the place of its seat; and
+/// that their numbers rise.
+pub fn receipts_are_questions<D: Duplex, R: Source, W: Sink, C: Clock>()
+    ensures together { (tree : Files) → ReceiptsAreQuestions D.device
+        (rules tree GivenBySeat AreAlikeButRoom C.tells) }
+    ensures apart { (tree : Files) → ReceiptsAreQuestions
+        (device_of R.gives R.fails W.takes W.fails)
+        (rules tree GivenBySeat AreAlikeButRoom C.tells) }
+{}

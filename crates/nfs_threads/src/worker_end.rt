@@ -1,0 +1,43 @@
+ghost use Rattle.std.specs.Prelude.{◌≡◌, IfErr, IfOk, map};
+ghost use Rattle.nfs_threads.specs.Worker.{receipts_back, seats_back};
+
+use nfs_server::ServeError;
+use nfs_shared::{Naming, Receipt, Seat};
+use std::alloc::Global;
+
+/// What a worker gives back: how its connection ended, its seat, and the receipts that the seat was given.
+#[derive(Drop)]
+pub struct WorkerEnd<N: Naming> {
+    pub result: Result<usize, ServeError>,
+    pub seat: Seat<N>,
+    pub receipts: Vec<Receipt>,
+}
+
+impl<N: Naming> WorkerEnd<N> {
+    /// The receipts of each worker and their seats, as `Shared::end` takes them. If memory is refused, all comes back.
+    pub fn split(
+        alloc: Global,
+        all: Vec<WorkerEnd<N>>,
+    ) -> Result<(Vec<Vec<Receipt>>, Vec<Seat<N>>), Vec<WorkerEnd<N>>>
+        ensures receipts { IfOk result (λ r. map (λ v. v.items) r.0.items ≡ receipts_back all.items) }
+        ensures seats { IfOk result (λ r. r.1.items ≡ seats_back all.items) }
+        ensures back { IfErr result (λ back. back ≡ all) }
+    {
+        let Ok(mut receipts) = Vec::with_capacity(alloc, all.len()) else {
+            return Err(all);
+        };
+        let Ok(mut seats) = Vec::with_capacity(alloc, all.len()) else {
+            return Err(all);
+        };
+        for done in all {
+            let WorkerEnd {
+                result: _,
+                seat,
+                receipts: given,
+            } = done;
+            receipts.push_reserved(given);
+            seats.push_reserved(seat);
+        }
+        Ok((receipts, seats))
+    }
+}

@@ -1,0 +1,79 @@
+ghost use Rattle.std.specs.Prelude.{◌≡◌};
+ghost use Rattle.nfs_threads.specs.WorkerThread.{IsWorker};
+ghost use Rattle.nfs_threads.specs.Worker.{IsEndOf, linking};
+ghost use Rattle.nfs_shared.specs.Seats.{SeatView};
+ghost use Rattle.nfs_tree.specs.Tree.{Files};
+
+use crate::worker::{Common, ServicePromise, work};
+use crate::{Link, WorkerEnd};
+use nfs_shared::{Naming, Seat};
+use std::snapshot::Snapshot;
+use std::sync::Wait;
+use std::sync::atomic::{AtomicBool, Ordering};
+use std::thread::{PromisedHandle, Scope, Threads};
+
+/// The thread of a worker; or, where no thread could be made for it, what the worker gave back at once.
+#[derive(Drop)]
+pub(crate) enum Worker<N: Naming, L: Link> {
+    Begun(PromisedHandle<WorkerEnd<N>, ServicePromise<N, L>>),
+    Refused(WorkerEnd<N>),
+}
+
+/// Begins the worker of a link and a seat.
+pub(crate) fn begin<
+    's,
+    E,
+    N: Naming + Send + Sync + 's,
+    L: Link + Drop + Send + 's,
+    R: Wait + Sync,
+>(
+    scope: &Scope<'s, E>,
+    common: &'s Common<'s, N, R>,
+    refused: &'s AtomicBool,
+    link: L,
+    seat: Seat<N>,
+) -> Worker<N, L>
+    requires tree { N.start.nodes ≡ common.now.tree.now.nodes }
+    requires unused { seat.receipts.given ≡ 0 }
+    ensures { IsWorker
+        (linking L.opens L.Device.device L.Device.read_failures L.Device.write_failures L.Clock.tells)
+        common.now.tree.now link seat result }
+{
+    let promise = ServicePromise {
+        tree: Snapshot::of(common.tree),
+        link: Snapshot::of(&link),
+        seat: Snapshot::of(&seat),
+    };
+    let begun = scope.spawn_with(
+        promise,
+        move || -> WorkerEnd<N>
+            requires { (N.start.nodes ≡ common.now.tree.now.nodes) × (seat.receipts.given ≡ 0) }
+            ensures { IsEndOf
+                (linking L.opens L.Device.device L.Device.read_failures L.Device.write_failures L.Clock.tells)
+                common.entry.now.tree.now link seat result }
+        { work(common, refused, link, seat) },
+    );
+    match begun {
+        Ok(handle) => Worker::Begun(handle),
+        Err(back) => {
+            refused.store(true, Ordering::SeqCst);
+            Worker::Refused((back.value)())
+        }
+    }
+}
+
+/// Waits for the end of a worker.
+pub(crate) fn finish<N: Naming, L: Link, R: Threads>(rt: &R, worker: Worker<N, L>) -> WorkerEnd<N>
+    ensures { (tree : Files) (link : L) (seat : SeatView)
+        → IsWorker
+        (linking L.opens L.Device.device L.Device.read_failures L.Device.write_failures L.Clock.tells)
+        tree link seat worker
+        → IsEndOf
+        (linking L.opens L.Device.device L.Device.read_failures L.Device.write_failures L.Clock.tells)
+        tree link seat result }
+{
+    match worker {
+        Worker::Begun(handle) => handle.join(rt),
+        Worker::Refused(done) => done,
+    }
+}
