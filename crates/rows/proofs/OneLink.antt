@@ -11,11 +11,11 @@ use Rattle.nfs_shared.specs.Seats.{SeatView}
 use Rattle.nfs_tree.specs.Tree.{Files}
 
 -- these are the seat of the link, as its worker gave it back, and all of its receipts
-pub record CameBack {N : Type 0} (seat : SeatView) (done : Done N) : Type 0 where
+pub record CameBack {N : Type 0} (seat : SeatView) (done : WorkerEnd N) : Type 0 where
   pub place : done.seat.place ≡ seat.place
   pub kept : IsKept done.seat done.receipts.items
 
-pub came_back : {N L D C : Type 0} (linking : Linking L D C) (tree : Files) (link : L) (seat : SeatView) (done : Done N)
+pub came_back : {N L D C : Type 0} (linking : Linking L D C) (tree : Files) (link : L) (seat : SeatView) (done : WorkerEnd N)
     → ReceiptsAreQuestions linking.device (rules tree GivenBySeat AreAlikeButRoom linking.tells)
     → AreDone linking tree ((link, seat) ∷ []) (done ∷ [])
     → CameBack seat done
@@ -34,7 +34,7 @@ popped x xs [] is one = is
 popped {A = A} x xs (y ∷ ys) is one = absurd (let n = ap (λ (zs : List A). length zs) is in omega (arith, n, length-append ys (x ∷ []), one))
 
 -- as many as links
-pub as_many : {N L D C : Type 0} (linking : Linking L D C) (tree : Files) (links : List (L × SeatView)) (dones : List (Done N))
+pub as_many : {N L D C : Type 0} (linking : Linking L D C) (tree : Files) (links : List (L × SeatView)) (dones : List (WorkerEnd N))
     → AreDone linking tree links dones → length dones ≡ length links
 as_many linking tree [] [] are = refl
 as_many linking tree (l ∷ links) [] are = absurd are
@@ -42,7 +42,7 @@ as_many linking tree [] (d ∷ dones) are = absurd are
 as_many linking tree (l ∷ links) (d ∷ dones) are = ap (λ n. suc n) (as_many linking tree links dones are.1)
 
 -- the one that was popped is the link's
-pub last_came_back : {N L D C : Type 0} (linking : Linking L D C) (tree : Files) (link : L) (seat : SeatView) (links : List (L × SeatView)) (dones rest : List (Done N)) (done : Done N)
+pub last_came_back : {N L D C : Type 0} (linking : Linking L D C) (tree : Files) (link : L) (seat : SeatView) (links : List (L × SeatView)) (dones rest : List (WorkerEnd N)) (done : WorkerEnd N)
     → ReceiptsAreQuestions linking.device (rules tree GivenBySeat AreAlikeButRoom linking.tells)
     → links ≡ (link, seat) ∷ [] → AreDone linking tree links dones → dones ≡ rest ++ done ∷ []
     → CameBack seat done
@@ -51,4 +51,4 @@ last_came_back {N = N} {L = L} linking tree link seat links dones rest done law 
     let alone = popped done dones rest last count in
     came_back linking tree link seat done law
     (subst (λ (xs : List (L × SeatView)). AreDone linking tree xs (done ∷ [])) one
-    (subst (λ (ds : List (Done N)). AreDone linking tree links ds) alone are))
+    (subst (λ (ds : List (WorkerEnd N)). AreDone linking tree links ds) alone are))

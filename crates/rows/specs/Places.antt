@@ -1,7 +1,7 @@
 -- Seats in the order of their places: those to come, and those that came back.
 use Rattle.std.specs.Prelude.{◌≡◌, ℕ, ◌+◌, List, length, slice_get, Some}
-use Rattle.nfs_server.specs.Working.{seats_of}
-use Rattle.nfs_server.specs.declared.done.Done.{Done}
+use Rattle.nfs_threads.specs.Worker.{seats_of}
+use Rattle.nfs_threads.specs.declared.worker_end.WorkerEnd.{WorkerEnd}
 use Rattle.nfs_shared.specs.Ends.{IsKept}
 use Rattle.nfs_shared.specs.Seats.{SeatView, fresh}
 use Rattle.nfs_shared.specs.declared.receipt.Receipt.{Receipt}
@@ -19,13 +19,13 @@ AreFreshFrom first seats =
     (k : ℕ) (seat : SeatView) → slice_get seats k ≡ Some seat → seat ≡ fresh (first + k)
 
 -- seats with all of their receipts, in the order of their places, of which the first is this one
-abbrev pub AreBackFrom : {N : Type 0} → ℕ → List (Done N) → Type 0
-AreBackFrom {N = N} first dones =
-    (k : ℕ) (done : Done N) → slice_get dones k ≡ Some done
-    → (done.seat.place ≡ first + k) × IsKept done.seat done.receipts.items
+abbrev pub AreBackFrom : {N : Type 0} → ℕ → List (WorkerEnd N) → Type 0
+AreBackFrom {N = N} first ends =
+    (k : ℕ) (end : WorkerEnd N) → slice_get ends k ≡ Some end
+    → (end.seat.place ≡ first + k) × IsKept end.seat end.receipts.items
 
 -- each link was served at its seat, in the order of the links
-abbrev pub AreServed : {N L : Type 0} → List (L × SeatView) → List (Done N) → Type 0
-AreServed links dones =
-    (length dones ≡ length links)
-    × ((first : ℕ) → AreFreshFrom first (seats_of links) → AreBackFrom first dones)
+abbrev pub AreServed : {N L : Type 0} → List (L × SeatView) → List (WorkerEnd N) → Type 0
+AreServed links ends =
+    (length ends ≡ length links)
+    × ((first : ℕ) → AreFreshFrom first (seats_of links) → AreBackFrom first ends)

@@ -6,13 +6,14 @@ ghost use Rattle.nfs_owners.specs.Registry.{is_live};
 use crate::batch::{Batch, Connection};
 use crate::calls::Calls;
 use crate::failure::Failure;
-use crate::outcome::{ConnectionEnd, Outcome};
+use crate::outcome::{BatchOutcome, ConnectionOutcome};
 use crate::server::Server;
 use crate::session::Session;
 use crate::sweeping::Sweeps;
 use nfs_core::{Core, Moment};
-use nfs_server::{Lent, Link, serve_duplex};
-use nfs_shared::Swept;
+use nfs_leases::Swept;
+use nfs_server::{Lent, serve_duplex};
+use nfs_threads::Link;
 use nfs_tree::Tree;
 use std::alloc::Global;
 use std::io::{Read, Write};
@@ -42,7 +43,12 @@ struct Alone<'a> {
 }
 
 impl Alone<'_> {
-    fn converse(&mut self, calls: &Calls, piece: usize, mut connection: Connection) -> ConnectionEnd {
+    fn converse(
+        &mut self,
+        calls: &Calls,
+        piece: usize,
+        mut connection: Connection,
+    ) -> ConnectionOutcome {
         let (mut device, mut clock) = connection.link(calls, piece).open();
         let result = serve_duplex(
             self.alloc,
@@ -51,7 +57,7 @@ impl Alone<'_> {
             self.tree,
             &mut clock,
         );
-        ConnectionEnd {
+        ConnectionOutcome {
             result,
             replies: connection.into_replies(),
             receipts: Vec::new(self.alloc),
@@ -69,18 +75,18 @@ impl Alone<'_> {
 }
 
 impl Server for Alone<'_> {
-    fn serve(mut self, batch: Batch) -> Result<(Outcome, Self), Failure> {
+    fn serve(mut self, batch: Batch) -> Result<(BatchOutcome, Self), Failure> {
         // There is no other thread that could sweep.
         if batch.is_swept {
             return Err(Failure::Input);
         }
         let calls = Calls::new(batch.start, batch.pace);
-        let mut ends = Vec::with_capacity(self.alloc, batch.connections.len())?;
+        let mut outcomes = Vec::with_capacity(self.alloc, batch.connections.len())?;
         for connection in batch.connections {
-            ends.push_reserved(self.converse(&calls, batch.piece, connection));
+            outcomes.push_reserved(self.converse(&calls, batch.piece, connection));
         }
-        let outcome = Outcome {
-            ends,
+        let outcome = BatchOutcome {
+            outcomes,
             sweeps: Sweeps::NONE,
         };
         Ok((outcome, self))

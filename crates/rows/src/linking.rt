@@ -1,13 +1,14 @@
 ghost use Rattle.std.specs.Prelude.{◌≡◌, IfOk};
-ghost use Rattle.nfs_server.specs.Working.{AreUnused, seats_of};
+ghost use Rattle.nfs_threads.specs.Worker.{AreUnused, seats_of};
 ghost use Rattle.rows.specs.Places.{AreServed};
 
 use crate::calls::Calls;
 use crate::failure::Failure;
 use crate::sweeping::{Sweeps, sweep_until};
 use crate::yielding::Yielding;
-use nfs_server::{Counted, Done, Link, receipts_are_questions, serve_all};
+use nfs_server::Counted;
 use nfs_shared::{Naming, Seat, Shared, Sweeper};
+use nfs_threads::{Link, WorkerEnd, receipts_are_questions, serve_all};
 use nfs_tree::Tree;
 use std::alloc::Global;
 use std::sync::Wait;
@@ -30,15 +31,15 @@ impl<'a, N: Naming + Send + Sync, R: Threads + Wait + Sync> Common<'a, N, R> {
     pub(crate) fn serve<L: Link + Drop + Send>(
         &self,
         links: Vec<(L, Seat<N>)>,
-    ) -> Result<Vec<Done<N>>, Failure>
+    ) -> Result<Vec<WorkerEnd<N>>, Failure>
         requires unused { AreUnused (seats_of links.items) }
-        ensures { IfOk result (λ dones. AreServed links.items dones.items) }
+        ensures { IfOk result (λ ends. AreServed links.items ends.items) }
     {
-        let Ok(dones) = serve_all(self.alloc, self.rt, self.shared, self.tree, links) else {
+        let Ok(ends) = serve_all(self.alloc, self.rt, self.shared, self.tree, links) else {
             return Err(Failure::Memory);
         };
         receipts_are_questions::<L::Device, Counted<Yielding<'_>>, Counted<Vec<u8>>, L::Clock>();
-        Ok(dones)
+        Ok(ends)
     }
 
     /// The same, while another thread sweeps. It gives the sweeper back.
@@ -47,22 +48,22 @@ impl<'a, N: Naming + Send + Sync, R: Threads + Wait + Sync> Common<'a, N, R> {
         links: Vec<(L, Seat<N>)>,
         calls: &Calls,
         sweeper: Sweeper<N>,
-    ) -> Result<(Vec<Done<N>>, Sweeps, Sweeper<N>), Failure>
+    ) -> Result<(Vec<WorkerEnd<N>>, Sweeps, Sweeper<N>), Failure>
         requires unused { AreUnused (seats_of links.items) }
         ensures { IfOk result (λ r. AreServed links.items r.0.items) }
     {
         let is_over = &AtomicBool::new(false);
         let (rt, shared) = (self.rt, self.shared);
         // Where no thread can be made, the first is called after the second.
-        let ((sweeps, sweeper), dones) = thread::join(
+        let ((sweeps, sweeper), ends) = thread::join(
             rt,
             move || sweep_until(rt, shared, sweeper, calls, is_over),
-            move || -> Result<Vec<Done<N>>, Failure>
+            move || -> Result<Vec<WorkerEnd<N>>, Failure>
                 requires { AreUnused (seats_of links.items) }
-                ensures { IfOk result (λ dones. AreServed links.items dones.items) }
+                ensures { IfOk result (λ ends. AreServed links.items ends.items) }
             { self.serve_and_tell(links, is_over) },
         );
-        Ok((dones?, sweeps, sweeper))
+        Ok((ends?, sweeps, sweeper))
     }
 
     // Serves these links at once, and tells when they have ended.
@@ -70,12 +71,12 @@ impl<'a, N: Naming + Send + Sync, R: Threads + Wait + Sync> Common<'a, N, R> {
         &self,
         links: Vec<(L, Seat<N>)>,
         is_over: &AtomicBool,
-    ) -> Result<Vec<Done<N>>, Failure>
+    ) -> Result<Vec<WorkerEnd<N>>, Failure>
         requires unused { AreUnused (seats_of links.items) }
-        ensures { IfOk result (λ dones. AreServed links.items dones.items) }
+        ensures { IfOk result (λ ends. AreServed links.items ends.items) }
     {
-        let dones = self.serve(links);
+        let ends = self.serve(links);
         is_over.store(true, Ordering::SeqCst);
-        dones
+        ends
     }
 }

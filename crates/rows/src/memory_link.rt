@@ -1,6 +1,7 @@
 ghost use Rattle.std.specs.Prelude.{◌≡◌};
 
-use nfs_server::{Clock, Counted, Link, Sides};
+use nfs_server::{Clock, Counted, Sides};
+use nfs_threads::Link;
 use std::io::Read;
 
 /// A link over memory: a source that it reads from, a vector that its replies are appended to, and a clock.

@@ -1,19 +1,19 @@
 use crate::answer::Answer;
 use crate::sweeping::Sweeps;
+use nfs_leases::Swept;
 use nfs_server::ServeError;
-use nfs_shared::Swept;
 use std::alloc::AllocError;
 
 /// What came of a connection.
 #[derive(Debug, Drop)]
-pub(crate) struct ConnectionEnd {
+pub(crate) struct ConnectionOutcome {
     pub(crate) result: Result<usize, ServeError>,
     pub(crate) replies: Vec<u8>,
     /// The numbers of the receipts that its seat was given.
     pub(crate) receipts: Vec<u32>,
 }
 
-impl ConnectionEnd {
+impl ConnectionOutcome {
     // Its error's number, or 0 and how many bytes came after the last whole record; its replies, and its receipts.
     fn put(&self, answer: &mut Answer) -> Result<(), AllocError> {
         match self.result {
@@ -33,16 +33,16 @@ impl ConnectionEnd {
 
 /// What came of connections that were served by one order.
 #[derive(Drop)]
-pub(crate) struct Outcome {
+pub(crate) struct BatchOutcome {
     /// In the order of the connections.
-    pub(crate) ends: Vec<ConnectionEnd>,
+    pub(crate) outcomes: Vec<ConnectionOutcome>,
     pub(crate) sweeps: Sweeps,
 }
 
-impl Outcome {
+impl BatchOutcome {
     pub(crate) fn put(&self, answer: &mut Answer) -> Result<(), AllocError> {
-        for end in &self.ends {
-            end.put(answer)?;
+        for outcome in &self.outcomes {
+            outcome.put(answer)?;
         }
         answer.put_word(self.sweeps.count)?;
         answer.put_word(self.sweeps.expired)

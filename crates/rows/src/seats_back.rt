@@ -7,8 +7,8 @@ ghost use Rattle.nfs_shared.specs.Receipts.{calls_in, others_in};
 ghost use Rattle.rows.specs.Places.{AreBackFrom, AreFreshFrom};
 
 use nfs_core::Core;
-use nfs_server::Done;
 use nfs_shared::{Naming, Receipt, Seat, Shared, Sweeper};
+use nfs_threads::WorkerEnd;
 use std::alloc::{AllocError, Global};
 use std::marker::Model;
 use std::vec::IntoIter;
@@ -69,17 +69,17 @@ impl<N: Naming> SeatsBack<N> {
     }
 
     /// Workers hand in the seats of the next places, and all of their receipts.
-    pub(crate) fn hand_in_all(&mut self, dones: Vec<Done<N>>) -> Result<(), AllocError>
-        requires next { AreBackFrom (length self.old.seats) dones.items }
+    pub(crate) fn hand_in_all(&mut self, ends: Vec<WorkerEnd<N>>) -> Result<(), AllocError>
+        requires next { AreBackFrom (length self.old.seats) ends.items }
         ensures { OnOk result
-            (length self.new.seats ≡ length self.old.seats + length dones.items) }
+            (length self.new.seats ≡ length self.old.seats + length ends.items) }
     {
-        for done in dones {
-            let Done {
+        for end in ends {
+            let WorkerEnd {
                 result: _,
                 seat,
                 receipts,
-            } = done;
+            } = end;
             self.hand_in(seat, receipts)?;
         }
         Ok(())

@@ -1,6 +1,7 @@
 use crate::calls::Calls;
 use nfs_core::Moment;
-use nfs_shared::{Naming, Shared, Sweeper, Swept};
+use nfs_leases::Swept;
+use nfs_shared::{Naming, Shared, Sweeper};
 use std::sync::Wait;
 use std::sync::atomic::{AtomicBool, Ordering};
 use std::thread;

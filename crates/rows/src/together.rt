@@ -3,7 +3,7 @@
 ghost use Rattle.std.specs.Prelude.{◌≡◌, ◌+◌, ◌++◌, ℕ, [], IfOk, IsFalse, length};
 ghost use Rattle.std.specs.Vec.Iter.{into_iter_items};
 ghost use Rattle.nfs_owners.specs.Registry.{is_live};
-ghost use Rattle.nfs_server.specs.Working.{AreUnused, seats_of};
+ghost use Rattle.nfs_threads.specs.Worker.{AreUnused, seats_of};
 ghost use Rattle.nfs_shared.specs.Ends.{AreFresh};
 ghost use Rattle.nfs_shared.specs.Naming.{CanBegin};
 ghost use Rattle.rows.specs.Places.{AreFreshFrom, AreServed};
@@ -13,15 +13,16 @@ use crate::calls::{Calls, Rising};
 use crate::failure::Failure;
 use crate::linking::Common;
 use crate::memory_link::MemoryLink;
-use crate::outcome::{ConnectionEnd, Outcome};
+use crate::outcome::{BatchOutcome, ConnectionOutcome};
 use crate::seats_back::SeatsBack;
 use crate::server::Server;
 use crate::session::Session;
 use crate::sweeping::Sweeps;
 use crate::yielding::Yielding;
 use nfs_core::{Core, Moment};
-use nfs_server::Done;
-use nfs_shared::{Naming, Opened, Receipt, Seat, Shared, Sweeper, Swept};
+use nfs_leases::Swept;
+use nfs_shared::{Naming, Opened, Receipt, Seat, Shared, Sweeper};
+use nfs_threads::WorkerEnd;
 use nfs_tree::Tree;
 use std::alloc::{AllocError, Global};
 use std::io::{Read, Write};
@@ -31,11 +32,7 @@ use std::thread::Threads;
 use std::vec::IntoIter;
 
 /// Has a server with this core and so many seats do what it is told, and gives the core back.
-pub(crate) fn serve_together<
-    R: Threads + Wait + Sync,
-    I: Read + Drop,
-    O: Write + Drop,
->(
+pub(crate) fn serve_together<R: Threads + Wait + Sync, I: Read + Drop, O: Write + Drop>(
     rt: &R,
     session: &mut Session<I, O>,
     tree: &Tree,
@@ -51,12 +48,7 @@ pub(crate) fn serve_together<
 }
 
 // The same for a run of this name.
-fn run<
-    N: Naming + Send + Sync,
-    R: Threads + Wait + Sync,
-    I: Read + Drop,
-    O: Write + Drop,
->(
+fn run<N: Naming + Send + Sync, R: Threads + Wait + Sync, I: Read + Drop, O: Write + Drop>(
     rt: &R,
     session: &mut Session<I, O>,
     opened: Opened,
@@ -94,11 +86,7 @@ struct Together<'a, N: Naming, R> {
 }
 
 impl<'a, N: Naming + Send + Sync, R: Threads + Wait + Sync> Together<'a, N, R> {
-    fn new(
-        common: Common<'a, N, R>,
-        seats: Vec<Seat<N>>,
-        sweeper: Sweeper<N>,
-    ) -> Together<'a, N, R>
+    fn new(common: Common<'a, N, R>, seats: Vec<Seat<N>>, sweeper: Sweeper<N>) -> Together<'a, N, R>
         requires fresh { AreFresh N.run.workers seats.items }
     {
         let back = SeatsBack::new(common.alloc);
@@ -126,7 +114,7 @@ impl<'a, N: Naming + Send + Sync, R: Threads + Wait + Sync> Together<'a, N, R> {
 }
 
 impl<'a, N: Naming + Send + Sync, R: Threads + Wait + Sync> Server for Together<'a, N, R> {
-    fn serve(self, batch: Batch) -> Result<(Outcome, Self), Failure> {
+    fn serve(self, batch: Batch) -> Result<(BatchOutcome, Self), Failure> {
         let Batch {
             start,
             pace,
@@ -143,16 +131,16 @@ impl<'a, N: Naming + Send + Sync, R: Threads + Wait + Sync> Server for Together<
         let calls = Calls::new(start, pace);
         let sent = connections.as_mut_slice();
         let links = links_of(common.alloc, &calls, piece, sent, &mut left)?;
-        let (dones, sweeps, sweeper) = serve_links(&common, links, &calls, is_swept, sweeper)?;
-        let ends = ends_of(common.alloc, dones.as_slice(), connections)?;
-        back.hand_in_all(dones)?;
+        let (ends, sweeps, sweeper) = serve_links(&common, links, &calls, is_swept, sweeper)?;
+        let outcomes = outcomes_of(common.alloc, ends.as_slice(), connections)?;
+        back.hand_in_all(ends)?;
         let server = Together {
             common,
             left,
             back,
             sweeper,
         };
-        Ok((Outcome { ends, sweeps }, server))
+        Ok((BatchOutcome { outcomes, sweeps }, server))
     }
 
     fn sweep(&mut self, now: Moment) -> Swept {
@@ -193,32 +181,32 @@ fn serve_links<'b, 'c, N: Naming + Send + Sync, R: Threads + Wait + Sync>(
     calls: &Calls,
     is_swept: bool,
     sweeper: Sweeper<N>,
-) -> Result<(Vec<Done<N>>, Sweeps, Sweeper<N>), Failure>
+) -> Result<(Vec<WorkerEnd<N>>, Sweeps, Sweeper<N>), Failure>
     requires unused { AreUnused (seats_of links.items) }
     ensures { IfOk result (λ r. AreServed links.items r.0.items) }
 {
     if is_swept {
         return common.serve_swept(links, calls, sweeper);
     }
-    let dones = common.serve(links)?;
-    Ok((dones, Sweeps::NONE, sweeper))
+    let ends = common.serve(links)?;
+    Ok((ends, Sweeps::NONE, sweeper))
 }
 
 // What came of each connection.
-fn ends_of<N: Naming>(
+fn outcomes_of<N: Naming>(
     alloc: Global,
-    dones: &[Done<N>],
+    ends: &[WorkerEnd<N>],
     connections: Vec<Connection>,
-) -> Result<Vec<ConnectionEnd>, AllocError> {
-    let mut ends = Vec::with_capacity(alloc, dones.len())?;
-    for (done, connection) in dones.iter().zip(connections) {
-        ends.push(ConnectionEnd {
-            result: done.result,
+) -> Result<Vec<ConnectionOutcome>, AllocError> {
+    let mut outcomes = Vec::with_capacity(alloc, ends.len())?;
+    for (end, connection) in ends.iter().zip(connections) {
+        outcomes.push(ConnectionOutcome {
+            result: end.result,
             replies: connection.into_replies(),
-            receipts: numbers_of(alloc, done.receipts.as_slice())?,
+            receipts: numbers_of(alloc, end.receipts.as_slice())?,
         })?;
     }
-    Ok(ends)
+    Ok(outcomes)
 }
 
 fn numbers_of(alloc: Global, receipts: &[Receipt]) -> Result<Vec<u32>, AllocError> {
