@@ -1,8 +1,10 @@
--- Seats and receipts as workers hand them in.
-use Rattle.std.proofs.Common.{◌≡◌, ◌⊎◌, ℕ, zero, suc, ◌<◌, List, [], ◌∷◌, ◌++◌, length, Some, slice_get, refl, sym, ap, ◌∙◌, subst, inl, inr, ⊎_elim, arith, length-append}
-use Rattle.nfs_shared.specs.Ends.{AreFresh, AreKept, IsKept}
+-- Seats in the order of their places, and what workers hand in.
+use Rattle.std.proofs.Common.{◌≡◌, ◌⊎◌, ℕ, zero, suc, ◌+◌, ◌<◌, List, [], ◌∷◌, ◌++◌, length, Some, slice_get, refl, sym, ap, ◌∙◌, subst, inl, inr, ⊎_elim, arith, length-append}
+use Rattle.nfs_shared.specs.Ends.{AreKept, IsKept}
 use Rattle.nfs_shared.specs.Seats.{SeatView, fresh}
 use Rattle.nfs_shared.specs.declared.receipt.Receipt.{Receipt}
+use Rattle.nfs_threads.specs.Worker.{AreUnused}
+use Rattle.rows.specs.Places.{AreFreshFrom}
 
 -- what stands in a list with one element more
 at_more : {A : Type 0} (xs : List A) (x : A) (k : ℕ) (y : A) → slice_get (xs ++ x ∷ []) k ≡ Some y → (slice_get xs k ≡ Some y) ⊎ ((k ≡ length xs) × (x ≡ y))
@@ -45,8 +47,28 @@ at_middle : {A : Type 0} (xs ys : List A) (x : A) → slice_get (xs ++ x ∷ ys)
 at_middle [] ys x = refl
 at_middle (z ∷ xs) ys x = at_middle xs ys x
 
--- the seat that comes next is as fresh as all were
-pub next_fresh : (count : ℕ) (seats before after : List SeatView) (seat : SeatView)
-    → AreFresh count seats → seats ≡ before ++ seat ∷ after → seat ≡ fresh (length before)
-next_fresh count seats before after seat are is =
-    are.1 (length before) seat (ap (λ (xs : List SeatView). slice_get xs (length before)) is ∙ at_middle before after seat)
+-- what stands between two lists
+pub next_at : {A : Type 0} (all before after : List A) (x : A) → all ≡ before ++ x ∷ after → slice_get all (length before) ≡ Some x
+next_at all before after x is = ap (λ xs. slice_get xs (length before)) is ∙ at_middle before after x
+
+in_longer : {A : Type 0} (xs ys : List A) (k : ℕ) (x : A) → slice_get xs k ≡ Some x → slice_get (xs ++ ys) k ≡ Some x
+in_longer [] ys k x at = absurd cc
+in_longer (z ∷ xs) ys zero x at = at
+in_longer (z ∷ xs) ys (suc k) x at = in_longer xs ys k x at
+
+pub fresh_front : (first : ℕ) (front back : List SeatView) → AreFreshFrom first (front ++ back) → AreFreshFrom first front
+fresh_front first front back are k s at = are k s (in_longer front back k s at)
+
+pub fresh_later : (first : ℕ) (seat : SeatView) (seats : List SeatView) → AreFreshFrom first (seat ∷ seats) → AreFreshFrom (suc first) seats
+fresh_later first seat seats are k s at =
+    let moved : first + suc k ≡ suc first + k = omega arith in are (suc k) s at ∙ ap (λ n. fresh n) moved
+
+pub fresh_back : (first : ℕ) (front back : List SeatView) → AreFreshFrom first (front ++ back) → AreFreshFrom (first + length front) back
+fresh_back first [] back are k s at =
+    let moved : first + k ≡ (first + zero) + k = omega arith in are k s at ∙ ap (λ n. fresh n) moved
+fresh_back first (seat ∷ front) back are k s at =
+    let moved : (suc first + length front) + k ≡ (first + suc (length front)) + k = omega arith in
+    fresh_back (suc first) front back (fresh_later first seat (front ++ back) are) k s at ∙ ap (λ n. fresh n) moved
+
+pub unused_of_fresh : (first : ℕ) (seats : List SeatView) → AreFreshFrom first seats → AreUnused seats
+unused_of_fresh first seats are k s at = ap (λ (v : SeatView). v.receipts.given) (are k s at)

@@ -1,2 +1,2 @@
 mod Handing
-mod OneLink
+mod ManyLinks

@@ -1,10 +1,11 @@
-use Rattle.std.proofs.Common.{◌≡◌}
-use Rattle.nfs_threads.specs.Working.{seats_of}
-use Rattle.stress.proofs.serving.links_of.Given as goal
+use Rattle.std.proofs.Common.{◌≡◌, ◌++◌}
+use Rattle.std.specs.Vec.Iter.{into_iter_items}
+use Rattle.nfs_threads.specs.Worker.{seats_of}
+use Rattle.rows.proofs.together.links_of.Given as goal
 
-abbrev pub invariant-loop-seat : goal.invariant-loop-seat
-invariant-loop-seat g l = record {
-  can : (goal.iterator-loop-seat g).can_next l.seat-iterator;
-  finite : (goal.iterator-loop-seat g).is_finite l.seat-iterator;
-  seats : seats_of l.links.items ≡ l.yielded;
+abbrev pub invariant-loop-connection : goal.invariant-loop-connection
+invariant-loop-connection g l = record {
+  can : (goal.iterator-loop-connection g).can_next l.connection-iterator;
+  finite : (goal.iterator-loop-connection g).is_finite l.connection-iterator;
+  seats : into_iter_items l.initial.left ≡ seats_of l.links.items ++ into_iter_items l.left.now;
 }

@@ -1,8 +1,8 @@
 use Rattle.std.proofs.Common.{List, map, refl, ap, subst, ◌∙◌}
 use Rattle.nfs_shared.specs.Ends.{AllApart, AllStand}
 use Rattle.nfs_shared.specs.declared.receipt.Receipt.{Receipt}
-use Rattle.nfs_rows.proofs.Handing.{kept_same}
-use Rattle.nfs_rows.proofs.handed.Handed.end.Goals as goal
+use Rattle.rows.proofs.Handing.{kept_same}
+use Rattle.rows.proofs.seats_back.SeatsBack.end.Goals as goal
 
 pub end-core-requires-clause-kept : goal.end-core-requires-clause-kept
 end-core-requires-clause-kept g c =

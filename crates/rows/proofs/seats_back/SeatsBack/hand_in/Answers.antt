@@ -1,7 +1,7 @@
 use Rattle.std.proofs.Common.{map, refl, ap, sym, ◌∙◌, ◌++◌, ◌∷◌, [], length}
 use Rattle.std.proofs.lemmas.List.{map-append}
-use Rattle.nfs_rows.proofs.Handing.{kept_more, kept_same}
-use Rattle.nfs_rows.proofs.handed.Handed.hand_in.Goals as goal
+use Rattle.rows.proofs.Handing.{kept_more, kept_same}
+use Rattle.rows.proofs.seats_back.SeatsBack.hand_in.Goals as goal
 
 pub invariant_of-self : goal.invariant_of-self
 invariant_of-self g c = kept_same _ _ _ _ c.self.invariant c.reserve.ensures.items refl
