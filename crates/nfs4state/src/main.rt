@@ -9,11 +9,10 @@ mod new_file;
 
 use crate::new_file::NewFile;
 use nfs_core::{Core, CoreError, LEASE_MAX, LEASE_MIN, Moment};
-use nfs_program::end_run;
-use nfs_threads::serve_on;
 use nfs_options::{Declined, OnceOptions, ServeOptions, Subcommand, options};
-use nfs_program::{Fault, file_buffer, read_tree, run_audit, run_once};
+use nfs_program::{Fault, end_run, file_buffer, read_tree, run_audit, run_once};
 use nfs_server::{Counted, Sides};
+use nfs_threads::serve_on;
 use nfs_tree::{DEFAULT_TREE, Tree};
 use std::alloc::Global;
 use std::net::TcpListener;

@@ -1,5 +1,5 @@
 -- Bytes that are put one after the other.
-use Rattle.std.proofs.Common.{◌≡◌, ℕ, suc, ◌+◌, ◌<◌, List, [], ◌∷◌, ◌++◌, length, get_or, take, drop, Result, Ok, Err, OnErr, sym, ap, subst, ◌∙◌, append_assoc, arith}
+use Rattle.std.proofs.Common.{◌≡◌, ℕ, suc, ◌+◌, ◌<◌, List, [], ◌∷◌, ◌++◌, length, get_or, take, drop, Result, Ok, Err, OnErr, OnOk, sym, ap, subst, ◌∙◌, append_assoc, arith}
 use Rattle.std.specs.List.{flat_map}
 use Rattle.std.proofs.Math.Seq.{take-suc}
 use Rattle.std.proofs.lemmas.List.{append-nil, take-append-drop}
@@ -39,6 +39,14 @@ one_more {A = A} encoding values i value lt is =
 -- the bytes of the first values, and of those after them
 pub all_in_two : {A : Type 0} (encoding : A → List ℕ) (values : List A) (n : ℕ) → flat_map encoding (take n values) ++ flat_map encoding (drop n values) ≡ flat_map encoding values
 all_in_two encoding values n = sym (flat_map-append encoding (take n values) (drop n values)) ∙ ap (flat_map encoding) (take-append-drop n values)
+
+pub on_ok : {T E : Type 0} (r : Result T E) (P Q : Type 0) → (P → Q) → OnOk r P → OnOk r Q
+on_ok (Ok x) P Q f p = f p
+on_ok (Err e) P Q f p = tt
+
+pub on_err : {T E : Type 0} (r : Result T E) (P : Type 0) → P → OnErr r P
+on_err (Ok x) P p = tt
+on_err (Err e) P p = p
 
 pub on_failures : {T E : Type 0} (r : Result T E) (P Q : Type 0) → (P → Q) → OnErr r P → OnErr r Q
 on_failures (Ok x) P Q f p = tt

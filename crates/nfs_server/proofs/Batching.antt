@@ -18,7 +18,8 @@ use Rattle.nfs_xdr.specs.declared.compound.CompoundRequest.{CompoundRequest}
 use Rattle.nfs_xdr.specs.declared.compound.CompoundRequest.TheVariants as requests
 use Rattle.nfs_xdr.specs.declared.compound.TheConstants.{OPERATION_LIMIT}
 use Rattle.nfs_server.proofs.Exchanges.{IsAnswered}
-use Rattle.nfs_server.proofs.Serving.{HasServed, exchanged_more, exchanged_then, left_so, messages-append, messages-more, written-append, written-more}
+use Rattle.nfs_server.specs.laws.Exchanges.{exchanged_then}
+use Rattle.nfs_server.proofs.Serving.{HasServed, exchanged_more, left_so, messages-append, messages-more, written-append, written-more}
 
 -- what is within the limits of a record is within those of the greatest one
 pub within_limits : (len : ℕ) (call : RpcCall) → len ≤ RECORD_LIMIT → IsCallWithinLimits len call → IsCallWithinLimits RECORD_LIMIT call

@@ -16,7 +16,7 @@ use Rattle.nfs_server.specs.declared.sides.Sides.{Sides}
 use Rattle.nfs_server.specs.CourseLaws.{AddsWritten, HasBytes, IsOneText, TellsBytes}
 use Rattle.nfs_server.specs.Device.{Device, AreTaken, IsCut, IsWritten, device_of_sink}
 use Rattle.nfs_server.specs.Exchange.{Exchange, Rules, AreExchanged, AreLeft, messages_of, rules, written_for_all}
-use Rattle.nfs_server.proofs.Serving.{exchanged_then, messages-append, written-append}
+use Rattle.nfs_server.proofs.Serving.{messages-append, written-append}
 
 -- turns that begin with the rest of a text that was split: the whole text is split into the records of both
 texts_go_on : {D S C : Type 0} (continues : SplitGoesOn) (device : Device D) (rules : Rules S C) (before after : Scene D S C) (text : List ℕ) (messages : List (List ℕ)) (carried : List ℕ) (turns : List Turn)

@@ -58,7 +58,7 @@ is_refused {R = R} tree link seat done none result same empty =
       clock' = clock;
       desk' = desk;
       ended = (same, empty);
-      course = subst (λ r. HasCourse socket_device (rules tree GivenBySeat AreAlikeButRoom (GoesOn {R = R})) here r here) (sym result) (ends_unread socket_device tree (GoesOn {R = R}) here);
+      course = subst (λ r. HasCourse socket_device (rules tree GivenBySeat AreAlikeButRoom (GoesOn {R = R})) here r here) (sym result) (ends_unread socket_device (rules tree GivenBySeat AreAlikeButRoom (GoesOn {R = R})) here);
       read_failed = subst (λ r. IsErrOf r errors.Read ↔ (0 < 0)) (sym result) (λ is. absurd cc, λ less. absurd (omega (arith, less)));
       write_failed = subst (λ r. IsErrOf r errors.Write ↔ (0 < 0)) (sym result) (λ is. absurd cc, λ less. absurd (omega (arith, less)));
       kept = subst (λ s. IsKept s done.receipts.items) (sym same) (subst (λ r. IsKept seat r) (sym empty) (kept_unused seat none));

@@ -14,8 +14,7 @@ use Rattle.nfs_server.specs.Entries.{AreEntries}
 use Rattle.nfs_server.specs.Exchange.{rules}
 use Rattle.nfs_threads.specs.Holding.{AreAlikeButRoom, GivenBySeat, Holding, HoldsTheSame, IsReceived}
 use Rattle.nfs_threads.specs.Receipts.{AreOfSeat, GainsReceipts, ReceiptsAreQuestions, entries_of}
-use Rattle.nfs_server.specs.laws.Gaining.{IsGain, course_gains}
-use Rattle.nfs_server.proofs.JournalGains.{entries_then}
+use Rattle.nfs_server.specs.laws.Gaining.{IsGain, course_gains, entries_then}
 use Rattle.nfs_xdr.specs.declared.op_result.OpResult.{OpResult}
 
 -- where seat and receipts are as they were, questions without entries gained nothing

@@ -157,8 +157,8 @@ fn serve_swept<N: Naming + Send + Sync, R: Threads + Wait + Timer + Sync>(
     )
 }
 
-// Serves the links, while a thread of this scope sweeps. Where none can be made, the sweeper is asked for once the links
-// are served: it finds the end told, and comes back without a sweep.
+// Serves the links, while a thread of this scope sweeps, and tells it their end. Where none can be made, the sweeper is
+// asked for once the links are served: it finds the end told, and comes back without a sweep.
 fn serve_in<'s, E, N: Naming + Send + Sync + 's, R: Threads + Wait + Timer + Sync>(
     scope: &Scope<'s, E>,
     setting: &'s Setting<'s, R>,
@@ -174,7 +174,11 @@ fn serve_in<'s, E, N: Naming + Send + Sync + 's, R: Threads + Wait + Timer + Syn
     ensures { AreEndsOf tcp setting.now.tree.now links.entry.items result.0.items }
 {
     let begun = scope.spawn(move || sweep(setting, shared, sweeper));
-    let all = serve_and_ring(setting, shared, links, spare);
+    let all = match serve_all(setting.alloc, setting.rt, shared, setting.tree, links) {
+        Ok(all) => all,
+        Err(links) => refuse_all(setting.alloc, setting.tree, links, spare),
+    };
+    setting.bell.ring(setting.rt);
     match begun {
         Ok(handle) => (all, handle.join(setting.rt), true),
         Err(back) => (all, (back.value)(), false),
@@ -190,27 +194,6 @@ fn sweep<N: Naming, R: Wait + Timer>(
     let mut uptime = Uptime::since(setting.rt, setting.start);
     sweep_until(setting.rt, shared, &mut sweeper, &mut uptime, setting.bell);
     sweeper
-}
-
-// Serves the links, and tells their end.
-fn serve_and_ring<N: Naming + Send + Sync, R: Threads + Wait + Timer + Sync>(
-    setting: &Setting<'_, R>,
-    shared: &Shared<N>,
-    links: Vec<(TcpLink<'_, R>, Seat<N>)>,
-    spare: Vec<WorkerEnd<N>>,
-) -> Vec<WorkerEnd<N>>
-    requires nodes { N.start.nodes ≡ setting.now.tree.now.nodes }
-    requires unused { AreUnused (seats_of links.items) }
-    requires empty { spare.items ≡ [] }
-    requires room { length links.items ≤ vec_capacity spare }
-    ensures { AreEndsOf tcp setting.now.tree.now links.entry.items result.items }
-{
-    let all = match serve_all(setting.alloc, setting.rt, shared, setting.tree, links) {
-        Ok(all) => all,
-        Err(links) => refuse_all(setting.alloc, setting.tree, links, spare),
-    };
-    setting.bell.ring(setting.rt);
-    all
 }
 
 // The links get no worker, as memory is refused: none is opened, and the seats come back.

@@ -5,8 +5,8 @@ ghost use Rattle.nfs_xdr.specs.Op.{has_entry};
 
 use crate::renewing::Renewing;
 use nfs_core::Core;
-use nfs_operations::setclientid::Setclientid;
 use nfs_leases::{LeaseBook, LeasedCore, PlainLeases, Swept};
+use nfs_operations::setclientid::Setclientid;
 use nfs_state::{Moment, Request};
 use nfs_tree::Tree;
 use nfs_xdr::{Address, Answer, Callback, Op, OpResult, Principal, Refusal, Verifier};

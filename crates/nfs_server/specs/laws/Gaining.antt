@@ -1,7 +1,7 @@
 -- What a service gains in a connection: a relation of the service before, the questions that it is asked, its answers,
 -- and the service after. It holds of each question by itself, goes over from questions to more questions after them, and
 -- holds of alike services where nothing is asked.
-use Rattle.std.proofs.Common.{List, [], ◌∷◌, ◌++◌, Result, sym, subst}
+use Rattle.std.proofs.Common.{List, [], ◌∷◌, ◌++◌, Result, ap, inl, inr, sym, subst}
 use Rattle.std.specs.Prelude.{ℕ}
 use Rattle.std.specs.List.{flat_map}
 use Rattle.std.proofs.lemmas.List.{append-nil}
@@ -9,11 +9,13 @@ use Rattle.std.proofs.lemmas.List.Concat.{flat_map-cons}
 use Rattle.nfs_rpc.specs.declared.rpc_call.RpcCall.{RpcCall}
 use Rattle.nfs_rpc.specs.declared.rpc_call.RpcCall.TheVariants as calls
 use Rattle.nfs_server.specs.declared.serve_error.ServeError.{ServeError}
-use Rattle.nfs_server.specs.Asking.{Asks, Question}
+use Rattle.nfs_server.specs.Asking.{Asks, Operation, Question, Renewal}
 use Rattle.nfs_server.specs.Connection.{Scene, Course, IsCourse, all_exchanges}
 use Rattle.nfs_server.specs.Device.{Device}
+use Rattle.nfs_server.specs.Entries.{AreEntries}
 use Rattle.nfs_server.specs.Exchange.{Exchange, Rules, AreExchanged, MakesRoom, questions_of}
 use Rattle.nfs_server.specs.laws.Exchanges.{course_exchanged}
+use Rattle.nfs_state.specs.declared.entry.Entry.{Entry}
 use Rattle.nfs_xdr.specs.declared.op_result.OpResult.{OpResult}
 
 pub record IsGain {S : Type 0} (gives : S → Question → OpResult → S → Type 0) (alike : S → S → Type 0) (Gains : S → List Question → List OpResult → S → Type 0) : Type 0 where

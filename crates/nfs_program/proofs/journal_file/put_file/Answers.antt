@@ -1,9 +1,7 @@
 use Rattle.std.proofs.Common.{ℕ, List, [], ◌++◌, Ok, Err, subst, append_assoc}
 use Rattle.nfs_server.specs.Device.{IsCut, IsWritten, device_of_sink}
 use Rattle.nfs_program.specs.Pieces.{ArePut, waiting}
-use Rattle.nfs_server.proofs.Batching.{on_err}
-use Rattle.nfs_program.proofs.Putting.{cut_out, on_failures, put_before, put_then, written_out}
-use Rattle.nfs_server.proofs.Replying.{on_ok}
+use Rattle.nfs_program.proofs.Putting.{cut_out, on_err, on_failures, on_ok, put_before, put_then, written_out}
 use Rattle.nfs_program.proofs.journal_file.put_file.Goals as goal
 use Rattle.nfs_journal.specs.File.{opening}
 use Rattle.nfs_state.specs.EntryForm.{entry}

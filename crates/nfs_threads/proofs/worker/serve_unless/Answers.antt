@@ -1,6 +1,6 @@
 use Rattle.nfs_server.specs.Connection.{scene}
 use Rattle.nfs_server.specs.Exchange.{rules}
-use Rattle.nfs_server.proofs.Courses.{ends_unread}
+use Rattle.nfs_threads.proofs.Courses.{ends_unread}
 use Rattle.nfs_threads.proofs.worker.serve_unless.Goals as goal
 
 pub returns-then-refused-clause-course : goal.returns-then-refused-clause-course
