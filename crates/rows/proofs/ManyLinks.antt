@@ -1,15 +1,16 @@
 -- Links that were served at once.
-use Rattle.std.proofs.Common.{◌≡◌, ℕ, zero, suc, ◌+◌, List, [], ◌∷◌, ◌∙◌, length, Some, slice_get, ap, arith, refl, sym, subst}
+use Rattle.std.proofs.Common.{◌≡◌, ℕ, zero, suc, ◌+◌, List, [], ◌∷◌, ◌++◌, ◌∙◌, length, Some, slice_get, ap, arith, refl, subst, length-append}
+use Rattle.std.proofs.lemmas.List.{length-map}
 use Rattle.nfs_server.specs.Connection.{scene}
 use Rattle.nfs_server.specs.Exchange.{rules}
 use Rattle.nfs_shared.specs.Ends.{IsKept}
-use Rattle.nfs_shared.specs.Seats.{SeatView, fresh}
+use Rattle.nfs_shared.specs.Seats.{SeatView}
 use Rattle.nfs_threads.specs.Holding.{AreAlikeButRoom, GivenBySeat}
 use Rattle.nfs_threads.specs.Receipts.{ReceiptsAreQuestions}
 use Rattle.nfs_threads.specs.Worker.{AreEndsOf, IsEndOf, Linking, seats_of}
 use Rattle.nfs_threads.specs.declared.worker_end.WorkerEnd.{WorkerEnd}
 use Rattle.nfs_tree.specs.Tree.{Files}
-use Rattle.rows.proofs.Handing.{fresh_later}
+use Rattle.rows.proofs.Handing.{fresh_back, fresh_later}
 use Rattle.rows.specs.Places.{AreBackFrom, AreFreshFrom, AreServed}
 
 -- a worker gives back the seat of its link
@@ -49,3 +50,19 @@ pub served : {N L D C : Type 0} (linking : Linking L D C) (tree : Files) (links 
     → AreEndsOf linking tree links ends → AreServed links ends
 served linking tree links ends law are =
     (as_many linking tree links ends are, λ first seats. back_in_order linking tree first links ends law are seats)
+
+-- the seats after those of the links are fresh from the next place on
+pub still_fresh : {N L : Type 0} (first next : ℕ) (all left : List SeatView) (links : List (L × SeatView)) (ends : List (WorkerEnd N))
+    → AreFreshFrom first all → all ≡ seats_of links ++ left → AreServed links ends → next ≡ first + length ends
+    → AreFreshFrom next left
+still_fresh {L = L} first next all left links ends are is serves is_next =
+    let place : first + length (seats_of links) ≡ next = omega (arith, serves.0, is_next, length-map links (λ (l : L × SeatView). l.1)) in
+    subst (λ n. AreFreshFrom n left) place (fresh_back first (seats_of links) left (subst (λ (xs : List SeatView). AreFreshFrom first xs) is are))
+
+-- none of the seats is lost
+pub none_lost : {N L : Type 0} (first next : ℕ) (all left : List SeatView) (links : List (L × SeatView)) (ends : List (WorkerEnd N))
+    → all ≡ seats_of links ++ left → AreServed links ends → next ≡ first + length ends
+    → next + length left ≡ first + length all
+none_lost {L = L} first next all left links ends is serves is_next =
+    let count = ap (λ (xs : List SeatView). length xs) is in
+    omega (arith, count, serves.0, is_next, length-append (seats_of links) left, length-map links (λ (l : L × SeatView). l.1))

@@ -3,15 +3,15 @@
 ghost use Rattle.std.specs.Prelude.{◌≡◌, ℕ, IsFalse};
 ghost use Rattle.nfs_owners.specs.Registry.{is_live};
 
+use crate::answer::Answer;
 use crate::batch::{Batch, Connection};
 use crate::calls::Calls;
 use crate::failure::Failure;
-use crate::outcome::{BatchOutcome, ConnectionOutcome};
-use crate::server::Server;
+use crate::order::Order;
+use crate::outcome::{BatchOutcome, ConnectionOutcome, put_swept};
 use crate::session::Session;
 use crate::sweeping::Sweeps;
-use nfs_core::{Core, Moment};
-use nfs_leases::Swept;
+use nfs_core::Core;
 use nfs_server::{Lent, serve_duplex};
 use nfs_threads::Link;
 use nfs_tree::Tree;
@@ -29,7 +29,15 @@ pub(crate) fn serve_alone<I: Read + Drop, O: Write + Drop>(
 {
     let alloc = session.alloc;
     let lent = Lent::new(alloc, core)?;
-    let server = session.direct(Alone { alloc, tree, lent })?;
+    let mut server = Alone { alloc, tree, lent };
+    for _ in 0..u64::MAX {
+        let Some(order) = session.next_order()? else {
+            break;
+        };
+        let mut answer = Answer::new(alloc);
+        server.follow(order, &mut answer)?;
+        session.tell(&answer)?;
+    }
     Ok(server.into_core())
 }
 
@@ -43,6 +51,31 @@ struct Alone<'a> {
 }
 
 impl Alone<'_> {
+    // Does this, and appends what came of it.
+    fn follow(&mut self, order: Order, answer: &mut Answer) -> Result<(), Failure> {
+        match order {
+            Order::Serve(batch) => self.serve(batch)?.put(answer)?,
+            Order::Sweep(now) => put_swept(answer, self.lent.sweep(now))?,
+        }
+        Ok(())
+    }
+
+    fn serve(&mut self, batch: Batch) -> Result<BatchOutcome, Failure> {
+        // There is no other thread that could sweep.
+        if batch.is_swept {
+            return Err(Failure::Input);
+        }
+        let calls = Calls::new(batch.start, batch.pace);
+        let mut outcomes = Vec::new(self.alloc);
+        for connection in batch.connections {
+            outcomes.push(self.converse(&calls, batch.piece, connection))?;
+        }
+        Ok(BatchOutcome {
+            outcomes,
+            sweeps: Sweeps::NONE,
+        })
+    }
+
     fn converse(
         &mut self,
         calls: &Calls,
@@ -71,28 +104,5 @@ impl Alone<'_> {
             lent,
         } = self;
         lent.into_core()
-    }
-}
-
-impl Server for Alone<'_> {
-    fn serve(mut self, batch: Batch) -> Result<(BatchOutcome, Self), Failure> {
-        // There is no other thread that could sweep.
-        if batch.is_swept {
-            return Err(Failure::Input);
-        }
-        let calls = Calls::new(batch.start, batch.pace);
-        let mut outcomes = Vec::with_capacity(self.alloc, batch.connections.len())?;
-        for connection in batch.connections {
-            outcomes.push_reserved(self.converse(&calls, batch.piece, connection));
-        }
-        let outcome = BatchOutcome {
-            outcomes,
-            sweeps: Sweeps::NONE,
-        };
-        Ok((outcome, self))
-    }
-
-    fn sweep(&mut self, now: Moment) -> Swept {
-        self.lent.sweep(now)
     }
 }

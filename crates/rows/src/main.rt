@@ -14,7 +14,6 @@ mod memory_link;
 mod order;
 mod outcome;
 mod seats_back;
-mod server;
 mod session;
 mod sweeping;
 mod together;

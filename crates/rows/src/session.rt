@@ -2,8 +2,6 @@ use crate::answer::Answer;
 use crate::failure::Failure;
 use crate::input::Input;
 use crate::order::Order;
-use crate::outcome::put_swept;
-use crate::server::Server;
 use std::alloc::Global;
 use std::io::{Read, Write};
 
@@ -38,32 +36,8 @@ impl<I: Read + Drop, O: Write + Drop> Session<I, O> {
         self.tell(&answer)
     }
 
-    /// Has this server do what it is told until the input ends, and gives it back.
-    pub(crate) fn direct<S: Server>(&mut self, mut server: S) -> Result<S, Failure> {
-        for _ in 0..u64::MAX {
-            let Some(order) = Order::read(self.alloc, &mut self.input)? else {
-                return Ok(server);
-            };
-            server = self.follow(server, order)?;
-        }
-        Ok(server)
-    }
-
-    // Has the server do this, tells what came of it, and gives the server back.
-    fn follow<S: Server>(&mut self, mut server: S, order: Order) -> Result<S, Failure> {
-        let mut answer = Answer::new(self.alloc);
-        let server = match order {
-            Order::Serve(batch) => {
-                let (outcome, server) = server.serve(batch)?;
-                outcome.put(&mut answer)?;
-                server
-            }
-            Order::Sweep(now) => {
-                put_swept(&mut answer, server.sweep(now))?;
-                server
-            }
-        };
-        self.tell(&answer)?;
-        Ok(server)
+    /// The next order, or none where the input ends.
+    pub(crate) fn next_order(&mut self) -> Result<Option<Order>, Failure> {
+        Order::read(self.alloc, &mut self.input)
     }
 }

@@ -8,21 +8,22 @@ ghost use Rattle.nfs_shared.specs.Ends.{AreFresh};
 ghost use Rattle.nfs_shared.specs.Naming.{CanBegin};
 ghost use Rattle.rows.specs.Places.{AreFreshFrom, AreServed};
 
+use crate::answer::Answer;
 use crate::batch::{Batch, Connection};
 use crate::calls::{Calls, Rising};
 use crate::failure::Failure;
 use crate::linking::Common;
 use crate::memory_link::MemoryLink;
-use crate::outcome::{BatchOutcome, ConnectionOutcome};
+use crate::order::Order;
+use crate::outcome::{BatchOutcome, ConnectionOutcome, put_swept};
 use crate::seats_back::SeatsBack;
-use crate::server::Server;
 use crate::session::Session;
 use crate::sweeping::Sweeps;
 use crate::yielding::Yielding;
 use nfs_core::{Core, Moment};
 use nfs_leases::Swept;
 use nfs_shared::{Naming, Opened, Receipt, Seat, Shared, Sweeper};
-use nfs_threads::WorkerEnd;
+use nfs_threads::{Link, WorkerEnd};
 use nfs_tree::Tree;
 use std::alloc::{AllocError, Global};
 use std::io::{Read, Write};
@@ -68,8 +69,8 @@ fn run<N: Naming + Send + Sync, R: Threads + Wait + Sync, I: Read + Drop, O: Wri
         shared: &shared,
         tree,
     };
-    let server = session.direct(Together::new(common, seats, sweeper))?;
-    let (back, sweeper) = server.close()?;
+    let server = Together::new(common, seats, sweeper);
+    let (back, sweeper) = server.direct(session)?.close()?;
     let (core, _) = back.end(shared, sweeper);
     Ok(core)
 }
@@ -111,10 +112,41 @@ impl<'a, N: Naming + Send + Sync, R: Threads + Wait + Sync> Together<'a, N, R> {
         back.hand_in_unused(left)?;
         Ok((back, sweeper))
     }
-}
 
-impl<'a, N: Naming + Send + Sync, R: Threads + Wait + Sync> Server for Together<'a, N, R> {
-    fn serve(self, batch: Batch) -> Result<(BatchOutcome, Self), Failure> {
+    // Does what it is told until the input ends. After a failure the server is gone.
+    fn direct<I: Read + Drop, O: Write + Drop>(
+        self,
+        session: &mut Session<I, O>,
+    ) -> Result<Together<'a, N, R>, Failure> {
+        let mut server = self;
+        for _ in 0..u64::MAX {
+            let Some(order) = session.next_order()? else {
+                break;
+            };
+            let mut answer = Answer::new(session.alloc);
+            server = server.follow(order, &mut answer)?;
+            session.tell(&answer)?;
+        }
+        Ok(server)
+    }
+
+    // Does this, appends what came of it, and gives the server back.
+    fn follow(self, order: Order, answer: &mut Answer) -> Result<Together<'a, N, R>, Failure> {
+        match order {
+            Order::Serve(batch) => {
+                let (outcome, server) = self.serve(batch)?;
+                outcome.put(answer)?;
+                Ok(server)
+            }
+            Order::Sweep(now) => {
+                let mut server = self;
+                put_swept(answer, server.sweep(now))?;
+                Ok(server)
+            }
+        }
+    }
+
+    fn serve(self, batch: Batch) -> Result<(BatchOutcome, Together<'a, N, R>), Failure> {
         let Batch {
             start,
             pace,
@@ -175,9 +207,9 @@ fn links_of<'b, 'c, N: Naming>(
 }
 
 // Serves these links at once, while another thread sweeps if that is wanted.
-fn serve_links<'b, 'c, N: Naming + Send + Sync, R: Threads + Wait + Sync>(
+fn serve_links<N: Naming + Send + Sync, L: Link + Drop + Send, R: Threads + Wait + Sync>(
     common: &Common<'_, N, R>,
-    links: Vec<(BatchLink<'b, 'c>, Seat<N>)>,
+    links: Vec<(L, Seat<N>)>,
     calls: &Calls,
     is_swept: bool,
     sweeper: Sweeper<N>,

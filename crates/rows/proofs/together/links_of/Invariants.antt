@@ -4,8 +4,4 @@ use Rattle.nfs_threads.specs.Worker.{seats_of}
 use Rattle.rows.proofs.together.links_of.Given as goal
 
 abbrev pub invariant-loop-connection : goal.invariant-loop-connection
-invariant-loop-connection g l = record {
-  can : (goal.iterator-loop-connection g).can_next l.connection-iterator;
-  finite : (goal.iterator-loop-connection g).is_finite l.connection-iterator;
-  seats : into_iter_items l.initial.left ≡ seats_of l.links.items ++ into_iter_items l.left.now;
-}
+invariant-loop-connection g l = into_iter_items l.initial.left ≡ seats_of l.links.items ++ into_iter_items l.left

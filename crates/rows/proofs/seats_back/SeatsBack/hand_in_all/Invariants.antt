@@ -6,6 +6,6 @@ abbrev pub invariant-loop-end : goal.invariant-loop-end
 invariant-loop-end g l = record {
   can : (goal.iterator-loop-end g).can_next l.end-iterator;
   finite : (goal.iterator-loop-end g).is_finite l.end-iterator;
-  count : length l.self.now.seats ≡ length l.initial.self.seats + length l.yielded;
+  count : length l.self.seats ≡ length l.initial.self.seats + length l.yielded;
   whole : l.fn.ends.items ≡ l.yielded ++ into_iter_items l.end-iterator;
 }

@@ -1,0 +1,21 @@
+use Rattle.std.proofs.Common.{◌∙◌, List, length, subst}
+use Rattle.nfs_shared.specs.Seats.{SeatView}
+use Rattle.rows.proofs.Handing.{fresh_front}
+use Rattle.rows.proofs.ManyLinks.{none_lost, still_fresh}
+use Rattle.rows.specs.Places.{AreFreshFrom}
+use Rattle.rows.proofs.together.Together.serve.Goals as goal
+
+pub hand_in_all-requires : goal.hand_in_all-requires
+hand_in_all-requires g c =
+    let first = length c.args.self.back.seats in
+    record {
+      next = c.in_ok-ends.ensures.1 first (fresh_front first _ _ (subst (λ (xs : List SeatView). AreFreshFrom first xs) c.in_ok-links.ensures c.args.self.fresh));
+    }
+
+pub invariant_of-server : goal.invariant_of-server
+invariant_of-server g c =
+    let first = length c.args.self.back.seats in
+    record {
+      fresh = still_fresh first _ _ _ _ _ c.args.self.fresh c.in_ok-links.ensures c.in_ok-ends.ensures c.in_ok-hand_in_all.ensures;
+      all = none_lost first _ _ _ _ _ c.in_ok-links.ensures c.in_ok-ends.ensures c.in_ok-hand_in_all.ensures ∙ c.args.self.all;
+    }
