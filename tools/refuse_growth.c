@@ -1,17 +1,14 @@
 /* Refuses growths of memory of the program that it is loaded into (LD_PRELOAD): the one whose number, from 1 on, is in
    REFUSED_GROWTH, and with REFUSED_SINCE all after it as well; with REFUSED_END all after the end of standard input, or
    of a connection. Where a growth was refused, the file that REFUSED_MARK names is made; it has a byte where the run
-   had begun before: standard input had been read, or a connection accepted. Of the blocks of memory that begin as the
-   file of a journal does, the last one that is given back goes into the file that FREED_JOURNAL names. */
+   had begun before: standard input had been read, or a connection accepted. */
 #define _GNU_SOURCE
 #include <dlfcn.h>
 #include <errno.h>
 #include <fcntl.h>
-#include <malloc.h>
 #include <stdatomic.h>
 #include <stddef.h>
 #include <stdlib.h>
-#include <string.h>
 #include <sys/socket.h>
 #include <unistd.h>
 
@@ -90,19 +87,4 @@ void *calloc(size_t count, size_t size) {
     static void *(*next)(size_t, size_t);
     if (!next) next = (void *(*)(size_t, size_t))dlsym(RTLD_NEXT, "calloc");
     return is_refused() ? NULL : next(count, size);
-}
-
-static void keep(const char *path, const void *block, size_t size) {
-    int file = open(path, O_CREAT | O_TRUNC | O_WRONLY, 0600);
-    if (file < 0 || write(file, block, size) != (ssize_t)size) abort();
-    close(file);
-}
-
-void free(void *block) {
-    static void (*next)(void *);
-    if (!next) next = (void (*)(void *))dlsym(RTLD_NEXT, "free");
-    const char *path = block ? getenv("FREED_JOURNAL") : NULL;
-    size_t size = path ? malloc_usable_size(block) : 0;
-    if (size >= 8 && !memcmp(block, "NFSJRN01", 8)) keep(path, block, size);
-    next(block);
 }

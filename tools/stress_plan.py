@@ -7,8 +7,7 @@ locks, nearly all of them succeed. Other calls meet each other."""
 import random
 from dataclasses import dataclass, field
 
-from messages import call, COMPOUND, handle, setclientid
-from tree import DEFAULT
+from messages import call, COMPOUND, handle, setclientid, split
 from wire import Opnum, opaque, u32, u64
 
 LEASE, EPOCH, PACE = 20, 7, 20
@@ -337,18 +336,14 @@ class Plan:
     brings."""
 
     def __init__(self, seed, piece=SMALL):
-        chance, self.piece = random.Random(seed), piece
+        chance, self.seed, self.piece = random.Random(seed), seed, piece
         first = First(chance)
         self.first = first.bytes
+        # After so many calls of the one that comes alone the others begin at this moment.
+        self.moment = len(split(self.first)[0]) // PACE
         self.others = [self.link(place, first, chance).bytes for place in range(LINKS)]
         # The last two send the same.
         self.others[-1] = self.others[-2]
 
     def link(self, place, first, chance):
         return Link(place, first.opens[place::LINKS], first.states, chance, chance.choice([10, 60, 80, 100]))
-
-    def spelled(self):
-        """As the program reads it."""
-        parts = [DEFAULT.encode(), self.first]
-        head = u32(LEASE, EPOCH, PACE, self.piece) + b"".join(u32(len(part)) + part for part in parts)
-        return head + u32(len(self.others)) + b"".join(u32(len(part)) + part for part in self.others)

@@ -11,16 +11,6 @@ import rows
 import wire
 from model import Server, Swept
 from tree import DEFAULT, Refused, Tree
-from wire import Opnum, Status
-
-
-def expect_numbers():
-    """The rows' names of operations and statuses have the numbers that the model knows them by."""
-    known = {item.name: item for item in Opnum}
-    known.update({"NFS4_OK" if item == Status.OK else "NFS4ERR_" + item.name: item for item in Status})
-    wrong = [name for name, number in known.items() if rows.NAMES.get(name) != number]
-    if wrong:
-        sys.exit(f"check_rows: other numbers than in {rows.NAMES_FILE}: {', '.join(wrong)}")
 
 
 def run(row):
@@ -66,14 +56,17 @@ def report(row, connection, got):
     rows.show_difference(connection.wanted, replies, "model")
 
 
-def main(files):
-    expect_numbers()
+def main(paths):
     agreed = differ = left_out = unread = 0
-    for file in (file for path in files for file in rows.files_of(path)):
+    try:
+        files = [file for path in paths for file in rows.files_of(path)]
+    except OSError as error:
+        sys.exit(f"check_rows: {error}")
+    for file in files:
         try:
             found = rows.File(file).rows
-        except (OSError, UnicodeDecodeError, rows.Bad) as error:
-            print(f"{file}: {error}")
+        except rows.UNREAD as error:
+            print(rows.refusal(file, error))
             unread += 1
             continue
         for row in found:

@@ -46,7 +46,7 @@ RENEWING_BY_STATEID = {Opnum.OPEN_CONFIRM, Opnum.OPEN_DOWNGRADE, Opnum.CLOSE, Op
 SEQUENCED = {Opnum.OPEN, Opnum.OPEN_CONFIRM, Opnum.OPEN_DOWNGRADE, Opnum.CLOSE, Opnum.LOCK, Opnum.LOCKU}
 
 # Operations of NFSv4.0 that get a rule later: rows that use them are not for this model yet.
-TO_COME = {8: "DELEGRETURN", 25: "READ", 38: "WRITE"}
+TO_COME = {wire.OTHER_OPERATIONS[name]: name for name in ("DELEGRETURN", "READ", "WRITE")}
 
 
 class Refusal(Exception):

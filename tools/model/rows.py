@@ -1,13 +1,75 @@
-"""Row files, which are read here without the program of rows: crates/rows/README.md has the format."""
+"""Row files, as crates/rows/README.md has their format: read into rows, or refused at the first line at fault."""
 import os
 import re
 from dataclasses import dataclass, field
 
-from wire import opaque, record, u32, u64
+import wire
+from wire import Opnum, Status, opaque, record, u32, u64
 
-NAMES_FILE = os.path.join(os.path.dirname(os.path.abspath(__file__)), "../../crates/nfs_rows/src/names.rt")
-NULL, COMPOUND = 0, 1
+# What may stand round a line, and round a word.
+SPACES = " \t\r"
+LEASE_LIMIT = 86_400
 MOMENT_LIMIT = 2**40
+# The most bytes of a message.
+MESSAGE_LIMIT = 1 << 20
+
+# The words of the messages of ONC RPC that a row may name.
+MESSAGE_WORDS = (
+    "CALL", "REPLY", "MSG_ACCEPTED", "MSG_DENIED", "SUCCESS", "PROG_UNAVAIL", "PROG_MISMATCH", "PROC_UNAVAIL",
+    "GARBAGE_ARGS", "SYSTEM_ERR", "RPC_MISMATCH", "AUTH_ERROR", "AUTH_BADCRED", "AUTH_NONE", "AUTH_SYS", "AUTH_SHORT",
+    "RPCSEC_GSS", "NFS4_PROGRAM", "NFSPROC4_NULL", "NFSPROC4_COMPOUND")
+
+
+def names():
+    """The names of operations, statuses and messages with their numbers."""
+    operations = {item.name: item.value for item in Opnum} | wire.OTHER_OPERATIONS
+    statuses = {item.name: item.value for item in Status} | wire.OTHER_STATUSES
+    named = {"NFS4_OK" if name == "OK" else f"NFS4ERR_{name}": number for name, number in statuses.items()}
+    return {name: getattr(wire, name) for name in MESSAGE_WORDS} | operations | named
+
+
+NAMES = names()
+
+# How a connection may end, besides the end of the input after a whole record.
+FAULTS = ("input ends inside a record", "record too long", *(f"tree refused ({number})" for number in range(1, 5)))
+
+# Why a line can't be read.
+NO_ROW = "no row has begun: a line `row NAME` comes first"
+NO_MESSAGE = "no message has begun: a line `send ..` or `want ..` comes first"
+NO_WANT = "the row wants nothing: write `want nothing` where no reply comes"
+OPEN_QUOTE = "a text has no closing quote"
+NO_WORD = "a word is no number, no name of the protocol, no `hex:`, no `u64:` and no `N*WORD`"
+TOO_LONG = "a message above 1,048,576 bytes"
+NO_FORM = "no message: `compound`, `null`, `arguments`, `results`, `record`, `bytes` or `nothing`"
+NO_XID = "a message has no xid, or a number that is none"
+NO_CREDENTIAL = "after the xid of a call only `credential FLAVOR WORDS` can follow"
+NO_END = "the line goes on after its message"
+NO_NUMBER = "a lease is 1 to 86,400 seconds, an epoch below 2^32, a moment below 2^40"
+NO_SWEEP = "no sweep: `sweep SECONDS expired COUNT kept COUNT`"
+NO_FAULT = "no fault of a connection"
+
+
+class Wrong(Exception):
+    """Why a line can't be read."""
+
+
+class Bad(Exception):
+    """A line that can't be read: its file, its number and why. `text` is the line."""
+
+    def __init__(self, path, line, reason, text):
+        super().__init__(f"{path}:{line}: {reason}")
+        self.text = text
+
+
+# Why a file can't be read.
+UNREAD = (Bad, OSError, UnicodeDecodeError)
+
+
+def refusal(path, error):
+    """What is to be said of a file that can't be read: also the line, where one is at fault."""
+    if isinstance(error, Bad):
+        return f"{error}\n    {error.text}"
+    return f"{path}: {error.strerror if isinstance(error, OSError) else error}"
 
 
 @dataclass(frozen=True)
@@ -19,13 +81,30 @@ class Sweep:
 
 
 @dataclass
-class Connection:
+class Part:
+    """A connection, or what is sent on one at a moment and between sweeps: the bytes, what has to come, and how the
+    connection ends, if it isn't by the end of the input after a whole record."""
     moment: int = 0
     sent: bytes = b""
     wanted: bytes = b""
     fault: str = None
+    # Whether the connection of the part before goes on.
+    goes_on: bool = False
+
+
+@dataclass
+class Connection:
+    """A connection as its client sees it."""
+    moment: int
+    sent: bytes
+    wanted: bytes
+    fault: str
     # What happens after so many of the bytes are sent: a moment that the clock is set to, or a sweep.
     stops: list = field(default_factory=list)
+
+    def go_on(self, part):
+        self.stops.append((len(self.sent), part.moment))
+        self.sent, self.wanted, self.fault = self.sent + part.sent, self.wanted + part.wanted, part.fault or self.fault
 
 
 @dataclass
@@ -33,197 +112,341 @@ class Row:
     file: str
     line: int
     name: str
+    rule: list = field(default_factory=list)
     document: str = None
     lease: int = 90
     epoch: int = 1
     is_portable: bool = False
-    connections: list = field(default_factory=lambda: [Connection()])
+    # Whether it says what is wanted.
+    is_whole: bool = False
+    # Parts and sweeps, one after another; the first is a part.
+    steps: list = field(default_factory=lambda: [Part()])
 
+    @property
+    def connections(self):
+        """The parts that go on with one another as one connection, with the sweeps as its stops."""
+        found = []
+        for step in self.steps:
+            if isinstance(step, Sweep):
+                found[-1].stops.append((len(found[-1].sent), step))
+            elif step.goes_on:
+                found[-1].go_on(step)
+            else:
+                found.append(Connection(step.moment, step.sent, step.wanted, step.fault))
+        return found
+
+
+# Words.
+
+def split_word(line):
+    """A line up to its first space, and what follows that."""
+    word, _, rest = line.partition(" ")
+    return word, rest
+
+
+def next_word(line):
+    """The first word of a line, of a text with its opening quote alone, and what follows it; or None where there is
+    none before the end or a comment."""
+    line = line.lstrip(SPACES)
+    if line == "" or line.startswith("#"):
+        return None
+    if not line.startswith('"'):
+        return split_word(line)
+    text, quote, rest = line[1:].partition('"')
+    if not quote:
+        raise Wrong(OPEN_QUOTE)
+    return f'"{text}', rest
+
+
+def words_of(line):
+    """The words up to one that begins with #."""
+    while (found := next_word(line)) is not None:
+        word, line = found
+        yield word
+
+
+def expect_end(line):
+    """Nothing but a comment may follow on the line."""
+    if next_word(line) is not None:
+        raise Wrong(NO_END)
+
+
+def decimal(text, limit, reason):
+    """The number below the limit that these digits are."""
+    digits = re.fullmatch("0*([0-9]{1,20})", text)
+    if digits is None or int(digits[1]) >= limit:
+        raise Wrong(reason)
+    return int(digits[1])
+
+
+def number(word):
+    """The number that a word is: decimal, hexadecimal after `0x`, or a name of the protocol."""
+    if word in NAMES:
+        return NAMES[word]
+    digits = re.fullmatch("0x0*([0-9a-fA-F]{1,8})", word)
+    return int(digits[1], 16) if digits else decimal(word, 2**32, NO_WORD)
+
+
+def bytes_of(word):
+    if word.startswith('"'):
+        return limited(opaque(word[1:].encode()))
+    count, star, unit = word.partition("*")
+    if not star:
+        return bytes_of_single(word)
+    count, unit = number(count), bytes_of_single(unit)
+    if count * len(unit) > MESSAGE_LIMIT:
+        raise Wrong(TOO_LONG)
+    return count * unit
+
+
+def bytes_of_single(word):
+    if word.startswith("hex:"):
+        if not re.fullmatch("([0-9a-fA-F]{2})*", word[4:]):
+            raise Wrong(NO_WORD)
+        return bytes.fromhex(word[4:])
+    if word.startswith("u64:"):
+        return u64(decimal(word[4:], 2**64, NO_WORD))
+    return u32(number(word))
+
+
+def limited(data):
+    if len(data) > MESSAGE_LIMIT:
+        raise Wrong(TOO_LONG)
+    return data
+
+
+def spelled(line):
+    """The bytes of the words of a line."""
+    return b"".join(bytes_of(word) for word in words_of(line))
+
+
+# Messages.
 
 @dataclass
 class Message:
     """Its direction, its form (bytes, record, compound), its head, and the words of its lines."""
     direction: str
     form: str
-    head: bytes
-    body: bytes = b""
+    head: bytes = b""
+    body: bytearray = field(default_factory=bytearray)
     lines: int = 0
 
     def spelled(self):
+        whole = limited(self.head + self.body)
         if self.form == "bytes":
-            return self.body
-        count = u32(self.lines) if self.form == "compound" else b""
-        return record(self.head + count + self.body)
-
-
-def read_names():
-    """The names of operations, statuses and messages with their numbers."""
-    with open(NAMES_FILE, encoding="utf-8") as source:
-        pairs = re.findall(r'\("(\w+)", ([0-9_]+)\)', source.read())
-    return {name: int(number.replace("_", "")) for name, number in pairs}
-
-
-NAMES = read_names()
-
-
-class Bad(Exception):
-    """A line that can't be read."""
-
-
-def number(word):
-    if word in NAMES:
-        return NAMES[word]
-    try:
-        return int(word, 16 if word.startswith("0x") else 10)
-    except ValueError:
-        raise Bad(f"no number: {word}") from None
-
-
-def moment_of(word):
-    moment = int(word)
-    if not 0 <= moment < MOMENT_LIMIT:
-        raise Bad(f"no moment: {word}")
-    return moment
-
-
-def sweep_of(text):
-    """The sweep that is written as MOMENT expired COUNT kept COUNT."""
-    words = words_of(text)
-    if len(words) != 5 or (words[1], words[3]) != ("expired", "kept"):
-        raise Bad(f"no sweep: {text}")
-    return Sweep(moment_of(words[0]), int(words[2]), int(words[4]))
-
-
-def bytes_of(word):
-    if word.startswith('"'):
-        return opaque(word[1:-1].encode())
-    if "*" in word:
-        count, unit = word.split("*", 1)
-        return number(count) * bytes_of(unit)
-    if word.startswith("hex:"):
-        return bytes.fromhex(word[4:])
-    if word.startswith("u64:"):
-        return u64(int(word[4:]))
-    return u32(number(word))
-
-
-def words_of(line):
-    """The words up to one that begins with #."""
-    found = []
-    for word in re.findall(r'"[^"]*"|[^ ]+', line):
-        if word.startswith("#"):
-            break
-        found.append(word)
-    return found
-
-
-def spelled(line):
-    return b"".join(bytes_of(word) for word in words_of(line))
+            return whole
+        return record(self.head + u32(self.lines) + self.body if self.form == "compound" else whole)
 
 
 def begin_message(direction, text):
     """The message that begins with what is written after `send` or `want`."""
-    kind, _, rest = text.partition(" ")
-    words = words_of(rest)
+    kind, rest = split_word(text)
     if kind in ("bytes", "record"):
-        return Message(direction, kind, b"")
-    xid, form = number(words[0]), "compound" if kind == "compound" else "record"
-    if direction == "send":
-        head = call(xid, NULL if kind == "null" else COMPOUND, words[1:])
-        return Message(direction, form, head + (u32(0, 0) if kind == "compound" else b""))
-    head = u32(xid, 1, 0, 0, 0, 0)
-    return Message(direction, form, head + (u32(number(words[1]), 0) if kind == "compound" else b""))
+        expect_end(rest)
+        return Message(direction, kind)
+    if direction == "send" and kind in ("null", "arguments", "compound"):
+        head = call(wire.NFSPROC4_NULL if kind == "null" else wire.NFSPROC4_COMPOUND, rest)
+        tag_and_minor = u32(0, 0) if kind == "compound" else b""
+        return Message(direction, form_of(kind), head + tag_and_minor)
+    if direction == "want" and kind in ("null", "results", "compound"):
+        return Message(direction, form_of(kind), reply(kind, rest))
+    raise Wrong(NO_FORM)
 
 
-def call(xid, procedure, words):
-    credential = u32(0, 0)
-    if words[:1] == ["credential"]:
-        credential = u32(number(words[1])) + opaque(b"".join(bytes_of(word) for word in words[2:]))
-    return u32(xid, 0, 2, NAMES["NFS4_PROGRAM"], 4, procedure) + credential + u32(0, 0)
+def form_of(kind):
+    return "compound" if kind == "compound" else "record"
+
+
+def split_xid(text):
+    word, rest = split_word(text)
+    try:
+        return number(word), rest
+    except Wrong:
+        raise Wrong(NO_XID) from None
+
+
+def call(procedure, text):
+    """The head of a call, by its xid and its credential."""
+    xid, rest = split_xid(text)
+    head = u32(xid, wire.CALL, 2, wire.NFS4_PROGRAM, wire.NFS_V4, procedure)
+    return head + credential(rest.lstrip(SPACES)) + u32(wire.AUTH_NONE, 0)
+
+
+def credential(text):
+    """Nothing says AUTH_NONE with an empty body."""
+    if text == "" or text.startswith("#"):
+        return u32(wire.AUTH_NONE, 0)
+    keyword, rest = split_word(text)
+    if keyword != "credential":
+        raise Wrong(NO_CREDENTIAL)
+    flavor, words = split_word(rest)
+    body = limited(spelled(words))
+    return u32(number(flavor), len(body)) + body
+
+
+def reply(kind, text):
+    """The head of a reply to a call that was run; in a COMPOUND with its status and an empty tag."""
+    xid, rest = split_xid(text)
+    status, rest = split_word(rest) if kind == "compound" else (None, rest)
+    expect_end(rest)
+    head = u32(xid, wire.REPLY, wire.MSG_ACCEPTED, wire.AUTH_NONE, 0, wire.SUCCESS)
+    return head if status is None else head + u32(number(status), 0)
+
+
+# Lines.
+
+def sweep_of(text):
+    """The sweep that is written as SECONDS expired COUNT kept COUNT."""
+    seconds, rest = split_word(text)
+    expired, rest = count_of("expired", rest)
+    kept, rest = count_of("kept", rest)
+    expect_end(rest)
+    return Sweep(decimal(seconds, MOMENT_LIMIT, NO_NUMBER), expired, kept)
+
+
+def count_of(keyword, text):
+    """The number after this word, and what follows it."""
+    found, rest = split_word(text.lstrip(SPACES))
+    digits, rest = split_word(rest.lstrip(SPACES))
+    if found != keyword:
+        raise Wrong(NO_SWEEP)
+    return decimal(digits, 2**32, NO_SWEEP), rest
 
 
 class File:
-    """The rows of a file, read line by line."""
+    """The rows of a file, read line by line; or one of UNREAD."""
 
     def __init__(self, path):
-        self.path, self.rows, self.message = path, [], None
-        with open(path, encoding="utf-8") as source:
-            for place, line in enumerate(source, 1):
-                try:
-                    self.take(place, line.strip())
-                except (Bad, ValueError, IndexError, OverflowError) as error:
-                    raise Bad(f"{path}:{place}: {error}") from None
-        self.end_message()
+        self.path, self.rows, self.message, self.clock = path, [], None, 0
+        with open(path, "rb") as source:
+            lines = [line.strip(SPACES) for line in source.read().decode().removesuffix("\n").split("\n")]
+        place = 0
+        try:
+            for place, line in enumerate(lines, 1):
+                self.take(place, line)
+            self.end_row()
+        except Wrong as wrong:
+            raise Bad(path, place, wrong, lines[place - 1]) from None
+
+    def row(self):
+        """The row that is read."""
+        if not self.rows:
+            raise Wrong(NO_ROW)
+        return self.rows[-1]
 
     def take(self, place, line):
-        keyword, _, rest = line.partition(" ")
-        rest = rest.lstrip()
-        if line == "# portable":
-            self.rows[-1].is_portable = True
-        if line == "" or line.startswith("#") or keyword == "rule":
+        """A line without the spaces around it."""
+        if line == "# portable" and self.rows:
+            self.row().is_portable = True
+        if line == "" or line.startswith("#"):
             return
+        keyword, rest = split_word(line)
+        rest = rest.lstrip(SPACES)
         if keyword == "row":
-            self.end_message()
+            self.end_row()
             self.rows.append(Row(self.path, place, rest))
+            self.clock = 0
         elif keyword in ("send", "want"):
+            self.begin_message(keyword, rest)
+        elif keyword in ("rule", "tree", "lease", "epoch", "fault", "moment", "at", "sweep"):
             self.end_message()
-            if (keyword, rest) != ("want", "nothing"):
-                self.message = begin_message(keyword, rest)
-        elif keyword in ("tree", "lease", "epoch", "moment", "at", "sweep", "fault"):
-            self.end_message()
-            self.set(keyword, rest)
+            self.set(self.row(), keyword, rest)
         else:
-            if self.message is None:
-                raise Bad("no message has begun")
-            self.message.lines += keyword != "+"
-            self.message.body += spelled(rest if keyword == "+" else line)
+            self.add_words(rest if keyword == "+" else line, keyword != "+")
+
+    def end_row(self):
+        """Ends the row that is read, if there is one."""
+        self.end_message()
+        if self.rows and not self.row().is_whole:
+            raise Wrong(NO_WANT)
+
+    def begin_message(self, direction, text):
+        self.end_message()
+        self.row().is_whole |= direction == "want"
+        if (direction, text) != ("want", "nothing"):
+            self.message = begin_message(direction, text)
+
+    def add_words(self, words, is_line):
+        if self.message is None:
+            raise Wrong(NO_MESSAGE)
+        self.message.lines += is_line
+        self.message.body += spelled(words)
 
     def end_message(self):
-        if self.message is not None:
-            connection = self.rows[-1].connections[-1]
-            if self.message.direction == "send":
-                connection.sent += self.message.spelled()
-            else:
-                connection.wanted += self.message.spelled()
-        self.message = None
-
-    def set(self, keyword, rest):
-        row = self.rows[-1]
-        if keyword == "tree":
-            row.document = (row.document or "") + rest + "\n"
-        elif keyword == "moment":
-            if row.connections[-1].sent:
-                row.connections.append(Connection())
-            row.connections[-1].moment = moment_of(rest)
-        elif keyword in ("at", "sweep"):
-            connection = row.connections[-1]
-            stop = moment_of(rest) if keyword == "at" else sweep_of(rest)
-            connection.stops.append((len(connection.sent), stop))
-        elif keyword == "fault":
-            row.connections[-1].fault = rest
+        """Adds the message that is read to what its part has of its direction."""
+        message, self.message = self.message, None
+        if message is None:
+            return
+        part = self.part()
+        if message.direction == "send":
+            part.sent += message.spelled()
         else:
-            setattr(row, keyword, int(rest))
+            part.wanted += message.spelled()
+
+    def part(self):
+        """The part that is read: behind a sweep a new one, at the same moment."""
+        steps = self.row().steps
+        if isinstance(steps[-1], Sweep):
+            steps.append(Part(self.clock, goes_on=True))
+        return steps[-1]
+
+    def set(self, row, keyword, text):
+        if keyword == "rule":
+            row.rule.append(text)
+        elif keyword == "tree":
+            row.document = (row.document or "") + text + "\n"
+        elif keyword == "lease":
+            row.lease = decimal(text, LEASE_LIMIT + 1, NO_NUMBER)
+            if row.lease == 0:
+                raise Wrong(NO_NUMBER)
+        elif keyword == "epoch":
+            row.epoch = decimal(text, 2**32, NO_NUMBER)
+        elif keyword == "fault":
+            self.part().fault = text
+            if text not in FAULTS:
+                raise Wrong(NO_FAULT)
+        elif keyword == "sweep":
+            row.steps.append(sweep_of(text))
+        else:
+            self.clock = decimal(text, MOMENT_LIMIT, NO_NUMBER)
+            self.set_clock(row, keyword == "moment" and row.connections[-1].sent != b"")
+
+    def set_clock(self, row, is_other):
+        """What follows comes at the moment that the clock has now; on another connection, where that is said."""
+        last = row.steps[-1]
+        if isinstance(last, Part) and not last.sent:
+            last.moment, last.goes_on = self.clock, last.goes_on and not is_other
+        else:
+            row.steps.append(Part(self.clock, goes_on=not is_other))
 
 
 def files_of(path):
-    """The file, or those of a folder that end with .rows."""
-    if not os.path.isdir(path):
+    """The file, where the path ends with .rows, and else those of the folder that do."""
+    if path.endswith(".rows"):
         return [path]
     return sorted(os.path.join(path, name) for name in os.listdir(path) if name.endswith(".rows"))
 
+
+# Replies beside those that are wanted.
 
 def words(data):
     return [data[at:at + 4].hex() for at in range(0, len(data), 4)]
 
 
-def show_difference(wanted, got, whose):
-    """Prints the words round the first difference, where there is one. Word 0 is the header of the first fragment."""
+def words_beside(wanted, got, whose):
+    """Lines with the words round the first difference, or the last ones where there is none. Word 0 is the header of
+    the first fragment."""
     left, right = words(wanted), words(got)
     count = max(len(left), len(right))
     left, right = left + [""] * (count - len(left)), right + [""] * (count - len(right))
-    places = [place for place in range(count) if left[place] != right[place]]
-    if places:
-        print(f"      word  wanted    {whose}")
-        for place in range(max(0, places[0] - 12), min(count, places[0] + 12)):
-            mark = "" if left[place] == right[place] else "  <--"
-            print(f"    {place:>6}  {left[place]:<8}  {right[place]:<8}{mark}")
+    first = next((place for place in range(count) if left[place] != right[place]), count)
+    yield f"      word  wanted    {whose}"
+    for place in range(max(0, first - 20), min(count, first + 20)):
+        mark = "" if left[place] == right[place] else "  <--"
+        yield f"    {place:>6}  {left[place]:<8}  {right[place]:<8}{mark}"
+
+
+def show_difference(wanted, got, whose):
+    """Prints the words round the first difference, where there is one."""
+    for line in words_beside(wanted, got, whose) if wanted != got else ():
+        print(line)

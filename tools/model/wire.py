@@ -68,6 +68,22 @@ class Opnum(IntEnum):
     ILLEGAL = 10044
 
 
+# The other operations of RFC 7531, which have no rule in the model.
+OTHER_OPERATIONS = {
+    "COMMIT": 5, "CREATE": 6, "DELEGPURGE": 7, "DELEGRETURN": 8, "LINK": 11, "LOOKUPP": 16, "NVERIFY": 17,
+    "OPENATTR": 19, "PUTPUBFH": 23, "READ": 25, "READDIR": 26, "READLINK": 27, "REMOVE": 28, "RENAME": 29,
+    "SECINFO": 33, "VERIFY": 37, "WRITE": 38}
+# Its other statuses, which this server doesn't give.
+OTHER_STATUSES = {
+    "PERM": 1, "IO": 5, "NXIO": 6, "XDEV": 18, "FBIG": 27, "NOSPC": 28, "ROFS": 30, "MLINK": 31, "NOTEMPTY": 66,
+    "DQUOT": 69, "STALE": 70, "BAD_COOKIE": 10003, "TOOSMALL": 10005, "SERVERFAULT": 10006, "BADTYPE": 10007,
+    "DELAY": 10008, "SAME": 10009, "LOCKED": 10012, "GRACE": 10013, "FHEXPIRED": 10014, "WRONGSEC": 10016,
+    "MOVED": 10019, "NOT_SAME": 10027, "LOCK_RANGE": 10028, "SYMLINK": 10029, "LEASE_MOVED": 10031,
+    "ATTRNOTSUPP": 10032, "RECLAIM_BAD": 10034, "RECLAIM_CONFLICT": 10035, "BADOWNER": 10039, "BADCHAR": 10040,
+    "BADNAME": 10041, "BAD_RANGE": 10042, "LOCK_NOTSUPP": 10043, "DEADLOCK": 10045, "FILE_OPEN": 10046,
+    "ADMIN_REVOKED": 10047, "CB_PATH_DOWN": 10048}
+
+
 class Unreadable(Exception):
     """The bytes are no value of the form."""
 
@@ -279,7 +295,10 @@ def record(body):
 # Calls (RFC 5531, section 9).
 
 CALL, REPLY = 0, 1
-AUTH_NONE, AUTH_SYS = 0, 1
+MSG_ACCEPTED, MSG_DENIED = 0, 1
+RPC_MISMATCH, AUTH_ERROR = 0, 1
+AUTH_BADCRED = 1
+AUTH_NONE, AUTH_SYS, AUTH_SHORT, RPCSEC_GSS = 0, 1, 2, 6
 NFS4_PROGRAM, NFS_V4 = 100003, 4
 NFSPROC4_NULL, NFSPROC4_COMPOUND = 0, 1
 SUCCESS, PROG_UNAVAIL, PROG_MISMATCH, PROC_UNAVAIL, GARBAGE_ARGS, SYSTEM_ERR = 0, 1, 2, 3, 4, 5
@@ -289,11 +308,11 @@ CompoundCall = namedtuple("CompoundCall", "xid principal tag minor count operati
 
 
 def accepted(xid, state, rest=b""):
-    return u32(xid, REPLY, 0, AUTH_NONE, 0, state) + rest
+    return u32(xid, REPLY, MSG_ACCEPTED, AUTH_NONE, 0, state) + rest
 
 
 def denied(xid, *rest):
-    return u32(xid, REPLY, 1, *rest)
+    return u32(xid, REPLY, MSG_DENIED, *rest)
 
 
 def read_call(data):
@@ -306,7 +325,7 @@ def read_call(data):
     if message_type != CALL:
         return None
     if version != 2:
-        return denied(xid, 0, 2, 2)
+        return denied(xid, RPC_MISMATCH, 2, 2)
     try:
         program, program_version, procedure = reader.u32(), reader.u32(), reader.u32()
         flavor, body = reader.u32(), reader.opaque(BODY_LIMIT)
@@ -316,7 +335,7 @@ def read_call(data):
     try:
         principal = read_principal(flavor, body)
     except Unreadable:
-        return denied(xid, 1, 1)
+        return denied(xid, AUTH_ERROR, AUTH_BADCRED)
     if program != NFS4_PROGRAM:
         return accepted(xid, PROG_UNAVAIL)
     if program_version != NFS_V4:
