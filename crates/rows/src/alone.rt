@@ -4,11 +4,12 @@ ghost use Rattle.std.specs.Prelude.{◌≡◌, ℕ, IsFalse};
 ghost use Rattle.nfs_owners.specs.Registry.{is_live};
 
 use crate::answer::Answer;
-use crate::batch::{Batch, Connection};
+use crate::batch::Batch;
 use crate::calls::Calls;
+use crate::connection::Connection;
 use crate::failure::Failure;
 use crate::order::Order;
-use crate::outcome::{BatchOutcome, ConnectionOutcome, put_swept};
+use crate::outcome::{BatchOutcome, ConnectionOutcome};
 use crate::session::Session;
 use crate::sweeping::Sweeps;
 use nfs_core::Core;
@@ -55,7 +56,7 @@ impl Alone<'_> {
     fn follow(&mut self, order: Order, answer: &mut Answer) -> Result<(), Failure> {
         match order {
             Order::Serve(batch) => self.serve(batch)?.put(answer)?,
-            Order::Sweep(now) => put_swept(answer, self.lent.sweep(now))?,
+            Order::Sweep(now) => answer.put_swept(self.lent.sweep(now))?,
         }
         Ok(())
     }

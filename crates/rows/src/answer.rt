@@ -1,6 +1,7 @@
 use crate::failure::Failure;
 use nfs_core::Journal;
 use nfs_journal::write_journal;
+use nfs_leases::Swept;
 use std::alloc::{AllocError, Global};
 
 /// The bytes of an answer: numbers with the highest byte first, and bytes behind their length.
@@ -44,6 +45,16 @@ impl Answer {
             self.put_word(*word)?;
         }
         Ok(())
+    }
+
+    /// How many clients a sweep treated in which way.
+    pub(crate) fn put_swept(&mut self, swept: Swept) -> Result<(), AllocError> {
+        self.put_word(swept.expired)?;
+        self.put_word(swept.kept)?;
+        self.put_word(swept.changed)?;
+        self.put_word(swept.refused)?;
+        self.put_word(swept.revoked)?;
+        self.put_word(swept.stopped as u32)
     }
 
     /// The file of the journal, behind its length.

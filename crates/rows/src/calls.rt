@@ -1,7 +1,4 @@
-ghost use Rattle.std.specs.Prelude.{◌≡◌};
-
 use nfs_core::Moment;
-use nfs_server::Clock;
 use std::sync::atomic::{AtomicU64, Ordering};
 
 // The last moment that there is.
@@ -26,8 +23,14 @@ impl Calls {
         }
     }
 
+    /// The moment of the next call.
     pub(crate) fn moment(&self) -> Moment {
         self.moment_of(self.count.load(Ordering::SeqCst))
+    }
+
+    /// One call more: its moment.
+    pub(crate) fn count_call(&self) -> Moment {
+        self.moment_of(self.count.fetch_add(1, Ordering::SeqCst))
     }
 
     // The moment after so many calls.
@@ -35,27 +38,5 @@ impl Calls {
         let passed = count.checked_div(self.pace).unwrap_or(0);
         let seconds = self.start.seconds().saturating_add(passed);
         Moment::new(seconds.min(LAST_SECOND)).unwrap()
-    }
-}
-
-/// A clock that rises with the calls of all connections, since each asks it once.
-#[derive(Drop)]
-pub(crate) struct Rising<'a> {
-    calls: &'a Calls,
-}
-
-impl<'a> Rising<'a> {
-    pub(crate) fn new(calls: &'a Calls) -> Rising<'a> {
-        Rising { calls }
-    }
-}
-
-impl<'a> Clock for Rising<'a> {
-    // Nobody knows when the others call.
-    ghost tells = { λ old moment new. new ≡ old };
-
-    fn now(&mut self) -> Moment {
-        let count = self.calls.count.fetch_add(1, Ordering::SeqCst);
-        self.calls.moment_of(count)
     }
 }

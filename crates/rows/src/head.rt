@@ -3,17 +3,9 @@ ghost use Rattle.nfs_state.specs.declared.journal.TheConstants.{LEASE_MAX, LEASE
 
 use crate::failure::Failure;
 use crate::input::Input;
+use crate::way::Way;
 use nfs_core::{LEASE_MAX, LEASE_MIN};
 use std::io::Read;
-
-/// How connections are served.
-#[derive(Clone, Copy, Debug, PartialEq, Eq)]
-pub(crate) enum Way {
-    /// One after the other, with a core of their own.
-    Alone,
-    /// With a state that threads share, each in a thread and at a seat of its own.
-    Together,
-}
 
 /// What the input begins with.
 #[derive(Debug, Drop)]

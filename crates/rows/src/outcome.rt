@@ -1,6 +1,5 @@
 use crate::answer::Answer;
 use crate::sweeping::Sweeps;
-use nfs_leases::Swept;
 use nfs_server::ServeError;
 use std::alloc::AllocError;
 
@@ -47,14 +46,4 @@ impl BatchOutcome {
         answer.put_word(self.sweeps.count)?;
         answer.put_word(self.sweeps.expired)
     }
-}
-
-/// Appends how many clients a sweep treated in which way.
-pub(crate) fn put_swept(answer: &mut Answer, swept: Swept) -> Result<(), AllocError> {
-    answer.put_word(swept.expired)?;
-    answer.put_word(swept.kept)?;
-    answer.put_word(swept.changed)?;
-    answer.put_word(swept.refused)?;
-    answer.put_word(swept.revoked)?;
-    answer.put_word(swept.stopped as u32)
 }

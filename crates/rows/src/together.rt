@@ -9,16 +9,18 @@ ghost use Rattle.nfs_shared.specs.Naming.{CanBegin};
 ghost use Rattle.rows.specs.Places.{AreFreshFrom, AreServed};
 
 use crate::answer::Answer;
-use crate::batch::{Batch, Connection};
-use crate::calls::{Calls, Rising};
+use crate::batch::Batch;
+use crate::calls::Calls;
+use crate::connection::Connection;
 use crate::failure::Failure;
-use crate::linking::Common;
 use crate::memory_link::MemoryLink;
 use crate::order::Order;
-use crate::outcome::{BatchOutcome, ConnectionOutcome, put_swept};
+use crate::outcome::{BatchOutcome, ConnectionOutcome};
+use crate::rising::Rising;
 use crate::seats_back::SeatsBack;
 use crate::session::Session;
 use crate::sweeping::Sweeps;
+use crate::workers::Workers;
 use crate::yielding::Yielding;
 use nfs_core::{Core, Moment};
 use nfs_leases::Swept;
@@ -63,13 +65,13 @@ fn run<N: Naming + Send + Sync, R: Threads + Wait + Sync, I: Read + Drop, O: Wri
     let Ok((shared, seats, sweeper)) = Shared::<N>::new(alloc, opened, core) else {
         return Err(Failure::Memory);
     };
-    let common = Common {
+    let workers = Workers {
         rt,
         alloc,
         shared: &shared,
         tree,
     };
-    let server = Together::new(common, seats, sweeper);
+    let server = Together::new(workers, seats, sweeper);
     let (back, sweeper) = server.direct(session)?.close()?;
     let (core, _) = back.end(shared, sweeper);
     Ok(core)
@@ -78,7 +80,7 @@ fn run<N: Naming + Send + Sync, R: Threads + Wait + Sync, I: Read + Drop, O: Wri
 // A server that serves each connection in a thread and at a seat of its own.
 #[derive(Drop)]
 struct Together<'a, N: Naming, R> {
-    common: Common<'a, N, R>,
+    workers: Workers<'a, N, R>,
     left: IntoIter<Seat<N>>,
     back: SeatsBack<N>,
     sweeper: Sweeper<N>,
@@ -87,12 +89,16 @@ struct Together<'a, N: Naming, R> {
 }
 
 impl<'a, N: Naming + Send + Sync, R: Threads + Wait + Sync> Together<'a, N, R> {
-    fn new(common: Common<'a, N, R>, seats: Vec<Seat<N>>, sweeper: Sweeper<N>) -> Together<'a, N, R>
+    fn new(
+        workers: Workers<'a, N, R>,
+        seats: Vec<Seat<N>>,
+        sweeper: Sweeper<N>,
+    ) -> Together<'a, N, R>
         requires fresh { AreFresh N.run.workers seats.items }
     {
-        let back = SeatsBack::new(common.alloc);
+        let back = SeatsBack::new(workers.alloc);
         Together {
-            common,
+            workers,
             left: seats.into_iter(),
             back,
             sweeper,
@@ -104,7 +110,7 @@ impl<'a, N: Naming + Send + Sync, R: Threads + Wait + Sync> Together<'a, N, R> {
         ensures { IfOk result (λ r. length r.0.seats ≡ N.run.workers) }
     {
         let Together {
-            common: _,
+            workers: _,
             left,
             mut back,
             sweeper,
@@ -140,7 +146,7 @@ impl<'a, N: Naming + Send + Sync, R: Threads + Wait + Sync> Together<'a, N, R> {
             }
             Order::Sweep(now) => {
                 let mut server = self;
-                put_swept(answer, server.sweep(now))?;
+                answer.put_swept(server.sweep(now))?;
                 Ok(server)
             }
         }
@@ -155,19 +161,19 @@ impl<'a, N: Naming + Send + Sync, R: Threads + Wait + Sync> Together<'a, N, R> {
             mut connections,
         } = batch;
         let Together {
-            common,
+            workers,
             mut left,
             mut back,
             sweeper,
         } = self;
         let calls = Calls::new(start, pace);
         let sent = connections.as_mut_slice();
-        let links = links_of(common.alloc, &calls, piece, sent, &mut left)?;
-        let (ends, sweeps, sweeper) = serve_links(&common, links, &calls, is_swept, sweeper)?;
-        let outcomes = outcomes_of(common.alloc, ends.as_slice(), connections)?;
+        let links = links_of(workers.alloc, &calls, piece, sent, &mut left)?;
+        let (ends, sweeps, sweeper) = serve_links(&workers, links, &calls, is_swept, sweeper)?;
+        let outcomes = outcomes_of(workers.alloc, ends.as_slice(), connections)?;
         back.hand_in_all(ends)?;
         let server = Together {
-            common,
+            workers,
             left,
             back,
             sweeper,
@@ -176,9 +182,9 @@ impl<'a, N: Naming + Send + Sync, R: Threads + Wait + Sync> Together<'a, N, R> {
     }
 
     fn sweep(&mut self, now: Moment) -> Swept {
-        self.common
+        self.workers
             .shared
-            .sweep(self.common.rt, &mut self.sweeper, now)
+            .sweep(self.workers.rt, &mut self.sweeper, now)
     }
 }
 
@@ -208,7 +214,7 @@ fn links_of<'b, 'c, N: Naming>(
 
 // Serves these links at once, while another thread sweeps if that is wanted.
 fn serve_links<N: Naming + Send + Sync, L: Link + Drop + Send, R: Threads + Wait + Sync>(
-    common: &Common<'_, N, R>,
+    workers: &Workers<'_, N, R>,
     links: Vec<(L, Seat<N>)>,
     calls: &Calls,
     is_swept: bool,
@@ -218,9 +224,9 @@ fn serve_links<N: Naming + Send + Sync, L: Link + Drop + Send, R: Threads + Wait
     ensures { IfOk result (λ r. AreServed links.items r.0.items) }
 {
     if is_swept {
-        return common.serve_swept(links, calls, sweeper);
+        return workers.serve_swept(links, calls, sweeper);
     }
-    let ends = common.serve(links)?;
+    let ends = workers.serve(links)?;
     Ok((ends, Sweeps::NONE, sweeper))
 }
 

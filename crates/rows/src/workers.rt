@@ -16,9 +16,9 @@ use std::sync::atomic::{AtomicBool, Ordering};
 use std::thread;
 use std::thread::Threads;
 
-/// What all links of a run are served with.
+/// Who serves the links of a run: a worker for each, in a thread of its own.
 #[derive(Drop)]
-pub(crate) struct Common<'a, N: Naming, R> {
+pub(crate) struct Workers<'a, N: Naming, R> {
     pub(crate) rt: &'a R,
     pub(crate) alloc: Global,
     pub(crate) shared: &'a Shared<N>,
@@ -26,7 +26,7 @@ pub(crate) struct Common<'a, N: Naming, R> {
     ghost nodes: { N.start.nodes ≡ tree.now.nodes },
 }
 
-impl<'a, N: Naming + Send + Sync, R: Threads + Wait + Sync> Common<'a, N, R> {
+impl<'a, N: Naming + Send + Sync, R: Threads + Wait + Sync> Workers<'a, N, R> {
     /// Serves these links at once, each at its seat and in a thread of its own, and waits for their ends.
     pub(crate) fn serve<L: Link + Drop + Send>(
         &self,

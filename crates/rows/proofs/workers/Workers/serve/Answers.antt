@@ -1,6 +1,6 @@
 use Rattle.nfs_threads.specs.Worker.{linking}
 use Rattle.rows.proofs.ManyLinks.{served}
-use Rattle.rows.proofs.linking.Common.serve.Goals as goal
+use Rattle.rows.proofs.workers.Workers.serve.Goals as goal
 
 pub returns : goal.returns
 returns g c =
