@@ -1,12 +1,12 @@
 //! A server whose state threads share.
 
-ghost use Rattle.std.specs.Prelude.{◌≡◌, ◌+◌, ◌++◌, ℕ, [], IfOk, IsFalse, length};
+ghost use Rattle.std.specs.Prelude.{◌≡◌, ◌++◌, ℕ, [], IfOk, IsFalse, length};
 ghost use Rattle.std.specs.Vec.Iter.{into_iter_items};
 ghost use Rattle.nfs_owners.specs.Registry.{is_live};
 ghost use Rattle.nfs_threads.specs.Worker.{AreUnused, seats_of};
 ghost use Rattle.nfs_shared.specs.Ends.{AreFresh};
 ghost use Rattle.nfs_shared.specs.Naming.{CanBegin};
-ghost use Rattle.rows.specs.Places.{AreFreshFrom, AreServed};
+ghost use Rattle.rows.specs.Places.{AreServed};
 
 use crate::answer::Answer;
 use crate::batch::Batch;
@@ -29,7 +29,7 @@ use nfs_threads::{Link, WorkerEnd};
 use nfs_tree::Tree;
 use std::alloc::{AllocError, Global};
 use std::io::{Read, Write};
-use std::marker::Brand;
+use std::marker::{Brand, Model};
 use std::sync::Wait;
 use std::thread::Threads;
 use std::vec::IntoIter;
@@ -84,8 +84,22 @@ struct Together<'a, N: Naming, R> {
     left: IntoIter<Seat<N>>,
     back: SeatsBack<N>,
     sweeper: Sweeper<N>,
-    ghost fresh: { AreFreshFrom (length back.seats) (into_iter_items left) },
-    ghost all: { length back.seats + length (into_iter_items left) ≡ N.run.workers },
+}
+
+// Contracts see how many seats came back.
+impl<'a, N: Naming, R> Model for Together<'a, N, R> {
+    ghost use Rattle.std.specs.Prelude.{◌≡◌, ◌+◌, ℕ, length};
+    ghost use Rattle.std.specs.Vec.Iter.{into_iter_items};
+    ghost use Rattle.rows.specs.Places.{AreFreshFrom};
+
+    ghost Value = { ℕ };
+
+    ghost view = { λ t. length t.back.seats };
+
+    ghost invariant = { λ t.
+        AreFreshFrom (length t.back.seats) (into_iter_items t.left)
+        × (length t.back.seats + length (into_iter_items t.left) ≡ N.run.workers)
+        × (N.start.nodes ≡ t.workers.tree.now.nodes) };
 }
 
 impl<'a, N: Naming + Send + Sync, R: Threads + Wait + Sync> Together<'a, N, R> {
@@ -94,6 +108,7 @@ impl<'a, N: Naming + Send + Sync, R: Threads + Wait + Sync> Together<'a, N, R> {
         seats: Vec<Seat<N>>,
         sweeper: Sweeper<N>,
     ) -> Together<'a, N, R>
+        requires nodes { N.start.nodes ≡ workers.tree.now.nodes }
         requires fresh { AreFresh N.run.workers seats.items }
     {
         let back = SeatsBack::new(workers.alloc);
@@ -220,6 +235,7 @@ fn serve_links<N: Naming + Send + Sync, L: Link + Drop + Send, R: Threads + Wait
     is_swept: bool,
     sweeper: Sweeper<N>,
 ) -> Result<(Vec<WorkerEnd<N>>, Sweeps, Sweeper<N>), Failure>
+    requires nodes { N.start.nodes ≡ workers.now.tree.now.nodes }
     requires unused { AreUnused (seats_of links.items) }
     ensures { IfOk result (λ r. AreServed links.items r.0.items) }
 {

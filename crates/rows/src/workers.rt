@@ -23,7 +23,6 @@ pub(crate) struct Workers<'a, N: Naming, R> {
     pub(crate) alloc: Global,
     pub(crate) shared: &'a Shared<N>,
     pub(crate) tree: &'a Tree,
-    ghost nodes: { N.start.nodes ≡ tree.now.nodes },
 }
 
 impl<'a, N: Naming + Send + Sync, R: Threads + Wait + Sync> Workers<'a, N, R> {
@@ -32,6 +31,7 @@ impl<'a, N: Naming + Send + Sync, R: Threads + Wait + Sync> Workers<'a, N, R> {
         &self,
         links: Vec<(L, Seat<N>)>,
     ) -> Result<Vec<WorkerEnd<N>>, Failure>
+        requires nodes { N.start.nodes ≡ self.now.tree.now.nodes }
         requires unused { AreUnused (seats_of links.items) }
         ensures { IfOk result (λ ends. AreServed links.items ends.items) }
     {
@@ -49,6 +49,7 @@ impl<'a, N: Naming + Send + Sync, R: Threads + Wait + Sync> Workers<'a, N, R> {
         calls: &Calls,
         sweeper: Sweeper<N>,
     ) -> Result<(Vec<WorkerEnd<N>>, Sweeps, Sweeper<N>), Failure>
+        requires nodes { N.start.nodes ≡ self.now.tree.now.nodes }
         requires unused { AreUnused (seats_of links.items) }
         ensures { IfOk result (λ r. AreServed links.items r.0.items) }
     {
@@ -59,7 +60,8 @@ impl<'a, N: Naming + Send + Sync, R: Threads + Wait + Sync> Workers<'a, N, R> {
             rt,
             move || sweep_until(rt, shared, sweeper, calls, is_over),
             move || -> Result<Vec<WorkerEnd<N>>, Failure>
-                requires { AreUnused (seats_of links.items) }
+                requires { (N.start.nodes ≡ self.now.tree.now.nodes)
+                    × AreUnused (seats_of links.items) }
                 ensures { IfOk result (λ ends. AreServed links.items ends.items) }
             { self.serve_and_tell(links, is_over) },
         );
@@ -72,6 +74,7 @@ impl<'a, N: Naming + Send + Sync, R: Threads + Wait + Sync> Workers<'a, N, R> {
         links: Vec<(L, Seat<N>)>,
         is_over: &AtomicBool,
     ) -> Result<Vec<WorkerEnd<N>>, Failure>
+        requires nodes { N.start.nodes ≡ self.now.tree.now.nodes }
         requires unused { AreUnused (seats_of links.items) }
         ensures { IfOk result (λ ends. AreServed links.items ends.items) }
     {

@@ -1,6 +1,6 @@
-use Rattle.std.proofs.Common.{◌≡◌, ◌+◌, ◌∙◌, ◌++◌, List, [], ap, length, subst, sym}
+use Rattle.std.proofs.Common.{◌∙◌, ◌++◌, List, [], ap, length, subst, sym}
 use Rattle.nfs_shared.specs.Ends.{IsKept}
-use Rattle.nfs_shared.specs.Seats.{SeatView, fresh}
+use Rattle.nfs_shared.specs.Seats.{SeatView}
 use Rattle.nfs_shared.specs.declared.receipt.Receipt.{Receipt}
 use Rattle.nfs_shared.specs.laws.Keeping.{kept_fresh}
 use Rattle.rows.proofs.Handing.{next_at}
