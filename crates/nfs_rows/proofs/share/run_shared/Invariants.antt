@@ -1,5 +1,0 @@
-use Rattle.nfs_shared.specs.Naming.{start_of}
-use Rattle.nfs_rows.proofs.share.run_shared.Given as goal
-
-abbrev pub ghosts-run : goal.ghosts-run
-ghosts-run g a = record { run = a.opened; start = start_of a.core.journal }

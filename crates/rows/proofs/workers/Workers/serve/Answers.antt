@@ -1,0 +1,7 @@
+use Rattle.nfs_threads.specs.Worker.{linking}
+use Rattle.rows.proofs.ManyLinks.{served}
+use Rattle.rows.proofs.workers.Workers.serve.Goals as goal
+
+pub returns : goal.returns
+returns g c =
+    served (linking g.L.Link.opens g.L.Device.Duplex.device g.L.Device.Duplex.read_failures g.L.Device.Duplex.write_failures g.L.Clock.Clock.tells) c.args.self.now.tree.now c.args.links.items c.in-Ok.ends.items (c.receipts_are_questions.ensures.together c.args.self.now.tree.now) c.in-Ok.ensures.done

@@ -1,0 +1,109 @@
+//! A server with a core of its own.
+
+ghost use Rattle.std.specs.Prelude.{◌≡◌, ℕ, IsFalse};
+ghost use Rattle.nfs_owners.specs.Registry.{is_live};
+
+use crate::answer::Answer;
+use crate::batch::Batch;
+use crate::calls::Calls;
+use crate::connection::Connection;
+use crate::failure::Failure;
+use crate::order::Order;
+use crate::outcome::{BatchOutcome, ConnectionOutcome};
+use crate::session::Session;
+use crate::sweeping::Sweeps;
+use nfs_core::Core;
+use nfs_server::{Lent, serve_duplex};
+use nfs_threads::Link;
+use nfs_tree::Tree;
+use std::alloc::Global;
+use std::io::{Read, Write};
+
+/// Has a server with this core do what it is told, and gives the core back.
+pub(crate) fn serve_alone<I: Read + Drop, O: Write + Drop>(
+    session: &mut Session<I, O>,
+    tree: &Tree,
+    core: Core,
+) -> Result<Core, Failure>
+    requires nodes { core.journal.nodes ≡ tree.now.nodes }
+    requires nobody { (number : ℕ) → IsFalse (is_live number core.stored.clients) }
+{
+    let alloc = session.alloc;
+    let lent = Lent::new(alloc, core)?;
+    let mut server = Alone { alloc, tree, lent };
+    for _ in 0..u64::MAX {
+        let Some(order) = session.next_order()? else {
+            break;
+        };
+        let mut answer = Answer::new(alloc);
+        server.follow(order, &mut answer)?;
+        session.tell(&answer)?;
+    }
+    Ok(server.into_core())
+}
+
+// A server that serves one connection after the other, each to its end.
+#[derive(Drop)]
+struct Alone<'a> {
+    alloc: Global,
+    tree: &'a Tree,
+    lent: Lent,
+    ghost nodes: { lent.core.journal.nodes ≡ tree.now.nodes },
+}
+
+impl Alone<'_> {
+    // Does this, and appends what came of it.
+    fn follow(&mut self, order: Order, answer: &mut Answer) -> Result<(), Failure> {
+        match order {
+            Order::Serve(batch) => self.serve(batch)?.put(answer)?,
+            Order::Sweep(now) => answer.put_swept(self.lent.sweep(now))?,
+        }
+        Ok(())
+    }
+
+    fn serve(&mut self, batch: Batch) -> Result<BatchOutcome, Failure> {
+        // There is no other thread that could sweep.
+        if batch.is_swept {
+            return Err(Failure::Input);
+        }
+        let calls = Calls::new(batch.start, batch.pace);
+        let mut outcomes = Vec::new(self.alloc);
+        for connection in batch.connections {
+            outcomes.push(self.converse(&calls, batch.piece, connection))?;
+        }
+        Ok(BatchOutcome {
+            outcomes,
+            sweeps: Sweeps::NONE,
+        })
+    }
+
+    fn converse(
+        &mut self,
+        calls: &Calls,
+        piece: usize,
+        mut connection: Connection,
+    ) -> ConnectionOutcome {
+        let (mut device, mut clock) = connection.link(calls, piece).open();
+        let result = serve_duplex(
+            self.alloc,
+            &mut device,
+            &mut self.lent,
+            self.tree,
+            &mut clock,
+        );
+        ConnectionOutcome {
+            result,
+            replies: connection.into_replies(),
+            receipts: Vec::new(self.alloc),
+        }
+    }
+
+    fn into_core(self) -> Core {
+        let Alone {
+            alloc: _,
+            tree: _,
+            lent,
+        } = self;
+        lent.into_core()
+    }
+}

@@ -1,0 +1,70 @@
+use crate::failure::Failure;
+use nfs_core::Journal;
+use nfs_journal::write_journal;
+use nfs_leases::Swept;
+use std::alloc::{AllocError, Global};
+
+/// The bytes of an answer: numbers with the highest byte first, and bytes behind their length.
+#[derive(Debug, Drop)]
+pub(crate) struct Answer {
+    alloc: Global,
+    bytes: Vec<u8>,
+}
+
+impl Answer {
+    pub(crate) fn new(alloc: Global) -> Answer {
+        Answer {
+            alloc,
+            bytes: Vec::new(alloc),
+        }
+    }
+
+    pub(crate) fn bytes(&self) -> &[u8] {
+        self.bytes.as_slice()
+    }
+
+    pub(crate) fn put_word(&mut self, word: u32) -> Result<(), AllocError> {
+        self.bytes.extend_from_slice(&word.to_be_bytes())
+    }
+
+    /// A number of things, or the greatest word where that is less.
+    pub(crate) fn put_count(&mut self, count: usize) -> Result<(), AllocError> {
+        self.put_word(u32::try_from(count).unwrap_or(u32::MAX))
+    }
+
+    /// How many bytes these are, and then these.
+    pub(crate) fn put_part(&mut self, part: &[u8]) -> Result<(), AllocError> {
+        self.put_count(part.len())?;
+        self.bytes.extend_from_slice(part)
+    }
+
+    /// How many words these are, and then these.
+    pub(crate) fn put_words(&mut self, words: &[u32]) -> Result<(), AllocError> {
+        self.put_count(words.len())?;
+        for word in words {
+            self.put_word(*word)?;
+        }
+        Ok(())
+    }
+
+    /// How many clients a sweep treated in which way.
+    pub(crate) fn put_swept(&mut self, swept: Swept) -> Result<(), AllocError> {
+        self.put_word(swept.expired)?;
+        self.put_word(swept.kept)?;
+        self.put_word(swept.changed)?;
+        self.put_word(swept.refused)?;
+        self.put_word(swept.revoked)?;
+        self.put_word(swept.stopped as u32)
+    }
+
+    /// The file of the journal, behind its length.
+    pub(crate) fn put_journal(&mut self, journal: &Journal) -> Result<(), Failure> {
+        let mut file = Vec::new(self.alloc);
+        // Only for want of memory is a journal not written.
+        let Ok(()) = write_journal(&mut file, journal) else {
+            return Err(Failure::Memory);
+        };
+        self.put_part(file.as_slice())?;
+        Ok(())
+    }
+}

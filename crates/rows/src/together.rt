@@ -1,0 +1,272 @@
+//! A server whose state threads share.
+
+ghost use Rattle.std.specs.Prelude.{◌≡◌, ◌++◌, ℕ, [], IfOk, IsFalse, length};
+ghost use Rattle.std.specs.Vec.Iter.{into_iter_items};
+ghost use Rattle.nfs_owners.specs.Registry.{is_live};
+ghost use Rattle.nfs_threads.specs.Worker.{AreUnused, seats_of};
+ghost use Rattle.nfs_shared.specs.Ends.{AreFresh};
+ghost use Rattle.nfs_shared.specs.Naming.{CanBegin};
+ghost use Rattle.rows.specs.Places.{AreServed};
+
+use crate::answer::Answer;
+use crate::batch::Batch;
+use crate::calls::Calls;
+use crate::connection::Connection;
+use crate::failure::Failure;
+use crate::memory_link::MemoryLink;
+use crate::order::Order;
+use crate::outcome::{BatchOutcome, ConnectionOutcome};
+use crate::rising::Rising;
+use crate::seats_back::SeatsBack;
+use crate::session::Session;
+use crate::sweeping::Sweeps;
+use crate::workers::Workers;
+use crate::yielding::Yielding;
+use nfs_core::{Core, Moment};
+use nfs_leases::Swept;
+use nfs_shared::{Naming, Opened, Receipt, Seat, Shared, Sweeper};
+use nfs_threads::{Link, WorkerEnd};
+use nfs_tree::Tree;
+use std::alloc::{AllocError, Global};
+use std::io::{Read, Write};
+use std::marker::{Brand, Model};
+use std::sync::Wait;
+use std::thread::Threads;
+use std::vec::IntoIter;
+
+/// Has a server with this core and so many seats do what it is told, and gives the core back.
+pub(crate) fn serve_together<R: Threads + Wait + Sync, I: Read + Drop, O: Write + Drop>(
+    rt: &R,
+    session: &mut Session<I, O>,
+    tree: &Tree,
+    core: Core,
+    seats: u32,
+) -> Result<Core, Failure>
+    requires nodes { core.journal.nodes ≡ tree.now.nodes }
+    requires empty { core.journal.entries ≡ [] }
+    requires nobody { (number : ℕ) → IsFalse (is_live number core.stored.clients) }
+{
+    let opened = Opened::new(session.alloc, seats)?;
+    run::<Brand, R, I, O>(rt, session, opened, core, tree)
+}
+
+// The same for a run of this name.
+fn run<N: Naming + Send + Sync, R: Threads + Wait + Sync, I: Read + Drop, O: Write + Drop>(
+    rt: &R,
+    session: &mut Session<I, O>,
+    opened: Opened,
+    core: Core,
+    tree: &Tree,
+) -> Result<Core, Failure>
+    requires beginning { CanBegin N.run N.start opened core }
+    requires nodes { core.journal.nodes ≡ tree.now.nodes }
+{
+    let alloc = session.alloc;
+    let Ok((shared, seats, sweeper)) = Shared::<N>::new(alloc, opened, core) else {
+        return Err(Failure::Memory);
+    };
+    let workers = Workers {
+        rt,
+        alloc,
+        shared: &shared,
+        tree,
+    };
+    let server = Together::new(workers, seats, sweeper);
+    let (back, sweeper) = server.direct(session)?.close()?;
+    let (core, _) = back.end(shared, sweeper);
+    Ok(core)
+}
+
+// A server that serves each connection in a thread and at a seat of its own.
+#[derive(Drop)]
+struct Together<'a, N: Naming, R> {
+    workers: Workers<'a, N, R>,
+    left: IntoIter<Seat<N>>,
+    back: SeatsBack<N>,
+    sweeper: Sweeper<N>,
+}
+
+// Contracts see how many seats came back.
+impl<'a, N: Naming, R> Model for Together<'a, N, R> {
+    ghost use Rattle.std.specs.Prelude.{◌≡◌, ◌+◌, ℕ, length};
+    ghost use Rattle.std.specs.Vec.Iter.{into_iter_items};
+    ghost use Rattle.rows.specs.Places.{AreFreshFrom};
+
+    ghost Value = { ℕ };
+
+    ghost view = { λ t. length t.back.seats };
+
+    ghost invariant = { λ t.
+        AreFreshFrom (length t.back.seats) (into_iter_items t.left)
+        × (length t.back.seats + length (into_iter_items t.left) ≡ N.run.workers)
+        × (N.start.nodes ≡ t.workers.tree.now.nodes) };
+}
+
+impl<'a, N: Naming + Send + Sync, R: Threads + Wait + Sync> Together<'a, N, R> {
+    fn new(
+        workers: Workers<'a, N, R>,
+        seats: Vec<Seat<N>>,
+        sweeper: Sweeper<N>,
+    ) -> Together<'a, N, R>
+        requires nodes { N.start.nodes ≡ workers.tree.now.nodes }
+        requires fresh { AreFresh N.run.workers seats.items }
+    {
+        let back = SeatsBack::new(workers.alloc);
+        Together {
+            workers,
+            left: seats.into_iter(),
+            back,
+            sweeper,
+        }
+    }
+
+    // Hands in the seats that are left.
+    fn close(self) -> Result<(SeatsBack<N>, Sweeper<N>), AllocError>
+        ensures { IfOk result (λ r. length r.0.seats ≡ N.run.workers) }
+    {
+        let Together {
+            workers: _,
+            left,
+            mut back,
+            sweeper,
+        } = self;
+        back.hand_in_unused(left)?;
+        Ok((back, sweeper))
+    }
+
+    // Does what it is told until the input ends. After a failure the server is gone.
+    fn direct<I: Read + Drop, O: Write + Drop>(
+        self,
+        session: &mut Session<I, O>,
+    ) -> Result<Together<'a, N, R>, Failure> {
+        let mut server = self;
+        for _ in 0..u64::MAX {
+            let Some(order) = session.next_order()? else {
+                break;
+            };
+            let mut answer = Answer::new(session.alloc);
+            server = server.follow(order, &mut answer)?;
+            session.tell(&answer)?;
+        }
+        Ok(server)
+    }
+
+    // Does this, appends what came of it, and gives the server back.
+    fn follow(self, order: Order, answer: &mut Answer) -> Result<Together<'a, N, R>, Failure> {
+        match order {
+            Order::Serve(batch) => {
+                let (outcome, server) = self.serve(batch)?;
+                outcome.put(answer)?;
+                Ok(server)
+            }
+            Order::Sweep(now) => {
+                let mut server = self;
+                answer.put_swept(server.sweep(now))?;
+                Ok(server)
+            }
+        }
+    }
+
+    fn serve(self, batch: Batch) -> Result<(BatchOutcome, Together<'a, N, R>), Failure> {
+        let Batch {
+            start,
+            pace,
+            piece,
+            is_swept,
+            mut connections,
+        } = batch;
+        let Together {
+            workers,
+            mut left,
+            mut back,
+            sweeper,
+        } = self;
+        let calls = Calls::new(start, pace);
+        let sent = connections.as_mut_slice();
+        let links = links_of(workers.alloc, &calls, piece, sent, &mut left)?;
+        let (ends, sweeps, sweeper) = serve_links(&workers, links, &calls, is_swept, sweeper)?;
+        let outcomes = outcomes_of(workers.alloc, ends.as_slice(), connections)?;
+        back.hand_in_all(ends)?;
+        let server = Together {
+            workers,
+            left,
+            back,
+            sweeper,
+        };
+        Ok((BatchOutcome { outcomes, sweeps }, server))
+    }
+
+    fn sweep(&mut self, now: Moment) -> Swept {
+        self.workers
+            .shared
+            .sweep(self.workers.rt, &mut self.sweeper, now)
+    }
+}
+
+// A connection over memory, whose clock is that of the order.
+type BatchLink<'b, 'c> = MemoryLink<'b, Yielding<'b>, Rising<'c>>;
+
+// A link for each connection, at the next seat that is left.
+fn links_of<'b, 'c, N: Naming>(
+    alloc: Global,
+    calls: &'c Calls,
+    piece: usize,
+    connections: &'b mut [Connection],
+    left: &mut IntoIter<Seat<N>>,
+) -> Result<Vec<(BatchLink<'b, 'c>, Seat<N>)>, Failure>
+    ensures { IfOk result (λ links.
+        into_iter_items left.old ≡ seats_of links.items ++ into_iter_items left.new) }
+{
+    let mut links = Vec::with_capacity(alloc, connections.len())?;
+    for connection in connections {
+        let Some(seat) = left.next() else {
+            return Err(Failure::Input);
+        };
+        links.push((connection.link(calls, piece), seat))?;
+    }
+    Ok(links)
+}
+
+// Serves these links at once, while another thread sweeps if that is wanted.
+fn serve_links<N: Naming + Send + Sync, L: Link + Drop + Send, R: Threads + Wait + Sync>(
+    workers: &Workers<'_, N, R>,
+    links: Vec<(L, Seat<N>)>,
+    calls: &Calls,
+    is_swept: bool,
+    sweeper: Sweeper<N>,
+) -> Result<(Vec<WorkerEnd<N>>, Sweeps, Sweeper<N>), Failure>
+    requires nodes { N.start.nodes ≡ workers.now.tree.now.nodes }
+    requires unused { AreUnused (seats_of links.items) }
+    ensures { IfOk result (λ r. AreServed links.items r.0.items) }
+{
+    if is_swept {
+        return workers.serve_swept(links, calls, sweeper);
+    }
+    let ends = workers.serve(links)?;
+    Ok((ends, Sweeps::NONE, sweeper))
+}
+
+// What came of each connection.
+fn outcomes_of<N: Naming>(
+    alloc: Global,
+    ends: &[WorkerEnd<N>],
+    connections: Vec<Connection>,
+) -> Result<Vec<ConnectionOutcome>, AllocError> {
+    let mut outcomes = Vec::with_capacity(alloc, ends.len())?;
+    for (end, connection) in ends.iter().zip(connections) {
+        outcomes.push(ConnectionOutcome {
+            result: end.result,
+            replies: connection.into_replies(),
+            receipts: numbers_of(alloc, end.receipts.as_slice())?,
+        })?;
+    }
+    Ok(outcomes)
+}
+
+fn numbers_of(alloc: Global, receipts: &[Receipt]) -> Result<Vec<u32>, AllocError> {
+    let mut numbers = Vec::with_capacity(alloc, receipts.len())?;
+    for receipt in receipts {
+        numbers.push(receipt.number)?;
+    }
+    Ok(numbers)
+}

@@ -1,0 +1,8 @@
+/// How connections are served.
+#[derive(Clone, Copy, Debug, PartialEq, Eq)]
+pub(crate) enum Way {
+    /// One after the other, with a core of their own.
+    Alone,
+    /// With a state that threads share, each in a thread and at a seat of its own.
+    Together,
+}
