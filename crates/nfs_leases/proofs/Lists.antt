@@ -1,18 +1,16 @@
 -- Lists of visits, of calls on a book and of entries, with more at the end.
-use Rattle.std.proofs.Common.{◌≡◌, ℕ, ◌+◌, ◌<◌, ◌≤◌, ◌==◌, ◌||◌, List, [], ◌∷◌, ◌++◌, length, refl, sym, ap, subst, ◌∙◌, append_assoc, arith, length-append}
+use Rattle.std.proofs.Common.{◌≡◌, ℕ, ◌+◌, ◌<◌, ◌≤◌, ◌==◌, ◌||◌, List, [], ◌∷◌, ◌++◌, length, refl, sym, ap, subst, ◌∙◌, append_assoc, arith}
 use Rattle.std.proofs.lemmas.Grind.{common_steps}
 use Rattle.std.specs.List.{list_any}
 use Rattle.nfs_core.specs.Lawful as lawful
 use Rattle.nfs_core.specs.Server.{IsLawful, Server}
-use Rattle.nfs_leases.specs.BookEvent.{BookEvent, Look, Renew, Close, Open, Retire, AllHappen}
+use Rattle.nfs_leases.specs.BookEvent.{BookEvent, AllHappen}
 use Rattle.nfs_leases.specs.laws.Counting.{expiries_more}
 use Rattle.nfs_leases.specs.Sweeps.{is_of, Ascend, AreVisits, IsVisit, events_of_all, tally}
-use Rattle.nfs_leases.specs.Visit.{Gains, Visit, events_by, events_of, expiries, total, with_case, with_entries}
+use Rattle.nfs_leases.specs.Visit.{Gains, Visit, events_of, expiries, total, with_case, with_entries}
 use Rattle.nfs_leases.specs.declared.visit_case.VisitCase.{VisitCase}
 use Rattle.nfs_leases.specs.declared.visit_case.VisitCase.TheVariants as cases
-use Rattle.nfs_leases.specs.declared.closing.Closing.TheVariants as closing
 use Rattle.nfs_leases.specs.declared.swept.Swept.{Swept}
-use Rattle.nfs_core.specs.Expiry.{expire_of}
 use Rattle.nfs_state.specs.State.{History, State, empty_server}
 use Rattle.nfs_state.specs.Stored.{meaning}
 use Rattle.nfs_state.specs.declared.entry.Entry.{Entry}

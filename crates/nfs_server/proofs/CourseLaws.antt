@@ -1,5 +1,5 @@
 -- What follows from every course of a connection.
-use Rattle.std.proofs.Common.{◌≡◌, ℕ, List, [], ◌∷◌, ◌++◌, Option, None, Result, Ok, Err, inl, inr, refl, sym, ap, subst, ◌∙◌, append_assoc, length, arith}
+use Rattle.std.proofs.Common.{◌≡◌, ℕ, List, [], ◌∷◌, ◌++◌, Option, None, Ok, Err, inl, inr, refl, sym, ap, subst, ◌∙◌, append_assoc, length, arith}
 use Rattle.std.specs.List.{flat_map}
 use Rattle.std.specs.Io.KnownBytes.{Appends, Consumes, IsAtEnd, Keeps}
 use Rattle.std.proofs.KnownBytes.{Appends-nil, Appends-kept, Appends-trans, Consumes-kept, Consumes-nil, Consumes-trans}
@@ -7,15 +7,14 @@ use Rattle.std.proofs.lemmas.List.{append-nil, length-append}
 use Rattle.std.proofs.lemmas.List.Concat.{flat_map-cons}
 use Rattle.nfs_rpc.specs.Records.{IsRest, SplitGoesOn, Splits}
 use Rattle.nfs_tree.specs.Tree.{Files}
-use Rattle.nfs_server.specs.declared.serve_error.ServeError.{ServeError}
 use Rattle.nfs_server.specs.declared.serve_error.ServeError.TheVariants as errors
-use Rattle.nfs_server.specs.Connection.{Scene, Turn, Course, AreTurns, EndsWith, IsCourse, IsIdle, IsTurn, all_exchanges, exchanges_of, rest_after, text_of}
+use Rattle.nfs_server.specs.Connection.{Scene, Turn, Course, AreTurns, EndsWith, IsIdle, IsTurn, all_exchanges, exchanges_of, rest_after, text_of}
 use Rattle.nfs_server.specs.Sides.{device_of}
 use Rattle.nfs_server.specs.declared.device.Counted.{Counted}
 use Rattle.nfs_server.specs.declared.sides.Sides.{Sides}
 use Rattle.nfs_server.specs.CourseLaws.{AddsWritten, HasBytes, IsOneText, TellsBytes}
 use Rattle.nfs_server.specs.Device.{Device, AreTaken, IsCut, IsWritten, device_of_sink}
-use Rattle.nfs_server.specs.Exchange.{Exchange, Rules, AreExchanged, AreLeft, messages_of, rules, written_for_all}
+use Rattle.nfs_server.specs.Exchange.{Exchange, Rules, messages_of, rules, written_for_all}
 use Rattle.nfs_server.proofs.Serving.{messages-append, written-append}
 
 -- turns that begin with the rest of a text that was split: the whole text is split into the records of both

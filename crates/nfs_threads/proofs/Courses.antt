@@ -1,5 +1,5 @@
 -- The course of a connection that isn't begun.
-use Rattle.std.proofs.Common.{◌≡◌, ℕ, [], Err, arith, inl, refl}
+use Rattle.std.proofs.Common.{[], Err, arith, inl, refl}
 use Rattle.nfs_server.specs.Connection.{HasCourse, Scene, Turn}
 use Rattle.nfs_server.specs.Device.{Device}
 use Rattle.nfs_server.specs.Exchange.{Rules}

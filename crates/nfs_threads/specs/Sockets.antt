@@ -1,5 +1,5 @@
 -- The device of a connection over TCP. Which bytes it carries can't be told.
-use Rattle.std.specs.Prelude.{◌≡◌, ℕ, ◌+◌, List, IsSome}
+use Rattle.std.specs.Prelude.{◌≡◌, ℕ, ◌+◌, IsSome}
 use Rattle.nfs_threads.specs.declared.socket.Socket.{Socket}
 use Rattle.nfs_server.specs.Device.{Device}
 

@@ -1,4 +1,4 @@
-use Rattle.std.proofs.Common.{◌≡◌, ◌+◌, ◌≤◌, vec_capacity, vec_len}
+use Rattle.std.proofs.Common.{◌+◌, ◌≤◌, vec_capacity, vec_len}
 use Rattle.std.specs.Vec.Iter.{into_iter_items, into_iter_len}
 use Rattle.nfs_threads.specs.Worker.{AreEndsOf, AreUnused, seats_of}
 use Rattle.nfs_threads.specs.Links.{tcp}
