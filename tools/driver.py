@@ -74,6 +74,8 @@ class Driver:
         streams = {"stdin": subprocess.PIPE, "stdout": subprocess.PIPE, "stderr": subprocess.PIPE, "bufsize": 0}
         self.program = subprocess.Popen([path], env=environment, **streams)
         self.orders, self.answers, self.at = bytearray(), bytearray(), 0
+        # The numbers of all receipts so far.
+        self.receipts = []
         os.set_blocking(self.program.stdin.fileno(), False)
 
     def __enter__(self):
@@ -160,7 +162,9 @@ class Driver:
     def ended(self):
         error, rest, replies = self.word(), self.word(), self.part()
         fault = FAULTS.get(error, f"error {error}") if error else INSIDE if rest else None
-        return Ended(fault, replies, [self.word() for _ in range(self.word())])
+        receipts = [self.word() for _ in range(self.word())]
+        self.receipts += receipts
+        return Ended(fault, replies, receipts)
 
     def expect_end(self):
         """Nothing more comes, and the status is 0."""

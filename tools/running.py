@@ -3,7 +3,9 @@ wrong."""
 from collections import namedtuple
 from functools import partial
 
-from driver import ALONE, Driver, Ended, SHARED, Swept
+from driver import ALONE, Driver, Ended, Failed, SHARED, Swept
+from entries import Call
+from journal import read_journal
 from tree import DEFAULT
 
 from rows import Part, Sweep, words_beside
@@ -24,7 +26,8 @@ def run(row, way, piece, is_again=False, **program):
     """Runs a row on a server of its own. Its parts are served one after another; with `is_again`, one that goes wrong
     is sent once more to the same server, as by a client that asks again where it was refused memory, and a sweep is
     made once more, which removes the clients for whose end there was none."""
-    seats = sum(isinstance(step, Part) for step in row.steps) * (2 if is_again else 1)
+    # In the first way nobody looks at them.
+    seats = 0 if way == ALONE else sum(isinstance(step, Part) for step in row.steps) * (2 if is_again else 1)
     document = DEFAULT if row.document is None else row.document
     with Driver(**program) as driver:
         refused = driver.begin(way, lease=row.lease, epoch=row.epoch, seats=seats, document=document)
@@ -32,12 +35,22 @@ def run(row, way, piece, is_again=False, **program):
             got = Ended(f"tree refused ({refused})", b"", [])
             return Outcome(None if is_right(row.steps[0], got) else Wrong(0, got), None)
         wrong = first_wrong(driver, row.steps, piece, is_again)
-        return Outcome(wrong, driver.end())
+        journal = driver.end()
+        if driver.receipts != (calls_of(journal) if way == SHARED else []):
+            raise Failed(f"the receipts {driver.receipts} aren't those of the journal's calls")
+        return Outcome(wrong, journal)
+
+
+def calls_of(journal):
+    """The numbers of the entries that are calls."""
+    return [number for number, entry in enumerate(read_journal(journal).entries) if isinstance(entry, Call)]
 
 
 def first_wrong(driver, steps, piece, is_again):
     for place, step in enumerate(steps):
         got = take(driver, step, piece, is_again)
+        if is_again and isinstance(step, Sweep) and not is_counted(step, got):
+            return Wrong(place, got)
         if is_again and not is_right(step, got):
             got = after(got, take(driver, step, piece, is_again))
         if not is_right(step, got):
@@ -50,6 +63,11 @@ def take(driver, step, piece, has_room):
     if isinstance(step, Sweep):
         return driver.sweep(step.moment)
     return driver.serve([step.sent], step.moment, piece, rooms=[len(step.wanted) if has_room else 0]).ended[0]
+
+
+def is_counted(sweep, got):
+    """Whether each client that is live was removed, kept, or refused for want of memory."""
+    return got == Swept(got.expired, got.kept, 0, sweep.expired + sweep.kept - got.expired - got.kept, 0, 0)
 
 
 def after(first, second):
