@@ -5,7 +5,7 @@ from functools import partial
 
 from driver import ALONE, Driver, Ended, Failed, SHARED, Swept
 from entries import Call
-from journal import read_journal
+from journal import NotJournal, read_journal
 from tree import DEFAULT
 
 from rows import Part, Sweep, words_beside
@@ -36,14 +36,18 @@ def run(row, way, piece, is_again=False, **program):
             return Outcome(None if is_right(row.steps[0], got) else Wrong(0, got), None)
         wrong = first_wrong(driver, row.steps, piece, is_again)
         journal = driver.end()
-        if driver.receipts != (calls_of(journal) if way == SHARED else []):
+        if driver.receipts != (calls_of(journal, driver.receipts) if way == SHARED else []):
             raise Failed(f"the receipts {driver.receipts} aren't those of the journal's calls")
         return Outcome(wrong, journal)
 
 
-def calls_of(journal):
-    """The numbers of the entries that are calls."""
-    return [number for number, entry in enumerate(read_journal(journal).entries) if isinstance(entry, Call)]
+def calls_of(journal, otherwise):
+    """The numbers of the entries that are calls. A journal that can't be read is told where it is compared."""
+    try:
+        entries = read_journal(journal).entries
+    except NotJournal:
+        return otherwise
+    return [number for number, entry in enumerate(entries) if isinstance(entry, Call)]
 
 
 def first_wrong(driver, steps, piece, is_again):
