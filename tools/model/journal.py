@@ -168,8 +168,8 @@ def audit(journal, limit=JOURNAL_LIMIT):
 
 
 def states(journal, limit=JOURNAL_LIMIT, kind=Recorder):
-    """The one server, of this kind, that follows the journal: before the first entry, and after each; or WrongAnswer, or
-    NoRule."""
+    """The one server, of this kind, that follows the journal: before the first entry, and after each; or WrongAnswer,
+    or NoRule."""
     server = kind(journal.tree, journal.lease, journal.epoch, limit)
     yield server
     for number, entry in enumerate(journal.entries):
@@ -218,11 +218,15 @@ def verdict_on(journal, limit=JOURNAL_LIMIT):
     """Whether the journal is lawful, and a line that says so."""
     try:
         audit(journal, limit)
-    except WrongAnswer as wrong:
-        return False, f"fault: wrong answer at entry {wrong.args[0]}"
-    except NoRule as unknown:
-        return False, "fault: no rule yet at entry {}: {}".format(*unknown.args)
+    except (WrongAnswer, NoRule) as ended:
+        return False, fault_of(ended)
     return True, f"lawful: {len(journal.entries)} entries"
+
+
+def fault_of(ended):
+    """The line that says at which entry a journal isn't lawful any more."""
+    kind = "wrong answer" if isinstance(ended, WrongAnswer) else "no rule yet"
+    return f"fault: {kind} at entry " + ": ".join(map(str, ended.args))
 
 
 def main(path):
