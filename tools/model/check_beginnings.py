@@ -1,10 +1,12 @@
 """Beginnings of journals, for check_journals.py: of a journal with 0 or with its own number of entries, which is cut
-at each place, the whole entries are read, also where it comes in pieces; and tools/show_journal and tools/explain show,
-judge, save and follow such files."""
+at many places, the whole entries are read, also where it comes in pieces; and tools/show_journal and tools/explain
+show, judge, save and follow such files."""
 import os
+import signal
 import subprocess
 import sys
 import tempfile
+import threading
 import time
 
 from entries import Expire, NotJournal, Path, entry_bytes
@@ -164,55 +166,71 @@ def try_explained(room):
     room.expect("show_journal", ["--lawful", path], [], 1, "fault: no rule yet at entry 3: Path\n")
 
 
+def following(path):
+    """A run of show_journal that follows the file, and writes by its own flushes alone."""
+    words = [sys.executable, os.path.join(TOOLS, "show_journal"), "--follow", path]
+    environment = {name: value for name, value in os.environ.items() if name != "PYTHONUNBUFFERED"}
+    return subprocess.Popen(words, stdout=subprocess.PIPE, stderr=subprocess.PIPE, text=True, env=environment,
+                            preexec_fn=hear_interrupts)
+
+
+def hear_interrupts():
+    """As a shell has it in the foreground."""
+    signal.signal(signal.SIGINT, signal.SIG_DFL)
+
+
 def try_followed(room, name, end, wanted, errors):
     """A file is followed from before it is there; it comes in pieces that cut entries, and then `end` is done."""
     journal = sample()
     data, path = beginning_of(journal)[:places_of(journal)[-2] + 8], room.path(f"{name}.part")
-    words = [sys.executable, os.path.join(TOOLS, "show_journal"), "--follow", path]
-    with subprocess.Popen(words, stdout=subprocess.PIPE, stderr=subprocess.PIPE, text=True) as following:
-        first = following.stderr.readline()
+    with following(path) as follower:
+        limit = threading.Timer(PATIENCE, follower.kill)
+        limit.start()
+        first = follower.stderr.readline()
         with open(path, "wb", buffering=0) as file:
             for at in range(0, len(data), 700):
                 file.write(data[at:at + 700])
                 time.sleep(0.01)
             # Entries are shown as they come.
-            got = [following.stdout.readline().rstrip("\n") for _ in journal.entries[:-1]]
-            end(path, file)
-        try:
-            rest, told = following.communicate(timeout=PATIENCE)
-        except subprocess.TimeoutExpired:
-            following.kill()
-            rest, told = following.communicate()
+            got = [follower.stdout.readline().rstrip("\n") for _ in journal.entries[:-1]]
+            end(path, file, follower)
+        rest, told = follower.communicate()
+        limit.cancel()
     lines = shown(journal)[:-1] + wanted
     if (first, got + rest.splitlines(), told) != (f"{path} isn't there yet\n", lines, errors.format(path)):
         room.wrong.append(f"tools/show_journal --follow, {name}: {first}{got[-1:]}, {rest}{told}, not {lines[-2:]}")
 
 
 def try_follow(room):
-    """The journal takes the place of its beginning, or another one does, or none; or another file has its name. And a
-    file that is a whole journal has its end."""
+    """The journal takes the place of its beginning, or another one does, or none; or another file gets its name; or
+    Ctrl-C ends it. And a file that is a whole journal has its end."""
     journal = sample()
     inside = f"the file ends inside entry {len(journal.entries) - 1}, of which it has 8 bytes"
     last, gone = shown(journal)[-1], "{} isn't that file any more\n"
 
     def replace_by(data):
-        def end(path, _file):
+        def end(path, _file, _follower):
             room.put(os.path.basename(path)[:-len(".part")], data)
             os.remove(path)
         return end
 
-    def rename(path, _file):
+    def rename(path, _file, _follower):
         os.rename(path, path + ".old")
         room.put(os.path.basename(path), b"")
 
-    def write_rest(path, file):
+    def write_rest(path, file, _follower):
         file.write(beginning_of(journal)[os.path.getsize(path):])
         os.remove(path)
 
     try_followed(room, "ended", replace_by(journal_bytes(journal)), [last], "")
-    try_followed(room, "another", replace_by(journal_bytes(small())), [inside], gone)
-    try_followed(room, "removed", lambda path, file: os.remove(path), [inside], gone)
+    other = journal.entries[-2]._replace(moment=7)
+    others = journal._replace(entries=[*journal.entries[:-2], other, journal.entries[-1]])
+    try_followed(room, "another", replace_by(journal_bytes(others)), [inside], gone)
+    try_followed(room, "a shorter one", replace_by(journal_bytes(small())), [inside], gone)
+    try_followed(room, "of another epoch", replace_by(journal_bytes(journal._replace(epoch=2))), [inside], gone)
+    try_followed(room, "removed", lambda path, *_: os.remove(path), [inside], gone)
     try_followed(room, "renamed", rename, [inside], gone)
+    try_followed(room, "interrupted", lambda *all: all[-1].send_signal(signal.SIGINT), [inside], "")
     behind = f"the file ends behind entry {len(journal.entries) - 1}"
     try_followed(room, "written to its end", write_rest, [last, behind], gone)
     room.expect("show_journal", ["--follow", room.put("followed", journal_bytes(journal))], shown(journal))
