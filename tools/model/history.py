@@ -19,8 +19,7 @@ class History(Recorder):
     """A server with the numbers of entries: all of these are kept to the end, also of what is gone."""
     # By the confirm value.
     introductions: dict = field(default_factory=dict)
-    # Of clients, by their numbers: which entry made them live, and which removed them.
-    confirmations: dict = field(default_factory=dict)
+    # Of clients, by their numbers: which entry removed them.
     removals: dict = field(default_factory=dict)
     # Of open owners: which entry confirmed them.
     owner_confirmations: dict = field(default_factory=dict)
@@ -50,10 +49,6 @@ class History(Recorder):
         rest = super().setclientid(arguments, principal)
         self.introductions[self.last_confirm] = Introduction(self.entries, self.records[-1])
         return rest
-
-    def confirm_record(self, record, principal):
-        super().confirm_record(record, principal)
-        self.confirmations.setdefault(record.number, self.entries)
 
     def remove_client(self, number):
         super().remove_client(number)

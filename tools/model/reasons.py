@@ -9,9 +9,9 @@ from collections import namedtuple
 from entries import Call
 from history import History
 from journal import states
-from model import (BOTH, JOURNAL_LIMIT, LockState, NAME_LIMIT, OpenState, READ, Request, SEQUENCED,
-                   WRITE, closed_by, conflict, is_first_lock, is_lawful_downgrade, is_special, mode_of,
-                   next_sequence_id, replay, sequence_id_of, stateid_of)
+from model import (BOTH, JOURNAL_LIMIT, LockState, NAME_LIMIT, OpenState, READ, Request, SEQUENCED, WRITE, closed_by,
+                   conflict, is_lawful_downgrade, is_special, mode_of, next_sequence_id, replay, sequence_id_of,
+                   stateid_of)
 from ranges import LAST_BYTE, READ_MODE, denial, range_of
 from wire import (CLAIM_DELEGATE_CUR, CLAIM_DELEGATE_PREV, CLAIM_PREVIOUS, EXCLUSIVE4, GUARDED4, NewLocker,
                   OPEN4_CREATE, OpenOwner, Opnum, Status)
@@ -240,8 +240,8 @@ class Causes:
     def of_named_owner(self, stateid):
         """What is wrong with a stateid that is to name an owner."""
         yield from self.of_stateid_client(stateid)
-        is_closed = any(closed_by(owner.kept, stateid) for owner in self.server.open_owners.values())
-        if self.server.looked_up(stateid) is None and not is_closed:
+        owners = self.server.open_owners.values()
+        if self.server.looked_up(stateid) is None and not any(closed_by(owner.kept, stateid) for owner in owners):
             yield self.missing_state(stateid)._replace(heading=OWNERS)
 
     def due_words(self, owner):
