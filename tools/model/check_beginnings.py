@@ -26,6 +26,14 @@ def beginning_of(journal):
     return with_words(journal_bytes(journal), len(head_bytes(journal)), 0)
 
 
+def beginnings():
+    """A name and a file, none of which is a journal."""
+    data = beginning_of(small())
+    yield "a beginning", data
+    yield "a beginning that is cut", data[:-4]
+    yield "a beginning with one entry", data[:places_of(small())[1]]
+
+
 def places_of(journal):
     """Where the first entry begins in the file, and where each ends."""
     places = [len(head_bytes(journal)) + 4]

@@ -17,7 +17,7 @@ import sys
 sys.dont_write_bytecode = True
 
 import rows
-from check_beginnings import check_beginnings
+from check_beginnings import beginnings, check_beginnings
 from check_reasons import Explained, check_stories
 from check_rows import converse
 from entries import ARGUMENT_BYTES, Call, Expire, NotJournal, RESTS, answer_bytes, entry_bytes
@@ -245,6 +245,7 @@ def files_of_cases():
     yield from ((name, data) for name, data, _ in verdicts())
     yield from other_lengths()
     yield from all_answers()
+    yield from beginnings()
     data, draw = journal_bytes(sample()), random.Random(2)
     yield from ((f"another word at {place}", with_other_word(data, place, draw)) for place in range(0, len(data), 4))
 
