@@ -285,8 +285,8 @@ class Run:
 
     def attend(self, number, stream, address):
         connection = Connection(stream, partial(self.desk_of().answer, number), self.bell)
-        stream.setsockopt(socket.IPPROTO_TCP, socket.TCP_NODELAY, 1)
         try:
+            stream.setsockopt(socket.IPPROTO_TCP, socket.TCP_NODELAY, 1)
             connection.serve()
         except Fault as fault:
             if self.goes_on:
