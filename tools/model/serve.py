@@ -20,7 +20,7 @@ sys.dont_write_bytecode = True
 from journal import Recorder, journal_bytes
 from once import options, server_of, within
 from serving import Bell, Desk, Fault, Run, address_text, listen, say
-from trace import Tracer
+from traces import Tracer
 
 # The seconds that a call has to come to its end when the run does.
 PATIENCE = 5

@@ -12,7 +12,7 @@ from functools import partial
 
 import wire
 from model import CLIENTS_LIMIT, JOURNAL_LIMIT
-from trace import call_line, entry_line
+from traces import call_line, entry_line
 
 # The seconds between two looks at the bell, and between two sweeps.
 TICK, SWEEP = 0.25, 1
