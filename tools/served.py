@@ -27,14 +27,15 @@ class Served:
 
     def __init__(self, command, **how):
         streams = {"stdin": subprocess.DEVNULL, "stdout": subprocess.PIPE, "stderr": subprocess.PIPE, "bufsize": 0}
-        self.program = subprocess.Popen(command, **streams, **how)
-        self.errors = self.first_line()
+        self.program = subprocess.Popen(command, **{**streams, **how})
+        self.errors = self.next_line()
         found = LISTENING.fullmatch(self.errors)
         self.port = int(found[1]) if found else None
         if found:
             self.errors = b""
 
-    def first_line(self):
+    def next_line(self):
+        """The next line on standard error; or what comes before its end, or in time."""
         line, until = b"", time.monotonic() + PATIENCE
         while not line.endswith(b"\n") and not is_silent(self.program.stderr, max(0, until - time.monotonic())):
             more = os.read(self.program.stderr.fileno(), 1)

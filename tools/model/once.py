@@ -6,35 +6,71 @@ import sys
 
 sys.dont_write_bytecode = True
 
-from journal import Recorder, journal_bytes
+from entries import MOMENT_LIMIT
+from journal import LEASE_LIMIT, Recorder, journal_bytes
 from model import Server
-from tree import DEFAULT, Refused, Tree
+from tree import DEFAULT, Refused, SYNTAX, Tree
+
+
+class Options(argparse.ArgumentParser):
+    """Refuses what the program refuses: an option that is given twice, and one that isn't written out."""
+
+    def __init__(self, description):
+        super().__init__(description=description, formatter_class=argparse.RawDescriptionHelpFormatter,
+                         allow_abbrev=False)
+
+    def parse_args(self):
+        names = [word.partition("=")[0] for word in sys.argv[1:] if word.startswith("--")]
+        for name in names:
+            if names.count(name) > 1:
+                self.error(f"argument {name}: it is given twice")
+        return super().parse_args()
+
+
+def within(first, last):
+    """What reads a number from the first to the last one."""
+    def read(word):
+        if not (word.isascii() and word.isdecimal() and first <= int(word) <= last):
+            raise argparse.ArgumentTypeError(f"{word!r} isn't a number from {first} to {last}")
+        return int(word)
+    return read
 
 
 def options(description):
     """What `once.py` and `serve.py` have in common."""
-    parser = argparse.ArgumentParser(description=description)
-    parser.add_argument("--tree", metavar="FILE", help="the files to serve, as a TOML document")
-    parser.add_argument("--lease", metavar="SECONDS", type=int, default=90)
-    parser.add_argument("--epoch", metavar="NUMBER", type=int, default=1, help="the upper half of each clientid")
+    parser = Options(description)
+    parser.add_argument("--tree", metavar="FILE", help="the files to serve, as a TOML document (a small tree)")
+    parser.add_argument("--lease", metavar="SECONDS", type=within(1, LEASE_LIMIT), default=90,
+                        help="1 to 86400 (%(default)s)")
+    parser.add_argument("--epoch", metavar="NUMBER", type=within(0, 2**32 - 1), default=1,
+                        help="the upper half of each clientid (%(default)s)")
     return parser
 
 
 def server_of(given, kind=Server):
-    """A new server with these options; or the end of the program where the tree is refused."""
-    document = DEFAULT
-    if given.tree is not None:
-        with open(given.tree, encoding="utf-8") as source:
-            document = source.read()
+    """A new server with these options; or the end of the program where its tree can't be read or is refused."""
     try:
+        document = DEFAULT if given.tree is None else document_of(given.tree)
         return kind(Tree(document), given.lease, given.epoch)
     except Refused as refused:
         sys.exit(f"fault: tree refused ({refused.args[0]})")
+    except OSError:
+        sys.exit("fault: file not read")
+
+
+def document_of(path):
+    """The text of a file; one that isn't UTF-8 makes no tree."""
+    try:
+        with open(path, encoding="utf-8") as source:
+            return source.read()
+    except UnicodeDecodeError:
+        raise Refused(SYNTAX) from None
 
 
 def main():
     parser = options(__doc__)
-    parser.add_argument("--now", metavar="SECONDS", type=int, default=0, help="the moment of all calls")
+    parser.add_argument("--now", metavar="SECONDS", type=within(0, MOMENT_LIMIT - 1), default=0,
+                        help="the moment of all calls")
     parser.add_argument("--journal", metavar="FILE", help="where to write the journal at the end, also after a fault")
     parser.add_argument("command", nargs="?", choices=["once"], help="may be left out")
     given = parser.parse_args()

@@ -1,62 +1,125 @@
 #!/usr/bin/env python3
-"""The model as a server on TCP, until it is interrupted: one server for all connections, or with --each a new one for
-each connection. It prints the port when it listens; port 0 is any that is free."""
-import socketserver
+"""The model in place of `nfs4state serve`, with its options, its lines and its statuses: a server on TCP, one for all
+connections, whose leases end. It needs nothing but Python, and gives the same replies; it isn't proved, and slow.
+
+Before the first connection it prints the address that it listens on, on standard error. It ends when so many
+connections have come and ended; or it goes on, with --until-input-ends or --until-killed. SIGTERM and Ctrl-C end it,
+too: those that are connected get the replies to what they have sent, and are let go, and the journal is written. Then
+the signal ends the process, so that its status is that of a program which does nothing for it.
+
+A run that goes on says on standard error what ended a connection otherwise than in order (`connection 17 from
+127.0.0.1:40022: input not read`), and once each what there is no more of (`no more connections: 64 of 64`). Its
+status is 1 only where the run itself had a fault, as that the journal can't be written."""
+import os
+import signal
 import sys
 import threading
 
 sys.dont_write_bytecode = True
 
-import wire
-from once import options, server_of
+from journal import Recorder, journal_bytes
+from once import options, server_of, within
+from serving import Bell, Desk, Fault, Run, address_text, listen, say
+from traces import Tracer
+
+# The seconds that a call has to come to its end when the run does.
+PATIENCE = 5
 
 
-def records(source):
-    """The records of a connection, up to its end or to one that is too long."""
-    body = b""
-    while len(header := source.read(4)) == 4:
-        number = int.from_bytes(header, "big")
-        length = number & 0x7FFFFFFF
-        if len(body) + length > wire.RECORD_LIMIT:
-            return
-        part = source.read(length)
-        if len(part) < length:
-            return
-        body += part
-        if number >> 31:
-            yield body
-            body = b""
+def read_options():
+    parser = options(__doc__)
+    parser.add_argument("--listen", metavar="ADDR", default="127.0.0.1:2049",
+                        help="an IP address or a name, and a port, of which 0 is any that is free (%(default)s)")
+    parser.add_argument("--connections", metavar="NUMBER", type=within(1, 64),
+                        help="how many there are, 1 to 64 (4); or in a run that goes on, how many at once (64)")
+    parser.add_argument("--journal", metavar="FILE", help="where to write the journal at the end")
+    ends = parser.add_mutually_exclusive_group()
+    ends.add_argument("--until-input-ends", action="store_true", help="go on until standard input ends")
+    ends.add_argument("--until-killed", action="store_true", help="go on until a signal ends it")
+    parser.add_argument("--trace", action="store_true",
+                        help="tell each call, and each lease that ends, in a line on standard output")
+    parser.add_argument("--each", action="store_true", help="a new server for each connection; no lease ends")
+    given = parser.parse_args()
+    if given.each and given.journal is not None:
+        parser.error("--each has no journal")
+    given.goes_on = given.until_input_ends or given.until_killed
+    given.connections = given.connections or (64 if given.goes_on else 4)
+    return given
 
 
-class Connection(socketserver.StreamRequestHandler):
-    def handle(self):
-        model = self.server.model or server_of(self.server.given)
-        for record in records(self.rfile):
-            with self.server.turn:
-                reply = model.reply(record)
-            if reply is not None:
-                self.wfile.write(wire.record(reply))
+def ring_at_end(bell):
+    """Rings when standard input has ended."""
+    try:
+        while os.read(0, 4096):
+            pass
+    except OSError:
+        pass
+    bell.ring()
 
 
-class Listener(socketserver.ThreadingTCPServer):
-    allow_reuse_address = True
-    daemon_threads = True
+def ring_at_signals(bell):
+    """Rings at SIGTERM and SIGINT: a list that gets the signals. A shell that starts a command in the background has
+    it ignore SIGINT, and so it does."""
+    heard = []
+
+    def hear(number, _frame):
+        heard.append(number)
+        bell.ring()
+    for number in signal.SIGTERM, signal.SIGINT:
+        if signal.getsignal(number) != signal.SIG_IGN:
+            signal.signal(number, hear)
+    return heard
+
+
+def write_journal(path, server):
+    """The fault of the journal's file, or None."""
+    try:
+        with open(path, "wb") as file:
+            file.write(journal_bytes(server.journal()))
+    except OSError:
+        return "file not written"
+    return None
+
+
+def serve(given):
+    """A run: the signals that it heard, and its fault, or None."""
+    kind = Tracer if given.trace else Recorder
+    first = server_of(given, kind)
+
+    def desk_of(server):
+        return Desk(server, given.trace, given.goes_on)
+
+    def desk_of_its_own():
+        return desk_of(kind(first.tree, first.lease, first.epoch))
+    desk, bell, listener = desk_of(first), Bell(), listen(given.listen)
+    heard = ring_at_signals(bell)
+    run = Run(listener, desk_of_its_own if given.each else lambda: desk, bell, given.connections, given.goes_on)
+    run.sweep_with(desk)
+    if given.until_input_ends and not run.spawn(0, ring_at_end, bell):
+        bell.ring()
+    say(f"listening on {address_text(listener.getsockname())}")
+    fault = run.serve()
+    if given.until_input_ends and not heard and run.come == 0:
+        say("standard input ended before a connection came: --until-killed never looks at it")
+    # Nothing changes any more, whatever a connection does that isn't let go yet. One that has no room for its line of
+    # the trace keeps the turn.
+    desk.turn.acquire(timeout=PATIENCE)
+    of_the_file = None if given.journal is None else write_journal(given.journal, desk.server)
+    return heard, of_the_file if heard else fault or of_the_file
 
 
 def main():
-    parser = options(__doc__)
-    parser.add_argument("--host", default="127.0.0.1")
-    parser.add_argument("--each", action="store_true", help="a new server for each connection")
-    parser.add_argument("port", metavar="PORT", type=int)
-    given = parser.parse_args()
-    model = server_of(given)
-    with Listener((given.host, given.port), Connection) as listener:
-        listener.given, listener.model, listener.turn = given, None if given.each else model, threading.Lock()
-        print(f"listens on {given.host} port {listener.server_address[1]}", flush=True)
-        try:
-            listener.serve_forever()
-        except KeyboardInterrupt:
-            pass
+    try:
+        heard, fault = serve(read_options())
+    except Fault as refused:
+        heard, fault = [], refused.args[0]
+    if fault is not None:
+        say(f"fault: {fault}")
+    if heard and fault is None:
+        signal.signal(heard[0], signal.SIG_DFL)
+        os.kill(os.getpid(), heard[0])
+    # Threads that wait, as for standard input, are left behind.
+    os._exit(0 if fault is None else 1)
 
 
 if __name__ == "__main__":

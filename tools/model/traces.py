@@ -1,0 +1,72 @@
+"""What a server is asked and answers, a line a call, in the words in which `tools/show_journal` shows a journal: with
+all operations, also those that make no entry."""
+from dataclasses import dataclass, field
+
+import wire
+from entries import Answer
+from journal import Recorder
+from wire import Opnum, Status
+from words import STATUS_NAMES, answer_words, line_of, principal_words, words_read
+
+OPERATION_NAMES = {**{int(it): it.name for it in Opnum}, **{it: name for name, it in wire.OTHER_OPERATIONS.items()}}
+ACCEPTED_NAMES = {wire.PROG_UNAVAIL: "PROG_UNAVAIL", wire.PROG_MISMATCH: "PROG_MISMATCH",
+                  wire.PROC_UNAVAIL: "PROC_UNAVAIL", wire.GARBAGE_ARGS: "GARBAGE_ARGS"}
+DENIED_NAMES = {wire.RPC_MISMATCH: "RPC_MISMATCH", wire.AUTH_ERROR: "AUTH_ERROR"}
+# The most letters that are shown of an operation.
+LETTERS = 1000
+
+
+@dataclass
+class Tracer(Recorder):
+    """A server that keeps its journal, and the words of the operations of the call before."""
+    steps: list = field(default_factory=list)
+
+    def run_compound(self, call, refused):
+        self.steps = []
+        return super().run_compound(call, refused)
+
+    def run_next(self, call, handles, is_full, is_refused):
+        begin = call.operations.at
+        number, result = super().run_next(call, handles, is_full, is_refused)
+        self.steps.append(step_words(number, call.operations.data[begin + 4:call.operations.at], result))
+        return number, result
+
+
+def step_words(number, arguments, result):
+    """An operation and its answer. The arguments are shown where they were read."""
+    is_read = number in wire.ARGUMENTS and result.status != Status.BADXDR
+    shown = " ".join([OPERATION_NAMES[number]] + (words_read(wire.ARGUMENTS[number], arguments) if is_read else []))
+    if len(shown) > LETTERS:
+        shown = f"{shown[:LETTERS]} .."
+    return f"{shown} -> {answer_words(Answer(number, result.status, result.rest)).partition(' ')[2]}"
+
+
+def call_line(server, record, reply):
+    """The call of a record that the server has just answered so."""
+    if reply is None:
+        return f"moment {server.moment}: {len(record)} bytes -> no reply"
+    call, head = wire.read_call(record), f"xid {int.from_bytes(record[:4], 'big')}, moment {server.moment}"
+    if not isinstance(call, wire.CompoundCall):
+        return f"{head}: {plain_words(reply)}"
+    return f"{head}, {principal_words(call.principal)}: {compound_words(server, call, reply)}"
+
+
+def compound_words(server, call, reply):
+    if server.steps:
+        return "; ".join(server.steps)
+    # None was run: there are too many of them, or none, or it is of another minor version.
+    return f"COMPOUND of {call.count} operations -> {STATUS_NAMES[int.from_bytes(reply[24:28], 'big')]}"
+
+
+def plain_words(reply):
+    """A call whose answer shows that it is NULL, or else why it isn't taken."""
+    is_denied, number = reply[11] == wire.MSG_DENIED, int.from_bytes(reply[-4:], "big")
+    if is_denied:
+        return f"a call -> {DENIED_NAMES[int.from_bytes(reply[12:16], 'big')]}"
+    state = int.from_bytes(reply[20:24], "big")
+    return "NULL -> answered" if state == wire.SUCCESS else f"a call -> {ACCEPTED_NAMES[state]}"
+
+
+def entry_line(server, entry):
+    """An entry that no call brought."""
+    return line_of(entry, server.tree)
