@@ -30,16 +30,16 @@ Asked = namedtuple("Asked", "head count operations rest")
 
 
 class NoReply(Exception):
-    """No whole reply comes; the argument says how, behind the call's number."""
+    """No whole reply comes; the argument says how."""
 
 
 def receive(peer, seconds=REPLY_PATIENCE):
     try:
         reply = peer.receive(seconds)
     except TimeoutError:
-        raise NoReply(f": no reply within {seconds} s") from None
+        raise NoReply(f"no reply within {seconds} s") from None
     if not split(reply)[0]:
-        raise NoReply(": the connection ends " + ("within the reply" if reply else "without a reply"))
+        raise NoReply("the connection ends " + ("within the reply" if reply else "without a reply"))
     return reply
 
 
@@ -161,8 +161,7 @@ class Named(Plain):
                 break
             piece.append(data)
             if has_result:
-                values = wanted.results[place].values
-                given |= {(value.kind.name, value.value) for value in values if self.names.is_given(value)}
+                given = given.union(*map(self.names.given_by, wanted.results[place].values))
         return piece
 
     def take(self, peer, asked, at, piece, handle, is_last):
@@ -256,7 +255,7 @@ def failure_of_connection(address, connection, sender, first, is_to_end):
             try:
                 failure = sender.ask(peer, sent, wanted)
             except NoReply as error:
-                failure = Failure(str(error), wanted, b"")
+                failure = Failure(f": {error}", b"", b"")
             if failure is not None:
                 return failure._replace(what=f"call {number}{failure.what}")
         is_silent = any(wanted is None for _, wanted in calls)

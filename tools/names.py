@@ -96,9 +96,12 @@ class Names(Exact):
         name = f"the row's {kind.show(wanted)}"
         return f"a new one ({name})" if bound is None else f"{kind.show(bound)} ({name})"
 
-    def is_given(self, value):
-        """Whether an answer with this value is the first to give a name."""
-        return value.kind.choice not in (False, FREE) and value.value not in self.table(value.kind)
+    def given_by(self, value):
+        """The names that an answer with this value is the first to give: of a stateid also its beginning."""
+        if value.kind.choice in (False, FREE) or value.value in self.table(value.kind):
+            return set()
+        names = {(value.kind.name, value.value)}
+        return names | {(STATEID.name, value.value[:8])} if value.kind == STATEID else names
 
     # What is sent in the place of a name. One that isn't bound is something that the server hasn't given.
 
@@ -126,7 +129,16 @@ class Names(Exact):
         clientid = self.clientid(stateid.epoch, stateid.client)
         if stateid.epoch != self.epoch:
             return clientid + u32(stateid.number)
-        return self.bound(STATEID, wanted, clientid + u32(STRANGE | stateid.number & 0xFFFF))
+        return self.bound(STATEID, wanted, self.beginning(wanted[:8], clientid) + u32(STRANGE | stateid.number & 0xFFFF))
+
+    def beginning(self, wanted, clientid):
+        """The first eight bytes of the stateids of a client, from one that was given: servers have the clientid there,
+        but not all in the same order of bytes. Where none was given they are the clientid."""
+        given = [got for name, got in self.table(STATEID).items() if name[:8] == wanted]
+        if given:
+            return given[0][:8]
+        self.missing.add((STATEID.name, wanted))
+        return clientid
 
     def renamed(self, value):
         """Arguments, or a part of them, with what the server gave in the place of the row's names."""

@@ -23,23 +23,23 @@ def title(row):
 
 
 def read_known(path):
-    """By the titles of rows: what the lines below them say. A row is a line, and the lines below it have spaces before
-    them; a line that begins with # is a comment."""
-    known, last = {}, None
+    """By the titles of rows: what the lines say that have spaces before them, and stand below the row or below several
+    that follow each other. A line that begins with # is a comment."""
+    known, group, has_text = {}, [], False
     with open(path, encoding="utf-8") as source:
         for place, line in enumerate(source.read().split("\n"), 1):
             text = line.strip()
             if text == "" or text.startswith("#"):
                 continue
-            if line[0] != " ":
-                if not re.match(r"\S+\.rows: ", text):
-                    raise Unread(f"{path}:{place}: no row: `FILE.rows: NAME`")
-                last = text
-                known[last] = ""
-            elif last is None:
-                raise Unread(f"{path}:{place}: no row has begun")
-            else:
-                known[last] = f"{known[last]} {text}".strip()
+            is_row = line[0] != " "
+            if is_row and not re.match(r"\S+\.rows: ", text):
+                raise Unread(f"{path}:{place}: no row: `FILE.rows: NAME`")
+            if is_row:
+                group = [text] if has_text else [*group, text]
+                known[text] = ""
+            for title in [] if is_row else group:
+                known[title] = f"{known[title]} {text}".strip()
+            has_text = not is_row
     return known
 
 
