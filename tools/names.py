@@ -40,9 +40,10 @@ def ask(peer, *operations, uid):
     got = values_of(peer.receive())
     if len(got.results) == len(operations) and all(result.values[0].value == 0 for result in got.results):
         return got.results
-    last = got.results[-1] if got.results else None
-    raise NoSite("no reply to a COMPOUND" if last is None else
-                 f"{name_of(last.number)} is {last.values[0].kind.show(last.values[0].value)}")
+    if not got.results:
+        raise NoSite(", ".join(f"{what} {kind.show(value)}" for what, kind, value in got.head[2:]) or "no reply")
+    last = got.results[-1]
+    raise NoSite(f"{name_of(last.number)} is {last.values[0].kind.show(last.values[0].value)}")
 
 
 def learn(address, path=(), uid=None):
