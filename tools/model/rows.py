@@ -8,6 +8,8 @@ from wire import Opnum, Status, opaque, record, u32, u64
 
 # What may stand round a line, and round a word.
 SPACES = " \t\r"
+# A server's lease in seconds, and the upper half of its clientids, where a row says nothing else.
+LEASE, EPOCH = 90, 1
 LEASE_LIMIT = 86_400
 MOMENT_LIMIT = 2**40
 # The most bytes of a message.
@@ -47,6 +49,12 @@ NO_END = "the line goes on after its message"
 NO_NUMBER = "a lease is 1 to 86,400 seconds, an epoch below 2^32, a moment below 2^40"
 NO_SWEEP = "no sweep: `sweep SECONDS expired COUNT kept COUNT`"
 NO_FAULT = "no fault of a connection"
+NO_SECTIONS = "no sections: `sections RFC NUMBER, SECTION, SECTION`, and behind a semicolon those of another RFC"
+
+
+# Which sections of which RFCs a row is by, such as `RFC 7530, 9.1.7, 16.10; RFC 5531, 9`.
+SECTIONS_OF_ONE = "RFC [0-9]+(, [0-9A-Z]+([.][0-9]+)*)+"
+SECTIONS = re.compile(f"{SECTIONS_OF_ONE}(; {SECTIONS_OF_ONE})*")
 
 
 class Wrong(Exception):
@@ -114,13 +122,28 @@ class Row:
     name: str
     rule: list = field(default_factory=list)
     document: str = None
-    lease: int = 90
-    epoch: int = 1
+    lease: int = LEASE
+    epoch: int = EPOCH
     is_portable: bool = False
+    # The sections of RFCs that it is by: its own, or those of its file's head, or none.
+    sections: str = ""
+    # Whether it says itself that it needs a server that has just been started.
+    says_alone: bool = False
     # Whether it says what is wanted.
     is_whole: bool = False
     # Parts and sweeps, one after another; the first is a part.
     steps: list = field(default_factory=lambda: [Part()])
+
+    @property
+    def is_sweeping(self):
+        return any(isinstance(step, Sweep) for step in self.steps)
+
+    @property
+    def is_alone(self):
+        """Whether it needs a server that has just been started: with other options, or one whose leases somebody looks
+        through as the row says; or since it says so."""
+        is_other = self.document is not None or self.lease != LEASE or self.epoch != EPOCH
+        return self.says_alone or is_other or self.is_sweeping
 
     @property
     def connections(self):
@@ -317,7 +340,7 @@ class File:
     """The rows of a file, read line by line; or one of UNREAD."""
 
     def __init__(self, path):
-        self.path, self.rows, self.message, self.clock = path, [], None, 0
+        self.path, self.rows, self.message, self.clock, self.sections = path, [], None, 0, ""
         with open(path, "rb") as source:
             lines = [line.strip(SPACES) for line in source.read().decode().removesuffix("\n").split("\n")]
         place = 0
@@ -344,11 +367,14 @@ class File:
         rest = rest.lstrip(SPACES)
         if keyword == "row":
             self.end_row()
-            self.rows.append(Row(self.path, place, rest))
+            self.rows.append(Row(self.path, place, rest, sections=self.sections))
             self.clock = 0
+        elif keyword == "sections":
+            self.end_message()
+            self.set_sections(rest)
         elif keyword in ("send", "want"):
             self.begin_message(keyword, rest)
-        elif keyword in ("rule", "tree", "lease", "epoch", "fault", "moment", "at", "sweep"):
+        elif keyword in ("rule", "tree", "lease", "epoch", "alone", "fault", "moment", "at", "sweep"):
             self.end_message()
             self.set(self.row(), keyword, rest)
         else:
@@ -383,6 +409,15 @@ class File:
         else:
             part.wanted += message.spelled()
 
+    def set_sections(self, text):
+        """Those of the row that is read; or, in the file's head, of the rows that have none of their own."""
+        if not SECTIONS.fullmatch(text):
+            raise Wrong(NO_SECTIONS)
+        if self.rows:
+            self.row().sections = text
+        else:
+            self.sections = text
+
     def part(self):
         """The part that is read: behind a sweep a new one, at the same moment."""
         steps = self.row().steps
@@ -401,6 +436,9 @@ class File:
                 raise Wrong(NO_NUMBER)
         elif keyword == "epoch":
             row.epoch = decimal(text, 2**32, NO_NUMBER)
+        elif keyword == "alone":
+            expect_end(text)
+            row.says_alone = True
         elif keyword == "fault":
             self.part().fault = text
             if text not in FAULTS:
