@@ -3,6 +3,9 @@ import os
 import sys
 
 sys.path.insert(0, os.path.join(os.path.dirname(os.path.abspath(__file__)), "model"))
+from python_version import require_python
+
+require_python()
 
 from wire import opaque, record, u32 as words
 

@@ -6,6 +6,10 @@ import sys
 
 sys.dont_write_bytecode = True
 
+from python_version import require_python
+
+require_python()
+
 from entries import MOMENT_LIMIT
 from journal import LEASE_LIMIT, Recorder, journal_bytes
 from model import Server

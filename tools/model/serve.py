@@ -17,6 +17,10 @@ import threading
 
 sys.dont_write_bytecode = True
 
+from python_version import require_python
+
+require_python()
+
 from journal import Recorder, journal_bytes
 from once import options, server_of, within
 from serving import Bell, Desk, Fault, Run, address_text, listen, say
