@@ -12,8 +12,6 @@ mod ends;
 #[cfg(test)]
 mod faults;
 #[cfg(test)]
-mod journals;
-#[cfg(test)]
 mod streams;
 #[cfg(test)]
 mod trees;
