@@ -8,8 +8,6 @@ mod cores;
 #[cfg(test)]
 mod devices;
 #[cfg(test)]
-mod ends;
-#[cfg(test)]
 mod faults;
 #[cfg(test)]
 mod streams;
