@@ -4,8 +4,6 @@
 #![tactic(auto)]
 
 #[cfg(test)]
-mod leases;
-#[cfg(test)]
 mod names;
 #[cfg(test)]
 mod opens;
