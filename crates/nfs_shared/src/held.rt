@@ -1,7 +1,7 @@
 //! The value that the lock guards, and what is done to it.
-ghost use Rattle.std.specs.Prelude.{◌≡◌, ◌+◌, ◌≤◌, ◌++◌, ◌∷◌, [], IfNone, IfSome, IsTrue, Option, Some, length, slice_get};
+ghost use Rattle.std.specs.Prelude.{◌≡◌, ◌+◌, ◌<◌, ◌≤◌, ◌++◌, ◌∷◌, [], IfNone, IfSome, IsTrue, Option, Some, length, slice_get, vec_capacity, vec_len};
 ghost use Rattle.nfs_core.specs.Entered.{Answers, number_entered};
-ghost use Rattle.nfs_core.specs.Server.{Applies};
+ghost use Rattle.nfs_core.specs.Server.{Applies, IsLawful};
 ghost use Rattle.nfs_core.specs.declared.entered.Entered.{Entered};
 ghost use Rattle.nfs_forms.specs.ClientId.{number_in};
 ghost use Rattle.nfs_leases.specs.BookEvent.{AllHappen};
@@ -24,7 +24,7 @@ use crate::register::{Register, give};
 use crate::roll::meet;
 use crate::seat::Seat;
 use crate::sweeper::Sweeper;
-use nfs_core::{Core, Entry, Moment, lawful_is_safe};
+use nfs_core::{Core, Entered, Entry, Moment, lawful_is_safe};
 use nfs_leases::{LeasedCore, PlainLeases, Swept, renewed_client};
 use nfs_state::{Request, SeenCall};
 use nfs_xdr::{ClientId, Op, OpResult, Refusal};
@@ -38,6 +38,15 @@ pub struct Held<N: Naming> {
     pub(crate) leased: LeasedCore<PlainLeases>,
     pub(crate) register: Register<N>,
     pub(crate) sweep_count: Book<SweepLedger<N>>,
+}
+
+impl<N: Naming> Held<N> {
+    /// The core.
+    pub(crate) fn core(&self) -> &Core
+        ensures { result.now ≡ self.now.server }
+    {
+        &self.leased.core
+    }
 }
 
 impl<N: Naming> Model for Held<N> {
@@ -98,12 +107,7 @@ pub fn call_held<N: Naming>(
         (events_entered entered request.moment) held.new.leases }
 {
     lawful_is_safe();
-    let client = renewed_client(&request.op, held.leased.core.journal().epoch());
-    held.leased.renew(client, request.moment);
-    if held.register.places.reserve(1).is_err() {
-        return (request.op.opnum().refusal(Refusal::Resource), None);
-    }
-    let (answer, entered) = held.leased.call(request);
+    let (answer, entered) = answer_with_room(&mut held.leased, &mut held.register.places, request);
     match entered {
         None => (answer, None),
         Some(entered) => {
@@ -112,6 +116,34 @@ pub fn call_held<N: Naming>(
             (answer, Some(receipt))
         }
     }
+}
+
+// Renews the lease of the client that the operation names, and has the core answer, if there is room for the place of a
+// receipt.
+fn answer_with_room(
+    leased: &mut LeasedCore<PlainLeases>,
+    places: &mut Vec<u32>,
+    request: Request,
+) -> (OpResult, Option<Entered>)
+    requires entry { IsTrue (has_entry request.op) }
+    requires node { IsFilehandle leased.old.core.journal request.filehandle }
+    ensures answers { Answers leased.old.core leased.new.core request result.0 result.1 }
+    ensures short { length (op_result.encoding result.0) ≤ answer_limit (opnum_of request.op) }
+    ensures form { op_result.Fits result.0 }
+    ensures leases { AllHappen Happens
+        (with_renewal (renewed_by leased.old.core.journal.epoch request.op) request.moment
+        leased.old.book)
+        (events_entered result.1 request.moment) leased.new.book }
+    ensures lawful { IsLawful leased.new.core }
+    ensures places { places.new.items ≡ places.old.items }
+    ensures room { IfSome result.1 (λ _. vec_len places.new < vec_capacity places.new) }
+{
+    let client = renewed_client(&request.op, leased.core.journal().epoch());
+    leased.renew(client, request.moment);
+    if places.reserve(1).is_err() {
+        return (request.op.opnum().refusal(Refusal::Resource), None);
+    }
+    leased.call(request)
 }
 
 // The call that is the journal's entry with this number.

@@ -1,18 +1,12 @@
-//! The tests of `nfs_server`, `nfs_core`, `nfs_tree` and `nfs_rpc`, through what is public of them. What calls get as
+//! The tests of `nfs_program`, `nfs_server`, `nfs_tree` and `nfs_rpc`, through what is public of them. What calls get as
 //! their replies is tested by the rows of `crates/rows/data`, and what a run of the program shows by `tools/try_program`
 //! and `tools/refuse_growths`; these tests are for what neither can show.
 #![tactic(auto)]
 
 #[cfg(test)]
-mod cores;
-#[cfg(test)]
 mod devices;
 #[cfg(test)]
-mod ends;
-#[cfg(test)]
 mod faults;
-#[cfg(test)]
-mod journals;
 #[cfg(test)]
 mod streams;
 #[cfg(test)]

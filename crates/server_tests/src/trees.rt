@@ -1,43 +1,8 @@
-//! What no answer of the program shows yet of a tree: its policy, the bytes of a file, and the attributes of a file that
-//! was written to.
+//! What no answer of the program shows yet of a tree: the bytes of a file, and the attributes of a file that was written to.
 
-use nfs_tree::{Callbacks, DEFAULT_TREE, Delegations, Policy, Subject, Tree, TreeError};
+use nfs_tree::{DEFAULT_TREE, Subject, Tree};
 use std::alloc::{AllocError, Global};
 use std::test::Fail;
-
-/// Whether the document has this policy.
-fn has_policy(
-    alloc: Global,
-    text: &str,
-    delegations: Delegations,
-    callbacks: Callbacks,
-) -> Result<bool, TreeError> {
-    let policy = Policy {
-        delegations,
-        callbacks,
-    };
-    Ok(Tree::from_toml(alloc, text)?.policy() == policy)
-}
-
-/// A document without a policy, as that of the default tree, has delegations given for all, and callbacks probed.
-#[test]
-fn documents_have_policies(rt: HostRuntime) -> Result<(), Fail> {
-    let (all, probe) = (Delegations::All, Callbacks::Probe);
-    assert!(rt; has_policy(rt.alloc(), DEFAULT_TREE, all, probe)?);
-    assert!(rt; has_policy(rt.alloc(), "", all, probe)?);
-    assert!(rt; has_policy(rt.alloc(), "# none\n[policy]\n", all, probe)?);
-    assert!(rt; has_policy(rt.alloc(), "file = [{ path = \"a/b\" }]\n", all, probe)?);
-    assert!(rt; has_policy(rt.alloc(), "[[directory]]\npath = \"a\"\n", all, probe)?);
-    let text = "[policy]\ndelegations = \"none\"\n";
-    assert!(rt; has_policy(rt.alloc(), text, Delegations::None, probe)?);
-    let text = "policy = { delegations = \"read\" }\n";
-    assert!(rt; has_policy(rt.alloc(), text, Delegations::Read, probe)?);
-    let text = "policy.callbacks = \"assume\"\n";
-    assert!(rt; has_policy(rt.alloc(), text, all, Callbacks::Assume)?);
-    let text = "[policy]\ndelegations = \"all\"\ncallbacks = \"probe\"\n";
-    assert!(rt; has_policy(rt.alloc(), text, all, probe)?);
-    Ok(())
-}
 
 /// The words, big-endian.
 fn bytes_of(alloc: Global, words: &[u32]) -> Result<Vec<u8>, AllocError> {
