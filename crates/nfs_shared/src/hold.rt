@@ -21,7 +21,7 @@ use crate::naming::Naming;
 use crate::receipt::Receipt;
 use crate::seat::Seat;
 use crate::sweeper::Sweeper;
-use nfs_core::Moment;
+use nfs_core::{Core, Moment};
 use nfs_leases::Swept;
 use nfs_state::Request;
 use nfs_xdr::{ClientId, Op, OpResult};
@@ -43,6 +43,13 @@ impl<'a, N: Naming> Model for Hold<'a, N> {
 }
 
 impl<'a, N: Naming> Hold<'a, N> {
+    /// The core that the lock guards.
+    pub fn core(&self) -> &Core
+        ensures { result.now ≡ self.now.server }
+    {
+        &self.guard.leased.core
+    }
+
     /// Has the core answer a request, as `call_held` does.
     pub fn call(&mut self, seat: &mut Seat<N>, request: Request) -> (OpResult, Option<Receipt>)
         requires entry { IsTrue (has_entry request.op) }

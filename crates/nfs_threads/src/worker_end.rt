@@ -1,14 +1,14 @@
 ghost use Rattle.std.specs.Prelude.{◌≡◌, IfErr, IfOk, map};
 ghost use Rattle.nfs_threads.specs.Worker.{receipts_back, seats_back};
 
-use nfs_server::ServeError;
+use crate::Shift;
 use nfs_shared::{Naming, Receipt, Seat};
 use std::alloc::Global;
 
-/// What a worker gives back: how its connection ended, its seat, and the receipts that the seat was given.
+/// What a worker gives back: what it served, its seat, and the receipts that the seat was given.
 #[derive(Drop)]
 pub struct WorkerEnd<N: Naming> {
-    pub result: Result<usize, ServeError>,
+    pub shift: Shift,
     pub seat: Seat<N>,
     pub receipts: Vec<Receipt>,
 }
@@ -29,12 +29,12 @@ impl<N: Naming> WorkerEnd<N> {
         let Ok(mut seats) = Vec::with_capacity(alloc, all.len()) else {
             return Err(all);
         };
-        for done in all {
+        for end in all {
             let WorkerEnd {
-                result: _,
+                shift: _,
                 seat,
                 receipts: given,
-            } = done;
+            } = end;
             receipts.push_reserved(given);
             seats.push_reserved(seat);
         }
