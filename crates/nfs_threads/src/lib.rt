@@ -36,7 +36,7 @@ pub use input::close_at_end;
 pub use links::Links;
 pub use listening::{serve_on, serve_through};
 pub use peer::Peer;
-pub use receipt_laws::receipts_are_questions;
+pub use receipt_laws::{receipts_are_questions, receipts_by_connection};
 pub use run_end::RunEnd;
 pub use serving::serve_all;
 pub use shift::Shift;
