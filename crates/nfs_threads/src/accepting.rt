@@ -26,7 +26,7 @@ pub fn accept_for<R: Threads + Wait + Timer + Copy + Send + Sync + 'static>(
 }
 
 // Accepts one connection after the other, each when it is asked for, until the door is closed.
-fn accept_each<R: Wait + Timer>(rt: R, listener: TcpListener, door: Arc<Door, Global>) {
+fn accept_each<R: Wait + Timer + Copy>(rt: R, listener: TcpListener, door: Arc<Door, Global>) {
     let mut number = 0u64;
     for _ in rt.forever() {
         if !door.is_asked(&rt) {

@@ -22,5 +22,5 @@ pub trait Links {
         ensures writes { IfSome result (λ r. Self.Device.write_failures r.0 < 2 ^ 64 - 1) };
 
     /// Is told how the connection that came last has ended.
-    fn end(&self, result: Result<usize, ServeError>);
+    fn end(&self, outcome: Result<usize, ServeError>);
 }

@@ -93,9 +93,9 @@ impl<'a, R: Timer + Wait + Sync, W: Watcher + Sync> Links for TcpLinks<'a, R, W>
         Some((socket, Uptime::since(self.rt, self.start)))
     }
 
-    fn end(&self, result: Result<usize, ServeError>) {
+    fn end(&self, outcome: Result<usize, ServeError>) {
         if let Some(peer) = self.peer {
-            self.watcher.tell_end(peer, result);
+            self.watcher.tell_end(peer, outcome);
         }
     }
 }

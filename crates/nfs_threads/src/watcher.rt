@@ -5,7 +5,7 @@ use nfs_server::ServeError;
 /// Watches a run while it goes on. What it does changes nothing of the run.
 pub trait Watcher {
     /// Is told how the connection of this peer has ended.
-    fn tell_end(&self, peer: Peer, result: Result<usize, ServeError>);
+    fn tell_end(&self, peer: Peer, outcome: Result<usize, ServeError>);
 
     /// Is told, once, that each worker has a connection, so that no further one is taken for now.
     fn tell_full(&self, workers: u32);
@@ -22,10 +22,11 @@ pub trait Watcher {
 }
 
 /// Nobody watches.
+#[derive(Drop)]
 pub(crate) struct Nobody;
 
 impl Watcher for Nobody {
-    fn tell_end(&self, _peer: Peer, _result: Result<usize, ServeError>) {}
+    fn tell_end(&self, _peer: Peer, _outcome: Result<usize, ServeError>) {}
 
     fn tell_full(&self, _workers: u32) {}
 
