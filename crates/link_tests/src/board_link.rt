@@ -1,9 +1,9 @@
-ghost use Rattle.std.specs.Prelude.{◌≡◌, ◌≤◌, length};
+ghost use Rattle.std.specs.Prelude.{◌≡◌, ◌≤◌, false, length, true};
 
 use crate::board::Board;
 use nfs_core::Moment;
-use nfs_server::{DeviceFailed, Duplex, Stopped};
-use nfs_threads::Link;
+use nfs_server::{DeviceFailed, Duplex, ServeError, Stopped};
+use nfs_threads::Links;
 use std::thread;
 use std::time::{Clock as Sleeper, Duration};
 
@@ -28,7 +28,7 @@ const SETCLIENTID: [u8; 112] = [
 // The length of the record with the reply to NULL.
 const NULL_REPLY_LEN: usize = 28;
 
-/// A link over memory. Its first read gives a call of NULL; its second gives another one only when every other link has
+/// A link over memory to one connection. Its first read gives a call of NULL; its second gives another one only when every other link has
 /// a whole reply; its third gives a call of COMPOUND; and then its input ends.
 #[derive(Drop)]
 pub struct BoardLink<'a, R: Sleeper> {
@@ -36,6 +36,7 @@ pub struct BoardLink<'a, R: Sleeper> {
     board: &'a Board,
     place: usize,
     moment: Moment,
+    is_open: bool,
 }
 
 impl<'a, R: Sleeper> BoardLink<'a, R> {
@@ -45,6 +46,7 @@ impl<'a, R: Sleeper> BoardLink<'a, R> {
             board,
             place,
             moment,
+            is_open: false,
         }
     }
 }
@@ -116,28 +118,31 @@ impl<'a, R: Sleeper> Duplex for BoardDevice<'a, R> {
     }
 }
 
-impl<'a, R: Sleeper + Sync> Link for BoardLink<'a, R> {
+impl<'a, R: Sleeper + Sync> Links for BoardLink<'a, R> {
     type Device = BoardDevice<'a, R>;
 
     type Clock = Stopped;
 
-    ghost opens = { λ link device clock. device.place ≡ link.place };
+    ghost opens = { λ old device clock new. (device.place ≡ old.place) × (old.is_open ≡ false)
+        × (new ≡ record old { is_open = true }) };
 
-    fn open(self) -> (BoardDevice<'a, R>, Stopped) {
-        let BoardLink {
-            rt,
-            board,
-            place,
-            moment,
-        } = self;
+    ghost stops = { λ old new. (old.is_open ≡ true) × (new ≡ old) };
+
+    fn next(&mut self) -> Option<(BoardDevice<'a, R>, Stopped)> {
+        if self.is_open {
+            return None;
+        }
+        self.is_open = true;
         let device = BoardDevice {
-            rt,
-            board,
-            place,
+            rt: self.rt,
+            board: self.board,
+            place: self.place,
             reads: 0,
             read_failures: 0,
             write_failures: 0,
         };
-        (device, Stopped::at(moment))
+        Some((device, Stopped::at(self.moment)))
     }
+
+    fn end(&self, _outcome: Result<usize, ServeError>) {}
 }

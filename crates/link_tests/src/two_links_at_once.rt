@@ -92,11 +92,14 @@ fn links_at<'a, N: Naming, R: Sleeper>(
 fn count<N: Naming>(all: &Vec<WorkerEnd<N>>) -> (u32, u32) {
     let mut served = 0u32;
     let mut read_failures = 0u32;
-    for done in all.iter() {
-        if done.result == Ok(0) && done.receipts.len() == 1 {
+    for end in all.iter() {
+        let [connection] = end.shift.connections.as_slice() else {
+            continue;
+        };
+        if connection.result == Ok(0) && end.receipts.len() == 1 {
             served = served.saturating_add(1);
         }
-        if done.result == Err(ServeError::Read) {
+        if connection.result == Err(ServeError::Read) {
             read_failures = read_failures.saturating_add(1);
         }
     }

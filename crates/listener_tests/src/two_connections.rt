@@ -3,7 +3,7 @@ ghost use Rattle.nfs_owners.specs.Registry.{is_live};
 
 use crate::client::converse;
 use nfs_core::Core;
-use nfs_threads::{ConnectionEnd, serve_on};
+use nfs_threads::{WorkerAccount, serve_on};
 use nfs_tree::Tree;
 use std::alloc::Global;
 use std::net::{TcpListener, TcpStream};
@@ -52,7 +52,7 @@ fn serve_two<R: Threads + Wait + Clock + Sync>(
         {
             let run = serve_on(alloc, rt, listener, core, tree, 2).ok()?;
             let entries = run.core.journal().entries().len();
-            Some((count(run.connections.as_slice()), entries))
+            Some((count(run.workers.as_slice()), entries))
         },
     );
     let (served, entries) = served?;
@@ -64,10 +64,13 @@ fn serve_two<R: Threads + Wait + Clock + Sync>(
 }
 
 // How many were served to the end, each with its own receipt.
-fn count(all: &[ConnectionEnd]) -> u32 {
+fn count(all: &[WorkerAccount]) -> u32 {
     let mut served = 0u32;
-    for ended in all {
-        if ended.result == Ok(0) && ended.receipts.len() == 1 {
+    for account in all {
+        let [connection] = account.shift.connections.as_slice() else {
+            continue;
+        };
+        if connection.result == Ok(0) && account.receipts.len() == 1 {
             served = served.saturating_add(1);
         }
     }

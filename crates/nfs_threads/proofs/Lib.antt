@@ -1,7 +1,8 @@
 pub mod Receiving
 pub mod Receipts
-pub mod Courses
+pub mod Parts
+pub mod Each
 pub mod Workers
 pub mod Kept
 pub mod Rest
-pub mod Connections
+pub mod Accounts

@@ -47,20 +47,20 @@ all_begun {N = N} linking tree links left workers completes none =
 
 -- the workers that are left are those of some links, and what is done of these completes what is done
 abbrev pub Completes : {N L D C : Type 0} → Linking L D C → Files → List (L × SeatView) → List (Worker N L D C) → List (WorkerEnd N) → Type 0
-Completes {N = N} {L = L} linking tree links workers dones =
+Completes {N = N} {L = L} linking tree links workers ends =
     (left : List (L × SeatView)) × AreWorkers linking tree left workers
-    × ((more : List (WorkerEnd N)) → AreEndsOf linking tree left more → AreEndsOf linking tree links (dones ++ more))
+    × ((more : List (WorkerEnd N)) → AreEndsOf linking tree left more → AreEndsOf linking tree links (ends ++ more))
 
-pub one_more_done : {N L D C : Type 0} (linking : Linking L D C) (tree : Files) (links left : List (L × SeatView)) (worker : Worker N L D C) (workers : List (Worker N L D C)) (dones : List (WorkerEnd N)) (done : WorkerEnd N)
+pub one_more_done : {N L D C : Type 0} (linking : Linking L D C) (tree : Files) (links left : List (L × SeatView)) (worker : Worker N L D C) (workers : List (Worker N L D C)) (ends : List (WorkerEnd N)) (end : WorkerEnd N)
     → AreWorkers linking tree left (worker ∷ workers)
-    → ((more : List (WorkerEnd N)) → AreEndsOf linking tree left more → AreEndsOf linking tree links (dones ++ more))
-    → ((link : L) (seat : SeatView) → IsWorker linking tree link seat worker → IsEndOf linking tree link seat done)
-    → Completes linking tree links workers (dones ++ done ∷ [])
-one_more_done linking tree links [] worker workers dones done are completes finished = absurd are
-one_more_done linking tree links (l ∷ left) worker workers dones done are completes finished = (
+    → ((more : List (WorkerEnd N)) → AreEndsOf linking tree left more → AreEndsOf linking tree links (ends ++ more))
+    → ((link : L) (seat : SeatView) → IsWorker linking tree link seat worker → IsEndOf linking tree link seat end)
+    → Completes linking tree links workers (ends ++ end ∷ [])
+one_more_done linking tree links [] worker workers ends end are completes finished = absurd are
+one_more_done linking tree links (l ∷ left) worker workers ends end are completes finished = (
   left,
   are.1,
-  λ more these. subst (λ d. AreEndsOf linking tree links d) (sym (append_assoc dones (done ∷ []) more)) (completes (done ∷ more) (finished l.0 l.1 are.0, these)),
+  λ more these. subst (λ d. AreEndsOf linking tree links d) (sym (append_assoc ends (end ∷ []) more)) (completes (end ∷ more) (finished l.0 l.1 are.0, these)),
 )
 
 -- no workers are those of no links
@@ -68,11 +68,11 @@ no_workers : (N : Type 0) {L D C : Type 0} (linking : Linking L D C) (tree : Fil
 no_workers N linking tree [] are = tt
 no_workers N linking tree (l ∷ links) are = absurd are
 
-pub all_done : {N L D C : Type 0} (linking : Linking L D C) (tree : Files) (links : List (L × SeatView)) (workers : List (Worker N L D C)) (dones : List (WorkerEnd N))
-    → Completes linking tree links workers dones
+pub all_done : {N L D C : Type 0} (linking : Linking L D C) (tree : Files) (links : List (L × SeatView)) (workers : List (Worker N L D C)) (ends : List (WorkerEnd N))
+    → Completes linking tree links workers ends
     → length workers ≡ 0
-    → AreEndsOf linking tree links dones
-all_done {N = N} linking tree links workers dones so_far none =
+    → AreEndsOf linking tree links ends
+all_done {N = N} linking tree links workers ends so_far none =
     let are : AreWorkers {N = N} linking tree so_far.0 [] = subst (λ w. AreWorkers linking tree so_far.0 w) (nil_from_length workers none) so_far.1 in
-    let whole : AreEndsOf linking tree links (dones ++ []) = so_far.2 [] (no_workers N linking tree so_far.0 are) in
-    subst (λ d. AreEndsOf linking tree links d) (append-nil dones) whole
+    let whole : AreEndsOf linking tree links (ends ++ []) = so_far.2 [] (no_workers N linking tree so_far.0 are) in
+    subst (λ d. AreEndsOf linking tree links d) (append-nil ends) whole

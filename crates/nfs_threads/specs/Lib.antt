@@ -7,3 +7,4 @@ pub mod Uptimes
 pub mod Links
 pub mod Run
 pub mod Rooms
+pub mod Parts

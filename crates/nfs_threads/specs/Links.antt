@@ -1,28 +1,45 @@
 -- The links of a listener.
-use Rattle.std.specs.Prelude.{◌≡◌, None}
+use Rattle.std.specs.Prelude.{◌≡◌, None, Some, IsSome}
 use Rattle.nfs_threads.specs.Sockets.{socket_device}
 use Rattle.nfs_threads.specs.Uptimes.{GoesOn}
 use Rattle.nfs_threads.specs.declared.socket.Socket.{Socket}
-use Rattle.nfs_threads.specs.declared.tcp_link.TcpLink.{TcpLink}
+use Rattle.nfs_threads.specs.declared.tcp_links.Entrance.{Entrance}
+use Rattle.nfs_threads.specs.declared.tcp_links.Entrance.TheVariants as entrances
+use Rattle.nfs_threads.specs.declared.tcp_links.TcpLinks.{TcpLinks}
 use Rattle.nfs_threads.specs.declared.uptime.Uptime.{Uptime}
 use Rattle.nfs_threads.specs.Worker.{Linking}
 
--- The link gives a socket of its listener that has no connection yet and of which nothing failed, and a clock that counts
--- from the link's start and has shown nothing yet.
-abbrev pub Opens : {R : Type 0} → TcpLink R → Socket → Uptime R → Type 0
-Opens link socket clock =
-    (socket ≡ record {
-      listener = link.listener;
-      stream = None;
-      read_failures = 0;
-      write_failures = 0;
-    })
-    × (clock ≡ record { rt = link.rt; start = link.start; last = 0 })
+-- A listener gives one socket, which has no connection yet; a door gives one connection after the other.
+abbrev pub Enters : {R : Type 0} → Entrance → Socket R → Entrance → Type 0
+Enters (entrances.Listener listener) socket after =
+    (socket.listener ≡ Some listener) × (socket.stream ≡ None) × (after ≡ entrances.Nowhere)
+Enters entrances.Nowhere socket after = ⊥
+Enters (entrances.Door door) socket after =
+    (socket.listener ≡ None) × IsSome socket.stream × (after ≡ entrances.Door door)
+
+-- The links give a socket from where their connections come in, of which nothing failed, and a clock that counts from the
+-- run's start and has shown nothing yet. Else only the last peer changes.
+abbrev pub Opens : {R W : Type 0} → TcpLinks R W → Socket R → Uptime R → TcpLinks R W → Type 0
+Opens old socket clock new =
+    Enters old.entrance socket new.entrance
+    × (socket.read_failures ≡ 0) × (socket.write_failures ≡ 0)
+    × (clock ≡ record { rt = old.rt; start = old.start; last = 0 })
+    × (new ≡ record old { entrance = new.entrance; peer = new.peer })
+
+-- there is no further connection where none was left, or at a door, which is closed then
+abbrev pub HasEnded : Entrance → Type 0
+HasEnded (entrances.Listener listener) = ⊥
+HasEnded entrances.Nowhere = Unit {0}
+HasEnded (entrances.Door door) = Unit {0}
+
+abbrev pub Stops : {R W : Type 0} → TcpLinks R W → TcpLinks R W → Type 0
+Stops old new = HasEnded old.entrance × (new ≡ old)
 
 -- what is known of such links
-abbrev pub tcp : {R : Type 0} → Linking (TcpLink R) Socket (Uptime R)
+abbrev pub tcp : {R W : Type 0} → Linking (TcpLinks R W) (Socket R) (Uptime R)
 tcp = record {
   opens = Opens;
+  stops = Stops;
   device = socket_device;
   read_failures = λ s. s.read_failures;
   write_failures = λ s. s.write_failures;

@@ -5,18 +5,18 @@ use Rattle.nfs_threads.specs.declared.lists.Parts.{Parts}
 
 -- nothing was put in, and there is room for so many
 pub record HaveRoom {N : Type 0} (count : ℕ) (parts : Parts N) : Type 0 where
-  pub no_results : parts.results.items ≡ []
+  pub no_shifts : parts.shifts.items ≡ []
   pub no_seats : parts.seats.items ≡ []
   pub no_receipts : parts.receipts.items ≡ []
-  pub results : count ≤ vec_capacity parts.results
+  pub shifts : count ≤ vec_capacity parts.shifts
   pub seats : count ≤ vec_capacity parts.seats
   pub receipts : count ≤ vec_capacity parts.receipts
 
-pub record AllHaveRoom {N R : Type 0} (count : ℕ) (lists : Lists N R) : Type 0 where
+pub record AllHaveRoom {N R W : Type 0} (count : ℕ) (lists : Lists N R W) : Type 0 where
   pub no_links : lists.links.items ≡ []
-  pub no_done : lists.spare.items ≡ []
-  pub no_ended : lists.ended.items ≡ []
+  pub no_ends : lists.spare.items ≡ []
+  pub no_accounts : lists.accounts.items ≡ []
   pub links : count ≤ vec_capacity lists.links
-  pub done : count ≤ vec_capacity lists.spare
-  pub ended : count ≤ vec_capacity lists.ended
+  pub ends : count ≤ vec_capacity lists.spare
+  pub accounts : count ≤ vec_capacity lists.accounts
   pub parts : HaveRoom count lists.parts

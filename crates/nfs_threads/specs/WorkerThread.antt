@@ -6,15 +6,15 @@ use Rattle.nfs_threads.specs.declared.worker_thread.Worker.{Worker}
 use Rattle.nfs_threads.specs.declared.worker_thread.Worker.TheVariants as workers
 use Rattle.nfs_threads.specs.Worker.{IsEndOf, Linking}
 
--- The worker is that of this link and this seat: what its thread promises is of these, or it was done with them.
+-- The worker is that of these links and this seat: what its thread promises is of these, or it gave back what is of them.
 abbrev pub IsWorker : {N L D C : Type 0} → Linking L D C → Files → L → SeatView → Worker N L D C
     → Type 0
-IsWorker linking tree link seat (workers.Begun handle) =
-    (handle.promise.tree.value ≡ tree) × (handle.promise.link.value ≡ link)
+IsWorker linking tree links seat (workers.Begun handle) =
+    (handle.promise.tree.value ≡ tree) × (handle.promise.links.value ≡ links)
     × (handle.promise.seat.value ≡ seat)
-IsWorker linking tree link seat (workers.Refused done) = IsEndOf linking tree link seat done
+IsWorker linking tree links seat (workers.Refused end) = IsEndOf linking tree links seat end
 
--- each worker is that of the link and the seat at its place
+-- each worker is that of the links and the seat at its place
 abbrev pub AreWorkers : {N L D C : Type 0} → Linking L D C → Files → List (L × SeatView)
     → List (Worker N L D C) → Type 0
 AreWorkers linking tree [] [] = Unit {0}

@@ -1,11 +1,14 @@
+use std::sync::atomic::{AtomicBool, Ordering};
 use std::sync::{Condvar, Mutex, Wait};
 use std::time::{Clock, Duration};
 
-/// Tells whoever waits for the end of the connections that it has come.
+/// Tells the end of a run.
 #[derive(Drop)]
 pub(crate) struct Bell {
     ended: Mutex<bool>,
     rung: Condvar,
+    // The same once more, for those that only look: a look takes no lock.
+    is_rung: AtomicBool,
 }
 
 impl Bell {
@@ -13,6 +16,7 @@ impl Bell {
         Bell {
             ended: Mutex::new(false),
             rung: Condvar::new(),
+            is_rung: AtomicBool::new(false),
         }
     }
 
@@ -24,8 +28,14 @@ impl Bell {
         *ended
     }
 
+    /// Whether the end has come.
+    pub(crate) fn is_rung(&self) -> bool {
+        self.is_rung.load(Ordering::SeqCst)
+    }
+
     /// Tells the end.
     pub(crate) fn ring<R: Wait>(&self, rt: &R) {
+        self.is_rung.store(true, Ordering::SeqCst);
         *self.ended.lock(rt) = true;
         self.rung.notify_all();
     }

@@ -1,11 +1,10 @@
 use nfs_server::ServeError;
-use nfs_shared::Receipt;
 
-/// How a connection ended, and the receipts for the entries that its calls made.
-#[derive(Drop)]
+/// How a connection ended.
+#[derive(Clone, Copy, Debug)]
 pub struct ConnectionEnd {
     /// The number of bytes after the last whole record, or the error with which the connection ended.
     pub result: Result<usize, ServeError>,
-    /// In the order of the calls.
-    pub receipts: Vec<Receipt>,
+    /// How many receipts its worker had when it began. Its own are from there on, up to those of the next connection.
+    pub first: usize,
 }

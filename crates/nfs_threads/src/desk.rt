@@ -65,6 +65,13 @@ impl<'a, N: Naming, R: Wait> Desk<'a, N, R> {
         }
     }
 
+    /// How many receipts it has.
+    pub fn count(&self) -> usize
+        ensures { result ≡ length self.now.receipts }
+    {
+        self.receipts.len()
+    }
+
     /// Returns the seat, and the receipts that it was given, in order.
     pub fn into_parts(self) -> (Seat<N>, Vec<Receipt>)
         ensures seat { result.0 ≡ self.entry.seat }

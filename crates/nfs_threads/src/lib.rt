@@ -1,34 +1,49 @@
-//! The threads of a run. A worker serves a link at a seat of the state that all share; as many work at once as there are
-//! links. The links of a TCP listener, and the thread that sweeps beside their workers.
+//! The threads of a run. A worker serves connections at a seat of the state that all share; as many work at once as there
+//! are seats. The links of a TCP listener, the door by which connections come in one after the other, and the thread that
+//! sweeps beside the workers.
 #![tactic(auto)]
 
+mod accepting;
 mod bell;
 mod connection_end;
 mod desk;
-mod link;
+mod door;
+mod input;
 mod links;
 mod listening;
 mod lists;
+mod peer;
 mod receipt_laws;
 mod run_end;
+mod serving;
+mod shift;
 mod socket;
 mod sweeping;
-mod tcp_link;
+mod tcp_links;
 mod uptime;
+mod watcher;
 mod worker;
+mod worker_account;
 mod worker_end;
 mod worker_laws;
 mod worker_thread;
 
+pub use accepting::accept_for;
 pub use connection_end::ConnectionEnd;
 pub use desk::Desk;
-pub use link::Link;
-pub use links::serve_all;
-pub use listening::serve_on;
-pub use receipt_laws::receipts_are_questions;
+pub use door::Door;
+pub use input::close_at_end;
+pub use links::Links;
+pub use listening::{serve_on, serve_through};
+pub use peer::Peer;
+pub use receipt_laws::{receipts_are_questions, receipts_by_connection};
 pub use run_end::RunEnd;
+pub use serving::serve_all;
+pub use shift::Shift;
 pub use socket::Socket;
-pub use tcp_link::TcpLink;
+pub use tcp_links::TcpLinks;
 pub use uptime::Uptime;
+pub use watcher::Watcher;
+pub use worker_account::WorkerAccount;
 pub use worker_end::WorkerEnd;
 pub use worker_laws::workers_keep_receipts;

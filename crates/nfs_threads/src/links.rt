@@ -1,150 +1,26 @@
-ghost use Rattle.std.specs.Prelude.{◌≡◌, ◌≤◌, ℕ, List, [], length, vec_capacity, vec_len, IfOk, IfErr};
-ghost use Rattle.std.specs.List.{AllByRecursion};
-ghost use Rattle.nfs_threads.specs.WorkerThread.{AreWorkers};
-ghost use Rattle.nfs_threads.specs.Worker.{AreEndsOf, AreUnused, linking, seats_of};
-ghost use Rattle.nfs_shared.specs.Seats.{SeatView};
-ghost use Rattle.nfs_tree.specs.Tree.{Files};
+ghost use Rattle.std.specs.Prelude.{◌-◌, ◌^◌, ◌<◌, IfNone, IfSome};
 
-use crate::worker::Common;
-use crate::worker_thread::{Worker, begin, finish};
-use crate::{Link, WorkerEnd};
-use nfs_shared::{Naming, Seat, Shared};
-use nfs_tree::Tree;
-use std::alloc::{AllocError, Global};
-use std::sync::Wait;
-use std::sync::atomic::AtomicBool;
-use std::thread;
-use std::thread::{Scope, Threads};
+use nfs_server::{Clock, Duplex, ServeError};
 
-/// Serves each link at its seat in a thread of its own. All threads are begun before the first is waited for, and what
-/// each worker gives back stands in the order of the links. If memory is refused for the lists, nothing begins and the
-/// links come back. A worker for which no thread can be made gives its seat back at once, with the error `Memory`.
-pub fn serve_all<N: Naming + Send + Sync, L: Link + Drop + Send, R: Threads + Wait + Sync>(
-    alloc: Global,
-    rt: &R,
-    shared: &Shared<N>,
-    tree: &Tree,
-    links: Vec<(L, Seat<N>)>,
-) -> Result<Vec<WorkerEnd<N>>, Vec<(L, Seat<N>)>>
-    requires tree { N.start.nodes ≡ tree.now.nodes }
-    requires unused { AreUnused (seats_of links.items) }
-    ensures done { IfOk result (λ dones. AreEndsOf
-        (linking L.opens L.Device.device L.Device.read_failures L.Device.write_failures L.Clock.tells)
-        tree.now links.items dones.items) }
-    ensures back { IfErr result (λ back. back ≡ links) }
-{
-    let Ok(flags) = clear_flags(alloc, links.len()) else {
-        return Err(links);
-    };
-    let flags = flags.as_slice();
-    let common = &Common {
-        alloc,
-        rt,
-        shared,
-        tree,
-    };
-    thread::scope(
-        thread::scope_env(),
-        rt,
-        |scope| -> Result<Vec<WorkerEnd<N>>, Vec<(L, Seat<N>)>>
-            requires { (length flags.now ≡ vec_len links) × (N.start.nodes ≡ common.now.tree.now.nodes)
-                × AreUnused (seats_of links.items) }
-            ensures done { IfOk result (λ dones. AreEndsOf
-                (linking L.opens L.Device.device L.Device.read_failures L.Device.write_failures L.Clock.tells)
-                common.entry.now.tree.now links.items dones.items) }
-            ensures back { IfErr result (λ back. back ≡ links) }
-        { serve_in(scope, common, flags, links) },
-    )
-}
+/// What a worker serves: connections, one after the other. Each gives a device and a clock.
+pub trait Links {
+    type Device: Duplex + Drop + Send;
 
-// Serves each link in a thread of this scope. The lists stand in here and not in the closure above, since a closure that
-// is passed on may not hold a type with a promise of a type parameter.
-fn serve_in<
-    's,
-    E,
-    N: Naming + Send + Sync + 's,
-    L: Link + Drop + Send + 's,
-    R: Threads + Wait + Sync,
->(
-    scope: &Scope<'s, E>,
-    common: &'s Common<'s, N, R>,
-    flags: &'s [AtomicBool],
-    links: Vec<(L, Seat<N>)>,
-) -> Result<Vec<WorkerEnd<N>>, Vec<(L, Seat<N>)>>
-    requires flags { length flags.now ≡ vec_len links }
-    requires tree { N.start.nodes ≡ common.now.tree.now.nodes }
-    requires unused { AreUnused (seats_of links.items) }
-    ensures done { IfOk result (λ dones. AreEndsOf
-        (linking L.opens L.Device.device L.Device.read_failures L.Device.write_failures L.Clock.tells)
-        common.now.tree.now links.items dones.items) }
-    ensures back { IfErr result (λ back. back ≡ links) }
-{
-    let Ok(mut workers) = Vec::with_capacity(common.alloc, links.len()) else {
-        return Err(links);
-    };
-    let Ok(mut done) = Vec::with_capacity(common.alloc, links.len()) else {
-        return Err(links);
-    };
-    begin_all(scope, common, flags, links, &mut workers);
-    finish_all(common.rt, workers, &mut done);
-    Ok(done)
-}
+    type Clock: Clock + Drop + Send;
 
-// Flags that aren't set.
-fn clear_flags(alloc: Global, count: usize) -> Result<Vec<AtomicBool>, AllocError>
-    ensures { IfOk result (λ flags. vec_len flags ≡ count) }
-{
-    let mut flags = Vec::new(alloc);
-    for _ in 0..count {
-        flags.push(AtomicBool::new(false))?;
-    }
-    Ok(flags)
-}
+    /// How the next connection may come: the state before, what it gives, and the state after.
+    ghost opens: { Self → Self.Device → Self.Clock → Self → Type 0 };
 
-// Begins a worker for each link, in order.
-fn begin_all<'s, E, N: Naming + Send + Sync + 's, L: Link + Drop + Send + 's, R: Wait + Sync>(
-    scope: &Scope<'s, E>,
-    common: &'s Common<'s, N, R>,
-    mut flags: &'s [AtomicBool],
-    links: Vec<(L, Seat<N>)>,
-    workers: &mut Vec<Worker<N, L>>,
-)
-    requires flags { length flags.now ≡ vec_len links }
-    requires tree { N.start.nodes ≡ common.now.tree.now.nodes }
-    requires unused { AreUnused (seats_of links.items) }
-    requires empty { workers.old.items ≡ [] }
-    requires room { vec_len links ≤ vec_capacity workers.old }
-    ensures count { vec_len workers.new ≡ vec_len links }
-    ensures each { AreWorkers
-        (linking L.opens L.Device.device L.Device.read_failures L.Device.write_failures L.Clock.tells)
-        common.now.tree.now links.items workers.new.items }
-{
-    for (link, seat) in links {
-        let Some((refused, others)) = flags.split_first() else {
-            unreachable!()
-        };
-        flags = others;
-        workers.push_reserved(begin(scope, common, refused, link, seat));
-    }
-}
+    /// How there may be no further connection: the state before, and the state after.
+    ghost stops: { Self → Self → Type 0 };
 
-// Waits for the end of each worker, in order.
-fn finish_all<N: Naming, L: Link, R: Threads>(
-    rt: &R,
-    workers: Vec<Worker<N, L>>,
-    done: &mut Vec<WorkerEnd<N>>,
-)
-    requires empty { done.old.items ≡ [] }
-    requires room { vec_len workers ≤ vec_capacity done.old }
-    ensures { (tree : Files) (links : List (L × SeatView))
-        → AreWorkers
-        (linking L.opens L.Device.device L.Device.read_failures L.Device.write_failures L.Clock.tells)
-        tree links workers.items
-        → AreEndsOf
-        (linking L.opens L.Device.device L.Device.read_failures L.Device.write_failures L.Clock.tells)
-        tree links done.new.items }
-{
-    for worker in workers {
-        done.push_reserved(finish(rt, worker));
-    }
+    /// The next connection, for which this may wait; or none, if no further one is to be served.
+    fn next(&mut self) -> Option<(Self::Device, Self::Clock)>
+        ensures opens { IfSome result (λ r. opens self.old r.0 r.1 self.new) }
+        ensures stops { IfNone result (stops self.old self.new) }
+        ensures reads { IfSome result (λ r. Self.Device.read_failures r.0 < 2 ^ 64 - 1) }
+        ensures writes { IfSome result (λ r. Self.Device.write_failures r.0 < 2 ^ 64 - 1) };
+
+    /// Is told how the connection that came last has ended.
+    fn end(&self, outcome: Result<usize, ServeError>);
 }

@@ -4,8 +4,10 @@ ghost use Rattle.nfs_core.specs.Safe.{IsSafe};
 ghost use Rattle.nfs_core.specs.Server.{IsLawful};
 ghost use Rattle.nfs_threads.specs.Links.{tcp};
 ghost use Rattle.nfs_threads.specs.Rooms.{HaveRoom};
-ghost use Rattle.nfs_threads.specs.Run.{IsRun, receipts_by_connection};
-ghost use Rattle.nfs_threads.specs.declared.tcp_link.TcpLink.{TcpLink};
+ghost use Rattle.nfs_threads.specs.Run.{IsRun, receipts_by_worker};
+ghost use Rattle.nfs_threads.specs.declared.tcp_links.Entrance.TheVariants as entrances;
+ghost use Rattle.nfs_threads.specs.declared.tcp_links.TcpLinks.{TcpLinks};
+ghost use Rattle.nfs_threads.specs.declared.watcher.Nobody.{Nobody};
 ghost use Rattle.nfs_owners.specs.Registry.{is_live};
 ghost use Rattle.nfs_threads.specs.Worker.{AreEndsOf, AreUnused, receipts_back, seats_back, seats_of};
 ghost use Rattle.nfs_shared.specs.Ends.{AllApart, AllStand, AreKept, receipts_in};
@@ -16,9 +18,13 @@ ghost use Rattle.nfs_state.specs.Stored.{meaning};
 use crate::bell::Bell;
 use crate::lists::{Lists, Parts};
 use crate::sweeping::sweep_until;
-use crate::{ConnectionEnd, RunEnd, TcpLink, Uptime, WorkerEnd, serve_all, workers_keep_receipts};
+use crate::tcp_links::Entrance;
+use crate::watcher::Nobody;
+use crate::{
+    Door, RunEnd, Shift, TcpLinks, Uptime, Watcher, WorkerAccount, WorkerEnd, serve_all,
+    workers_keep_receipts,
+};
 use nfs_core::Core;
-use nfs_server::ServeError;
 use nfs_shared::{Naming, Opened, Receipt, Seat, Shared, Sweeper};
 use nfs_tree::Tree;
 use std::alloc::Global;
@@ -33,7 +39,7 @@ use std::time::{Clock as Timer, Duration};
 /// and ends when all of them have ended. Meanwhile clients are removed whose leases are over, by one more thread. It
 /// returns the core as the connections left it, how each of them ended, and whether that thread could be made: if not,
 /// the connections are served all the same, and no lease ends. If memory is refused for the state, the core comes back;
-/// if it is for the workers, each connection ends with the error `Memory`, and none is accepted.
+/// if it is for the workers, each of them ends for want of memory, and no connection is accepted.
 pub fn serve_on<R: Threads + Wait + Timer + Sync>(
     alloc: Global,
     rt: &R,
@@ -45,8 +51,9 @@ pub fn serve_on<R: Threads + Wait + Timer + Sync>(
     requires empty { core.journal.entries ≡ [] }
     requires nobody { (number : ℕ) → IsFalse (is_live number core.stored.clients) }
     requires nodes { core.journal.nodes ≡ tree.now.nodes }
-    ensures served { IfOk result (λ r. (link : TcpLink R) × (link.listener.now ≡ listener.now)
-        × IsRun link tree.now connections core r.core r.connections.items) }
+    ensures served { IfOk result (λ r. (links : TcpLinks R Nobody)
+        × (links.entrance ≡ entrances.Listener listener.entry)
+        × IsRun links tree.now connections core r.core r.workers.items) }
     ensures back { IfErr result (λ back. back ≡ core) }
 {
     let Ok(opened) = Opened::new(alloc, connections) else {
@@ -54,32 +61,69 @@ pub fn serve_on<R: Threads + Wait + Timer + Sync>(
     };
     // Where the clock can't be read now and can be later, moments count from its own beginning.
     let start = rt.monotonic().unwrap_or(Duration::ZERO);
-    let bell = Bell::new();
+    let (bell, watcher) = (Bell::new(), Nobody);
     let setting = Setting {
         alloc,
         rt,
         tree,
         start,
         bell: &bell,
+        watcher: &watcher,
     };
-    let link = TcpLink::new(rt, start, listener);
-    run::<Brand, R>(&setting, &link, connections, opened, core)
+    let links = TcpLinks::new(rt, start, &bell, &watcher, Entrance::Listener(listener));
+    run::<Brand, R, Nobody>(&setting, &links, connections, opened, core)
 }
 
-// What all connections have in common, and the bell that tells their end.
+/// Serves the connections that come through the door, one after the other at each worker, and ends when the door is closed
+/// and all of them have ended. Else it is as `serve_on`; the watcher is told of the run, and sees the core.
+pub fn serve_through<R: Threads + Wait + Timer + Sync, W: Watcher + Sync>(
+    alloc: Global,
+    rt: &R,
+    door: &Door,
+    watcher: &W,
+    core: Core,
+    tree: &Tree,
+) -> Result<RunEnd, Core>
+    requires empty { core.journal.entries ≡ [] }
+    requires nobody { (number : ℕ) → IsFalse (is_live number core.stored.clients) }
+    requires nodes { core.journal.nodes ≡ tree.now.nodes }
+    ensures served { IfOk result (λ r. (links : TcpLinks R W)
+        × (links.entrance ≡ entrances.Door door.entry)
+        × IsRun links tree.now door.now.workers core r.core r.workers.items) }
+    ensures back { IfErr result (λ back. back ≡ core) }
+{
+    let workers = door.workers();
+    let Ok(opened) = Opened::new(alloc, workers) else {
+        return Err(core);
+    };
+    let start = rt.monotonic().unwrap_or(Duration::ZERO);
+    let setting = Setting {
+        alloc,
+        rt,
+        tree,
+        start,
+        bell: door.bell(),
+        watcher,
+    };
+    let links = TcpLinks::new(rt, start, door.bell(), watcher, Entrance::Door(door));
+    run::<Brand, R, W>(&setting, &links, workers, opened, core)
+}
+
+// What all connections have in common, the bell that tells their end, and who watches.
 #[derive(Drop)]
-struct Setting<'a, R> {
+struct Setting<'a, R, W> {
     alloc: Global,
     rt: &'a R,
     tree: &'a Tree,
     start: Duration,
     bell: &'a Bell,
+    watcher: &'a W,
 }
 
 // Serves in a run of this name. No type of the signature may rest on the name.
-fn run<N: Naming + Send + Sync, R: Threads + Wait + Timer + Sync>(
-    setting: &Setting<'_, R>,
-    link: &TcpLink<'_, R>,
+fn run<N: Naming + Send + Sync, R: Threads + Wait + Timer + Sync, W: Watcher + Sync>(
+    setting: &Setting<'_, R, W>,
+    links: &TcpLinks<'_, R, W>,
     connections: u32,
     opened: Opened,
     core: Core,
@@ -88,10 +132,10 @@ fn run<N: Naming + Send + Sync, R: Threads + Wait + Timer + Sync>(
     requires count { opened.workers ≡ connections }
     requires nodes { core.journal.nodes ≡ setting.now.tree.now.nodes }
     ensures served { IfOk result
-        (λ r. IsRun link.now setting.now.tree.now connections core r.core r.connections.items) }
+        (λ r. IsRun links.now setting.now.tree.now connections core r.core r.workers.items) }
     ensures back { IfErr result (λ back. back ≡ core) }
 {
-    let Ok(lists) = Lists::<N, R>::new(setting.alloc, connections as usize) else {
+    let Ok(lists) = Lists::<N, R, W>::new(setting.alloc, connections as usize) else {
         return Err(core);
     };
     let (shared, seats, sweeper) = match Shared::<N>::new(setting.alloc, opened, core) {
@@ -99,45 +143,45 @@ fn run<N: Naming + Send + Sync, R: Threads + Wait + Timer + Sync>(
         Err(core) => return Err(core),
     };
     let Lists {
-        mut links,
+        links: mut all,
         spare,
         parts,
-        ended,
+        accounts,
     } = lists;
-    link_all(link, seats, &mut links);
-    let (all, sweeper, is_swept) = serve_swept(setting, &shared, sweeper, links, spare);
-    workers_keep_receipts::<N, TcpLink<'_, R>>();
-    let (core, connections) = end(shared, sweeper, all, parts, ended);
+    link_all(links, seats, &mut all);
+    let (ends, sweeper, is_swept) = serve_swept(setting, &shared, sweeper, all, spare);
+    workers_keep_receipts::<N, TcpLinks<'_, R, W>>();
+    let (core, workers) = end(shared, sweeper, ends, parts, accounts);
     Ok(RunEnd {
         core,
-        connections,
+        workers,
         is_swept,
     })
 }
 
-// The link, for each of the seats.
-fn link_all<'a, N: Naming, R>(
-    link: &TcpLink<'a, R>,
+// The links, for each of the seats.
+fn link_all<'a, N: Naming, R, W>(
+    links: &TcpLinks<'a, R, W>,
     seats: Vec<Seat<N>>,
-    links: &mut Vec<(TcpLink<'a, R>, Seat<N>)>,
+    all: &mut Vec<(TcpLinks<'a, R, W>, Seat<N>)>,
 )
-    requires empty { links.old.items ≡ [] }
-    requires room { vec_len seats ≤ vec_capacity links.old }
-    ensures same { AllByRecursion (λ l. l.0 ≡ link.now) links.new.items }
-    ensures seats { seats_of links.new.items ≡ seats.items }
+    requires empty { all.old.items ≡ [] }
+    requires room { vec_len seats ≤ vec_capacity all.old }
+    ensures same { AllByRecursion (λ l. l.0 ≡ links.now) all.new.items }
+    ensures seats { seats_of all.new.items ≡ seats.items }
 {
     for seat in seats {
-        links.push_reserved((link.again(), seat));
+        all.push_reserved((links.again(), seat));
     }
 }
 
 // Serves the links, while another thread sweeps, and says whether one did. What the workers give back is put into `spare`
 // if they can't begin.
-fn serve_swept<N: Naming + Send + Sync, R: Threads + Wait + Timer + Sync>(
-    setting: &Setting<'_, R>,
+fn serve_swept<N: Naming + Send + Sync, R: Threads + Wait + Timer + Sync, W: Watcher + Sync>(
+    setting: &Setting<'_, R, W>,
     shared: &Shared<N>,
     sweeper: Sweeper<N>,
-    links: Vec<(TcpLink<'_, R>, Seat<N>)>,
+    links: Vec<(TcpLinks<'_, R, W>, Seat<N>)>,
     spare: Vec<WorkerEnd<N>>,
 ) -> (Vec<WorkerEnd<N>>, Sweeper<N>, bool)
     requires nodes { N.start.nodes ≡ setting.now.tree.now.nodes }
@@ -159,12 +203,18 @@ fn serve_swept<N: Naming + Send + Sync, R: Threads + Wait + Timer + Sync>(
 
 // Serves the links, while a thread of this scope sweeps, and tells it their end. Where none can be made, the sweeper is
 // asked for once the links are served: it finds the end told, and comes back without a sweep.
-fn serve_beside_sweep<'s, E, N: Naming + Send + Sync + 's, R: Threads + Wait + Timer + Sync>(
+fn serve_beside_sweep<
+    's,
+    E,
+    N: Naming + Send + Sync + 's,
+    R: Threads + Wait + Timer + Sync,
+    W: Watcher + Sync,
+>(
     scope: &Scope<'s, E>,
-    setting: &'s Setting<'s, R>,
+    setting: &'s Setting<'s, R, W>,
     shared: &'s Shared<N>,
     sweeper: Sweeper<N>,
-    links: Vec<(TcpLink<'_, R>, Seat<N>)>,
+    links: Vec<(TcpLinks<'_, R, W>, Seat<N>)>,
     spare: Vec<WorkerEnd<N>>,
 ) -> (Vec<WorkerEnd<N>>, Sweeper<N>, bool)
     requires nodes { N.start.nodes ≡ setting.now.tree.now.nodes }
@@ -186,21 +236,22 @@ fn serve_beside_sweep<'s, E, N: Naming + Send + Sync + 's, R: Threads + Wait + T
 }
 
 // Sweeps until the end of the connections is told, and gives the sweeper back.
-fn sweep<N: Naming, R: Wait + Timer>(
-    setting: &Setting<'_, R>,
+fn sweep<N: Naming, R: Wait + Timer, W: Watcher>(
+    setting: &Setting<'_, R, W>,
     shared: &Shared<N>,
     mut sweeper: Sweeper<N>,
 ) -> Sweeper<N> {
     let mut uptime = Uptime::since(setting.rt, setting.start);
-    sweep_until(setting.rt, shared, &mut sweeper, &mut uptime, setting.bell);
+    let (bell, watcher) = (setting.bell, setting.watcher);
+    sweep_until(setting.rt, shared, &mut sweeper, &mut uptime, bell, watcher);
     sweeper
 }
 
-// The links get no worker, as memory is refused: none is opened, and the seats come back.
-fn refuse_all<N: Naming, R>(
+// The links get no worker, as memory is refused: none is served, and the seats come back.
+fn refuse_all<N: Naming, R, W>(
     alloc: Global,
     tree: &Tree,
-    links: Vec<(TcpLink<'_, R>, Seat<N>)>,
+    links: Vec<(TcpLinks<'_, R, W>, Seat<N>)>,
     spare: Vec<WorkerEnd<N>>,
 ) -> Vec<WorkerEnd<N>>
     requires unused { AreUnused (seats_of links.items) }
@@ -210,63 +261,62 @@ fn refuse_all<N: Naming, R>(
 {
     let mut all = spare;
     for (_, seat) in links {
-        all.push_reserved(WorkerEnd {
-            result: Err(ServeError::Memory),
-            seat,
-            receipts: Vec::new(alloc),
-        });
+        all.push_reserved(WorkerEnd::without_connections(alloc, seat));
     }
     all
 }
 
-// The core at the end, and how the connections ended.
+// The core at the end, and what each worker did.
 fn end<N: Naming>(
     shared: Shared<N>,
     sweeper: Sweeper<N>,
     all: Vec<WorkerEnd<N>>,
     mut parts: Parts<N>,
-    ended: Vec<ConnectionEnd>,
-) -> (Core, Vec<ConnectionEnd>)
+    accounts: Vec<WorkerAccount>,
+) -> (Core, Vec<WorkerAccount>)
     requires seats { length (seats_back all.items) ≡ N.run.workers }
     requires kept { AreKept (seats_back all.items) (receipts_back all.items) }
     requires parts { HaveRoom (length all.items) parts }
-    requires none { ended.items ≡ [] }
-    requires room { length all.items ≤ vec_capacity ended }
+    requires none { accounts.items ≡ [] }
+    requires room { length all.items ≤ vec_capacity accounts }
     ensures start { start_of result.0.journal ≡ N.start }
     ensures lawful { IsLawful result.0 }
     ensures safe { IsSafe (meaning result.0.stored) }
     ensures stand { AllStand result.0.journal.entries (receipts_back all.items) }
     ensures apart { AllApart (receipts_back all.items) }
     ensures counted { calls_in result.0.journal.entries ≡ receipts_in (receipts_back all.items) }
-    ensures results { map (λ e. e.result) result.1.items ≡ map (λ d. d.result) all.items }
-    ensures receipts { receipts_by_connection result.1.items ≡ receipts_back all.items }
+    ensures shifts { map (λ a. a.shift) result.1.items ≡ map (λ e. e.shift) all.items }
+    ensures receipts { receipts_by_worker result.1.items ≡ receipts_back all.items }
 {
     parts.take(all);
     let Parts {
-        results,
+        shifts,
         seats,
         receipts,
     } = parts;
     let core = shared.end(receipts.as_slice(), seats, sweeper);
-    (core, pair(results.as_slice(), receipts, ended))
+    (core, pair(shifts, receipts, accounts))
 }
 
-// Each result with the receipts at its place.
+// Each shift with the receipts at its place.
 fn pair(
-    results: &[Result<usize, ServeError>],
+    shifts: Vec<Shift>,
     receipts: Vec<Vec<Receipt>>,
-    ended: Vec<ConnectionEnd>,
-) -> Vec<ConnectionEnd>
-    requires count { length results.now ≡ vec_len receipts }
-    requires empty { ended.items ≡ [] }
-    requires room { vec_len receipts ≤ vec_capacity ended }
-    ensures results { map (λ e. e.result) result.items ≡ results.now }
-    ensures receipts { receipts_by_connection result.items ≡ map (λ v. v.items) receipts.items }
+    accounts: Vec<WorkerAccount>,
+) -> Vec<WorkerAccount>
+    requires count { vec_len shifts ≡ vec_len receipts }
+    requires empty { accounts.items ≡ [] }
+    requires room { vec_len receipts ≤ vec_capacity accounts }
+    ensures shifts { map (λ a. a.shift) result.items ≡ shifts.items }
+    ensures receipts { receipts_by_worker result.items ≡ map (λ v. v.items) receipts.items }
 {
-    let mut all = ended;
+    let mut all = accounts;
+    let mut shifts = shifts.into_iter();
     for receipts in receipts {
-        let result = results[all.len()];
-        all.push_reserved(ConnectionEnd { result, receipts });
+        let Some(shift) = shifts.next() else {
+            unreachable!()
+        };
+        all.push_reserved(WorkerAccount { shift, receipts });
     }
     all
 }

@@ -1,4 +1,4 @@
-use crate::ConnectionEnd;
+use crate::WorkerAccount;
 use nfs_core::Core;
 
 /// What a run of connections leaves.
@@ -6,8 +6,8 @@ use nfs_core::Core;
 pub struct RunEnd {
     /// The core that they shared, with its journal.
     pub core: Core,
-    /// How each of them ended, in the order of their seats.
-    pub connections: Vec<ConnectionEnd>,
+    /// What each worker served, in the order of their seats.
+    pub workers: Vec<WorkerAccount>,
     /// Whether a thread swept leases meanwhile. Where none could be made, no lease ended.
     pub is_swept: bool,
 }

@@ -1,5 +1,5 @@
-use crate::Uptime;
 use crate::bell::Bell;
+use crate::{Uptime, Watcher};
 use nfs_server::Clock;
 use nfs_shared::{Naming, Shared, Sweeper};
 use std::sync::Wait;
@@ -8,18 +8,36 @@ use std::time::{Clock as Timer, Duration};
 // How many seconds it is from a sweep to the next one.
 const PERIOD: u64 = 1;
 
-/// Removes the clients whose leases are over, once a second, until the end of the connections is told.
-pub(crate) fn sweep_until<N: Naming, R: Wait + Timer>(
+// How many looks the watcher has after a sweep at most.
+const MOST_LOOKS: u32 = 4_096;
+
+/// Removes the clients whose leases are over, once a second, until the end of the run is told. Then the watcher looks.
+pub(crate) fn sweep_until<N: Naming, R: Wait + Timer, W: Watcher>(
     rt: &R,
     shared: &Shared<N>,
     sweeper: &mut Sweeper<N>,
     uptime: &mut Uptime<'_, R>,
     bell: &Bell,
+    watcher: &W,
 ) {
     for _ in rt.forever() {
         if bell.wait(rt, Duration::from_secs(PERIOD)) {
             return;
         }
         shared.sweep(rt, sweeper, uptime.now());
+        show(rt, shared, watcher);
+    }
+}
+
+// Has the watcher look at the core, and write down what it sees, as often as it wants to, each time in a hold of its own.
+fn show<N: Naming, R: Wait, W: Watcher>(rt: &R, shared: &Shared<N>, watcher: &W) {
+    for _ in 0..MOST_LOOKS {
+        let hold = shared.hold(rt);
+        let sees_more = watcher.look(hold.core());
+        drop(hold);
+        if !sees_more {
+            return;
+        }
+        watcher.write_down();
     }
 }

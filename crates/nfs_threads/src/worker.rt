@@ -1,13 +1,11 @@
-ghost use Rattle.std.specs.Prelude.{◌≡◌, ◌-◌, ◌^◌, ◌<◌, ◌↔◌, IsErrOf, IsTrue};
-ghost use Rattle.nfs_server.specs.Connection.{HasCourse, scene};
-ghost use Rattle.nfs_server.specs.Exchange.{rules};
-ghost use Rattle.nfs_threads.specs.Worker.{IsEndOf, linking};
+ghost use Rattle.std.specs.Prelude.{◌≡◌, [], IsTrue};
+ghost use Rattle.nfs_threads.specs.Worker.{HasServed, IsEndOf, linking, stand};
 
-use crate::{Desk, Link, WorkerEnd};
-use nfs_server::{Clock, Duplex, ServeError, Service, serve_duplex};
+use crate::{ConnectionEnd, Desk, Links, Shift, WorkerEnd};
+use nfs_server::serve_duplex;
 use nfs_shared::{Naming, Seat, Shared};
 use nfs_tree::Tree;
-use std::alloc::Global;
+use std::alloc::{AllocError, Global};
 use std::snapshot::Snapshot;
 use std::sync::Wait;
 use std::sync::atomic::{AtomicBool, Ordering};
@@ -23,75 +21,92 @@ pub(crate) struct Common<'s, N: Naming, R> {
     pub(crate) tree: &'s Tree,
 }
 
-/// What is promised of a worker's result: that this link was served at this seat.
+/// What is promised of a worker's result: that these links were served at this seat.
 #[derive(Drop)]
 pub(crate) struct ServicePromise<N: Naming, L> {
     pub(crate) tree: Snapshot<Tree>,
-    pub(crate) link: Snapshot<L>,
+    pub(crate) links: Snapshot<L>,
     pub(crate) seat: Snapshot<Seat<N>>,
 }
 
-impl<N: Naming, L: Link> Promise<WorkerEnd<N>> for ServicePromise<N, L> {
-    ghost kept_by = { λ p done. IsEndOf
-        (linking L.opens L.Device.device L.Device.read_failures L.Device.write_failures L.Clock.tells)
-        p.tree.value p.link.value p.seat.value done };
+impl<N: Naming, L: Links> Promise<WorkerEnd<N>> for ServicePromise<N, L> {
+    ghost kept_by = { λ p end. IsEndOf
+        (linking L.opens L.stops L.Device.device L.Device.read_failures L.Device.write_failures L.Clock.tells)
+        p.tree.value p.links.value p.seat.value end };
 }
 
-/// Serves a link at a seat, in the thread that is to serve it. If no thread could be made for it, `refused` is set, and
-/// the worker gives its seat back at once, as if memory had run out.
-pub(crate) fn work<N: Naming, L: Link, R: Wait>(
+/// Serves connections at a seat, in the thread that is to serve them. If no thread could be made for them, `refused` is
+/// set, and the worker gives its seat back at once, as if memory had run out.
+pub(crate) fn work<N: Naming, L: Links + Drop, R: Wait>(
     common: &Common<'_, N, R>,
     refused: &AtomicBool,
-    link: L,
+    mut links: L,
     seat: Seat<N>,
 ) -> WorkerEnd<N>
     requires tree { N.start.nodes ≡ common.now.tree.now.nodes }
     requires unused { seat.receipts.given ≡ 0 }
     ensures { IsEndOf
-        (linking L.opens L.Device.device L.Device.read_failures L.Device.write_failures L.Clock.tells)
-        common.now.tree.now link seat result }
+        (linking L.opens L.stops L.Device.device L.Device.read_failures L.Device.write_failures L.Clock.tells)
+        common.now.tree.now links seat result }
 {
-    let (mut device, mut clock) = link.open();
     let mut desk = Desk::new(common.alloc, common.rt, common.shared, seat);
+    let mut connections = Vec::new(common.alloc);
     let refused = refused.load(Ordering::SeqCst);
-    let result = serve_unless(
-        refused,
-        common.alloc,
-        &mut device,
-        &mut desk,
-        common.tree,
-        &mut clock,
-    );
+    let end = serve_unless(refused, common, &mut links, &mut desk, &mut connections);
     let (seat, receipts) = desk.into_parts();
     WorkerEnd {
-        result,
+        shift: Shift { connections, end },
         seat,
         receipts,
     }
 }
 
-// Serves a connection, unless no thread could be made for it.
-fn serve_unless<D: Duplex, S: Service, C: Clock>(
+// Serves the connections, unless no thread could be made for them.
+fn serve_unless<N: Naming, L: Links, R: Wait>(
     refused: bool,
-    alloc: Global,
-    device: &mut D,
-    service: &mut S,
-    tree: &Tree,
-    clock: &mut C,
-) -> Result<usize, ServeError>
-    requires reads { D.read_failures device.old < 2 ^ 64 - 1 }
-    requires writes { D.write_failures device.old < 2 ^ 64 - 1 }
-    requires serves { S.serves service.old ≡ tree.now.nodes }
-    ensures course { HasCourse D.device (rules tree.now S.gives S.alike C.tells)
-        (scene device.old service.old clock.old) result (scene device.new service.new clock.new) }
-    ensures read_failed { IsErrOf result ServeError.Read
-        ↔ D.read_failures device.old < D.read_failures device.new }
-    ensures write_failed { IsErrOf result ServeError.Write
-        ↔ D.write_failures device.old < D.write_failures device.new }
-    ensures refused { IsTrue refused → result ≡ Err ServeError.Memory }
+    common: &Common<'_, N, R>,
+    links: &mut L,
+    desk: &mut Desk<'_, N, R>,
+    connections: &mut Vec<ConnectionEnd>,
+) -> Result<(), AllocError>
+    requires tree { N.start.nodes ≡ common.now.tree.now.nodes }
+    requires empty { connections.old.items ≡ [] }
+    ensures connections { HasServed
+        (linking L.opens L.stops L.Device.device L.Device.read_failures L.Device.write_failures L.Clock.tells)
+        common.now.tree.now (stand links.old desk.old) connections.new.items result
+        (stand links.new desk.new) }
+    ensures refused { IsTrue refused → connections.new.items ≡ [] }
 {
     if refused {
-        return Err(ServeError::Memory);
+        return Err(AllocError);
     }
-    serve_duplex(alloc, device, service, tree, clock)
+    serve_each(common, links, desk, connections)
+}
+
+// Serves the connections one after the other, until none is left or memory is refused for the list of them. The room for
+// a connection is made before it is taken.
+fn serve_each<N: Naming, L: Links, R: Wait>(
+    common: &Common<'_, N, R>,
+    links: &mut L,
+    desk: &mut Desk<'_, N, R>,
+    connections: &mut Vec<ConnectionEnd>,
+) -> Result<(), AllocError>
+    requires tree { N.start.nodes ≡ common.now.tree.now.nodes }
+    requires empty { connections.old.items ≡ [] }
+    ensures { HasServed
+        (linking L.opens L.stops L.Device.device L.Device.read_failures L.Device.write_failures L.Clock.tells)
+        common.now.tree.now (stand links.old desk.old) connections.new.items result
+        (stand links.new desk.new) }
+{
+    for _ in common.rt.forever() {
+        connections.reserve(1)?;
+        let Some((mut device, mut clock)) = links.next() else {
+            return Ok(());
+        };
+        let first = desk.count();
+        let result = serve_duplex(common.alloc, &mut device, desk, common.tree, &mut clock);
+        links.end(result);
+        connections.push_reserved(ConnectionEnd { result, first });
+    }
+    unreachable!()
 }

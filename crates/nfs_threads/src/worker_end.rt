@@ -1,19 +1,36 @@
-ghost use Rattle.std.specs.Prelude.{◌≡◌, IfErr, IfOk, map};
+ghost use Rattle.std.specs.Prelude.{◌≡◌, [], IfErr, IfOk, IsErr, map};
 ghost use Rattle.nfs_threads.specs.Worker.{receipts_back, seats_back};
 
-use nfs_server::ServeError;
+use crate::Shift;
 use nfs_shared::{Naming, Receipt, Seat};
-use std::alloc::Global;
+use std::alloc::{AllocError, Global};
 
-/// What a worker gives back: how its connection ended, its seat, and the receipts that the seat was given.
+/// What a worker gives back: what it served, its seat, and the receipts that the seat was given.
 #[derive(Drop)]
 pub struct WorkerEnd<N: Naming> {
-    pub result: Result<usize, ServeError>,
+    pub shift: Shift,
     pub seat: Seat<N>,
     pub receipts: Vec<Receipt>,
 }
 
 impl<N: Naming> WorkerEnd<N> {
+    /// What a worker gives back that took no connection, since memory is refused.
+    pub(crate) fn without_connections(alloc: Global, seat: Seat<N>) -> WorkerEnd<N>
+        ensures connections { result.shift.connections.items ≡ [] }
+        ensures end { IsErr result.shift.end }
+        ensures seat { result.seat ≡ seat }
+        ensures receipts { result.receipts.items ≡ [] }
+    {
+        WorkerEnd {
+            shift: Shift {
+                connections: Vec::new(alloc),
+                end: Err(AllocError),
+            },
+            seat,
+            receipts: Vec::new(alloc),
+        }
+    }
+
     /// The receipts of each worker and their seats, as `Shared::end` takes them. If memory is refused, all comes back.
     pub fn split(
         alloc: Global,
@@ -29,12 +46,12 @@ impl<N: Naming> WorkerEnd<N> {
         let Ok(mut seats) = Vec::with_capacity(alloc, all.len()) else {
             return Err(all);
         };
-        for done in all {
+        for end in all {
             let WorkerEnd {
-                result: _,
+                shift: _,
                 seat,
                 receipts: given,
-            } = done;
+            } = end;
             receipts.push_reserved(given);
             seats.push_reserved(seat);
         }

@@ -5,16 +5,16 @@ ghost use Rattle.nfs_shared.specs.Ends.{AreFresh, AreKept};
 ghost use Rattle.nfs_shared.specs.Seats.{SeatView};
 ghost use Rattle.nfs_tree.specs.Tree.{Files};
 
-use crate::Link;
+use crate::Links;
 use nfs_shared::Naming;
 
 /// The law that the seats and the receipts that workers give back are what `Shared::end` asks for, if their links were
 /// served at fresh seats, in the order of the places.
-pub fn workers_keep_receipts<N: Naming, L: Link>()
-    ensures { (tree : Files) (count : ℕ) (links : List (L × SeatView)) (dones : List (WorkerEnd N))
+pub fn workers_keep_receipts<N: Naming, L: Links>()
+    ensures { (tree : Files) (count : ℕ) (links : List (L × SeatView)) (ends : List (WorkerEnd N))
         → AreFresh count (seats_of links)
         → AreEndsOf
-        (linking L.opens L.Device.device L.Device.read_failures L.Device.write_failures L.Clock.tells)
-        tree links dones
-        → (length (seats_back dones) ≡ count) × AreKept (seats_back dones) (receipts_back dones) }
+        (linking L.opens L.stops L.Device.device L.Device.read_failures L.Device.write_failures L.Clock.tells)
+        tree links ends
+        → (length (seats_back ends) ≡ count) × AreKept (seats_back ends) (receipts_back ends) }
 {}

@@ -5,7 +5,7 @@ ghost use Rattle.nfs_shared.specs.Seats.{SeatView};
 ghost use Rattle.nfs_tree.specs.Tree.{Files};
 
 use crate::worker::{Common, ServicePromise, work};
-use crate::{Link, WorkerEnd};
+use crate::{Links, WorkerEnd};
 use nfs_shared::{Naming, Seat};
 use std::snapshot::Snapshot;
 use std::sync::Wait;
@@ -14,34 +14,34 @@ use std::thread::{PromisedHandle, Scope, Threads};
 
 /// The thread of a worker; or, where no thread could be made for it, what the worker gave back at once.
 #[derive(Drop)]
-pub(crate) enum Worker<N: Naming, L: Link> {
+pub(crate) enum Worker<N: Naming, L: Links> {
     Begun(PromisedHandle<WorkerEnd<N>, ServicePromise<N, L>>),
     Refused(WorkerEnd<N>),
 }
 
-/// Begins the worker of a link and a seat.
+/// Begins the worker of these links and a seat.
 pub(crate) fn begin<
     's,
     E,
     N: Naming + Send + Sync + 's,
-    L: Link + Drop + Send + 's,
+    L: Links + Drop + Send + 's,
     R: Wait + Sync,
 >(
     scope: &Scope<'s, E>,
     common: &'s Common<'s, N, R>,
     refused: &'s AtomicBool,
-    link: L,
+    links: L,
     seat: Seat<N>,
 ) -> Worker<N, L>
     requires tree { N.start.nodes ≡ common.now.tree.now.nodes }
     requires unused { seat.receipts.given ≡ 0 }
     ensures { IsWorker
-        (linking L.opens L.Device.device L.Device.read_failures L.Device.write_failures L.Clock.tells)
-        common.now.tree.now link seat result }
+        (linking L.opens L.stops L.Device.device L.Device.read_failures L.Device.write_failures L.Clock.tells)
+        common.now.tree.now links seat result }
 {
     let promise = ServicePromise {
         tree: Snapshot::of(common.tree),
-        link: Snapshot::of(&link),
+        links: Snapshot::of(&links),
         seat: Snapshot::of(&seat),
     };
     let begun = scope.spawn_with(
@@ -49,9 +49,9 @@ pub(crate) fn begin<
         move || -> WorkerEnd<N>
             requires { (N.start.nodes ≡ common.now.tree.now.nodes) × (seat.receipts.given ≡ 0) }
             ensures { IsEndOf
-                (linking L.opens L.Device.device L.Device.read_failures L.Device.write_failures L.Clock.tells)
-                common.entry.now.tree.now link seat result }
-        { work(common, refused, link, seat) },
+                (linking L.opens L.stops L.Device.device L.Device.read_failures L.Device.write_failures L.Clock.tells)
+                common.entry.now.tree.now links seat result }
+        { work(common, refused, links, seat) },
     );
     match begun {
         Ok(handle) => Worker::Begun(handle),
@@ -63,17 +63,17 @@ pub(crate) fn begin<
 }
 
 /// Waits for the end of a worker.
-pub(crate) fn finish<N: Naming, L: Link, R: Threads>(rt: &R, worker: Worker<N, L>) -> WorkerEnd<N>
-    ensures { (tree : Files) (link : L) (seat : SeatView)
+pub(crate) fn finish<N: Naming, L: Links, R: Threads>(rt: &R, worker: Worker<N, L>) -> WorkerEnd<N>
+    ensures { (tree : Files) (links : L) (seat : SeatView)
         → IsWorker
-        (linking L.opens L.Device.device L.Device.read_failures L.Device.write_failures L.Clock.tells)
-        tree link seat worker
+        (linking L.opens L.stops L.Device.device L.Device.read_failures L.Device.write_failures L.Clock.tells)
+        tree links seat worker
         → IsEndOf
-        (linking L.opens L.Device.device L.Device.read_failures L.Device.write_failures L.Clock.tells)
-        tree link seat result }
+        (linking L.opens L.stops L.Device.device L.Device.read_failures L.Device.write_failures L.Clock.tells)
+        tree links seat result }
 {
     match worker {
         Worker::Begun(handle) => handle.join(rt),
-        Worker::Refused(done) => done,
+        Worker::Refused(end) => end,
     }
 }

@@ -8,6 +8,6 @@ loop-seat-preserved g c = record {
   can = tt;
   finite = tt;
   room = search rules;
-  same = rw c.push_reserved.ensures.items (all_and_one (λ x. x.0 ≡ c.args.link.now) c.loop-seat.links.items (c.again.result, c.in-Some.seat) c.loop-seat.invariant.same c.again.ensures);
-  seats = rw c.push_reserved.ensures.items (map-append (λ x. x.1) c.loop-seat.links.items ((c.again.result, c.in-Some.seat) ∷ []) ∙ ap (λ s. s ++ c.in-Some.seat ∷ []) c.loop-seat.invariant.seats);
+  same = rw c.push_reserved.ensures.items (all_and_one (λ x. x.0 ≡ c.args.links.now) c.loop-seat.all.items (c.again.result, c.in-Some.seat) c.loop-seat.invariant.same c.again.ensures);
+  seats = rw c.push_reserved.ensures.items (map-append (λ x. x.1) c.loop-seat.all.items ((c.again.result, c.in-Some.seat) ∷ []) ∙ ap (λ s. s ++ c.in-Some.seat ∷ []) c.loop-seat.invariant.seats);
 }

@@ -8,7 +8,7 @@ abbrev pub invariant-loop-seat : goal.invariant-loop-seat
 invariant-loop-seat g l = record {
   can : (goal.iterator-loop-seat g).can_next l.seat-iterator;
   finite : (goal.iterator-loop-seat g).is_finite l.seat-iterator;
-  room : vec_len l.links + into_iter_len l.seat-iterator ≤ vec_capacity l.links;
-  same : AllByRecursion (λ x. x.0 ≡ l.link) l.links.items;
-  seats : seats_of l.links.items ≡ l.yielded;
+  room : vec_len l.all + into_iter_len l.seat-iterator ≤ vec_capacity l.all;
+  same : AllByRecursion (λ x. x.0 ≡ l.links) l.all.items;
+  seats : seats_of l.all.items ≡ l.yielded;
 }

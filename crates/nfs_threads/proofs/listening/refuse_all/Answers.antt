@@ -1,6 +1,6 @@
-use Rattle.std.proofs.Common.{refl, rules}
+use Rattle.std.proofs.Common.{rules}
 use Rattle.std.specs.Vec.Iter.{into_iter_items}
-use Rattle.nfs_threads.proofs.Connections.{is_refused, one_more_done}
+use Rattle.nfs_threads.proofs.Accounts.{is_refused, one_more_end}
 use Rattle.nfs_threads.proofs.Rest.{unused_rest}
 use Rattle.nfs_threads.specs.Links.{tcp}
 use Rattle.nfs_threads.proofs.listening.refuse_all.Goals as goal
@@ -14,6 +14,6 @@ loop-seat-preserved g c =
       finite = tt;
       room = search rules;
       unused = rest.1;
-      done = rw c.push_reserved.ensures.items (one_more_done tcp c.args.tree.now c.loop-seat.yielded c.loop-seat.all.items (link, seat) _ c.loop-seat.invariant.done
-          (is_refused c.args.tree.now link seat _ rest.0 refl refl c.new.ensures.items));
+      ends = rw c.push_reserved.ensures.items (one_more_end tcp c.args.tree.now c.loop-seat.yielded c.loop-seat.all.items (link, seat) _ c.loop-seat.invariant.ends
+          (is_refused tcp c.args.tree.now link seat c.without_connections.result rest.0 c.without_connections.ensures.connections c.without_connections.ensures.end c.without_connections.ensures.seat c.without_connections.ensures.receipts));
     }

@@ -3,12 +3,12 @@ use Rattle.std.specs.Vec.Iter.{into_iter_len}
 use Rattle.nfs_threads.specs.Worker.{receipts_back, seats_back}
 use Rattle.nfs_threads.proofs.worker_end.WorkerEnd.split.Given as goal
 
-abbrev pub invariant-loop-done : goal.invariant-loop-done
-invariant-loop-done g l = record {
-  can : (goal.iterator-loop-done g).can_next l.done-iterator;
-  finite : (goal.iterator-loop-done g).is_finite l.done-iterator;
-  more : vec_len l.receipts + into_iter_len l.done-iterator ≤ vec_capacity l.receipts;
-  room : vec_len l.seats + into_iter_len l.done-iterator ≤ vec_capacity l.seats;
+abbrev pub invariant-loop-end : goal.invariant-loop-end
+invariant-loop-end g l = record {
+  can : (goal.iterator-loop-end g).can_next l.end-iterator;
+  finite : (goal.iterator-loop-end g).is_finite l.end-iterator;
+  more : vec_len l.receipts + into_iter_len l.end-iterator ≤ vec_capacity l.receipts;
+  room : vec_len l.seats + into_iter_len l.end-iterator ≤ vec_capacity l.seats;
   receipts : map (λ v. v.items) l.receipts.items ≡ receipts_back l.yielded;
   seats : l.seats.items ≡ seats_back l.yielded;
 }

@@ -5,7 +5,7 @@ use Rattle.nfs_tree.specs.Tree.{Files}
 use Rattle.nfs_threads.specs.WorkerThread.{AreWorkers}
 use Rattle.nfs_threads.specs.Worker.{linking}
 use Rattle.nfs_threads.proofs.Workers.{Completes}
-use Rattle.nfs_threads.proofs.links.finish_all.Given as goal
+use Rattle.nfs_threads.proofs.serving.finish_all.Given as goal
 
 -- The workers that are left are those of some links; what is done of these is, after what is done so far, what is done
 -- of all links.
@@ -14,8 +14,8 @@ invariant-loop-worker g l = record {
   can : (goal.iterator-loop-worker g).can_next l.worker-iterator;
   finite : (goal.iterator-loop-worker g).is_finite l.worker-iterator;
   count : length (into_iter_items l.worker-iterator) ≡ into_iter_len l.worker-iterator;
-  room : vec_len l.done + into_iter_len l.worker-iterator ≤ vec_capacity l.done;
+  room : vec_len l.ends + into_iter_len l.worker-iterator ≤ vec_capacity l.ends;
   completes : (tree : Files) (links : List (g.row.L.Denot × SeatView))
-      → AreWorkers (linking g.L.Link.opens g.L.Device.Duplex.device g.L.Device.Duplex.read_failures g.L.Device.Duplex.write_failures g.L.Clock.Clock.tells) tree links l.fn.workers.items
-      → Completes (linking g.L.Link.opens g.L.Device.Duplex.device g.L.Device.Duplex.read_failures g.L.Device.Duplex.write_failures g.L.Clock.Clock.tells) tree links (into_iter_items l.worker-iterator) l.done.items;
+      → AreWorkers (linking g.L.Links.opens g.L.Links.stops g.L.Device.Duplex.device g.L.Device.Duplex.read_failures g.L.Device.Duplex.write_failures g.L.Clock.Clock.tells) tree links l.fn.workers.items
+      → Completes (linking g.L.Links.opens g.L.Links.stops g.L.Device.Duplex.device g.L.Device.Duplex.read_failures g.L.Device.Duplex.write_failures g.L.Clock.Clock.tells) tree links (into_iter_items l.worker-iterator) l.ends.items;
 }

@@ -1,0 +1,150 @@
+ghost use Rattle.std.specs.Prelude.{◌≡◌, ◌≤◌, ℕ, List, [], length, vec_capacity, vec_len, IfOk, IfErr};
+ghost use Rattle.std.specs.List.{AllByRecursion};
+ghost use Rattle.nfs_threads.specs.WorkerThread.{AreWorkers};
+ghost use Rattle.nfs_threads.specs.Worker.{AreEndsOf, AreUnused, linking, seats_of};
+ghost use Rattle.nfs_shared.specs.Seats.{SeatView};
+ghost use Rattle.nfs_tree.specs.Tree.{Files};
+
+use crate::worker::Common;
+use crate::worker_thread::{Worker, begin, finish};
+use crate::{Links, WorkerEnd};
+use nfs_shared::{Naming, Seat, Shared};
+use nfs_tree::Tree;
+use std::alloc::{AllocError, Global};
+use std::sync::Wait;
+use std::sync::atomic::AtomicBool;
+use std::thread;
+use std::thread::{Scope, Threads};
+
+/// Serves these links, each at its seat in a thread of its own. All threads are begun before the first is waited for, and
+/// what each worker gives back stands in the order of the links. If memory is refused for the lists, nothing begins and
+/// the links come back. A worker for which no thread can be made gives its seat back at once, and took no connection.
+pub fn serve_all<N: Naming + Send + Sync, L: Links + Drop + Send, R: Threads + Wait + Sync>(
+    alloc: Global,
+    rt: &R,
+    shared: &Shared<N>,
+    tree: &Tree,
+    links: Vec<(L, Seat<N>)>,
+) -> Result<Vec<WorkerEnd<N>>, Vec<(L, Seat<N>)>>
+    requires tree { N.start.nodes ≡ tree.now.nodes }
+    requires unused { AreUnused (seats_of links.items) }
+    ensures ends { IfOk result (λ ends. AreEndsOf
+        (linking L.opens L.stops L.Device.device L.Device.read_failures L.Device.write_failures L.Clock.tells)
+        tree.now links.items ends.items) }
+    ensures back { IfErr result (λ back. back ≡ links) }
+{
+    let Ok(flags) = clear_flags(alloc, links.len()) else {
+        return Err(links);
+    };
+    let flags = flags.as_slice();
+    let common = &Common {
+        alloc,
+        rt,
+        shared,
+        tree,
+    };
+    thread::scope(
+        thread::scope_env(),
+        rt,
+        |scope| -> Result<Vec<WorkerEnd<N>>, Vec<(L, Seat<N>)>>
+            requires { (length flags.now ≡ vec_len links) × (N.start.nodes ≡ common.now.tree.now.nodes)
+                × AreUnused (seats_of links.items) }
+            ensures ends { IfOk result (λ ends. AreEndsOf
+                (linking L.opens L.stops L.Device.device L.Device.read_failures L.Device.write_failures L.Clock.tells)
+                common.entry.now.tree.now links.items ends.items) }
+            ensures back { IfErr result (λ back. back ≡ links) }
+        { serve_in(scope, common, flags, links) },
+    )
+}
+
+// Serves these links, each in a thread of this scope. The lists stand in here and not in the closure above, since a closure that
+// is passed on may not hold a type with a promise of a type parameter.
+fn serve_in<
+    's,
+    E,
+    N: Naming + Send + Sync + 's,
+    L: Links + Drop + Send + 's,
+    R: Threads + Wait + Sync,
+>(
+    scope: &Scope<'s, E>,
+    common: &'s Common<'s, N, R>,
+    flags: &'s [AtomicBool],
+    links: Vec<(L, Seat<N>)>,
+) -> Result<Vec<WorkerEnd<N>>, Vec<(L, Seat<N>)>>
+    requires flags { length flags.now ≡ vec_len links }
+    requires tree { N.start.nodes ≡ common.now.tree.now.nodes }
+    requires unused { AreUnused (seats_of links.items) }
+    ensures ends { IfOk result (λ ends. AreEndsOf
+        (linking L.opens L.stops L.Device.device L.Device.read_failures L.Device.write_failures L.Clock.tells)
+        common.now.tree.now links.items ends.items) }
+    ensures back { IfErr result (λ back. back ≡ links) }
+{
+    let Ok(mut workers) = Vec::with_capacity(common.alloc, links.len()) else {
+        return Err(links);
+    };
+    let Ok(mut ends) = Vec::with_capacity(common.alloc, links.len()) else {
+        return Err(links);
+    };
+    begin_all(scope, common, flags, links, &mut workers);
+    finish_all(common.rt, workers, &mut ends);
+    Ok(ends)
+}
+
+// Flags that aren't set.
+fn clear_flags(alloc: Global, count: usize) -> Result<Vec<AtomicBool>, AllocError>
+    ensures { IfOk result (λ flags. vec_len flags ≡ count) }
+{
+    let mut flags = Vec::new(alloc);
+    for _ in 0..count {
+        flags.push(AtomicBool::new(false))?;
+    }
+    Ok(flags)
+}
+
+// Begins a worker for each of the links, in order.
+fn begin_all<'s, E, N: Naming + Send + Sync + 's, L: Links + Drop + Send + 's, R: Wait + Sync>(
+    scope: &Scope<'s, E>,
+    common: &'s Common<'s, N, R>,
+    mut flags: &'s [AtomicBool],
+    links: Vec<(L, Seat<N>)>,
+    workers: &mut Vec<Worker<N, L>>,
+)
+    requires flags { length flags.now ≡ vec_len links }
+    requires tree { N.start.nodes ≡ common.now.tree.now.nodes }
+    requires unused { AreUnused (seats_of links.items) }
+    requires empty { workers.old.items ≡ [] }
+    requires room { vec_len links ≤ vec_capacity workers.old }
+    ensures count { vec_len workers.new ≡ vec_len links }
+    ensures each { AreWorkers
+        (linking L.opens L.stops L.Device.device L.Device.read_failures L.Device.write_failures L.Clock.tells)
+        common.now.tree.now links.items workers.new.items }
+{
+    for (link, seat) in links {
+        let Some((refused, others)) = flags.split_first() else {
+            unreachable!()
+        };
+        flags = others;
+        workers.push_reserved(begin(scope, common, refused, link, seat));
+    }
+}
+
+// Waits for the end of each worker, in order.
+fn finish_all<N: Naming, L: Links, R: Threads>(
+    rt: &R,
+    workers: Vec<Worker<N, L>>,
+    ends: &mut Vec<WorkerEnd<N>>,
+)
+    requires empty { ends.old.items ≡ [] }
+    requires room { vec_len workers ≤ vec_capacity ends.old }
+    ensures { (tree : Files) (links : List (L × SeatView))
+        → AreWorkers
+        (linking L.opens L.stops L.Device.device L.Device.read_failures L.Device.write_failures L.Clock.tells)
+        tree links workers.items
+        → AreEndsOf
+        (linking L.opens L.stops L.Device.device L.Device.read_failures L.Device.write_failures L.Clock.tells)
+        tree links ends.new.items }
+{
+    for worker in workers {
+        ends.push_reserved(finish(rt, worker));
+    }
+}

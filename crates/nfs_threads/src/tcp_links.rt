@@ -1,0 +1,101 @@
+ghost use Rattle.std.specs.Prelude.{◌≡◌};
+
+use crate::bell::Bell;
+use crate::{Door, Links, Peer, Socket, Uptime, Watcher};
+use nfs_server::ServeError;
+use std::net::TcpListener;
+use std::sync::Wait;
+use std::time::{Clock as Timer, Duration};
+
+/// Where a worker's connections come from.
+#[derive(Clone, Copy)]
+pub(crate) enum Entrance<'a> {
+    /// The next connection that comes to the listener, which is accepted by its first read.
+    Listener(&'a TcpListener),
+    /// No further one.
+    Nowhere,
+    /// All that come through the door, until it is closed.
+    Door(&'a Door),
+}
+
+/// The connections of a worker at a listener.
+#[derive(Drop)]
+pub struct TcpLinks<'a, R, W> {
+    rt: &'a R,
+    start: Duration,
+    bell: &'a Bell,
+    watcher: &'a W,
+    entrance: Entrance<'a>,
+    // Whose connection came last through the door.
+    peer: Option<Peer>,
+}
+
+impl<'a, R, W> TcpLinks<'a, R, W> {
+    /// `start` is what the monotonic clock showed when the run began, and the bell tells its end.
+    pub(crate) fn new(
+        rt: &'a R,
+        start: Duration,
+        bell: &'a Bell,
+        watcher: &'a W,
+        entrance: Entrance<'a>,
+    ) -> TcpLinks<'a, R, W>
+        ensures { result.entrance ≡ entrance.entry }
+    {
+        TcpLinks {
+            rt,
+            start,
+            bell,
+            watcher,
+            entrance,
+            peer: None,
+        }
+    }
+
+    /// The same once more.
+    pub(crate) fn again(&self) -> TcpLinks<'a, R, W>
+        ensures { result ≡ self.now }
+    {
+        TcpLinks {
+            rt: self.rt,
+            start: self.start,
+            bell: self.bell,
+            watcher: self.watcher,
+            entrance: self.entrance,
+            peer: self.peer,
+        }
+    }
+}
+
+impl<'a, R: Timer + Wait + Sync, W: Watcher + Sync> Links for TcpLinks<'a, R, W> {
+    type Device = Socket<'a, R>;
+
+    type Clock = Uptime<'a, R>;
+
+    ghost use Rattle.nfs_threads.specs.Links.{Opens, Stops};
+
+    ghost opens = { Opens };
+
+    ghost stops = { Stops };
+
+    fn next(&mut self) -> Option<(Socket<'a, R>, Uptime<'a, R>)> {
+        let socket = match self.entrance {
+            Entrance::Listener(listener) => {
+                self.entrance = Entrance::Nowhere;
+                Socket::to_accept(self.rt, self.bell, listener)
+            }
+            Entrance::Nowhere => return None,
+            Entrance::Door(door) => {
+                let (stream, peer) = door.next(self.rt, self.watcher, self.peer.is_some())?;
+                self.peer = Some(peer);
+                Socket::of_stream(self.rt, self.bell, stream)
+            }
+        };
+        Some((socket, Uptime::since(self.rt, self.start)))
+    }
+
+    fn end(&self, outcome: Result<usize, ServeError>) {
+        if let Some(peer) = self.peer {
+            self.watcher.tell_end(peer, outcome);
+        }
+    }
+}

@@ -1,0 +1,40 @@
+use crate::Peer;
+use nfs_core::Core;
+use nfs_server::ServeError;
+
+/// Watches a run while it goes on. What it does changes nothing of the run.
+pub trait Watcher {
+    /// Is told how the connection of this peer has ended.
+    fn tell_end(&self, peer: Peer, outcome: Result<usize, ServeError>);
+
+    /// Is told, once, that each worker has a connection, so that no further one is taken for now.
+    fn tell_full(&self, workers: u32);
+
+    /// Is told, once, that the system gave an error in place of a connection.
+    fn tell_refusal(&self);
+
+    /// Looks at the core, about once a second, while the lock is held. Returns whether there is something to write down,
+    /// and with it another look at once.
+    fn look(&self, core: &Core) -> bool;
+
+    /// Writes down what was seen, while the lock is free.
+    fn write_down(&self);
+}
+
+/// Nobody watches.
+#[derive(Drop)]
+pub(crate) struct Nobody;
+
+impl Watcher for Nobody {
+    fn tell_end(&self, _peer: Peer, _outcome: Result<usize, ServeError>) {}
+
+    fn tell_full(&self, _workers: u32) {}
+
+    fn tell_refusal(&self) {}
+
+    fn look(&self, _core: &Core) -> bool {
+        false
+    }
+
+    fn write_down(&self) {}
+}
