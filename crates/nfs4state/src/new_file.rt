@@ -1,3 +1,5 @@
+use nfs_program::Draft;
+use std::fs;
 use std::fs::File;
 use std::io::{self, Write};
 
@@ -35,5 +37,14 @@ impl Write for NewFile<'_, '_> {
             Some(file) => file.flush(),
             None => Ok(()),
         }
+    }
+}
+
+impl Draft for NewFile<'_, '_> {
+    fn remove(&mut self) -> io::Result<()> {
+        if self.file.is_none() {
+            return Ok(());
+        }
+        fs::remove_file(self.rt, self.path)
     }
 }

@@ -5,7 +5,7 @@ ghost use Rattle.nfs_options.specs.CommandLine.{audit, core_options, once, optio
 
 use crate::name::Name;
 use clap::error::ErrorKind;
-use clap::{Arg, Command, Error};
+use clap::{Arg, ArgAction, Command, Error};
 use std::alloc::{AllocError, Global};
 
 const PROGRAM_NOTE: &str = "Without a command it does what `nfs4state once` does without options.
@@ -80,7 +80,9 @@ fn serve_command<'a>(alloc: Global) -> Result<Command<'a>, AllocError>
         .about("Answers the records on TCP connections, each to its end")
         .after_help(SERVE_NOTE)
         .arg(listen)?
-        .arg(connections)?;
+        .arg(connections)?
+        .arg(Arg::new(alloc, "until-input-ends").long("until-input-ends").action(ArgAction::SetTrue))?
+        .arg(Arg::new(alloc, "until-killed").long("until-killed").action(ArgAction::SetTrue))?;
     with_core_options(alloc, serve)?.arg(journal_option(alloc))
 }
 

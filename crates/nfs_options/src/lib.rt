@@ -8,8 +8,10 @@ mod name;
 mod number_option;
 mod once_options;
 mod serve_options;
+mod until;
 
 pub use command_line::{Subcommand, options};
 pub use declined::Declined;
 pub use once_options::OnceOptions;
 pub use serve_options::ServeOptions;
+pub use until::Until;

@@ -1,0 +1,82 @@
+use crate::Draft;
+use crate::backlog::Backlog;
+use nfs_core::{Entry, Journal};
+use std::alloc::Global;
+use std::io::{Error, ErrorKind, Write};
+
+/// The beginning of a journal that grows, kept in a file of its own: that of the journal before its first entry, and then
+/// whole entries to the end. Where it can't be kept any further, that is told once.
+#[derive(Drop)]
+pub struct Beginning<'a, D> {
+    name: &'a str,
+    draft: D,
+    state: State,
+}
+
+// Whether the file can be kept.
+#[derive(Drop)]
+enum State {
+    Kept(Backlog),
+    // It can't, which isn't told yet.
+    Lost(Error),
+    GivenUp,
+}
+
+impl<'a, D: Draft> Beginning<'a, D> {
+    /// The beginning of this journal, which has no entries, for the file of this name. Nothing is written yet.
+    pub fn new(alloc: Global, name: &'a str, draft: D, journal: &Journal) -> Beginning<'a, D> {
+        let state = match Backlog::of(alloc, journal) {
+            Ok(backlog) => State::Kept(backlog),
+            Err(_) => State::Lost(Error::from(ErrorKind::OutOfMemory)),
+        };
+        Beginning { name, draft, state }
+    }
+
+    /// Takes the next of the journal's entries, and returns whether some were left. Nothing is written yet.
+    pub(crate) fn take(&mut self, entries: &[Entry]) -> bool {
+        let State::Kept(backlog) = &mut self.state else {
+            return false;
+        };
+        match backlog.take(entries) {
+            Ok(are_left) => are_left,
+            Err(_) => {
+                self.state = State::Lost(Error::from(ErrorKind::OutOfMemory));
+                false
+            }
+        }
+    }
+
+    /// Writes what was taken.
+    pub(crate) fn write(&mut self) {
+        if let State::Kept(backlog) = &mut self.state {
+            match self.draft.write_all(backlog.as_slice()) {
+                Ok(()) => backlog.clear(),
+                Err(error) => self.state = State::Lost(error),
+            }
+        }
+    }
+
+    /// Tells where it can't be kept any further, if that wasn't told.
+    pub(crate) fn tell<E: Write>(&mut self, lines: &mut E) {
+        if let State::Lost(error) = &self.state {
+            let _ = writeln!(lines, "{}: {error}; the run goes on without it", self.name);
+            self.state = State::GivenUp;
+        }
+    }
+
+    /// Brings the file up to the journal's last entry.
+    pub(crate) fn complete(&mut self, entries: &[Entry]) {
+        for _ in 0..=entries.len() {
+            let are_left = self.take(entries);
+            self.write();
+            if !are_left {
+                return;
+            }
+        }
+    }
+
+    /// Removes the file, if that can be done.
+    pub(crate) fn remove(&mut self) {
+        let _ = self.draft.remove();
+    }
+}
