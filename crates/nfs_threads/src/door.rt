@@ -118,6 +118,8 @@ impl Door {
         );
         lobby.waiting = lobby.waiting.saturating_sub(1);
         let arrival = mem::take(&mut lobby.arrival);
+        // There is room for the next one.
+        self.asked.notify_one();
         if lobby.is_closed { None } else { arrival }
     }
 

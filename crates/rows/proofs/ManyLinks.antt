@@ -1,26 +1,19 @@
 -- Links that were served at once.
 use Rattle.std.proofs.Common.{◌≡◌, ℕ, zero, suc, ◌+◌, List, [], ◌∷◌, ◌++◌, ◌∙◌, length, ap, arith, refl, subst, length-append}
 use Rattle.std.proofs.lemmas.List.{length-map}
-use Rattle.nfs_server.specs.Connection.{scene}
-use Rattle.nfs_server.specs.Exchange.{rules}
 use Rattle.nfs_shared.specs.Ends.{IsKept}
 use Rattle.nfs_shared.specs.Seats.{SeatView}
-use Rattle.nfs_threads.specs.Holding.{AreAlikeButRoom, GivenBySeat}
-use Rattle.nfs_threads.specs.Receipts.{ReceiptsAreQuestions}
+use Rattle.nfs_threads.specs.Parts.{HasParts}
 use Rattle.nfs_threads.specs.Worker.{AreEndsOf, IsEndOf, Linking, seats_of}
 use Rattle.nfs_threads.specs.declared.worker_end.WorkerEnd.{WorkerEnd}
 use Rattle.nfs_tree.specs.Tree.{Files}
 use Rattle.rows.proofs.Handing.{fresh_back, fresh_later}
 use Rattle.rows.specs.Places.{AreBackFrom, AreFreshFrom, AreServed}
 
--- a worker gives back the seat of its link
-same_place : {N L D C : Type 0} (linking : Linking L D C) (tree : Files) (link : L) (seat : SeatView) (end : WorkerEnd N)
-    → ReceiptsAreQuestions linking.device (rules tree GivenBySeat AreAlikeButRoom linking.tells)
-    → IsEndOf linking tree link seat end → end.seat.place ≡ seat.place
-same_place linking tree link seat end law is =
-    ap (λ (s : SeatView). s.place) is.ended.0
-    ∙ (law (scene is.device is.desk is.clock) (scene is.device' is.desk' is.clock') is.course.0 end.result is.course.1).place
-    ∙ ap (λ (s : SeatView). s.place) is.begun.0
+-- a worker gives back the seat of its links
+abbrev pub KeepPlaces : (N : Type 0) {L D C : Type 0} → Linking L D C → Type 0
+KeepPlaces N {L = L} linking =
+    (tree : Files) (links : L) (seat : SeatView) (end : WorkerEnd N) → IsEndOf linking tree links seat end → HasParts linking tree links seat end
 
 as_many : {N L D C : Type 0} (linking : Linking L D C) (tree : Files) (links : List (L × SeatView)) (ends : List (WorkerEnd N))
     → AreEndsOf linking tree links ends → length ends ≡ length links
@@ -31,7 +24,7 @@ as_many linking tree (l ∷ links) (d ∷ ends) are = ap (λ n. suc n) (as_many 
 
 -- at fresh seats in the order of their places, these come back in that order
 back_in_order : {N L D C : Type 0} (linking : Linking L D C) (tree : Files) (first : ℕ) (links : List (L × SeatView)) (ends : List (WorkerEnd N))
-    → ReceiptsAreQuestions linking.device (rules tree GivenBySeat AreAlikeButRoom linking.tells)
+    → KeepPlaces N linking
     → AreEndsOf linking tree links ends → AreFreshFrom first (seats_of links) → AreBackFrom first ends
 back_in_order linking tree first [] [] law are seats k end at = absurd cc
 back_in_order linking tree first (l ∷ links) [] law are seats k end at = absurd are
@@ -39,14 +32,14 @@ back_in_order linking tree first [] (d ∷ ends) law are seats k end at = absurd
 back_in_order {N = N} linking tree first (l ∷ links) (d ∷ ends) law are seats zero end at =
     let same : d ≡ end = cc in
     subst (λ (e : WorkerEnd N). (e.seat.place ≡ first + zero) × IsKept e.seat e.receipts.items) same
-    (same_place linking tree l.0 l.1 d law are.0 ∙ ap (λ (s : SeatView). s.place) (seats zero l.1 refl), are.0.kept)
+    ((law tree l.0 l.1 d are.0).place ∙ ap (λ (s : SeatView). s.place) (seats zero l.1 refl), are.0.1)
 back_in_order linking tree first (l ∷ links) (d ∷ ends) law are seats (suc k) end at =
     let back = back_in_order linking tree (suc first) links ends law are.1 (fresh_later first l.1 (seats_of links) seats) k end at in
     let moved : suc first + k ≡ first + suc k = omega arith in
     (back.0 ∙ moved, back.1)
 
 pub served : {N L D C : Type 0} (linking : Linking L D C) (tree : Files) (links : List (L × SeatView)) (ends : List (WorkerEnd N))
-    → ReceiptsAreQuestions linking.device (rules tree GivenBySeat AreAlikeButRoom linking.tells)
+    → KeepPlaces N linking
     → AreEndsOf linking tree links ends → AreServed links ends
 served linking tree links ends law are =
     (as_many linking tree links ends are, λ first seats. back_in_order linking tree first links ends law are seats)

@@ -14,7 +14,6 @@ use crate::session::Session;
 use crate::sweeping::Sweeps;
 use nfs_core::Core;
 use nfs_server::{Lent, serve_duplex};
-use nfs_threads::Link;
 use nfs_tree::Tree;
 use std::alloc::Global;
 use std::io::{Read, Write};
@@ -83,7 +82,7 @@ impl Alone<'_> {
         piece: usize,
         mut connection: Connection,
     ) -> ConnectionOutcome {
-        let (mut device, mut clock) = connection.link(calls, piece).open();
+        let (mut device, mut clock) = connection.parts(calls, piece).open();
         let result = serve_duplex(
             self.alloc,
             &mut device,

@@ -1,7 +1,7 @@
 use crate::calls::Calls;
 use crate::failure::Failure;
 use crate::input::Input;
-use crate::memory_link::MemoryLink;
+use crate::memory_link::MemoryParts;
 use crate::rising::Rising;
 use crate::yielding::Yielding;
 use std::alloc::Global;
@@ -27,15 +27,18 @@ impl Connection {
         Ok(Connection { sent, replies })
     }
 
-    /// The connection as a link, of which a read gives at most a piece.
-    pub(crate) fn link<'a, 'c>(
+    /// What the connection is over: a read gives at most a piece.
+    pub(crate) fn parts<'a, 'c>(
         &'a mut self,
         calls: &'c Calls,
         piece: usize,
-    ) -> MemoryLink<'a, Yielding<'a>, Rising<'c>> {
+    ) -> MemoryParts<'a, Yielding<'a>, Rising<'c>> {
         let Connection { sent, replies } = self;
-        let source = Yielding::new(sent.as_slice(), piece);
-        MemoryLink::new(source, replies, Rising::new(calls))
+        MemoryParts {
+            source: Yielding::new(sent.as_slice(), piece),
+            replies,
+            clock: Rising::new(calls),
+        }
     }
 
     pub(crate) fn into_replies(self) -> Vec<u8> {

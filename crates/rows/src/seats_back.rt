@@ -76,7 +76,7 @@ impl<N: Naming> SeatsBack<N> {
     {
         for end in ends {
             let WorkerEnd {
-                result: _,
+                shift: _,
                 seat,
                 receipts,
             } = end;

@@ -24,8 +24,9 @@ use crate::workers::Workers;
 use crate::yielding::Yielding;
 use nfs_core::{Core, Moment};
 use nfs_leases::Swept;
+use nfs_server::ServeError;
 use nfs_shared::{Naming, Opened, Receipt, Seat, Shared, Sweeper};
-use nfs_threads::{Link, WorkerEnd};
+use nfs_threads::{Links, Shift, WorkerEnd};
 use nfs_tree::Tree;
 use std::alloc::{AllocError, Global};
 use std::io::{Read, Write};
@@ -222,13 +223,14 @@ fn links_of<'b, 'c, N: Naming>(
         let Some(seat) = left.next() else {
             return Err(Failure::Input);
         };
-        links.push((connection.link(calls, piece), seat))?;
+        let link = MemoryLink::new(connection.parts(calls, piece));
+        links.push((link, seat))?;
     }
     Ok(links)
 }
 
 // Serves these links at once, while another thread sweeps if that is wanted.
-fn serve_links<N: Naming + Send + Sync, L: Link + Drop + Send, R: Threads + Wait + Sync>(
+fn serve_links<N: Naming + Send + Sync, L: Links + Drop + Send, R: Threads + Wait + Sync>(
     workers: &Workers<'_, N, R>,
     links: Vec<(L, Seat<N>)>,
     calls: &Calls,
@@ -255,12 +257,20 @@ fn outcomes_of<N: Naming>(
     let mut outcomes = Vec::with_capacity(alloc, ends.len())?;
     for (end, connection) in ends.iter().zip(connections) {
         outcomes.push(ConnectionOutcome {
-            result: end.result,
+            result: result_of(&end.shift),
             replies: connection.into_replies(),
             receipts: numbers_of(alloc, end.receipts.as_slice())?,
         })?;
     }
     Ok(outcomes)
+}
+
+// How its one connection ended, which wasn't begun where memory or a thread was refused.
+fn result_of(shift: &Shift) -> Result<usize, ServeError> {
+    match shift.connections.first() {
+        Some(connection) => connection.result,
+        None => Err(ServeError::Memory),
+    }
 }
 
 fn numbers_of(alloc: Global, receipts: &[Receipt]) -> Result<Vec<u32>, AllocError> {

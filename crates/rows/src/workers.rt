@@ -5,10 +5,8 @@ ghost use Rattle.rows.specs.Places.{AreServed};
 use crate::calls::Calls;
 use crate::failure::Failure;
 use crate::sweeping::{Sweeps, sweep_until};
-use crate::yielding::Yielding;
-use nfs_server::Counted;
 use nfs_shared::{Naming, Seat, Shared, Sweeper};
-use nfs_threads::{Link, WorkerEnd, receipts_are_questions, serve_all};
+use nfs_threads::{Links, WorkerEnd, receipts_by_connection, serve_all};
 use nfs_tree::Tree;
 use std::alloc::Global;
 use std::sync::Wait;
@@ -27,7 +25,7 @@ pub(crate) struct Workers<'a, N: Naming, R> {
 
 impl<'a, N: Naming + Send + Sync, R: Threads + Wait + Sync> Workers<'a, N, R> {
     /// Serves these links at once, each at its seat and in a thread of its own, and waits for their ends.
-    pub(crate) fn serve<L: Link + Drop + Send>(
+    pub(crate) fn serve<L: Links + Drop + Send>(
         &self,
         links: Vec<(L, Seat<N>)>,
     ) -> Result<Vec<WorkerEnd<N>>, Failure>
@@ -38,12 +36,12 @@ impl<'a, N: Naming + Send + Sync, R: Threads + Wait + Sync> Workers<'a, N, R> {
         let Ok(ends) = serve_all(self.alloc, self.rt, self.shared, self.tree, links) else {
             return Err(Failure::Memory);
         };
-        receipts_are_questions::<L::Device, Counted<Yielding<'_>>, Counted<Vec<u8>>, L::Clock>();
+        receipts_by_connection::<N, L>();
         Ok(ends)
     }
 
     /// The same, while another thread sweeps. It gives the sweeper back.
-    pub(crate) fn serve_swept<L: Link + Drop + Send>(
+    pub(crate) fn serve_swept<L: Links + Drop + Send>(
         &self,
         links: Vec<(L, Seat<N>)>,
         calls: &Calls,
@@ -69,7 +67,7 @@ impl<'a, N: Naming + Send + Sync, R: Threads + Wait + Sync> Workers<'a, N, R> {
     }
 
     // Serves these links at once, and tells when they have ended.
-    fn serve_and_tell<L: Link + Drop + Send>(
+    fn serve_and_tell<L: Links + Drop + Send>(
         &self,
         links: Vec<(L, Seat<N>)>,
         is_over: &AtomicBool,
