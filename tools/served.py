@@ -12,6 +12,8 @@ import time
 from messages import split
 
 LISTENING = re.compile(rb"listening on 127\.0\.0\.1:([0-9]+)\n")
+# The line behind it, which says what is served.
+SERVING = re.compile(rb"serving [0-9]+ files, lease [0-9]+ s, epoch [0-9]+\n")
 # The seconds that a server has to begin or to end, and those in which a reply has to come, on however busy a machine.
 PATIENCE, REPLY_PATIENCE = 60, 20
 
@@ -23,10 +25,10 @@ def is_silent(stream, seconds):
 
 class Served:
     """A server, from its start to its end: a command that prints `listening on 127.0.0.1:PORT` on standard error. Where
-    it prints another line, or ends before it has printed one, it has no port."""
+    it prints another line, or ends before it has printed one, it has no port. It has no input, unless one is given."""
 
-    def __init__(self, command, **how):
-        streams = {"stdin": subprocess.DEVNULL, "stdout": subprocess.PIPE, "stderr": subprocess.PIPE, "bufsize": 0}
+    def __init__(self, command, stdin=subprocess.DEVNULL, **how):
+        streams = {"stdin": stdin, "stdout": subprocess.PIPE, "stderr": subprocess.PIPE, "bufsize": 0}
         self.program = subprocess.Popen(command, **streams, **how)
         self.errors = self.first_line()
         found = LISTENING.fullmatch(self.errors)
@@ -51,12 +53,13 @@ class Served:
         if self.program.poll() is None:
             self.program.kill()
             self.program.wait()
-        self.program.stdout.close()
-        self.program.stderr.close()
+        for stream in (self.program.stdin, self.program.stdout, self.program.stderr):
+            if stream is not None:
+                stream.close()
 
     def end(self, seconds=PATIENCE):
-        """How it ends by itself: its status, and what it has written on standard output and, behind the line with the
-        port, on standard error. The status is None where it doesn't end in time, and is killed."""
+        """How it ends by itself: its status, and what it has written on standard output and, behind the lines with the
+        port and of what is served, on standard error. The status is None where it doesn't end in time, and is killed."""
         try:
             output, errors = self.program.communicate(timeout=seconds)
             status = self.program.returncode
@@ -64,7 +67,11 @@ class Served:
             self.program.kill()
             output, errors = self.program.communicate()
             status = None
-        return status, output, self.errors + errors
+        return status, output, self.errors + SERVING.sub(b"", errors, count=1)
+
+    def end_input(self):
+        """Ends its input, which was a pipe."""
+        self.program.stdin.close()
 
     def is_running(self):
         return self.program.poll() is None

@@ -1,5 +1,5 @@
 -- The fault of a run that served connections.
-use Rattle.std.specs.Prelude.{Bool, if◌then◌else◌, List, [], ◌∷◌, Option, Some, None, Result, Ok, Err, true, false}
+use Rattle.std.specs.Prelude.{Bool, if◌then◌else◌, List, [], ◌∷◌, Option, Some, None, is_err}
 use Rattle.std.specs.Option.{option_or}
 use Rattle.std.specs.List.{list_any}
 use Rattle.nfs_threads.specs.declared.connection_end.ConnectionEnd.{ConnectionEnd}

@@ -1,3 +1,5 @@
+ghost use Rattle.std.specs.Prelude.{◌≡◌, []};
+
 use crate::Draft;
 use crate::backlog::Backlog;
 use nfs_core::{Entry, Journal};
@@ -24,7 +26,9 @@ enum State {
 
 impl<'a, D: Draft> Beginning<'a, D> {
     /// The beginning of this journal, which has no entries, for the file of this name. Nothing is written yet.
-    pub fn new(alloc: Global, name: &'a str, draft: D, journal: &Journal) -> Beginning<'a, D> {
+    pub fn new(alloc: Global, name: &'a str, draft: D, journal: &Journal) -> Beginning<'a, D>
+        requires none { journal.now.history.entries ≡ [] }
+    {
         let state = match Backlog::of(alloc, journal) {
             Ok(backlog) => State::Kept(backlog),
             Err(_) => State::Lost(Error::from(ErrorKind::OutOfMemory)),
@@ -49,9 +53,8 @@ impl<'a, D: Draft> Beginning<'a, D> {
     /// Writes what was taken.
     pub(crate) fn write(&mut self) {
         if let State::Kept(backlog) = &mut self.state {
-            match self.draft.write_all(backlog.as_slice()) {
-                Ok(()) => backlog.clear(),
-                Err(error) => self.state = State::Lost(error),
+            if let Err(error) = backlog.write_to(&mut self.draft) {
+                self.state = State::Lost(error);
             }
         }
     }

@@ -1,3 +1,7 @@
+ghost use Rattle.std.specs.Prelude.{◌≡◌, ◌+◌, ◌≤◌, drop, length, min, nat_le, nat_lt, take};
+ghost use Rattle.std.specs.List.{list_any};
+ghost use Rattle.nfs_program.specs.ReachedLimits.{after_telling, gives_last_client, has_last_client, noted};
+
 use nfs_core::{Entry, JOURNAL_LIMIT, Journal};
 use nfs_forms::Answer;
 use nfs_owners::CLIENT_LIMIT;
@@ -5,7 +9,7 @@ use nfs_xdr::OpResult;
 use std::io::Write;
 
 /// How many entries are looked at at once at most.
-const MOST_ENTRIES: usize = 4_096;
+pub(crate) const MOST_ENTRIES: usize = 4_096;
 
 /// Which limits a run has reached, as far as its journal shows it. Each is told once.
 #[derive(Drop)]
@@ -16,33 +20,47 @@ pub(crate) struct ReachedLimits {
     journal: Reach,
 }
 
+/// How far a run is from a limit.
 #[derive(Clone, Copy, Debug, PartialEq, Eq)]
-enum Reach {
+pub(crate) enum Reach {
     Below,
+    /// It has reached it, which wasn't told yet.
     Reached,
     Told,
 }
 
 impl Reach {
-    fn note(&mut self, is_reached: bool) {
-        if is_reached && *self == Reach::Below {
-            *self = Reach::Reached;
+    // What is known of the limit once it was looked whether it is reached.
+    fn noted(self, is_reached: bool) -> Reach
+        ensures { result ≡ noted self is_reached }
+    {
+        match self {
+            Reach::Below if is_reached => Reach::Reached,
+            reach => reach,
         }
     }
 
-    // Whether it is to be told now.
-    fn is_due(&mut self) -> bool {
-        let is_due = *self == Reach::Reached;
-        if is_due {
-            *self = Reach::Told;
+    // The same once it is told, if that is due.
+    fn told<E: Write>(self, lines: &mut E, what: &str, limit: usize) -> Reach
+        ensures { result ≡ after_telling self }
+    {
+        match self {
+            Reach::Reached => {
+                let _ = writeln!(lines, "{what}: {limit} of {limit}");
+                Reach::Told
+            }
+            reach => reach,
         }
-        is_due
     }
 }
 
 impl ReachedLimits {
     /// None, and no entry was looked at.
-    pub(crate) fn new() -> ReachedLimits {
+    pub(crate) fn new() -> ReachedLimits
+        ensures seen { result.seen ≡ 0 }
+        ensures clients { result.clients ≡ Reach.Below }
+        ensures journal { result.journal ≡ Reach.Below }
+    {
         ReachedLimits {
             seen: 0,
             clients: Reach::Below,
@@ -51,37 +69,57 @@ impl ReachedLimits {
     }
 
     /// Looks at the next of the journal's entries, and returns whether some were left.
-    pub(crate) fn look(&mut self, journal: &Journal) -> bool {
-        self.journal.note(journal.is_full());
-        let entries = journal.entries();
-        let Some(rest) = entries.get(self.seen..) else {
-            return false;
-        };
-        for entry in rest.iter().take(MOST_ENTRIES) {
-            self.clients.note(gives_last_client(entry));
-        }
-        self.seen = entries.len().min(self.seen.saturating_add(MOST_ENTRIES));
-        self.seen < entries.len()
+    pub(crate) fn look(&mut self, journal: &Journal) -> bool
+        ensures seen { self.new.seen
+            ≡ self.old.seen + min MOST_ENTRIES (length (drop self.old.seen journal.now.history.entries)) }
+        ensures clients { self.new.clients ≡ noted self.old.clients
+            (list_any gives_last_client
+            (take MOST_ENTRIES (drop self.old.seen journal.now.history.entries))) }
+        ensures journal { self.new.journal
+            ≡ noted self.old.journal (nat_le JOURNAL_LIMIT (length journal.now.history.entries)) }
+        ensures left { result ≡ nat_lt self.new.seen (length journal.now.history.entries) }
+    {
+        self.journal = self.journal.noted(journal.is_full());
+        let rest = journal.entries().get(self.seen..).unwrap_or_default();
+        let (next, _) = rest.split_at(rest.len().min(MOST_ENTRIES));
+        self.clients = self.clients.noted(give_last_client(next));
+        self.seen += next.len();
+        self.seen < journal.entries().len()
     }
 
     /// Tells those that weren't told.
-    pub(crate) fn tell<E: Write>(&mut self, lines: &mut E) {
-        if self.clients.is_due() {
-            let _ = writeln!(lines, "no client number is left: {CLIENT_LIMIT} of {CLIENT_LIMIT}");
-        }
-        if self.journal.is_due() {
-            let _ = writeln!(lines, "the journal is full: {JOURNAL_LIMIT} of {JOURNAL_LIMIT}");
-        }
+    pub(crate) fn tell<E: Write>(&mut self, lines: &mut E)
+        ensures seen { self.new.seen ≡ self.old.seen }
+        ensures clients { self.new.clients ≡ after_telling self.old.clients }
+        ensures journal { self.new.journal ≡ after_telling self.old.journal }
+    {
+        let most_clients = CLIENT_LIMIT as usize;
+        self.clients = self.clients.told(lines, "no client number is left", most_clients);
+        self.journal = self.journal.told(lines, "the journal is full", JOURNAL_LIMIT);
     }
 }
 
-// Whether the entry gives out the last client number that there is.
-fn gives_last_client(entry: &Entry) -> bool {
+// Whether one of the entries gives out the last client number that there is.
+fn give_last_client(entries: &[Entry]) -> bool
+    ensures { result ≡ list_any gives_last_client entries.now }
+{
+    entries.iter().any(|entry| gives_last_client(entry))
+}
+
+fn gives_last_client(entry: &Entry) -> bool
+    ensures { result ≡ gives_last_client entry.now }
+{
     match entry {
-        Entry::Call(call) => match &call.answer {
-            OpResult::Setclientid(Answer::Done(given)) => given.client.number == CLIENT_LIMIT,
-            _ => false,
-        },
+        Entry::Call(call) => has_last_client(&call.answer),
         Entry::Expire(_) => false,
+    }
+}
+
+fn has_last_client(answer: &OpResult) -> bool
+    ensures { result ≡ has_last_client answer.now }
+{
+    match answer {
+        OpResult::Setclientid(Answer::Done(given)) => given.client.number == CLIENT_LIMIT,
+        _ => false,
     }
 }
