@@ -2,9 +2,10 @@
 """The model's journals beside their rules; and, if it is given, a built program beside the model.
 
 For each row it makes the journal, which has to be lawful, to be read as it was written, and to be shown in words that
-spell it. With one word of one answer changed it has to be wrong at just that entry, or no journal: each word of the
+spell it; and each refusal in it has to be explained (check_reasons.py). With one word of one answer changed it has to be wrong at just that entry, or no journal: each word of the
 journals whose answers are short, and some words of the others, drawn with a fixed seed. Before these come files that
-are no journals, each with the reason, lists of nodes, and entries that can't follow.
+are no journals, each with the reason, lists of nodes, and entries that can't follow; refusals with their reasons; and
+beginnings of journals, and the tools that show them (check_beginnings.py).
 
 A program has to say of each of these files what the model says, and to write the model's file where `once` can carry
 the row."""
@@ -16,6 +17,8 @@ import sys
 sys.dont_write_bytecode = True
 
 import rows
+from check_beginnings import beginnings, check_beginnings
+from check_reasons import Explained, check_stories
 from check_rows import converse
 from entries import ARGUMENT_BYTES, Call, Expire, NotJournal, RESTS, answer_bytes, entry_bytes
 from journal import Recorder, STEPS, audit, head_bytes, journal_bytes, read_journal, verdict
@@ -94,7 +97,7 @@ def changed(journal, draw):
 
 def check_rows(files, program):
     """How many things are wrong."""
-    draw, wrong, judged, written = random.Random(1), 0, [], []
+    draw, wrong, judged, written, explained = random.Random(1), 0, [], [], Explained()
     counts = {"journals": 0, "entries": 0, "wrong answers": 0, "no journals": 0}
     for row in (row for path in files for file in rows.files_of(path) for row in rows.File(file).rows):
         journal, name = journal_of(row), f"{row.file}:{row.line}: {row.name}"
@@ -104,7 +107,7 @@ def check_rows(files, program):
             continue
         counts["journals"] += 1
         counts["entries"] += len(journal.entries)
-        found = list(wrong_with(journal))
+        found = [*wrong_with(journal), *explained.wrong_with(journal)]
         judged.append((name, journal_bytes(journal), (True, f"lawful: {len(journal.entries)} entries")))
         for number, data in changed(journal, draw):
             said = verdict(data)
@@ -116,6 +119,7 @@ def check_rows(files, program):
             print(f"{name}: {what}")
         wrong += len(found)
     print("check_journals: " + ", ".join(f"{count} {name}" for name, count in counts.items()))
+    print(f"check_journals: {explained}")
     if program is not None:
         wrong += check_program(program, judged, written)
     return wrong + (counts["journals"] == 0)
@@ -241,6 +245,7 @@ def files_of_cases():
     yield from ((name, data) for name, data, _ in verdicts())
     yield from other_lengths()
     yield from all_answers()
+    yield from beginnings()
     data, draw = journal_bytes(sample()), random.Random(2)
     yield from ((f"another word at {place}", with_other_word(data, place, draw)) for place in range(0, len(data), 4))
 
@@ -265,6 +270,7 @@ def main():
     parser.add_argument("files", nargs="+", metavar="FOLDER|FILE.rows")
     given = parser.parse_args()
     wrong = check_broken_files() + check_whole_files() + check_node_lists() + check_verdicts() + check_sample()
+    wrong += check_stories() + check_beginnings()
     for what in wrong:
         print(f"check_journals: {what}")
     try:

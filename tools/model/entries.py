@@ -31,12 +31,16 @@ class NotJournal(Unreadable):
     """The bytes are no journal; the argument says why."""
 
 
+class EndsEarly(NotJournal):
+    """The bytes may be the beginning of a journal, or of a part of one."""
+
+
 class StrictReader(wire.Reader):
     """Takes values that have one spelling, and says what is wrong with them."""
 
     def fixed(self, count):
         if len(self.data) - self.at < count:
-            raise NotJournal("it ends too early")
+            raise EndsEarly("it ends too early")
         return super().fixed(count)
 
     def opaque(self, limit=2**32 - 1):
@@ -47,6 +51,9 @@ class StrictReader(wire.Reader):
         if any(self.data[self.at - padding:self.at]):
             raise NotJournal("padding that isn't zero")
         return value
+
+    def bitmap(self):
+        return tuple(self.u32() for _ in range(self.u32()))
 
     def one_of(self, count, first=0):
         number = self.u32()

@@ -4,17 +4,17 @@ journal, or at which entry an answer is wrong.
 
 A journal has what a server began with, and an entry for each operation on its state and each other change of it:
 docs/JOURNAL.md has the file's layout. It is lawful where each entry may come next, by the model's rules, after those
-before it. `Recorder` is a model that keeps its journal."""
+before it. `Recorder` is a model that keeps its journal. `Growing` reads a file that is no whole journal yet."""
 import sys
 from collections import namedtuple
 from dataclasses import dataclass, field
 
 sys.dont_write_bytecode = True
 
-from entries import Answer, Call, Expire, NotJournal, StrictReader, entry_bytes, read_entry
+from entries import Answer, Call, EndsEarly, Expire, NotJournal, StrictReader, entry_bytes, read_entry
 from model import JOURNAL_LIMIT, Server
 from tree import CALLBACKS, DELEGATIONS, NAME_LIMIT, Node, Policy, Refused, TEXT_LIMIT, tree_of
-from wire import Status, Unreadable, opaque, u32
+from wire import Status, opaque, u32
 
 HEAD = b"NFSJRN01"
 LEASE_LIMIT = 86400
@@ -75,18 +75,20 @@ def node_bytes(node):
 def read_journal(data):
     """The journal of this file; or NotJournal."""
     reader = StrictReader(data)
-    try:
-        journal = read_whole(reader)
-    except NotJournal:
-        raise
-    except Unreadable:
-        raise NotJournal("it ends too early") from None
+    journal = read_whole(reader)
     if reader.at < len(data):
         raise NotJournal("bytes after the last entry")
     return journal
 
 
 def read_whole(reader):
+    journal, count = read_head(reader)
+    entries = [read_entry(reader, len(journal.tree.nodes)) for _ in range(count)]
+    return journal._replace(entries=entries)
+
+
+def read_head(reader):
+    """A journal without its entries, and their number as the file says it."""
     if reader.fixed(len(HEAD)) != HEAD:
         raise NotJournal("it begins with other bytes")
     epoch, lease = reader.u32(), reader.u32()
@@ -98,13 +100,63 @@ def read_whole(reader):
         tree = tree_of(nodes, policy)
     except Refused:
         raise NotJournal("nodes that no document gives") from None
-    entries = [read_entry(reader, len(tree.nodes)) for _ in range(reader.u32())]
-    return Journal(epoch, lease, tree, entries)
+    return Journal(epoch, lease, tree, []), reader.u32()
 
 
 def read_node(reader):
     parent, is_file, name = reader.u32(), reader.one_of(2) == 1, reader.opaque(NAME_LIMIT)
     return Node(parent, name, is_file, reader.opaque(TEXT_LIMIT) if is_file else b"")
+
+
+@dataclass
+class Growing:
+    """A journal's file that is read as far as it has come: one that is still written, or was cut. The number of its
+    entries is then 0, or above those that are there."""
+    # The journal without its entries, once all that stands before them is there.
+    head: Journal = None
+    # The number of entries that the file says, and how many there are.
+    count: int = 0
+    entries: int = 0
+    # The bytes behind what is whole; and what is wrong with them, where they are no beginning of an entry.
+    rest: bytes = b""
+    fault: str = None
+
+    def take(self, data):
+        """The entries that are whole now that these bytes have come; or NotJournal where no journal begins so."""
+        reader, whole, taken = StrictReader(self.rest + data), 0, []
+        try:
+            if self.head is None:
+                self.head, self.count = read_head(reader)
+                whole = reader.at
+            while reader.at < len(reader.data) and self.fault is None:
+                self.expect_more(len(taken))
+                taken.append(read_entry(reader, len(self.head.tree.nodes)))
+                whole = reader.at
+        except EndsEarly:
+            pass
+        except NotJournal as wrong:
+            if self.head is None:
+                raise
+            self.fault = f"entry {self.entries + len(taken)}: {wrong}"
+        self.rest, self.entries = reader.data[whole:], self.entries + len(taken)
+        return taken
+
+    def expect_more(self, taken):
+        if self.count == self.entries + taken > 0:
+            raise NotJournal("bytes after the last one")
+
+    def is_whole(self):
+        """Whether it is a journal, of which nothing is missing."""
+        return self.head is not None and self.count == self.entries and self.rest == b""
+
+    def ending(self):
+        """How the file ends that is no whole journal."""
+        if self.head is None:
+            return "the file ends before its first entry"
+        if self.rest:
+            return f"the file ends inside entry {self.entries}, of which it has {len(self.rest)} bytes"
+        place = f"behind entry {self.entries - 1}" if self.entries else "before its first entry"
+        return f"the file ends {place}" + (f", and says that it has {self.count}" if self.count else "")
 
 
 # Whether it is lawful.
@@ -115,9 +167,10 @@ def audit(journal, limit=JOURNAL_LIMIT):
     return server
 
 
-def states(journal, limit=JOURNAL_LIMIT):
-    """The one server that follows the journal: before the first entry, and after each; or WrongAnswer, or NoRule."""
-    server = Recorder(journal.tree, journal.lease, journal.epoch, limit)
+def states(journal, limit=JOURNAL_LIMIT, kind=Recorder):
+    """The one server, of this kind, that follows the journal: before the first entry, and after each; or WrongAnswer,
+    or NoRule."""
+    server = kind(journal.tree, journal.lease, journal.epoch, limit)
     yield server
     for number, entry in enumerate(journal.entries):
         if server.entries == limit:
@@ -156,15 +209,24 @@ STEPS = {Call: follow_call, Expire: follow_expire}
 def verdict(data, limit=JOURNAL_LIMIT):
     """Whether the file is a lawful journal, and a line that says so."""
     try:
-        journal = read_journal(data)
-        audit(journal, limit)
+        return verdict_on(read_journal(data), limit)
     except NotJournal:
         return False, "fault: not a journal"
-    except WrongAnswer as wrong:
-        return False, f"fault: wrong answer at entry {wrong.args[0]}"
-    except NoRule as unknown:
-        return False, "fault: no rule yet at entry {}: {}".format(*unknown.args)
+
+
+def verdict_on(journal, limit=JOURNAL_LIMIT):
+    """Whether the journal is lawful, and a line that says so."""
+    try:
+        audit(journal, limit)
+    except (WrongAnswer, NoRule) as ended:
+        return False, fault_of(ended)
     return True, f"lawful: {len(journal.entries)} entries"
+
+
+def fault_of(ended):
+    """The line that says at which entry a journal isn't lawful any more."""
+    kind = "wrong answer" if isinstance(ended, WrongAnswer) else "no rule yet"
+    return f"fault: {kind} at entry " + ": ".join(map(str, ended.args))
 
 
 def main(path):

@@ -86,10 +86,11 @@ class Request:
 
 @dataclass
 class Kept:
-    """The last request of an owner that counted, with its answer (section 9.1.8)."""
+    """The last request of an owner that counted, with its answer and its entry in the journal (section 9.1.8)."""
     seqid: int
     request: Request
     answer: Result
+    entry: int
 
 
 @dataclass
@@ -561,7 +562,7 @@ class Server:
         lock_owner = self.next_lock_owner(request)
         result = answer(lambda: self.effect_of(request))
         if result.status not in NOT_COUNTED:
-            owner.kept = Kept(seqid, request, result)
+            owner.kept = Kept(seqid, request, result, self.entries)
             if lock_owner is not None or is_first_lock(request) and result.status == Status.OK:
                 self.keep_for_lock_owner(request, result)
         return result
@@ -575,7 +576,7 @@ class Server:
         result = answer(lambda: self.effect_of(request))
         if result.status == Status.OK:
             name = request.arguments.owner
-            self.open_owners[name] = Owner(name, Kept(request.arguments.seqid, request, result))
+            self.open_owners[name] = Owner(name, Kept(request.arguments.seqid, request, result, self.entries))
         elif result.status == Status.RESOURCE:
             self.open_owners, self.opens = before
         return result
@@ -611,7 +612,8 @@ class Server:
     def keep_for_lock_owner(self, request, result):
         """Keeps for the lock owner what a LOCK that names a new one was answered: by then it may be known."""
         locker = request.arguments.locker
-        self.lock_owners[locker.owner] = Owner(locker.owner, Kept(locker.lock_seqid, request, result))
+        kept = Kept(locker.lock_seqid, request, result, self.entries)
+        self.lock_owners[locker.owner] = Owner(locker.owner, kept)
 
     def effect_of(self, request):
         return self.rule_of(request.opnum)(request.arguments, request.filehandle)

@@ -1,0 +1,253 @@
+"""Beginnings of journals, for check_journals.py: of a journal with 0 or with its own number of entries, which is cut
+at many places, the whole entries are read, also where it comes in pieces; and tools/show_journal and tools/explain
+show, judge, save and follow such files."""
+import os
+import signal
+import subprocess
+import sys
+import tempfile
+import threading
+import time
+
+from entries import Expire, NotJournal, Path, entry_bytes
+from journal import Growing, head_bytes, journal_bytes
+from journal_cases import sample, small, with_words
+from wire import u32
+from words import line_of
+
+TOOLS = os.path.join(os.path.dirname(os.path.abspath(__file__)), "..")
+# The seconds that a tool has, on however busy a machine.
+PATIENCE = 120
+HEAD_ENDS = "the file ends before its first entry"
+
+
+def beginning_of(journal):
+    """Its file with 0 as the number of entries."""
+    return with_words(journal_bytes(journal), len(head_bytes(journal)), 0)
+
+
+def beginnings():
+    """A name and a file, none of which is a journal."""
+    data = beginning_of(small())
+    yield "a beginning", data
+    yield "a beginning that is cut", data[:-4]
+    yield "a beginning with one entry", data[:places_of(small())[1]]
+
+
+def places_of(journal):
+    """Where the first entry begins in the file, and where each ends."""
+    places = [len(head_bytes(journal)) + 4]
+    for entry in journal.entries:
+        places.append(places[-1] + len(entry_bytes(entry)))
+    return places
+
+
+def read_in_pieces(data, size):
+    growing, entries = Growing(), []
+    for at in range(0, len(data), size):
+        entries += growing.take(data[at:at + size])
+    return growing, entries
+
+
+def ending_wanted(places, length, count):
+    """How a file ends that has this length and says that it has so many entries, or None where it is whole."""
+    if length < places[0]:
+        return HEAD_ENDS
+    whole = sum(place <= length for place in places) - 1
+    if length > places[whole]:
+        return f"the file ends inside entry {whole}, of which it has {length - places[whole]} bytes"
+    if whole == count:
+        return None
+    place = f"behind entry {whole - 1}" if whole else "before its first entry"
+    return f"the file ends {place}" + (f", and says that it has {count}" if count else "")
+
+
+def check_cuts(name, journal, step):
+    """Cut at each place, or each so many places."""
+    places, wrong = places_of(journal), []
+    for count, data in ((0, beginning_of(journal)), (len(journal.entries), journal_bytes(journal))):
+        for length in range(0, len(data) + 1, step):
+            wanted = journal.entries[:max(0, sum(place <= length for place in places) - 1)]
+            for size in (1 << 20, 1000, 52):
+                growing, entries = read_in_pieces(data[:length], size)
+                ending = None if growing.is_whole() else growing.ending()
+                if (entries, ending, growing.fault) != (wanted, ending_wanted(places, length, count), None):
+                    wrong.append(f"{name}, the first {length} bytes in pieces of {size}, of {count} entries: "
+                                 f"{len(entries)} entries, {ending}, {growing.fault}")
+    return wrong
+
+
+def check_faults():
+    """What follows whole entries, and is no beginning of one."""
+    wrong, data, first = [], beginning_of(small()), places_of(small())[0]
+    cases = [("no kind of entry", data + u32(9), "entry 3: no kind of entry"),
+             ("more than its number", journal_bytes(small()) + u32(1), "entry 3: bytes after the last one"),
+             ("padding", with_words(data, first + 44, 0x63310001), "entry 0: padding that isn't zero")]
+    for name, file, fault in cases:
+        growing = Growing()
+        growing.take(file)
+        if (growing.fault, growing.is_whole()) != (fault, False):
+            wrong.append(f"a beginning with {name}: {growing.fault}, not {fault}")
+    try:
+        Growing().take(b"NFSJRN02")
+        wrong.append("a beginning of another version is read")
+    except NotJournal:
+        pass
+    return wrong
+
+
+# The tools.
+
+def run(tool, *words):
+    """Its status, what it prints, and what on standard error."""
+    ran = subprocess.run([sys.executable, os.path.join(TOOLS, tool), *words], stdout=subprocess.PIPE,
+                         stderr=subprocess.PIPE, text=True, timeout=PATIENCE)
+    return ran.returncode, ran.stdout, ran.stderr
+
+
+def shown(journal):
+    return [f"{number}: {line_of(entry, journal.tree)}" for number, entry in enumerate(journal.entries)]
+
+
+class Room:
+    """A folder of files, and what tools say of them that is wrong."""
+
+    def __init__(self, folder):
+        self.folder, self.wrong = folder, []
+
+    def path(self, name):
+        return os.path.join(self.folder, name)
+
+    def put(self, name, data):
+        with open(self.path(name), "wb") as file:
+            file.write(data)
+        return self.path(name)
+
+    def expect(self, tool, words, lines, status=0, errors=""):
+        got = run(tool, *words)
+        if got != (status, "".join(f"{line}\n" for line in lines), errors):
+            self.wrong.append(f"tools/{tool} {' '.join(words)}: {got}, not {(status, lines, errors)}")
+
+
+def try_shown(room):
+    """A beginning is shown, judged, saved and explained; a journal is shown as it is."""
+    journal = sample()
+    lines, places = shown(journal), places_of(journal)
+    count, inside = len(lines), f"the file ends inside entry {len(lines) - 1}, of which it has 20 bytes"
+    whole, cut = journal_bytes(journal), beginning_of(journal)[:places[count - 1] + 20]
+    path, saved = room.put("cut.part", cut), room.path("saved")
+    room.expect("show_journal", [room.put("whole", whole)], lines)
+    room.expect("show_journal", [room.put("none", journal_bytes(small()._replace(entries=[])))], [])
+    room.expect("show_journal", [path], lines[:-1] + [inside])
+    room.expect("show_journal", ["--lawful", path], [f"lawful: {count - 1} entries", inside])
+    room.expect("show_journal", ["--save", saved, path], [f"saved: {count - 1} entries", inside])
+    with open(saved, "rb") as file:
+        if file.read() != journal_bytes(journal._replace(entries=journal.entries[:-1])):
+            room.wrong.append("tools/show_journal saves another journal")
+    room.expect("show_journal", [room.put("head.part", whole[:20])], [HEAD_ENDS])
+    room.expect("show_journal", [room.put("other", whole + b"\0")], lines, 1,
+                f"fault: not a journal: entry {count}: bytes after the last one\n")
+    room.expect("show_journal", [room.path("missing")], [], 1, "fault: file not read\n")
+    early = f"fault: not a journal: {HEAD_ENDS}\n"
+    room.expect("show_journal", ["--lawful", room.path("head.part")], [], 1, early)
+    room.expect("show_journal", ["--save", saved, room.path("head.part")], [], 1, early)
+
+
+def try_explained(room):
+    """Refusals alone, with what follows in a beginning; and an end at the first entry that isn't lawful."""
+    confirmed = small()
+    client, ends = confirmed.entries[2], Expire(1, 0, 91)
+    stale = client._replace(answer=client.answer._replace(status=10022))
+    journal = confirmed._replace(entries=[*confirmed.entries, ends, stale])
+    lines = [shown(journal)[4],
+             "    client 1 was removed by entry 3, as its lease was over (RULES: SETCLIENTID_CONFIRM)"]
+    room.expect("explain", [room.put("refused", journal_bytes(journal))], lines)
+    room.expect("explain", [room.put("refused.part", beginning_of(journal) + u32(1))],
+                lines + ["the file ends inside entry 5, of which it has 4 bytes"])
+    room.expect("explain", [room.put("kept", journal_bytes(confirmed))], [])
+    unlawful = journal._replace(entries=[*journal.entries, client])
+    path = room.put("unlawful.part", beginning_of(unlawful))
+    for tool, words, shown_lines in (("explain", [path], lines), ("show_journal", ["--lawful", path], [])):
+        room.expect(tool, words, shown_lines, 1, "fault: wrong answer at entry 5\n")
+    unknown = confirmed._replace(entries=[*confirmed.entries, Path(1, 1)])
+    path = room.put("unknown.part", beginning_of(unknown))
+    room.expect("show_journal", ["--lawful", path], [], 1, "fault: no rule yet at entry 3: Path\n")
+
+
+def following(path):
+    """A run of show_journal that follows the file, and writes by its own flushes alone."""
+    words = [sys.executable, os.path.join(TOOLS, "show_journal"), "--follow", path]
+    environment = {name: value for name, value in os.environ.items() if name != "PYTHONUNBUFFERED"}
+    return subprocess.Popen(words, stdout=subprocess.PIPE, stderr=subprocess.PIPE, text=True, env=environment,
+                            preexec_fn=hear_interrupts)
+
+
+def hear_interrupts():
+    """As a shell has it in the foreground."""
+    signal.signal(signal.SIGINT, signal.SIG_DFL)
+
+
+def try_followed(room, name, end, wanted, errors):
+    """A file is followed from before it is there; it comes in pieces that cut entries, and then `end` is done."""
+    journal = sample()
+    data, path = beginning_of(journal)[:places_of(journal)[-2] + 8], room.path(f"{name}.part")
+    with following(path) as follower:
+        limit = threading.Timer(PATIENCE, follower.kill)
+        limit.start()
+        first = follower.stderr.readline()
+        with open(path, "wb", buffering=0) as file:
+            for at in range(0, len(data), 700):
+                file.write(data[at:at + 700])
+                time.sleep(0.01)
+            # Entries are shown as they come.
+            got = [follower.stdout.readline().rstrip("\n") for _ in journal.entries[:-1]]
+            end(path, file, follower)
+        rest, told = follower.communicate()
+        limit.cancel()
+    lines = shown(journal)[:-1] + wanted
+    if (first, got + rest.splitlines(), told) != (f"{path} isn't there yet\n", lines, errors.format(path)):
+        room.wrong.append(f"tools/show_journal --follow, {name}: {first}{got[-1:]}, {rest}{told}, not {lines[-2:]}")
+
+
+def try_follow(room):
+    """The journal takes the place of its beginning, or another one does, or none; or another file gets its name; or
+    Ctrl-C ends it. And a file that is a whole journal has its end."""
+    journal = sample()
+    inside = f"the file ends inside entry {len(journal.entries) - 1}, of which it has 8 bytes"
+    last, gone = shown(journal)[-1], "{} isn't that file any more\n"
+
+    def replace_by(data):
+        def end(path, _file, _follower):
+            room.put(os.path.basename(path)[:-len(".part")], data)
+            os.remove(path)
+        return end
+
+    def rename(path, _file, _follower):
+        os.rename(path, path + ".old")
+        room.put(os.path.basename(path), b"")
+
+    def write_rest(path, file, _follower):
+        file.write(beginning_of(journal)[os.path.getsize(path):])
+        os.remove(path)
+
+    try_followed(room, "ended", replace_by(journal_bytes(journal)), [last], "")
+    other = journal.entries[-2]._replace(moment=7)
+    others = journal._replace(entries=[*journal.entries[:-2], other, journal.entries[-1]])
+    try_followed(room, "another", replace_by(journal_bytes(others)), [inside], gone)
+    try_followed(room, "a shorter one", replace_by(journal_bytes(small())), [inside], gone)
+    try_followed(room, "of another epoch", replace_by(journal_bytes(journal._replace(epoch=2))), [inside], gone)
+    try_followed(room, "removed", lambda path, *_: os.remove(path), [inside], gone)
+    try_followed(room, "renamed", rename, [inside], gone)
+    try_followed(room, "interrupted", lambda *all: all[-1].send_signal(signal.SIGINT), [inside], "")
+    behind = f"the file ends behind entry {len(journal.entries) - 1}"
+    try_followed(room, "written to its end", write_rest, [last, behind], gone)
+    room.expect("show_journal", ["--follow", room.put("followed", journal_bytes(journal))], shown(journal))
+
+
+def check_beginnings():
+    wrong = check_cuts("three entries", small(), 1) + check_cuts("all operations", sample(), 11) + check_faults()
+    with tempfile.TemporaryDirectory() as folder:
+        room = Room(folder)
+        for attempt in (try_shown, try_explained, try_follow):
+            attempt(room)
+        return wrong + room.wrong

@@ -1,0 +1,78 @@
+"""A model that follows a journal and knows of what there is, and of what there was, which entries gave, moved and
+ended it. `reasons.py` asks it."""
+from collections import namedtuple
+from dataclasses import dataclass, field
+
+from journal import Recorder
+from model import OpenState, READ, WRITE
+from wire import Opnum
+
+# The operations by which a state may end, beside the end of its client.
+ENDING = {Opnum.OPEN, Opnum.CLOSE, Opnum.RELEASE_LOCKOWNER}
+
+# A SETCLIENTID that was answered OK: its entry, and the record that it made.
+Introduction = namedtuple("Introduction", "entry record")
+
+
+@dataclass
+class History(Recorder):
+    """A server with the numbers of entries: all of these are kept to the end, also of what is gone."""
+    # By the confirm value.
+    introductions: dict = field(default_factory=dict)
+    # Of clients, by their numbers: which entry removed them.
+    removals: dict = field(default_factory=dict)
+    # Of open owners: which entry confirmed them.
+    owner_confirmations: dict = field(default_factory=dict)
+    # The opens and lock states, by their numbers; and which entries gave them, gave their seqid, and ended them.
+    states: dict = field(default_factory=dict)
+    begun: dict = field(default_factory=dict)
+    moved: dict = field(default_factory=dict)
+    ended: dict = field(default_factory=dict)
+    # Of opens, by their numbers: of each pair of access and deny, which entry brought it.
+    pairs: dict = field(default_factory=dict)
+    # The numbers of the states that there are.
+    present: set = field(default_factory=set)
+
+    def apply(self, opnum, arguments, filehandle, principal, is_refused=False):
+        entry = self.entries
+        result = super().apply(opnum, arguments, filehandle, principal, is_refused)
+        if opnum in ENDING:
+            self.note_ends(entry)
+        return result
+
+    def note_ends(self, entry):
+        present = {it.number for it in self.opens + self.lock_states}
+        self.ended.update((number, entry) for number in self.present - present)
+        self.present = present
+
+    def setclientid(self, arguments, principal):
+        rest = super().setclientid(arguments, principal)
+        self.introductions[self.last_confirm] = Introduction(self.entries, self.records[-1])
+        return rest
+
+    def remove_client(self, number):
+        super().remove_client(number)
+        self.removals[number] = self.entries
+        self.note_ends(self.entries)
+
+    def open_confirm(self, arguments, file):
+        rest = super().open_confirm(arguments, file)
+        self.owner_confirmations[self.states[arguments.stateid.number].owner] = self.entries
+        return rest
+
+    def spelled(self, found):
+        """This entry gives the state's stateid."""
+        self.states[found.number] = found
+        self.begun.setdefault(found.number, self.entries)
+        self.moved[found.number] = self.entries
+        self.present.add(found.number)
+        if isinstance(found, OpenState):
+            before = self.pairs.get(found.number, {})
+            self.pairs[found.number] = {pair: before.get(pair, self.entries) for pair in found.pairs}
+        return super().spelled(found)
+
+    def since(self, opened, side, modes):
+        """Which entry brought the last of these modes to what the open has on this side of its pairs: 0 is its
+        access, 1 its deny."""
+        pairs = self.pairs[opened.number].items()
+        return max(min(entry for pair, entry in pairs if pair[side] & mode) for mode in (READ, WRITE) if modes & mode)

@@ -1,0 +1,471 @@
+"""Why calls are refused: what stood in the way of each, by the state that the entries before it lead to, and the
+heading of docs/RULES.md that says so.
+
+`Causes` goes through the rules of an operation in their order, as the model does, and says of each that refuses the
+call what it found. The first one is the reason. `check_reasons.py` sees that each refusal has one, of the status that
+was answered, and that no other call has any."""
+from collections import namedtuple
+
+from entries import Call
+from history import History
+from journal import states
+from model import (BOTH, JOURNAL_LIMIT, LockState, NAME_LIMIT, OpenState, READ, Request, SEQUENCED, WRITE, closed_by,
+                   conflict, is_lawful_downgrade, is_special, mode_of, next_sequence_id, replay, sequence_id_of,
+                   stateid_of)
+from ranges import LAST_BYTE, READ_MODE, denial, range_of
+from wire import (CLAIM_DELEGATE_CUR, CLAIM_DELEGATE_PREV, CLAIM_PREVIOUS, EXCLUSIVE4, GUARDED4, NewLocker,
+                  OPEN4_CREATE, OpenOwner, Opnum, Status)
+from words import opaque_words, place_words, principal_words
+
+# What is answered, what stood in the way, and the heading of the rules.
+Reason = namedtuple("Reason", "status text heading")
+
+OWNERS, STATEIDS, CLIENT_IDS, SHARE, RANGES = (
+    "Owners and sequenced operations", "Stateids", "Client ids", "Share reservations", "Byte-range locks")
+
+MODES = {0: "nothing", READ: "READ", WRITE: "WRITE", BOTH: "READ and WRITE"}
+KINDS = {OpenState: "an open", LockState: "a lock state"}
+# Of those that stand in the way together so many are named.
+NAMED = 3
+
+
+def reasons(journal, limit=JOURNAL_LIMIT):
+    """Each entry's number, the entry, and if it is a call the reason of its answer, or None; or WrongAnswer, or
+    NoRule, at the first that can't follow."""
+    following = states(journal, limit, History)
+    causes = Causes(next(following))
+    for number, entry in enumerate(journal.entries):
+        reason = causes.reason_of(entry) if isinstance(entry, Call) else None
+        next(following)
+        yield number, entry, reason
+
+
+# Words.
+
+def name_words(name):
+    return " ".join(opaque_words(name))
+
+
+def owner_words(owner):
+    kind = "open" if isinstance(owner, OpenOwner) else "lock"
+    return f"{kind} owner {name_words(owner.name)} of client {owner.client}"
+
+
+def run_words(run, place):
+    """The bytes of a file that are held, and in which way."""
+    held = f"the bytes from {run.first} on" if run.last == LAST_BYTE else f"bytes {run.first} to {run.last}"
+    return f"{held} of {place} for {'reading' if run.mode == READ_MODE else 'writing'}"
+
+
+def listed(texts):
+    """The first ones, and how many others there are."""
+    others = len(texts) - NAMED
+    return "; ".join(texts[:NAMED]) + (f"; and {others} more" if others > 0 else "")
+
+
+class Causes:
+    """What stands in the way of a call in the present state of a server that follows a journal."""
+
+    def __init__(self, server):
+        self.server = server
+        # The reasons of refusals, by their entries.
+        self.given = {}
+
+    def reason_of(self, call):
+        """The reason of the call's answer, or None where nothing stands in its way."""
+        reason = next(self.of_call(call), None)
+        if reason is not None:
+            self.given[self.server.entries] = reason
+        return reason
+
+    def of_call(self, call):
+        if call.opnum in SEQUENCED:
+            return self.of_sequenced(Request(call.opnum, call.arguments, call.filehandle))
+        if call.opnum in (Opnum.GETATTR, Opnum.LOCKT):
+            return self.rule_of(call.opnum)(call.arguments, call.filehandle)
+        return self.rule_of(call.opnum)(call.arguments, call.principal)
+
+    def rule_of(self, opnum):
+        return getattr(self, f"of_{opnum.name.lower()}")
+
+    # Words that need the state.
+
+    def entry_words(self, number):
+        """An entry by its number, and the operation that it is of."""
+        entry = self.server.recorded[number]
+        return f"entry {number} ({entry.opnum.name})" if isinstance(entry, Call) else f"entry {number}"
+
+    def end_words(self, number):
+        """The entry by which a state ended, while its client stayed."""
+        is_anew = self.server.recorded[number].opnum == Opnum.OPEN
+        return self.entry_words(number) + (", which started its owner anew" if is_anew else "")
+
+    def place_words(self, node):
+        return place_words(node, self.server.tree)
+
+    def state_words(self, state):
+        place = self.place_words(state.file)
+        return f"state {state.number}, {KINDS[type(state)]} of {place} by {owner_words(state.owner)}"
+
+    # What several operations have in common.
+
+    def of_filehandle(self, filehandle):
+        if filehandle is None:
+            text = "no filehandle is current: no operation before it in its COMPOUND made one so"
+            yield Reason(Status.NOFILEHANDLE, text, "COMPOUND")
+
+    def of_clientid(self, epoch, number):
+        """What is wrong with a clientid, if its client isn't live."""
+        text = self.unknown_client(epoch, number)
+        if text is None and not self.server.is_live(number):
+            text = self.lost_client(number)
+        if text is not None:
+            yield Reason(Status.STALE_CLIENTID, text, CLIENT_IDS)
+
+    def unknown_client(self, epoch, number):
+        """Why a clientid isn't one that was given, or None."""
+        if epoch != self.server.epoch:
+            return f"the clientid is of epoch {epoch}, and this server's is {self.server.epoch}"
+        return None if 1 <= number <= self.server.last_client else f"client {number} was never given"
+
+    def lost_client(self, number):
+        """Why a client that was given isn't live."""
+        server = self.server
+        removed = server.removals.get(number)
+        if removed is not None:
+            entry = server.recorded[removed]
+            if not isinstance(entry, Call):
+                return f"client {number} was removed by entry {removed}, as its lease was over"
+            other = entry.arguments.client
+            return f"client {number} was removed by {self.entry_words(removed)}, as client {other} took its place"
+        given = next(it for it in server.introductions.values() if it.record.number == number)
+        text = f"client {number}, which {self.entry_words(given.entry)} gave, was never confirmed"
+        if any(it is given.record for it in server.records):
+            return text
+        last = self.last_introduction(given.record.id)
+        return f"{text}, and {self.entry_words(last.entry)} gave its id client {last.record.number}"
+
+    def last_introduction(self, client_id):
+        return max((it for it in self.server.introductions.values() if it.record.id == client_id),
+                   key=lambda it: it.entry)
+
+    def of_stateid_client(self, stateid):
+        """What is wrong with a stateid up to its client."""
+        server = self.server
+        if is_special(stateid):
+            bits = "one" if stateid.seqid else "zero"
+            yield Reason(Status.BAD_STATEID, f"all bits of the stateid are {bits}, and it names no state", STATEIDS)
+        if stateid.epoch != server.epoch:
+            text = f"the stateid is of epoch {stateid.epoch}, and this server's is {server.epoch}"
+            yield Reason(Status.STALE_STATEID, text, STATEIDS)
+        if not 1 <= stateid.client <= server.last_client:
+            text = f"the stateid is one of client {stateid.client}, which was never given"
+            yield Reason(Status.BAD_STATEID, text, STATEIDS)
+        if not server.is_live(stateid.client):
+            yield Reason(Status.EXPIRED, self.lost_client(stateid.client), STATEIDS)
+
+    def missing_state(self, stateid):
+        """A live client has no state with the number of its stateid."""
+        state = self.server.states.get(stateid.number)
+        if state is None:
+            text = f"state {stateid.number} was never given"
+        elif state.owner.client != stateid.client:
+            text = (f"state {state.number} was given to client {state.owner.client}, and the stateid is one of "
+                    f"client {stateid.client}")
+        else:
+            text = f"{self.state_words(state)}, was ended by {self.end_words(self.server.ended[state.number])}"
+        return Reason(Status.BAD_STATEID, text, STATEIDS)
+
+    def of_stateid(self, stateid, kind, file, of_unconfirmed=False):
+        """What is wrong with a stateid that is to name a state of this kind on the file, from its number on."""
+        found, server = self.server.looked_up(stateid), self.server
+        if found is None:
+            yield self.missing_state(stateid)
+        if not isinstance(found, kind):
+            text = f"the stateid is that of {self.state_words(found)}; {KINDS[kind]} is wanted here"
+            yield Reason(Status.BAD_STATEID, text, STATEIDS)
+        if found.file != file:
+            text = (f"the stateid is that of {self.state_words(found)}, and the current filehandle that of "
+                    f"{self.place_words(file)}")
+            yield Reason(Status.BAD_STATEID, text, STATEIDS)
+        if kind is OpenState and not of_unconfirmed and not server.open_owners[found.owner].is_confirmed:
+            text = (f"{owner_words(found.owner)} isn't confirmed: it has opened the file in entry "
+                    f"{server.begun[found.number]}, and no OPEN_CONFIRM has followed")
+            yield Reason(Status.BAD_STATEID, text, STATEIDS)
+        stands = f"state {found.number} has seqid {found.seqid} since {self.entry_words(server.moved[found.number])}"
+        if stateid.seqid < found.seqid:
+            yield Reason(Status.OLD_STATEID, f"{stands}, and the stateid has the earlier {stateid.seqid}", STATEIDS)
+        if stateid.seqid > found.seqid:
+            yield Reason(Status.BAD_STATEID, f"{stands}, and the stateid has the later {stateid.seqid}", STATEIDS)
+
+    def of_range(self, arguments):
+        if range_of(arguments.offset, arguments.length) is None:
+            text = "a length of 0 names no bytes"
+            if arguments.length > 0:
+                text = f"offset {arguments.offset} and length {arguments.length} add up to more than 2^64 - 1"
+            yield Reason(Status.INVAL, text, RANGES)
+
+    def of_share(self, arguments, heading):
+        if not READ <= arguments.access <= BOTH:
+            yield Reason(Status.INVAL, f"the access is {arguments.access}, and has to be 1 to 3", heading)
+        if arguments.deny > BOTH:
+            yield Reason(Status.INVAL, f"the deny is {arguments.deny}, and 3 is the most", heading)
+
+    def of_conflict(self, arguments, owner, file):
+        """The lock of another owner that is in the way, as it is reported."""
+        asked, mode = range_of(arguments.offset, arguments.length), mode_of(arguments.locktype)
+        others = [it for it in self.server.lock_states if it.file == file and it.owner != owner]
+        found = denial([(it.owner, it.ranges) for it in others], *asked, mode)
+        if found is not None:
+            state = next(it for it in others if it.owner == found.owner)
+            changed = self.entry_words(self.server.moved[state.number])
+            text = (f"{owner_words(found.owner)} holds {run_words(found.run, self.place_words(file))}, by state "
+                    f"{state.number}, which was changed last by {changed}")
+            yield Reason(Status.DENIED, text, RANGES)
+
+    # Operations that are requests of an owner.
+
+    def of_sequenced(self, request):
+        yield from self.of_filehandle(request.filehandle)
+        if request.opnum == Opnum.OPEN:
+            name = request.arguments.owner
+            yield from self.of_clientid(name.epoch, name.client)
+        else:
+            yield from self.of_named_owner(stateid_of(request.opnum, request.arguments))
+        owner = self.server.owner_of(request)
+        if owner is not None:
+            yield from self.of_sequence_id(owner, request)
+        yield from self.rule_of(request.opnum)(request.arguments, request.filehandle)
+
+    def of_named_owner(self, stateid):
+        """What is wrong with a stateid that is to name an owner."""
+        yield from self.of_stateid_client(stateid)
+        owners = self.server.open_owners.values()
+        if self.server.looked_up(stateid) is None and not any(closed_by(owner.kept, stateid) for owner in owners):
+            yield self.missing_state(stateid)._replace(heading=OWNERS)
+
+    def due_words(self, owner):
+        kept = owner.kept
+        due = f"{next_sequence_id(kept.seqid)} is the next sequence id of {owner_words(owner.name)}"
+        return f"{due}, after {self.entry_words(kept.entry)}"
+
+    def of_sequence_id(self, owner, request):
+        kept, came = owner.kept, sequence_id_of(request)
+        if replay(kept, came, request) is not None:
+            before = self.given.get(kept.entry)
+            text = f"it is the request of {self.entry_words(kept.entry)} again, and gets the same answer" + (
+                f"; what stood in its way then: {before.text}" if before else "")
+            yield Reason(kept.answer.status, text, OWNERS)
+        begins = request.opnum == Opnum.OPEN and not owner.is_confirmed
+        if begins or came == next_sequence_id(kept.seqid):
+            return
+        text = f"{self.due_words(owner)}, and {came} came"
+        if came == kept.seqid:
+            text += f": that of the entry itself, with {other_part(kept.request, request)}"
+        yield Reason(Status.BAD_SEQID, text, OWNERS)
+
+    def of_open(self, arguments, directory):
+        claim = arguments.claim
+        if claim.kind == CLAIM_PREVIOUS:
+            text = "it reclaims (CLAIM_PREVIOUS), and no run keeps anything of the one before"
+            yield Reason(Status.NO_GRACE, text, "OPEN")
+        if claim.kind == CLAIM_DELEGATE_PREV:
+            yield Reason(Status.NOTSUPP, "CLAIM_DELEGATE_PREV isn't supported", "OPEN")
+        yield from self.of_share(arguments, "OPEN")
+        yield from self.of_file_name(arguments, directory)
+        if claim.kind == CLAIM_DELEGATE_CUR:
+            yield from self.of_delegation(claim.delegation)
+        yield from self.of_other_opens(arguments, self.server.tree.child(directory, claim.name))
+
+    def of_file_name(self, arguments, directory):
+        """What is wrong with the name that an OPEN has."""
+        tree, name, how = self.server.tree, arguments.claim.name, arguments.how
+        if tree.is_file(directory):
+            text = f"the current filehandle is that of {self.place_words(directory)}, and no directory's"
+            yield Reason(Status.NOTDIR, text, "OPEN")
+        if name == b"":
+            yield Reason(Status.INVAL, "the name is empty", "OPEN")
+        if len(name) > NAME_LIMIT:
+            yield Reason(Status.NAMETOOLONG, f"the name has {len(name)} bytes, and {NAME_LIMIT} are the most", "OPEN")
+        node, creates = tree.child(directory, name), how.create == OPEN4_CREATE
+        missing = f"{self.place_words(directory)} has no {name_words(name)}"
+        if node is None and creates:
+            yield Reason(Status.ACCESS, f"{missing}, and no file can be created", "OPEN")
+        if node is None:
+            yield Reason(Status.NOENT, missing, "OPEN")
+        if not tree.is_file(node):
+            yield Reason(Status.ISDIR, f"the name is that of {self.place_words(node)}", "OPEN")
+        if creates and how.mode in (GUARDED4, EXCLUSIVE4):
+            mode = "GUARDED4" if how.mode == GUARDED4 else "EXCLUSIVE4"
+            yield Reason(Status.EXIST, f"{self.place_words(node)} is there, and {mode} creates a new one", "OPEN")
+
+    def of_delegation(self, stateid):
+        for reason in self.of_stateid_client(stateid):
+            yield reason._replace(text=f"of the delegation's stateid: {reason.text}")
+        yield Reason(Status.BAD_STATEID, "the claim names a delegation, and there are none", "OPEN")
+
+    def of_other_opens(self, arguments, file):
+        """Opens of other owners that deny what the OPEN asks, or have what it is to deny."""
+        share = arguments.access, arguments.deny
+        others = [it for it in self.server.opens
+                  if it.file == file and it.owner != arguments.owner and conflict(it.share(), share)]
+        if others:
+            yield Reason(Status.SHARE_DENIED, listed([self.share_words(it, share) for it in others]), SHARE)
+
+    def share_words(self, opened, share):
+        """How an open is in the way of one with this access and deny."""
+        (access, deny), since, place = opened.share(), self.server.since, self.place_words(opened.file)
+        denied, held = deny & share[0], access & share[1]
+        texts = [f"denies {MODES[denied]} of {place} since entry {since(opened, 1, denied)}"] if denied else []
+        if held:
+            texts.append(f"has {place} open for {MODES[held]}, which this OPEN denies, since entry "
+                         f"{since(opened, 0, held)}")
+        is_confirmed = self.server.open_owners[opened.owner].is_confirmed
+        return f"{owner_words(opened.owner)} " + " and ".join(texts) + (
+            "" if is_confirmed else " (it isn't confirmed, which makes no difference here)")
+
+    def of_open_confirm(self, arguments, file):
+        yield from self.of_stateid(arguments.stateid, OpenState, file, of_unconfirmed=True)
+        owner = self.server.looked_up(arguments.stateid).owner
+        if self.server.open_owners[owner].is_confirmed:
+            text = f"{owner_words(owner)} is confirmed since entry {self.server.owner_confirmations[owner]}"
+            yield Reason(Status.BAD_STATEID, text, "OPEN_CONFIRM")
+
+    def of_open_downgrade(self, arguments, file):
+        yield from self.of_stateid(arguments.stateid, OpenState, file)
+        yield from self.of_share(arguments, "OPEN_DOWNGRADE")
+        pairs = self.server.looked_up(arguments.stateid).pairs
+        if not is_lawful_downgrade(pairs, (arguments.access, arguments.deny)):
+            kept = ", ".join(f"{access} and {deny}" for access, deny in sorted(pairs))
+            text = (f"access {arguments.access} and deny {arguments.deny} are no union of pairs that the open has "
+                    f"kept of its OPENs: {kept}")
+            yield Reason(Status.INVAL, text, "OPEN_DOWNGRADE")
+
+    def of_close(self, arguments, file):
+        return self.of_stateid(arguments.stateid, OpenState, file)
+
+    # Byte-range locks.
+
+    def of_lock(self, arguments, file):
+        locker, server = arguments.locker, self.server
+        is_new = isinstance(locker, NewLocker)
+        stateid = locker.open_stateid if is_new else locker.lock_stateid
+        yield from self.of_stateid(stateid, OpenState if is_new else LockState, file)
+        if arguments.reclaim:
+            text = "it reclaims, and no lock outlives a run"
+            yield Reason(Status.NO_GRACE, text, "LOCK")
+        if is_new:
+            yield from self.of_new_locker(locker, file)
+        yield from self.of_range(arguments)
+        found = server.looked_up(stateid)
+        opened = found if is_new else found.open
+        wanted = READ if mode_of(arguments.locktype) == READ_MODE else WRITE
+        if opened.share()[0] & wanted == 0:
+            text = (f"the lock takes access to {MODES[wanted]}, and {self.state_words(opened)}, has access to "
+                    f"{MODES[opened.share()[0]]} alone")
+            yield Reason(Status.OPENMODE, text, "LOCK")
+        yield from self.of_conflict(arguments, locker.owner if is_new else found.owner, file)
+
+    def of_new_locker(self, locker, file):
+        owner, server = locker.owner, self.server
+        if owner[:2] != locker.open_stateid[1:3]:
+            text = (f"the lock owner has the clientid {owner.epoch} {owner.client}, and the open is one of client "
+                    f"{locker.open_stateid.client}")
+            yield Reason(Status.INVAL, text, "LOCK")
+        state = next((it for it in server.lock_states if (it.owner, it.file) == (owner, file)), None)
+        if state is not None:
+            since = self.entry_words(server.begun[state.number])
+            text = f"it comes as a new lock owner, and {owner_words(owner)} has state {state.number} on the file"
+            text += f" since {since}"
+            yield Reason(Status.BAD_SEQID, text, "LOCK")
+        known = server.lock_owners.get(owner)
+        if known is not None and locker.lock_seqid != next_sequence_id(known.kept.seqid):
+            text = f"{self.due_words(known)}, and the lock_seqid is {locker.lock_seqid}"
+            yield Reason(Status.BAD_SEQID, text, "LOCK")
+
+    def of_lockt(self, arguments, file):
+        yield from self.of_filehandle(file)
+        yield from self.of_clientid(arguments.owner.epoch, arguments.owner.client)
+        if not self.server.tree.is_file(file):
+            text = f"the current filehandle is that of {self.place_words(file)}, and no file's"
+            yield Reason(Status.ISDIR, text, "LOCKT")
+        yield from self.of_range(arguments)
+        yield from self.of_conflict(arguments, arguments.owner, file)
+
+    def of_locku(self, arguments, file):
+        yield from self.of_stateid(arguments.stateid, LockState, file)
+        yield from self.of_range(arguments)
+
+    # The others.
+
+    def of_release_lockowner(self, arguments, _principal):
+        owner = arguments.owner
+        yield from self.of_clientid(owner.epoch, owner.client)
+        held = [it for it in self.server.lock_states if it.owner == owner and not it.ranges.is_empty()]
+        if held:
+            texts = [f"{self.place_words(it.file)} (state {it.number})" for it in held]
+            text = f"{owner_words(owner)} holds bytes of {listed(texts)}"
+            yield Reason(Status.LOCKS_HELD, text, "RELEASE_LOCKOWNER")
+
+    def of_getattr(self, _arguments, filehandle):
+        return self.of_filehandle(filehandle)
+
+    def of_setclientid(self, arguments, principal):
+        record = self.server.record_where(True, lambda it: it.id == arguments.id)
+        yield from self.of_other_principal(record, principal, "SETCLIENTID")
+
+    def of_other_principal(self, record, principal, heading):
+        """The confirmed record of an id is that of another principal, whose client has state."""
+        server = self.server
+        if record is None or record.principal == principal or not server.has_state(record.number):
+            return
+        state = next(it for it in server.opens if it.owner.client == record.number)
+        client = f"client {record.number}, by {principal_words(record.principal)}"
+        text = (f"the id {name_words(record.id)} is that of {client}, which has state: {self.state_words(state)}, "
+                f"since {self.entry_words(server.begun[state.number])}")
+        yield Reason(Status.CLID_INUSE, text, heading)
+
+    def of_setclientid_confirm(self, arguments, principal):
+        server, heading = self.server, "SETCLIENTID_CONFIRM"
+        given = server.introductions.get(arguments.confirm)
+        record = None if given is None else given.record
+        is_named = record is not None and (server.epoch, record.number) == arguments[:2]
+        if not is_named or not any(it is record for it in server.records):
+            yield self.of_no_record(arguments, given)
+        if record.principal != principal:
+            text = (f"{self.entry_words(given.entry)} came from {principal_words(record.principal)}, and its "
+                    f"confirmation from {principal_words(principal)}")
+            yield Reason(Status.CLID_INUSE, text, heading)
+        if not record.is_confirmed:
+            other = server.record_where(True, lambda it: it.id == record.id)
+            if other is not None and other.number != record.number:
+                yield from self.of_other_principal(other, principal, heading)
+
+    def of_no_record(self, arguments, given):
+        """No record has the clientid and the confirm value."""
+        text = self.unknown_client(arguments.epoch, arguments.client)
+        if text is not None:
+            pass
+        elif arguments.client in self.server.removals:
+            text = self.lost_client(arguments.client)
+        elif given is None:
+            text = f"confirm value {arguments.confirm} was never given"
+        elif given.record.number != arguments.client:
+            other = f"client {given.record.number}"
+            text = f"{self.entry_words(given.entry)} gave confirm value {arguments.confirm} to {other}"
+        else:
+            last = self.last_introduction(given.record.id)
+            text = (f"confirm value {arguments.confirm} is that of {self.entry_words(given.entry)}, and entry "
+                    f"{last.entry} gave the id {name_words(given.record.id)} the value {last.record.confirm}")
+        return Reason(Status.STALE_CLIENTID, text, "SETCLIENTID_CONFIRM")
+
+
+def other_part(kept, request):
+    """What tells a request from the kept one, which has its sequence id."""
+    if kept.opnum != request.opnum:
+        return "another operation"
+    return "another current filehandle" if kept.arguments == request.arguments else "other arguments"
+
+
+def is_refusal(entry):
+    return isinstance(entry, Call) and entry.answer.status != Status.OK
