@@ -72,6 +72,7 @@ class Served:
     def end_input(self):
         """Ends its input, which was a pipe."""
         self.program.stdin.close()
+        self.program.stdin = None
 
     def is_running(self):
         return self.program.poll() is None

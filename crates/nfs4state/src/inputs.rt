@@ -6,7 +6,7 @@ use crate::told::{Told, tell};
 use nfs_core::{Core, CoreError, LEASE_MAX, LEASE_MIN};
 use nfs_program::{Fault, read_tree};
 use nfs_server::Counted;
-use nfs_tree::{DEFAULT_TREE, Tree};
+use nfs_tree::{DEFAULT_TREE, Tree, TreeError};
 use std::alloc::Global;
 use std::{fs, io};
 
@@ -49,6 +49,7 @@ pub(crate) fn tree(rt: &HostRuntime, path: Option<&str>) -> Result<Tree, Fault> 
     let bytes = file(rt, path)?;
     match read_tree(rt.alloc(), bytes.as_slice()) {
         Ok(tree) => Ok(tree),
+        Err(TreeError::Memory) => Err(Fault::from(TreeError::Memory)),
         Err(refused) => {
             tell(rt, path, refused);
             Err(Fault::from(refused))

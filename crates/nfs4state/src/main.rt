@@ -4,8 +4,10 @@
 ghost use Rattle.nfs_options.specs.CommandLine.{IsOnceWithinLimits};
 
 mod inputs;
+mod listening;
 mod new_file;
 mod ongoing;
+mod part_file;
 mod serve;
 mod told;
 

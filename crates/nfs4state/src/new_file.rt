@@ -1,5 +1,3 @@
-use nfs_program::Draft;
-use std::fs;
 use std::fs::File;
 use std::io::{self, Write};
 
@@ -21,6 +19,13 @@ impl<'r, 'p> NewFile<'r, 'p> {
     }
 }
 
+impl NewFile<'_, '_> {
+    /// Whether it was made.
+    pub(crate) fn is_made(&self) -> bool {
+        self.file.is_some()
+    }
+}
+
 impl Write for NewFile<'_, '_> {
     fn write(&mut self, bytes: &[u8]) -> io::Result<usize> {
         if self.file.is_none() {
@@ -37,14 +42,5 @@ impl Write for NewFile<'_, '_> {
             Some(file) => file.flush(),
             None => Ok(()),
         }
-    }
-}
-
-impl Draft for NewFile<'_, '_> {
-    fn remove(&mut self) -> io::Result<()> {
-        if self.file.is_none() {
-            return Ok(());
-        }
-        fs::remove_file(self.rt, self.path)
     }
 }

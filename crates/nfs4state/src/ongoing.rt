@@ -1,9 +1,10 @@
-ghost use Rattle.std.specs.Prelude.{◌≡◌};
+ghost use Rattle.std.specs.Prelude.{◌≡◌, [], ℕ, IsFalse};
+ghost use Rattle.nfs_owners.specs.Registry.{is_live};
 
 use crate::inputs::journal_file;
-use crate::new_file::NewFile;
+use crate::listening::Listening;
+use crate::part_file::{PartFile, PartNames};
 use crate::report;
-use crate::told::tell;
 use nfs_core::{Core, Journal};
 use nfs_options::{ServeOptions, Until};
 use nfs_program::{Beginning, Fault, Reporter, end_ongoing_run, file_buffer};
@@ -14,32 +15,35 @@ use std::net::TcpListener;
 use std::sync::{Arc, Wait};
 use std::thread::Threads;
 use std::time::Clock;
-use std::{fs, io};
 
 /// Serves one connection after the other, as many at once as the options say, until what they name ends the run.
 pub(crate) fn serve_ongoing<R: Threads + Wait + Clock + Copy + Send + Sync + 'static>(
     rt: &HostRuntime,
     threads: R,
     options: &ServeOptions<'_>,
-    listener: TcpListener,
+    listening: Listening,
     core: Core,
     tree: &Tree,
 ) -> u8
+    requires empty { core.journal.entries ≡ [] }
+    requires nobody { (number : ℕ) → IsFalse (is_live number core.stored.clients) }
     requires nodes { core.journal.nodes ≡ tree.now.nodes }
 {
     let alloc = rt.alloc();
-    let Ok(names) = DraftNames::of(alloc, options.journal) else {
+    let Ok(names) = part_names(alloc, options.journal) else {
         return report(rt, Fault::NoMemory);
     };
     let mut journal = journal_file(rt, options.journal);
     let Ok(mut buffer) = file_buffer(alloc, &journal) else {
         return report(rt, Fault::NoMemory);
     };
-    let Ok(door) = open_door(rt, threads, options, listener) else {
+    let beginning = beginning_of(rt, &names, core.journal());
+    listening.tell(rt, tree, options);
+    let reporter = Reporter::new(&threads, rt.stderr(), beginning);
+    let Ok(door) = open_door(rt, threads, options, listening.listener) else {
+        let _ = reporter.end(None);
         return report(rt, Fault::NoMemory);
     };
-    let beginning = beginning_of(rt, &names, core.journal());
-    let reporter = Reporter::new(&threads, rt.stderr(), beginning);
     match serve_through(alloc, &threads, &door, &reporter, core, tree) {
         Ok(run) => {
             tell_no_connection(rt, options, &run);
@@ -71,49 +75,28 @@ fn open_door<R: Threads + Wait + Clock + Copy + Send + Sync + 'static>(
     Ok(door)
 }
 
-// The names of the file of a journal as it goes, and of one that an earlier run left.
-#[derive(Drop)]
-struct DraftNames {
-    part: String,
-    old: String,
-}
-
-impl DraftNames {
-    // Those beside the file of the journal, if there is to be one.
-    fn of(alloc: Global, path: Option<&str>) -> Result<Option<DraftNames>, AllocError> {
-        let Some(path) = path else {
-            return Ok(None);
-        };
-        Ok(Some(DraftNames {
-            part: format!(in alloc; "{path}.part")?,
-            old: format!(in alloc; "{path}.part.old")?,
-        }))
-    }
-
-    // Renames what an earlier run left.
-    fn set_aside(&self, rt: &HostRuntime) -> io::Result<()> {
-        match fs::rename(rt, self.part.as_str(), self.old.as_str()) {
-            Err(error) if error.kind() != io::ErrorKind::NotFound => Err(error),
-            _ => Ok(()),
-        }
+// The names of the journal's file as it goes, if there is to be one.
+fn part_names(alloc: Global, path: Option<&str>) -> Result<Option<PartNames>, AllocError> {
+    match path {
+        Some(path) => Ok(Some(PartNames::beside(alloc, path)?)),
+        None => Ok(None),
     }
 }
 
-// The beginning of the journal as it goes, if there is to be one. Where an earlier one can't be renamed, it stays, and
-// there is none.
+// The beginning of the journal, if its file is to be kept as it goes.
 fn beginning_of<'r, 'n>(
     rt: &'r HostRuntime,
-    names: &'n Option<DraftNames>,
+    names: &'n Option<PartNames>,
     journal: &Journal,
-) -> Option<Beginning<'n, NewFile<'r, 'n>>> {
-    let names = names.as_ref()?;
-    let part = names.part.as_str();
-    match names.set_aside(rt) {
-        Ok(()) => Some(Beginning::new(rt.alloc(), part, NewFile::new(rt, part), journal)),
-        Err(error) => {
-            tell(rt, part, error);
-            None
+) -> Option<Beginning<'n, PartFile<'r, 'n>>>
+    requires none { journal.now.history.entries ≡ [] }
+{
+    match names {
+        Some(names) => {
+            let file = PartFile::new(rt, names);
+            Some(Beginning::new(rt.alloc(), names.part(), file, journal))
         }
+        None => None,
     }
 }
 

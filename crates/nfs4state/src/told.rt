@@ -1,6 +1,5 @@
 use std::fmt::Display;
-use std::io;
-use std::io::Write;
+use std::io::{self, ErrorKind, Write};
 
 /// Tells by a line on standard error why something can't be had. An error in writing it is ignored, since there is no
 /// other place to report it.
@@ -24,13 +23,13 @@ impl<'r, 'p, W> Told<'r, 'p, W> {
 
 impl<W: Write> Write for Told<'_, '_, W> {
     fn write(&mut self, bytes: &[u8]) -> io::Result<usize> {
-        match self.writer.write(bytes) {
-            Ok(n) => Ok(n),
-            Err(error) => {
-                let _ = eprintln!(self.rt; "{}: {error}", self.name);
-                Err(error)
-            }
+        let written = self.writer.write(bytes);
+        match &written {
+            Ok(0) => tell(self.rt, self.name, ErrorKind::WriteZero),
+            Ok(_) => {}
+            Err(error) => tell(self.rt, self.name, error),
         }
+        written
     }
 
     fn flush(&mut self) -> io::Result<()> {

@@ -36,10 +36,12 @@ abbrev pub fault_of_run : Bool → List WorkerAccount → Option Fault → Optio
 fault_of_run is_swept workers filed =
     if is_swept then option_or (first_fault_of_workers workers) filed else Some NoMemory
 
+-- Whether memory or a thread was refused for one of the workers.
+abbrev pub is_memory_refused : List WorkerAccount → Bool
+is_memory_refused = list_any (λ w. is_refused w.shift)
+
 -- The fault of a run that goes on, in which no peer has a part: that nobody swept, or that memory or a thread was refused
 -- for a worker; or else that of the journal's file.
 abbrev pub fault_of_ongoing_run : Bool → List WorkerAccount → Option Fault → Option Fault
 fault_of_ongoing_run is_swept workers filed =
-    if is_swept
-    then (if list_any (λ w. is_refused w.shift) workers then Some NoMemory else filed)
-    else Some NoMemory
+    if is_swept then (if is_memory_refused workers then Some NoMemory else filed) else Some NoMemory

@@ -5,6 +5,7 @@ use crate::backlog::Backlog;
 use nfs_core::{Entry, Journal};
 use std::alloc::Global;
 use std::io::{Error, ErrorKind, Write};
+use xdr::WireError;
 
 /// The beginning of a journal that grows, kept in a file of its own: that of the journal before its first entry, and then
 /// whole entries to the end. Where it can't be kept any further, that is told once.
@@ -25,15 +26,22 @@ enum State {
 }
 
 impl<'a, D: Draft> Beginning<'a, D> {
-    /// The beginning of this journal, which has no entries, for the file of this name. Nothing is written yet.
+    /// The beginning of this journal, which has no entries, in the file of this name, where what an earlier run left is
+    /// set aside.
     pub fn new(alloc: Global, name: &'a str, draft: D, journal: &Journal) -> Beginning<'a, D>
         requires none { journal.now.history.entries ≡ [] }
     {
+        let mut draft = draft;
         let state = match Backlog::of(alloc, journal) {
-            Ok(backlog) => State::Kept(backlog),
+            Ok(backlog) => match draft.set_aside() {
+                Ok(()) => State::Kept(backlog),
+                Err(error) => State::Lost(error),
+            },
             Err(_) => State::Lost(Error::from(ErrorKind::OutOfMemory)),
         };
-        Beginning { name, draft, state }
+        let mut beginning = Beginning { name, draft, state };
+        beginning.write();
+        beginning
     }
 
     /// Takes the next of the journal's entries, and returns whether some were left. Nothing is written yet.
@@ -43,8 +51,8 @@ impl<'a, D: Draft> Beginning<'a, D> {
         };
         match backlog.take(entries) {
             Ok(are_left) => are_left,
-            Err(_) => {
-                self.state = State::Lost(Error::from(ErrorKind::OutOfMemory));
+            Err(error) => {
+                self.state = State::Lost(Error::from(kind_of(error)));
                 false
             }
         }
@@ -81,5 +89,13 @@ impl<'a, D: Draft> Beginning<'a, D> {
     /// Removes the file, if that can be done.
     pub(crate) fn remove(&mut self) {
         let _ = self.draft.remove();
+    }
+}
+
+// What is wrong where an entry can't be taken.
+fn kind_of(error: WireError) -> ErrorKind {
+    match error {
+        WireError::Memory => ErrorKind::OutOfMemory,
+        WireError::Short | WireError::TooLong => ErrorKind::InvalidData,
     }
 }

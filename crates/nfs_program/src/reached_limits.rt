@@ -1,6 +1,7 @@
-ghost use Rattle.std.specs.Prelude.{◌≡◌, ◌+◌, ◌≤◌, drop, length, min, nat_le, nat_lt, take};
+ghost use Rattle.std.specs.Prelude.{◌≡◌, ◌+◌, ◌≤◌, length, nat_le, nat_lt};
 ghost use Rattle.std.specs.List.{list_any};
-ghost use Rattle.nfs_program.specs.ReachedLimits.{after_telling, gives_last_client, has_last_client, noted};
+ghost use Rattle.nfs_program.specs.declared.reached_limits.Reach.TheVariants as reaches;
+ghost use Rattle.nfs_program.specs.ReachedLimits.{after_telling, gives_last_client, has_last_client, next_entries, noted};
 
 use nfs_core::{Entry, JOURNAL_LIMIT, Journal};
 use nfs_forms::Answer;
@@ -58,8 +59,8 @@ impl ReachedLimits {
     /// None, and no entry was looked at.
     pub(crate) fn new() -> ReachedLimits
         ensures seen { result.seen ≡ 0 }
-        ensures clients { result.clients ≡ Reach.Below }
-        ensures journal { result.journal ≡ Reach.Below }
+        ensures clients { result.clients ≡ reaches.Below }
+        ensures journal { result.journal ≡ reaches.Below }
     {
         ReachedLimits {
             seen: 0,
@@ -70,18 +71,17 @@ impl ReachedLimits {
 
     /// Looks at the next of the journal's entries, and returns whether some were left.
     pub(crate) fn look(&mut self, journal: &Journal) -> bool
-        ensures seen { self.new.seen
-            ≡ self.old.seen + min MOST_ENTRIES (length (drop self.old.seen journal.now.history.entries)) }
+        ensures seen { self.new.seen ≡ self.old.seen
+            + length (next_entries self.old.seen journal.now.history.entries) }
         ensures clients { self.new.clients ≡ noted self.old.clients
             (list_any gives_last_client
-            (take MOST_ENTRIES (drop self.old.seen journal.now.history.entries))) }
+            (next_entries self.old.seen journal.now.history.entries)) }
         ensures journal { self.new.journal
             ≡ noted self.old.journal (nat_le JOURNAL_LIMIT (length journal.now.history.entries)) }
         ensures left { result ≡ nat_lt self.new.seen (length journal.now.history.entries) }
     {
         self.journal = self.journal.noted(journal.is_full());
-        let rest = journal.entries().get(self.seen..).unwrap_or_default();
-        let (next, _) = rest.split_at(rest.len().min(MOST_ENTRIES));
+        let next = next_entries(self.seen, journal.entries());
         self.clients = self.clients.noted(give_last_client(next));
         self.seen += next.len();
         self.seen < journal.entries().len()
@@ -96,6 +96,19 @@ impl ReachedLimits {
         let most_clients = CLIENT_LIMIT as usize;
         self.clients = self.clients.told(lines, "no client number is left", most_clients);
         self.journal = self.journal.told(lines, "the journal is full", JOURNAL_LIMIT);
+    }
+}
+
+// The entries to be looked at after so many.
+fn next_entries(seen: usize, entries: &[Entry]) -> &[Entry]
+    ensures { result.now ≡ next_entries seen entries.now }
+{
+    let Some(rest) = entries.get(seen..) else {
+        return &[];
+    };
+    match rest.get(..MOST_ENTRIES) {
+        Some(next) => next,
+        None => rest,
     }
 }
 

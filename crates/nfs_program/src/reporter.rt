@@ -15,11 +15,10 @@ pub struct Reporter<'a, R, E, D> {
 }
 
 impl<'a, R: Wait, E: Write + Drop, D: Draft + Drop> Reporter<'a, R, E, D> {
-    /// For a run that begins. Of the journal is written what it has before its first entry.
+    /// For a run that begins. Where the beginning of its journal can't be kept, that is told.
     pub fn new(rt: &'a R, lines: E, beginning: Option<Beginning<'a, D>>) -> Reporter<'a, R, E, D> {
         let mut lines = lines;
         let mut sight = Sight::new(beginning);
-        sight.write();
         sight.tell(&mut lines);
         Reporter {
             rt,
