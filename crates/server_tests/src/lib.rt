@@ -14,6 +14,8 @@ mod faults;
 #[cfg(test)]
 mod journals;
 #[cfg(test)]
+mod reports;
+#[cfg(test)]
 mod streams;
 #[cfg(test)]
 mod trees;
