@@ -1,5 +1,5 @@
 -- What workers did, as a run tells it.
-use Rattle.std.proofs.Common.{◌≡◌, ℕ, suc, ◌+◌, List, [], ◌∷◌, ◌++◌, map, slice_get, Some, Err, refl, sym, ap, subst, ◌∙◌, arith}
+use Rattle.std.proofs.Common.{◌≡◌, ℕ, suc, ◌+◌, List, [], ◌∷◌, ◌++◌, map, slice_get, Some, Result, Ok, Err, IsErr, refl, sym, ap, subst, ◌∙◌, arith}
 use Rattle.std.specs.List.{AllByRecursion}
 use Rattle.nfs_shared.specs.Ends.{AreFresh, IsKept}
 use Rattle.nfs_shared.specs.Seats.{SeatView, fresh}
@@ -28,18 +28,22 @@ one_more_end linking tree [] (e ∷ ends) link end are is = absurd are
 one_more_end linking tree (l ∷ links) [] link end are is = absurd are
 one_more_end linking tree (l ∷ links) (e ∷ ends) link end are is = (are.0, one_more_end linking tree links ends link end are.1 is)
 
+stops_at_error : {L D C E : Type 0} (linking : Linking L D C) (links : L) (end : Result Unit E) → IsErr end → Stops linking links end links
+stops_at_error linking links (Ok u) is = absurd cc
+stops_at_error linking links (Err e) is = refl
+
 -- a worker that gives its seat back before it served a connection
 pub is_refused : {N L D C : Type 0} (linking : Linking L D C) (tree : Files) (links : L) (seat : SeatView) (end : WorkerEnd N) → seat.receipts.given ≡ 0
-    → end.shift.connections.items ≡ [] → Stops linking links end.shift.end links → end.seat ≡ seat → end.receipts.items ≡ []
+    → end.shift.connections.items ≡ [] → IsErr end.shift.end → end.seat ≡ seat → end.receipts.items ≡ []
     → IsEndOf linking tree links seat end
-is_refused linking tree links seat end none empty stops same no_receipts =
+is_refused linking tree links seat end none empty is_err same no_receipts =
     let desk : Holding = record { seat = seat; receipts = []; room = 0 } in (
       record {
         desk = desk;
         begun = (refl, refl);
         links' = links;
         desk' = desk;
-        served = (stand links desk, none_served linking tree (stand links desk) end.shift.connections.items empty, stops, refl);
+        served = (stand links desk, none_served linking tree (stand links desk) end.shift.connections.items empty, stops_at_error linking links end.shift.end is_err, refl);
         ended = (same, no_receipts);
       },
       subst (λ s. IsKept s end.receipts.items) (sym same) (subst (λ r. IsKept seat r) (sym no_receipts) (kept_unused seat none)),

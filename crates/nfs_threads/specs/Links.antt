@@ -1,5 +1,5 @@
 -- The links of a listener.
-use Rattle.std.specs.Prelude.{◌≡◌, ◌×◌, None, Some, IsSome}
+use Rattle.std.specs.Prelude.{◌≡◌, None, Some, IsSome}
 use Rattle.nfs_threads.specs.Sockets.{socket_device}
 use Rattle.nfs_threads.specs.Uptimes.{GoesOn}
 use Rattle.nfs_threads.specs.declared.socket.Socket.{Socket}

@@ -1,3 +1,5 @@
+ghost use Rattle.std.specs.Prelude.{◌≡◌};
+
 use crate::bell::Bell;
 use crate::{Peer, Watcher};
 use std::mem;
@@ -37,7 +39,9 @@ pub(crate) enum Arrival {
 
 impl Door {
     /// A door for so many workers.
-    pub fn new(workers: u32) -> Door {
+    pub fn new(workers: u32) -> Door
+        ensures { result.workers ≡ workers }
+    {
         Door {
             workers,
             lobby: Mutex::new(Lobby {
@@ -55,7 +59,9 @@ impl Door {
     }
 
     /// For how many workers it is.
-    pub fn workers(&self) -> u32 {
+    pub fn workers(&self) -> u32
+        ensures { result ≡ self.now.workers }
+    {
         self.workers
     }
 

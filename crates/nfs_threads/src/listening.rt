@@ -27,7 +27,7 @@ use crate::{
 use nfs_core::Core;
 use nfs_shared::{Naming, Opened, Receipt, Seat, Shared, Sweeper};
 use nfs_tree::Tree;
-use std::alloc::{AllocError, Global};
+use std::alloc::Global;
 use std::marker::Brand;
 use std::net::TcpListener;
 use std::sync::Wait;
@@ -52,7 +52,7 @@ pub fn serve_on<R: Threads + Wait + Timer + Sync>(
     requires nobody { (number : ℕ) → IsFalse (is_live number core.stored.clients) }
     requires nodes { core.journal.nodes ≡ tree.now.nodes }
     ensures served { IfOk result (λ r. (links : TcpLinks R Nobody)
-        × (links.entrance ≡ entrances.Listener listener)
+        × (links.entrance ≡ entrances.Listener listener.entry)
         × IsRun links tree.now connections core r.core r.workers.items) }
     ensures back { IfErr result (λ back. back ≡ core) }
 {
@@ -87,11 +87,13 @@ pub fn serve_through<R: Threads + Wait + Timer + Sync, W: Watcher + Sync>(
     requires empty { core.journal.entries ≡ [] }
     requires nobody { (number : ℕ) → IsFalse (is_live number core.stored.clients) }
     requires nodes { core.journal.nodes ≡ tree.now.nodes }
-    ensures served { IfOk result (λ r. (links : TcpLinks R W) × (links.entrance ≡ entrances.Door door)
+    ensures served { IfOk result (λ r. (links : TcpLinks R W)
+        × (links.entrance ≡ entrances.Door door.entry)
         × IsRun links tree.now door.now.workers core r.core r.workers.items) }
     ensures back { IfErr result (λ back. back ≡ core) }
 {
-    let Ok(opened) = Opened::new(alloc, door.workers()) else {
+    let workers = door.workers();
+    let Ok(opened) = Opened::new(alloc, workers) else {
         return Err(core);
     };
     let start = rt.monotonic().unwrap_or(Duration::ZERO);
@@ -104,7 +106,7 @@ pub fn serve_through<R: Threads + Wait + Timer + Sync, W: Watcher + Sync>(
         watcher,
     };
     let links = TcpLinks::new(rt, start, door.bell(), watcher, Entrance::Door(door));
-    run::<Brand, R, W>(&setting, &links, door.workers(), opened, core)
+    run::<Brand, R, W>(&setting, &links, workers, opened, core)
 }
 
 // What all connections have in common, the bell that tells their end, and who watches.
@@ -259,14 +261,7 @@ fn refuse_all<N: Naming, R, W>(
 {
     let mut all = spare;
     for (_, seat) in links {
-        all.push_reserved(WorkerEnd {
-            shift: Shift {
-                connections: Vec::new(alloc),
-                end: Err(AllocError),
-            },
-            seat,
-            receipts: Vec::new(alloc),
-        });
+        all.push_reserved(WorkerEnd::without_connections(alloc, seat));
     }
     all
 }

@@ -39,7 +39,7 @@ impl<'a, R, W> TcpLinks<'a, R, W> {
         watcher: &'a W,
         entrance: Entrance<'a>,
     ) -> TcpLinks<'a, R, W>
-        ensures { result.entrance ≡ entrance }
+        ensures { result.entrance ≡ entrance.entry }
     {
         TcpLinks {
             rt,

@@ -1,9 +1,9 @@
-ghost use Rattle.std.specs.Prelude.{◌≡◌, IfErr, IfOk, map};
+ghost use Rattle.std.specs.Prelude.{◌≡◌, [], IfErr, IfOk, IsErr, map};
 ghost use Rattle.nfs_threads.specs.Worker.{receipts_back, seats_back};
 
 use crate::Shift;
 use nfs_shared::{Naming, Receipt, Seat};
-use std::alloc::Global;
+use std::alloc::{AllocError, Global};
 
 /// What a worker gives back: what it served, its seat, and the receipts that the seat was given.
 #[derive(Drop)]
@@ -14,6 +14,23 @@ pub struct WorkerEnd<N: Naming> {
 }
 
 impl<N: Naming> WorkerEnd<N> {
+    /// What a worker gives back that took no connection, since memory is refused.
+    pub(crate) fn without_connections(alloc: Global, seat: Seat<N>) -> WorkerEnd<N>
+        ensures connections { result.shift.connections.items ≡ [] }
+        ensures end { IsErr result.shift.end }
+        ensures seat { result.seat ≡ seat }
+        ensures receipts { result.receipts.items ≡ [] }
+    {
+        WorkerEnd {
+            shift: Shift {
+                connections: Vec::new(alloc),
+                end: Err(AllocError),
+            },
+            seat,
+            receipts: Vec::new(alloc),
+        }
+    }
+
     /// The receipts of each worker and their seats, as `Shared::end` takes them. If memory is refused, all comes back.
     pub fn split(
         alloc: Global,

@@ -28,8 +28,8 @@ impl<'a, S, C> MemoryLink<'a, S, C> {
 impl<'a, S: Read, C: Clock> MemoryParts<'a, S, C> {
     /// The device of the connection, and its clock.
     pub(crate) fn open(self) -> (Sides<Counted<S>, Counted<&'a mut Vec<u8>>>, C)
-        ensures source { result.0.source.device ≡ self.source }
-        ensures clock { result.1 ≡ self.clock }
+        ensures source { result.0.source.device ≡ self.entry.source }
+        ensures clock { result.1 ≡ self.entry.clock }
         ensures reads { result.0.source.failures ≡ 0 }
         ensures writes { result.0.sink.failures ≡ 0 }
     {

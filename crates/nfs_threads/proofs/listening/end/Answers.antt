@@ -1,6 +1,6 @@
 use Rattle.std.proofs.Common.{List, map, ap, subst, sym, ◌∙◌}
 use Rattle.nfs_threads.specs.Worker.{seats_back}
-use Rattle.nfs_shared.specs.Ends.{AllApart, AllStand, AreKept}
+use Rattle.nfs_shared.specs.Ends.{AllApart, AllStand, AreKept, receipts_in}
 use Rattle.nfs_shared.specs.declared.receipt.Receipt.{Receipt}
 use Rattle.nfs_threads.proofs.Accounts.{items_of}
 use Rattle.nfs_threads.proofs.listening.end.Goals as goal
@@ -20,3 +20,11 @@ pub returns-clause-apart : goal.returns-clause-apart
 returns-clause-apart g c =
     subst (λ (r : List (List Receipt)). AllApart r)
     (ap (map (λ v. v.items)) (c.as_slice.ensures.value ∙ c.take.ensures.receipts) ∙ items_of c.args.all.items) c.end-core.ensures.apart
+
+pub returns-clause-counted : goal.returns-clause-counted
+returns-clause-counted g c =
+    c.end-core.ensures.counted ∙ ap receipts_in (ap (map (λ v. v.items)) (c.as_slice.ensures.value ∙ c.take.ensures.receipts) ∙ items_of c.args.all.items)
+
+pub returns-clause-receipts : goal.returns-clause-receipts
+returns-clause-receipts g c =
+    c.pair.ensures.receipts ∙ ap (map (λ v. v.items)) c.take.ensures.receipts ∙ items_of c.args.all.items

@@ -1,4 +1,4 @@
-use Rattle.std.proofs.Common.{refl, rules}
+use Rattle.std.proofs.Common.{rules}
 use Rattle.std.specs.Vec.Iter.{into_iter_items}
 use Rattle.nfs_threads.proofs.Accounts.{is_refused, one_more_end}
 use Rattle.nfs_threads.proofs.Rest.{unused_rest}
@@ -15,5 +15,5 @@ loop-seat-preserved g c =
       room = search rules;
       unused = rest.1;
       ends = rw c.push_reserved.ensures.items (one_more_end tcp c.args.tree.now c.loop-seat.yielded c.loop-seat.all.items (link, seat) _ c.loop-seat.invariant.ends
-          (is_refused tcp c.args.tree.now link seat _ rest.0 c.new.ensures.items refl refl c.new-receipts.ensures.items));
+          (is_refused tcp c.args.tree.now link seat c.without_connections.result rest.0 c.without_connections.ensures.connections c.without_connections.ensures.end c.without_connections.ensures.seat c.without_connections.ensures.receipts));
     }

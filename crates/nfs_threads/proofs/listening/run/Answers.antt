@@ -9,6 +9,11 @@ use Rattle.nfs_threads.specs.Links.{tcp}
 use Rattle.nfs_threads.specs.Rooms.{HaveRoom}
 use Rattle.nfs_threads.proofs.listening.run.Goals as goal
 
+pub serve_swept-ends-requires-clause-unused : goal.serve_swept-ends-requires-clause-unused
+serve_swept-ends-requires-clause-unused g c κs within k seat at =
+    let fresh = subst (λ (s : List SeatView). AreFresh g.N.Naming.run.workers s) (sym c.link_all.ensures.seats) c.in-Ok-new.ensures.seats in
+    ap (λ (s : SeatView). s.receipts.given) (fresh.1 k seat at)
+
 pub end-core-requires-clause-seats : goal.end-core-requires-clause-seats
 end-core-requires-clause-seats g c =
     let fresh = subst (λ (s : List SeatView). AreFresh g.N.Naming.run.workers s) (sym c.link_all.ensures.seats) c.in-Ok-new.ensures.seats in
