@@ -19,6 +19,13 @@ impl<'r, 'p> NewFile<'r, 'p> {
     }
 }
 
+impl NewFile<'_, '_> {
+    /// Whether it was made.
+    pub(crate) fn is_made(&self) -> bool {
+        self.file.is_some()
+    }
+}
+
 impl Write for NewFile<'_, '_> {
     fn write(&mut self, bytes: &[u8]) -> io::Result<usize> {
         if self.file.is_none() {

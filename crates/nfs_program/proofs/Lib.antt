@@ -1,1 +1,3 @@
 pub mod Putting
+pub mod Rests
+pub mod Backlogs

@@ -2,3 +2,5 @@ pub mod Once
 pub mod Audit
 pub mod Pieces
 pub mod Faults
+pub mod Backlog
+pub mod ReachedLimits

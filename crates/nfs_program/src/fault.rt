@@ -4,43 +4,65 @@ ghost use Rattle.nfs_program.specs.Once.{fault_of, status_of};
 use nfs_journal::AuditError;
 use nfs_server::ServeError;
 use nfs_tree::TreeError;
+use std::error::Error;
+use std::fmt;
+use std::fmt::{Display, Formatter};
 use std::io::Write;
-use thiserror::Error;
 
 /// Why a run of the program failed, displayed as the line that it writes on standard error.
-#[derive(Clone, Copy, Debug, PartialEq, Eq, Error)]
+#[derive(Clone, Copy, Debug, PartialEq, Eq)]
 pub enum Fault {
     /// The tree's file doesn't describe a tree, with the number of the error.
-    #[error("fault: tree refused ({0})")]
     TreeRefused(u32),
     /// A file can't be read: the tree's, or the journal's that is audited.
-    #[error("fault: file not read")]
     FileNotRead,
     /// The journal's file can't be written whole.
-    #[error("fault: file not written")]
     FileNotWritten,
-    #[error("fault: input not read")]
     InputNotRead,
-    #[error("fault: output not written")]
     OutputNotWritten,
-    #[error("fault: record too long")]
     RecordTooLong,
-    #[error("fault: input too long")]
     InputTooLong,
-    #[error("fault: input ends inside a record")]
     EndsInsideRecord,
-    #[error("fault: no memory")]
     NoMemory,
     /// No listener can be had at the address that is asked for.
-    #[error("fault: socket")]
     Socket,
     /// The bytes are no journal.
-    #[error("fault: not a journal")]
     NotJournal,
     /// The entries of the journal before the one with this number are lawful, and it can't follow them.
-    #[error("fault: wrong answer at entry {0}")]
     WrongAnswer(u32),
 }
+
+/// The words of a fault, as they stand behind `fault: ` in its line.
+#[derive(Clone, Copy)]
+pub(crate) struct FaultWords(Fault);
+
+impl Display for FaultWords {
+    fn fmt<W: fmt::Write>(&self, f: &mut Formatter<W>) -> fmt::Result {
+        let words = match self.0 {
+            Fault::TreeRefused(number) => return write!(f, "tree refused ({number})"),
+            Fault::WrongAnswer(number) => return write!(f, "wrong answer at entry {number}"),
+            Fault::FileNotRead => "file not read",
+            Fault::FileNotWritten => "file not written",
+            Fault::InputNotRead => "input not read",
+            Fault::OutputNotWritten => "output not written",
+            Fault::RecordTooLong => "record too long",
+            Fault::InputTooLong => "input too long",
+            Fault::EndsInsideRecord => "input ends inside a record",
+            Fault::NoMemory => "no memory",
+            Fault::Socket => "socket",
+            Fault::NotJournal => "not a journal",
+        };
+        f.write_str(words)
+    }
+}
+
+impl Display for Fault {
+    fn fmt<W: fmt::Write>(&self, f: &mut Formatter<W>) -> fmt::Result {
+        write!(f, "fault: {}", self.words())
+    }
+}
+
+impl Error for Fault {}
 
 impl From<TreeError> for Fault {
     ghost use Rattle.nfs_program.specs.Once.{fault_of_tree};
@@ -80,6 +102,11 @@ impl Fault {
             Err(ServeError::Memory) => Some(Fault::NoMemory),
             Err(ServeError::TooMuch) => Some(Fault::InputTooLong),
         }
+    }
+
+    /// The words that stand behind `fault: ` in its line.
+    pub(crate) fn words(self) -> FaultWords {
+        FaultWords(self)
     }
 
     /// Reports the fault by a line, and returns the program's exit status, which is 1.

@@ -1,8 +1,8 @@
 ghost use Rattle.std.specs.Prelude.{◌≡◌, map};
-ghost use Rattle.nfs_program.specs.Faults.{fault_of_run, first_fault_of};
+ghost use Rattle.nfs_program.specs.Faults.{fault_of_ongoing_run, fault_of_run, first_fault_of, first_fault_of_workers, is_memory_refused};
 
 use crate::Fault;
-use nfs_threads::ConnectionEnd;
+use nfs_threads::{ConnectionEnd, WorkerAccount};
 
 /// The fault of the first connection that ended with one, in the order of the list.
 pub fn first_fault(connections: &[ConnectionEnd]) -> Option<Fault>
@@ -16,18 +16,56 @@ pub fn first_fault(connections: &[ConnectionEnd]) -> Option<Fault>
     None
 }
 
-/// The fault of a run: that nobody swept, since no thread could be made for that; or else that of the first connection in
-/// the list that ended with one; or else that of the journal's file.
+// The first fault of a worker, in the order of the list: that of its first connection that ended with one, or else that
+// memory or a thread was refused for it.
+fn first_fault_of_workers(workers: &[WorkerAccount]) -> Option<Fault>
+    ensures { result ≡ first_fault_of_workers workers.now }
+{
+    for worker in workers {
+        if let Some(fault) = first_fault(worker.shift.connections.as_slice()) {
+            return Some(fault);
+        }
+        if worker.shift.end.is_err() {
+            return Some(Fault::NoMemory);
+        }
+    }
+    None
+}
+
+// Whether memory or a thread was refused for one of the workers.
+fn is_memory_refused(workers: &[WorkerAccount]) -> bool
+    ensures { result ≡ is_memory_refused workers.now }
+{
+    workers.iter().any(|worker| worker.shift.end.is_err())
+}
+
+/// The fault of a run: that nobody swept, since no thread could be made for that; or else the first of a worker, in the
+/// order of the list; or else that of the journal's file.
 pub(crate) fn run_fault(
     is_swept: bool,
-    connections: &[ConnectionEnd],
+    workers: &[WorkerAccount],
     filed: Option<Fault>,
 ) -> Option<Fault>
-    ensures { result ≡ fault_of_run is_swept connections.now filed }
+    ensures { result ≡ fault_of_run is_swept workers.now filed }
 {
     if is_swept {
-        first_fault(connections).or(filed)
+        first_fault_of_workers(workers).or(filed)
     } else {
         Some(Fault::NoMemory)
     }
+}
+
+/// The fault of a run that goes on, of which none of its connections has a part: that nobody swept, or that memory or a
+/// thread was refused for a worker; or else that of the journal's file.
+pub(crate) fn ongoing_run_fault(
+    is_swept: bool,
+    workers: &[WorkerAccount],
+    filed: Option<Fault>,
+) -> Option<Fault>
+    ensures { result ≡ fault_of_ongoing_run is_swept workers.now filed }
+{
+    if !is_swept || is_memory_refused(workers) {
+        return Some(Fault::NoMemory);
+    }
+    filed
 }

@@ -3,20 +3,29 @@
 #![tactic(auto)]
 
 mod audit;
+mod backlog;
+mod beginning;
+mod draft;
 mod fault;
 mod faults;
 mod journal_file;
 mod numbers;
 mod once;
 mod pieces;
+mod reached_limits;
+mod reporter;
 mod serve_end;
+mod sight;
 mod tree_file;
 
 pub use audit::run_audit;
+pub use beginning::Beginning;
+pub use draft::Draft;
 pub use fault::{Fault, exit_status};
 pub use faults::first_fault;
 pub use journal_file::{BUFFER_LEN, file_buffer, file_journal};
 pub use numbers::limits_of_files;
 pub use once::run_once;
-pub use serve_end::end_run;
+pub use reporter::Reporter;
+pub use serve_end::{end_ongoing_run, end_run};
 pub use tree_file::read_tree;

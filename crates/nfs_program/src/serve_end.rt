@@ -1,15 +1,16 @@
 ghost use Rattle.std.specs.Prelude.{◌≡◌, ◌-◌, ◌^◌, ◌<◌, vec_capacity, IfSome, Option, Some};
-ghost use Rattle.nfs_program.specs.Faults.{fault_of_run};
+ghost use Rattle.nfs_program.specs.Faults.{fault_of_ongoing_run, fault_of_run};
 ghost use Rattle.nfs_server.specs.Device.{device_of_sink};
 ghost use Rattle.nfs_program.specs.Once.{IsFiled, status_of};
 ghost use Rattle.nfs_program.specs.Pieces.{HasRoomForFileOf};
 ghost use Rattle.nfs_program.specs.declared.fault.Fault.{Fault};
 
-use crate::faults::run_fault;
-use crate::{exit_status, file_journal};
+use crate::faults::{ongoing_run_fault, run_fault};
+use crate::{Draft, Reporter, exit_status, file_journal};
 use nfs_server::Sink;
 use nfs_threads::RunEnd;
 use std::io::Write;
+use std::sync::Wait;
 
 /// Ends a run of connections by what it left. The file of the core's journal is written, also after a
 /// fault, if there is a sink for it, by the memory of this buffer. Returns the program's exit status: 0, or 1 after a
@@ -29,9 +30,33 @@ pub fn end_run<E: Write, J: Sink>(
         run.now.core.journal filed
         × (filed ≡ Some Fault.NoMemory
         → ¬ (HasRoomForFileOf (vec_capacity buffer.old) run.now.core.journal))
-        × (result ≡ status_of (fault_of_run run.now.is_swept run.now.connections.items filed)) }
+        × (result ≡ status_of (fault_of_run run.now.is_swept run.now.workers.items filed)) }
 {
     let filed = file_journal(buffer, run.core.journal(), journal);
-    let fault = run_fault(run.is_swept, run.connections.as_slice(), filed);
+    let fault = run_fault(run.is_swept, run.workers.as_slice(), filed);
     exit_status(errors, fault)
+}
+
+/// Ends a run that goes on, by what it left, likewise. What ended a connection is no fault of such a run: if it was swept,
+/// and memory for each worker was there, the fault is that of the journal's file. Where that file stands, the beginning of
+/// the journal is removed.
+pub fn end_ongoing_run<R: Wait, E: Write + Drop, D: Draft + Drop, J: Sink>(
+    buffer: &mut Vec<u8>,
+    run: &RunEnd,
+    reporter: Reporter<'_, R, E, D>,
+    journal: &mut Option<J>,
+) -> u8
+    requires files { IfSome journal.old (λ sink. J.failures sink < 2 ^ 64 - 1) }
+    ensures ended { (filed : Option Fault)
+        × IsFiled (device_of_sink J.takes J.fails) J.failures journal.old journal.new
+        run.now.core.journal filed
+        × (filed ≡ Some Fault.NoMemory
+        → ¬ (HasRoomForFileOf (vec_capacity buffer.old) run.now.core.journal))
+        × (result ≡ status_of (fault_of_ongoing_run run.now.is_swept run.now.workers.items filed)) }
+{
+    let filed = file_journal(buffer, run.core.journal(), journal);
+    let unfiled = filed.map(|_| run.core.journal());
+    let mut errors = reporter.end(unfiled);
+    let fault = ongoing_run_fault(run.is_swept, run.workers.as_slice(), filed);
+    exit_status(&mut errors, fault)
 }

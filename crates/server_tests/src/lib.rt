@@ -8,6 +8,8 @@ mod devices;
 #[cfg(test)]
 mod faults;
 #[cfg(test)]
+mod reports;
+#[cfg(test)]
 mod streams;
 #[cfg(test)]
 mod trees;

@@ -1,0 +1,70 @@
+ghost use Rattle.std.specs.Prelude.{◌≡◌, ◌≤◌, [], IfOk, IfSome};
+ghost use Rattle.nfs_owners.specs.Registry.{no_clients};
+
+use crate::new_file::NewFile;
+use crate::told::{Told, tell};
+use nfs_core::{Core, CoreError, LEASE_MAX, LEASE_MIN};
+use nfs_program::{Fault, read_tree};
+use nfs_server::Counted;
+use nfs_tree::{DEFAULT_TREE, Tree, TreeError};
+use std::alloc::Global;
+use std::{fs, io};
+
+/// The journal's file, whose failures are told and counted.
+pub(crate) type JournalFile<'r, 'p> = Counted<Told<'r, 'p, NewFile<'r, 'p>>>;
+
+/// The journal's file, which isn't touched yet, if there is to be one.
+pub(crate) fn journal_file<'r, 'p>(
+    rt: &'r HostRuntime,
+    path: Option<&'p str>,
+) -> Option<JournalFile<'r, 'p>>
+    ensures { IfSome result (λ file. file.failures ≡ 0) }
+{
+    match path {
+        Some(path) => Some(Counted::new(Told::new(rt, path, NewFile::new(rt, path)))),
+        None => None,
+    }
+}
+
+/// A core for the tree, with the tree's policy.
+pub(crate) fn core_of(alloc: Global, tree: &Tree, lease: u32, epoch: u32) -> Result<Core, CoreError>
+    requires lease { (LEASE_MIN ≤ lease) × (lease ≤ LEASE_MAX) }
+    ensures journal { IfOk result (λ core. core.journal ≡ record {
+      nodes = tree.now.nodes;
+      epoch = epoch;
+      lease = lease;
+      policy = tree.now.policy;
+      entries = [];
+    }) }
+    ensures clients { IfOk result (λ core. core.stored.clients ≡ no_clients) }
+{
+    Core::new(alloc, tree, lease, epoch, tree.policy())
+}
+
+/// The tree that the file describes, or the default tree if no file is given. Why it can't be had is told by a line.
+pub(crate) fn tree(rt: &HostRuntime, path: Option<&str>) -> Result<Tree, Fault> {
+    let Some(path) = path else {
+        return Tree::from_toml(rt.alloc(), DEFAULT_TREE).map_err(Fault::from);
+    };
+    let bytes = file(rt, path)?;
+    match read_tree(rt.alloc(), bytes.as_slice()) {
+        Ok(tree) => Ok(tree),
+        Err(TreeError::Memory) => Err(Fault::from(TreeError::Memory)),
+        Err(refused) => {
+            tell(rt, path, refused);
+            Err(Fault::from(refused))
+        }
+    }
+}
+
+/// The bytes of a file. Why it can't be read is told by a line.
+pub(crate) fn file(rt: &HostRuntime, path: &str) -> Result<Vec<u8>, Fault> {
+    match fs::read(rt, path) {
+        Ok(bytes) => Ok(bytes),
+        Err(error) if error.kind() == io::ErrorKind::OutOfMemory => Err(Fault::NoMemory),
+        Err(error) => {
+            tell(rt, path, error);
+            Err(Fault::FileNotRead)
+        }
+    }
+}

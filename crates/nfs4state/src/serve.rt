@@ -1,0 +1,70 @@
+ghost use Rattle.std.specs.Prelude.{◌≡◌, [], ℕ, IsFalse};
+ghost use Rattle.nfs_options.specs.CommandLine.{IsServeWithinLimits};
+ghost use Rattle.nfs_owners.specs.Registry.{is_live};
+
+use crate::inputs::{core_of, journal_file, tree};
+use crate::listening::Listening;
+use crate::ongoing::serve_ongoing;
+use crate::report;
+use nfs_core::Core;
+use nfs_options::ServeOptions;
+use nfs_program::{Fault, end_run, file_buffer};
+use nfs_threads::serve_on;
+use nfs_tree::Tree;
+use std::sync::Wait;
+use std::thread::Threads;
+use std::time::Clock;
+
+/// `nfs4state serve`: connections of a TCP listener, and the journal to its file at the end. `threads` is what threads are
+/// started and waited for by; it is of a type parameter, since it goes to those threads.
+pub(crate) fn serve<R: Threads + Wait + Clock + Copy + Send + Sync + 'static>(
+    rt: &HostRuntime,
+    threads: R,
+    options: &ServeOptions<'_>,
+) -> u8
+    requires { IsServeWithinLimits options.now }
+{
+    let tree = match tree(rt, options.tree) {
+        Ok(tree) => tree,
+        Err(fault) => return report(rt, fault),
+    };
+    let Ok(core) = core_of(rt.alloc(), &tree, options.lease, options.epoch) else {
+        return report(rt, Fault::NoMemory);
+    };
+    let listening = match Listening::at(rt, options.listen) {
+        Ok(listening) => listening,
+        Err(fault) => return report(rt, fault),
+    };
+    match options.until {
+        None => serve_connections(rt, &threads, options, &listening, core, &tree),
+        Some(_) => serve_ongoing(rt, threads, options, listening, core, &tree),
+    }
+}
+
+// Serves so many connections, each in a thread of its own.
+fn serve_connections<R: Threads + Wait + Clock + Sync>(
+    rt: &HostRuntime,
+    threads: &R,
+    options: &ServeOptions<'_>,
+    listening: &Listening,
+    core: Core,
+    tree: &Tree,
+) -> u8
+    requires empty { core.journal.entries ≡ [] }
+    requires nobody { (number : ℕ) → IsFalse (is_live number core.stored.clients) }
+    requires nodes { core.journal.nodes ≡ tree.now.nodes }
+{
+    listening.tell(rt, tree, options);
+    let alloc = rt.alloc();
+    let mut journal = journal_file(rt, options.journal);
+    let Ok(mut buffer) = file_buffer(alloc, &journal) else {
+        return report(rt, Fault::NoMemory);
+    };
+    let listener = &listening.listener;
+    let served = serve_on(alloc, threads, listener, core, tree, options.connections);
+    let Ok(run) = served else {
+        return report(rt, Fault::NoMemory);
+    };
+    let mut errors = rt.stderr();
+    end_run(&mut buffer, &run, &mut errors, &mut journal)
+}

@@ -1,0 +1,97 @@
+ghost use Rattle.std.specs.Prelude.{◌≡◌, ◌+◌, ◌-◌, ◌^◌, ◌<◌, ◌≤◌, ◌⊎◌, ◌↔◌, [], IfOk, IsTrue, OnErr, OnOk, length, vec_capacity};
+ghost use Rattle.std.specs.Io.KnownBytes.{Appends};
+ghost use Rattle.nfs_journal.specs.File.{file};
+ghost use Rattle.nfs_journal.specs.Journals.{file_of};
+ghost use Rattle.nfs_program.specs.Backlog.{HasNoPlaceAt, Puts, TakesTo};
+
+use nfs_core::{Entry, Journal};
+use nfs_journal::{AuditError, write_journal};
+use std::alloc::Global;
+use std::io;
+use std::io::Write;
+use xdr::{Wire, WireError};
+
+/// How many bytes of entries are taken at once at most, where it isn't one entry that is longer.
+pub(crate) const PIECE_LEN: usize = 65_536;
+
+/// What waits to be written of a journal that grows: its file's beginning, or whole entries behind what was written.
+#[derive(Drop)]
+pub(crate) struct Backlog {
+    bytes: Vec<u8>,
+    // How many of the journal's entries were taken so far.
+    count: usize,
+}
+
+impl Backlog {
+    /// The file of a journal that has no entries.
+    pub(crate) fn of(alloc: Global, journal: &Journal) -> Result<Backlog, AuditError>
+        requires none { journal.now.history.entries ≡ [] }
+        ensures bytes { IfOk result
+            (λ b. b.bytes.items ≡ file.encoding (file_of journal.now.history)) }
+        ensures count { IfOk result (λ b. b.count ≡ 0) }
+    {
+        let mut bytes = Vec::new(alloc);
+        match write_journal(&mut bytes, journal) {
+            Ok(()) => Ok(Backlog { bytes, count: 0 }),
+            Err(error) => Err(error),
+        }
+    }
+
+    /// Takes the next entries of the journal, which begins with those that were taken before, and returns whether some
+    /// were left: as many as have no more than `PIECE_LEN` bytes together, or one. An error comes only where an entry has
+    /// no form or no room, and those before it were taken.
+    pub(crate) fn take(&mut self, entries: &[Entry]) -> Result<bool, WireError>
+        ensures whole { TakesTo self.old self.new entries.now }
+        ensures within { self.old.count ≤ length entries.now
+            → self.new.count ≤ length entries.now }
+        ensures left { IfOk result (λ left. IsTrue left ↔ self.new.count < length entries.now) }
+        ensures some { IfOk result (λ left. IsTrue left → self.old.count < self.new.count) }
+        ensures short { (self.new.count ≤ self.old.count + 1)
+            ⊎ (length self.new.bytes.items ≤ length self.old.bytes.items + PIECE_LEN) }
+        ensures err { OnErr result
+            (HasNoPlaceAt (vec_capacity self.old.bytes) self.new entries.now) }
+    {
+        let (start, first) = (self.bytes.len(), self.count);
+        let Some(rest) = entries.get(first..) else {
+            return Ok(false);
+        };
+        for entry in rest {
+            let most = if self.count == first {
+                usize::MAX
+            } else {
+                start.saturating_add(PIECE_LEN)
+            };
+            if !self.put(entry, most)? {
+                return Ok(true);
+            }
+        }
+        Ok(false)
+    }
+
+    // Puts the entry behind the bytes that wait, if no more than so many wait then.
+    fn put(&mut self, entry: &Entry, most: usize) -> Result<bool, WireError>
+        requires few { self.old.count < 2 ^ 64 - 1 }
+        ensures { Puts self.old entry.now most result self.new }
+    {
+        let end = self.bytes.len();
+        entry.write(&mut self.bytes)?;
+        if self.bytes.len() > most {
+            self.bytes.truncate(end);
+            return Ok(false);
+        }
+        self.count += 1;
+        Ok(true)
+    }
+
+    /// Writes what waits. At Ok nothing waits any more.
+    pub(crate) fn write_to<W: Write>(&mut self, file: &mut W) -> io::Result<()>
+        ensures bytes { OnOk result
+            (Appends (W.contents file.old) (W.contents file.new) self.old.bytes.items) }
+        ensures none { OnOk result (self.new.bytes.items ≡ []) }
+        ensures count { self.new.count ≡ self.old.count }
+    {
+        file.write_all(self.bytes.as_slice())?;
+        self.bytes.clear();
+        Ok(())
+    }
+}

@@ -1,0 +1,138 @@
+ghost use Rattle.std.specs.Prelude.{◌≡◌, ◌+◌, ◌≤◌, length, nat_le, nat_lt};
+ghost use Rattle.std.specs.List.{list_any};
+ghost use Rattle.nfs_program.specs.declared.reached_limits.Reach.TheVariants as reaches;
+ghost use Rattle.nfs_program.specs.ReachedLimits.{after_telling, gives_last_client, has_last_client, next_entries, noted};
+
+use nfs_core::{Entry, JOURNAL_LIMIT, Journal};
+use nfs_forms::Answer;
+use nfs_owners::CLIENT_LIMIT;
+use nfs_xdr::OpResult;
+use std::io::Write;
+
+/// How many entries are looked at at once at most.
+pub(crate) const MOST_ENTRIES: usize = 4_096;
+
+/// Which limits a run has reached, as far as its journal shows it. Each is told once.
+#[derive(Drop)]
+pub(crate) struct ReachedLimits {
+    // How many entries were looked at.
+    seen: usize,
+    clients: Reach,
+    journal: Reach,
+}
+
+/// How far a run is from a limit.
+#[derive(Clone, Copy, Debug, PartialEq, Eq)]
+pub(crate) enum Reach {
+    Below,
+    /// It has reached it, which wasn't told yet.
+    Reached,
+    Told,
+}
+
+impl Reach {
+    // What is known of the limit once it was looked whether it is reached.
+    fn noted(self, is_reached: bool) -> Reach
+        ensures { result ≡ noted self is_reached }
+    {
+        match self {
+            Reach::Below if is_reached => Reach::Reached,
+            reach => reach,
+        }
+    }
+
+    // The same once it is told, if that is due.
+    fn told<E: Write>(self, lines: &mut E, what: &str, limit: usize) -> Reach
+        ensures { result ≡ after_telling self }
+    {
+        match self {
+            Reach::Reached => {
+                let _ = writeln!(lines, "{what}: {limit} of {limit}");
+                Reach::Told
+            }
+            reach => reach,
+        }
+    }
+}
+
+impl ReachedLimits {
+    /// None, and no entry was looked at.
+    pub(crate) fn new() -> ReachedLimits
+        ensures seen { result.seen ≡ 0 }
+        ensures clients { result.clients ≡ reaches.Below }
+        ensures journal { result.journal ≡ reaches.Below }
+    {
+        ReachedLimits {
+            seen: 0,
+            clients: Reach::Below,
+            journal: Reach::Below,
+        }
+    }
+
+    /// Looks at the next of the journal's entries, and returns whether some were left.
+    pub(crate) fn look(&mut self, journal: &Journal) -> bool
+        ensures seen { self.new.seen ≡ self.old.seen
+            + length (next_entries self.old.seen journal.now.history.entries) }
+        ensures clients { self.new.clients ≡ noted self.old.clients
+            (list_any gives_last_client
+            (next_entries self.old.seen journal.now.history.entries)) }
+        ensures journal { self.new.journal
+            ≡ noted self.old.journal (nat_le JOURNAL_LIMIT (length journal.now.history.entries)) }
+        ensures left { result ≡ nat_lt self.new.seen (length journal.now.history.entries) }
+    {
+        self.journal = self.journal.noted(journal.is_full());
+        let next = next_entries(self.seen, journal.entries());
+        self.clients = self.clients.noted(give_last_client(next));
+        self.seen += next.len();
+        self.seen < journal.entries().len()
+    }
+
+    /// Tells those that weren't told.
+    pub(crate) fn tell<E: Write>(&mut self, lines: &mut E)
+        ensures seen { self.new.seen ≡ self.old.seen }
+        ensures clients { self.new.clients ≡ after_telling self.old.clients }
+        ensures journal { self.new.journal ≡ after_telling self.old.journal }
+    {
+        let most_clients = CLIENT_LIMIT as usize;
+        self.clients = self.clients.told(lines, "no client number is left", most_clients);
+        self.journal = self.journal.told(lines, "the journal is full", JOURNAL_LIMIT);
+    }
+}
+
+// The entries to be looked at after so many.
+fn next_entries(seen: usize, entries: &[Entry]) -> &[Entry]
+    ensures { result.now ≡ next_entries seen entries.now }
+{
+    let Some(rest) = entries.get(seen..) else {
+        return &[];
+    };
+    match rest.get(..MOST_ENTRIES) {
+        Some(next) => next,
+        None => rest,
+    }
+}
+
+// Whether one of the entries gives out the last client number that there is.
+fn give_last_client(entries: &[Entry]) -> bool
+    ensures { result ≡ list_any gives_last_client entries.now }
+{
+    entries.iter().any(|entry| gives_last_client(entry))
+}
+
+fn gives_last_client(entry: &Entry) -> bool
+    ensures { result ≡ gives_last_client entry.now }
+{
+    match entry {
+        Entry::Call(call) => has_last_client(&call.answer),
+        Entry::Expire(_) => false,
+    }
+}
+
+fn has_last_client(answer: &OpResult) -> bool
+    ensures { result ≡ has_last_client answer.now }
+{
+    match answer {
+        OpResult::Setclientid(Answer::Done(given)) => given.client.number == CLIENT_LIMIT,
+        _ => false,
+    }
+}

@@ -1,0 +1,58 @@
+use crate::reached_limits::ReachedLimits;
+use crate::{Beginning, Draft};
+use nfs_core::Journal;
+use std::io::Write;
+
+/// What was seen of the journal of a run that goes on.
+#[derive(Drop)]
+pub(crate) struct Sight<'a, D> {
+    limits: ReachedLimits,
+    beginning: Option<Beginning<'a, D>>,
+    // Whether the last look saw the last entry. The next one comes at once, and sees nothing.
+    is_level: bool,
+}
+
+impl<'a, D: Draft> Sight<'a, D> {
+    pub(crate) fn new(beginning: Option<Beginning<'a, D>>) -> Sight<'a, D> {
+        Sight {
+            limits: ReachedLimits::new(),
+            beginning,
+            is_level: false,
+        }
+    }
+
+    /// Looks at the next of the journal's entries. Returns whether there may be something to write down.
+    pub(crate) fn look(&mut self, journal: &Journal) -> bool {
+        if self.is_level {
+            self.is_level = false;
+            return false;
+        }
+        let more_limits = self.limits.look(journal);
+        let more_entries = match &mut self.beginning {
+            Some(beginning) => beginning.take(journal.entries()),
+            None => false,
+        };
+        self.is_level = !more_limits && !more_entries;
+        true
+    }
+
+    /// Writes what was seen of the journal.
+    pub(crate) fn write(&mut self) {
+        if let Some(beginning) = &mut self.beginning {
+            beginning.write();
+        }
+    }
+
+    /// Tells what is to be told.
+    pub(crate) fn tell<E: Write>(&mut self, lines: &mut E) {
+        self.limits.tell(lines);
+        if let Some(beginning) = &mut self.beginning {
+            beginning.tell(lines);
+        }
+    }
+
+    /// The beginning of the journal, if one was kept.
+    pub(crate) fn into_beginning(self) -> Option<Beginning<'a, D>> {
+        self.beginning
+    }
+}
