@@ -2,7 +2,7 @@ ghost use Rattle.std.specs.Prelude.{◌≡◌, IfErr, IfOk, codes};
 ghost use Rattle.clap.specs.Words.{found_of, rows_of};
 ghost use Rattle.nfs_options.specs.CommandLine.{IsMemoryOr, IsServe, IsServeWithinLimits, LacksServe, connections_default, connections_max};
 
-use crate::{Declined, Until};
+use crate::Declined;
 use crate::name::Name;
 use crate::number_option::NumberOption;
 use crate::until::Until;
@@ -26,8 +26,6 @@ pub struct ServeOptions<'a> {
     pub epoch: u32,
     /// The file to which the journal is written at the end, if there is one.
     pub journal: Option<&'a str>,
-    /// What ends the run, if it goes on after so many connections.
-    pub until: Option<Until>,
 }
 
 /// How many connections to serve before ending.
@@ -64,7 +62,6 @@ impl<'a> ServeOptions<'a> {
         lease: NumberOption::LEASE.default as u32,
         epoch: NumberOption::EPOCH.default as u32,
         journal: None,
-        until: None,
     };
 
     /// The options that clap found, with the defaults for the others.
@@ -91,13 +88,6 @@ impl<'a> ServeOptions<'a> {
             lease: lease.short_number(alloc, Name::Serve, matches.get_str(lease.name))?,
             epoch: epoch.short_number(alloc, Name::Serve, matches.get_str(epoch.name))?,
             journal: matches.get_str("journal"),
-            until: if matches.get_flag("until-input-ends") {
-                Some(Until::InputEnds)
-            } else if matches.get_flag("until-killed") {
-                Some(Until::Killed)
-            } else {
-                None
-            },
         })
     }
 }
