@@ -12,6 +12,8 @@ import time
 from messages import split
 
 LISTENING = re.compile(rb"listening on 127\.0\.0\.1:([0-9]+)\n")
+# The line behind it, which says what is served.
+SERVING = re.compile(rb"serving [0-9]+ files, lease [0-9]+ s, epoch [0-9]+\n")
 # The seconds that a server has to begin or to end, and those in which a reply has to come, on however busy a machine.
 PATIENCE, REPLY_PATIENCE = 60, 20
 
@@ -35,7 +37,11 @@ class Served:
             self.errors = b""
 
     def next_line(self):
-        """The next line on standard error; or what comes before its end, or in time."""
+        """The next line on standard error other than that of what is served; or what comes before its end, or in time."""
+        line = self.read_line()
+        return self.read_line() if SERVING.fullmatch(line) else line
+
+    def read_line(self):
         line, until = b"", time.monotonic() + PATIENCE
         while not line.endswith(b"\n") and not is_silent(self.program.stderr, max(0, until - time.monotonic())):
             more = os.read(self.program.stderr.fileno(), 1)
@@ -52,12 +58,13 @@ class Served:
         if self.program.poll() is None:
             self.program.kill()
             self.program.wait()
-        self.program.stdout.close()
-        self.program.stderr.close()
+        for stream in (self.program.stdin, self.program.stdout, self.program.stderr):
+            if stream is not None:
+                stream.close()
 
     def end(self, seconds=PATIENCE):
-        """How it ends by itself: its status, and what it has written on standard output and, behind the line with the
-        port, on standard error. The status is None where it doesn't end in time, and is killed."""
+        """How it ends by itself: its status, and what it has written on standard output and, behind the lines with the
+        port and of what is served, on standard error. The status is None where it doesn't end in time, and is killed."""
         try:
             output, errors = self.program.communicate(timeout=seconds)
             status = self.program.returncode
@@ -65,7 +72,12 @@ class Served:
             self.program.kill()
             output, errors = self.program.communicate()
             status = None
-        return status, output, self.errors + errors
+        return status, output, self.errors + SERVING.sub(b"", errors, count=1)
+
+    def end_input(self):
+        """Ends its input, which was a pipe."""
+        self.program.stdin.close()
+        self.program.stdin = None
 
     def is_running(self):
         return self.program.poll() is None

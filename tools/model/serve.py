@@ -102,9 +102,11 @@ def serve(given):
     if given.until_input_ends and not run.spawn(0, ring_at_end, bell):
         bell.ring()
     say(f"listening on {address_text(listener.getsockname())}")
+    files = sum(node.is_file for node in first.tree.nodes)
+    say(f"serving {files} files, lease {first.lease} s, epoch {first.epoch}")
     fault = run.serve()
     if given.until_input_ends and not heard and run.come == 0:
-        say("standard input ended before a connection came: --until-killed never looks at it")
+        say("the input ended before a connection came; `--until-killed` doesn't look at it")
     # Nothing changes any more, whatever a connection does that isn't let go yet. One that has no room for its line of
     # the trace keeps the turn.
     desk.turn.acquire(timeout=PATIENCE)

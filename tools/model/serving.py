@@ -83,8 +83,8 @@ class Desk:
         self.server, self.is_traced = server, is_traced
         self.turn, self.begun = threading.Lock(), time.monotonic()
         # What there is no more of when so much was given, each told once.
-        self.limits = [("client numbers", "last_client", CLIENTS_LIMIT),
-                       ("entries of the journal", "entries", JOURNAL_LIMIT)] if is_limit_told else []
+        self.limits = [("no client number is left", "last_client", CLIENTS_LIMIT),
+                       ("the journal is full", "entries", JOURNAL_LIMIT)] if is_limit_told else []
 
     def moment(self):
         return int(time.monotonic() - self.begun)
@@ -109,9 +109,9 @@ class Desk:
 
     def tell_limits(self):
         for limit in list(self.limits):
-            name, count, most = limit
+            words, count, most = limit
             if getattr(self.server, count) >= most:
-                say(f"no more {name}: {most} of {most}")
+                say(f"{words}: {most} of {most}")
                 self.limits.remove(limit)
 
 
@@ -253,8 +253,8 @@ class Run:
             stream, address = self.listener.accept()
         except socket.timeout:
             return
-        except OSError as error:
-            self.miss(error)
+        except OSError:
+            self.miss()
             return
         self.come += 1
         self.count(1)
@@ -269,10 +269,10 @@ class Run:
         if self.goes_on and self.there == self.most:
             self.tell_once(f"no more connections: {self.most} of {self.most}")
 
-    def miss(self, error):
+    def miss(self):
         """Where a connection can't be accepted there is one less to be served; or if the run goes on it waits."""
         if self.goes_on:
-            self.tell_once(f"a connection isn't accepted: {error.strerror}")
+            self.tell_once("a connection isn't accepted; it is tried again")
             time.sleep(TICK)
         else:
             self.come += 1
