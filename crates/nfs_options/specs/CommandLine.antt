@@ -1,10 +1,12 @@
 -- The command line of the program: what its words ask the program to do.
-use Rattle.std.specs.Prelude.{◌≡◌, ◌≢◌, ◌≤◌, ◌⊎◌, ◌∷◌, ◌++◌, [], ℕ, List, Option, Some, None, codes, if◌then◌else◌, option_map, true, unwrap_or, ⊤}
+use Rattle.std.specs.Prelude.{◌≡◌, ◌≢◌, ◌≤◌, ◌⊎◌, ◌∷◌, ◌++◌, [], ℕ, Bool, IsFalse, IsTrue, List, Option, Some, None, codes, false, if◌then◌else◌, option_map, true, unwrap_or, ⊤}
 use Rattle.std.specs.Borrow.{Bor}
+use Rattle.std.specs.Option.{option_map_or}
 use Rattle.std.specs.Str.{bytes_eq}
 use Rattle.std.specs.Str.Parse.{IsNumeral, digits_value}
 use Rattle.clap.specs.Words.{App, Row, Rule, Text, fault_of, first_of, new_app, new_rule, subcommand_of, with_rule, with_subcommand, IsAmong, Kinds}
 use Rattle.clap.specs.Simple.{on_top}
+use Rattle.clap.specs.declared.builder.action.ArgAction.TheVariants.{SetTrue}
 use Rattle.clap.specs.declared.error.kind.ErrorKind.{ErrorKind}
 use Rattle.clap.specs.declared.error.kind.ErrorKind.TheVariants.{DisplayHelp, OutOfMemory}
 use Rattle.nfs_options.specs.declared.declined.Declined.{Declined}
@@ -13,6 +15,8 @@ use Rattle.nfs_options.specs.declared.name.Name.{Name}
 use Rattle.nfs_options.specs.declared.name.Name.TheVariants as name
 use Rattle.nfs_options.specs.declared.once_options.OnceOptions.{OnceOptions}
 use Rattle.nfs_options.specs.declared.serve_options.ServeOptions.{ServeOptions}
+use Rattle.nfs_options.specs.declared.until.Until.{Until}
+use Rattle.nfs_options.specs.declared.until.Until.TheVariants as until
 use Rattle.nfs_options.specs.declared.command_line.Subcommand.{Subcommand}
 use Rattle.nfs_options.specs.declared.command_line.Subcommand.TheVariants as subcommand
 use Rattle.nfs_state.specs.declared.journal.TheConstants.{LEASE_MIN, LEASE_MAX}
@@ -22,6 +26,10 @@ use Rattle.nfs_state.specs.declared.journal.TheConstants.{LEASE_MIN, LEASE_MAX}
 -- `--NAME VALUE` or `--NAME=VALUE`, at most once
 abbrev pub option_rule : Text → Rule
 option_rule name = record (new_rule name) { long = Some name; value_names = 1 }
+
+-- `--NAME`, at most once
+abbrev pub flag_rule : Text → Rule
+flag_rule name = record (new_rule name) { long = Some name; action = Some SetTrue }
 
 -- a word of its own, that has to be given, once
 abbrev pub word_rule : Text → Rule
@@ -40,10 +48,12 @@ core_options = codes "tree" ∷ codes "lease" ∷ codes "epoch" ∷ []
 abbrev pub once : App
 once = with_options (core_options ++ codes "now" ∷ codes "journal" ∷ []) (new_app (codes "once"))
 
--- `serve`, with its options
+-- `serve`, with its options, and with flags for when it ends
 abbrev pub serve : App
-serve = with_options (codes "listen" ∷ codes "connections" ∷ core_options ++ codes "journal" ∷ [])
-    (new_app (codes "serve"))
+serve = with_options (core_options ++ codes "journal" ∷ [])
+    (with_rule (with_rule (with_options (codes "listen" ∷ codes "connections" ∷ [])
+    (new_app (codes "serve"))) (flag_rule (codes "until-input-ends")))
+    (flag_rule (codes "until-killed")))
 
 -- `audit`, with its file
 abbrev pub audit : App
@@ -65,6 +75,10 @@ name_of text =
 -- the text of an option's value, if the option is present
 abbrev pub text_of : Option (Bor Text) → Option Text
 text_of = option_map (λ s. s.now)
+
+-- the flag of this name is given, for which clap then notes "true"
+abbrev pub is_given : Text → List Row → Bool
+is_given name rows = option_map_or (λ noted. bytes_eq noted (codes "true")) (first_of name rows) false
 
 -- ---- numbers and defaults
 
@@ -92,8 +106,10 @@ epoch_default = 1
 abbrev pub epoch_max : ℕ
 epoch_max = 4294967295
 
-abbrev pub connections_default : ℕ
-connections_default = 4
+-- one that goes on has as many as there may be
+abbrev pub connections_default : Option Until → ℕ
+connections_default None = 4
+connections_default (Some until) = 64
 
 abbrev pub connections_max : ℕ
 connections_max = 64
@@ -109,10 +125,24 @@ listen_default = codes "127.0.0.1:2049"
 
 -- ---- what the words ask the program to do
 
+-- until when `serve` goes on, if a flag says so, of which one at most is given
+abbrev pub IsUntil : List Row → Option Until → Type 0
+IsUntil rows None = IsFalse (is_given (codes "until-input-ends") rows)
+    × IsFalse (is_given (codes "until-killed") rows)
+IsUntil rows (Some until.InputEnds) = IsTrue (is_given (codes "until-input-ends") rows)
+    × IsFalse (is_given (codes "until-killed") rows)
+IsUntil rows (Some until.Killed) = IsFalse (is_given (codes "until-input-ends") rows)
+    × IsTrue (is_given (codes "until-killed") rows)
+
+-- both flags are given
+abbrev pub IsBoth : List Row → Type 0
+IsBoth rows = IsTrue (is_given (codes "until-input-ends") rows)
+    × IsTrue (is_given (codes "until-killed") rows)
+
 -- as many connections as `--connections` gives, or the default
-abbrev pub IsConnections : List Row → ℕ → Type 0
-IsConnections rows =
-    IsNumber 1 connections_max connections_default (first_of (codes "connections") rows)
+abbrev pub IsConnections : List Row → Option Until → ℕ → Type 0
+IsConnections rows until =
+    IsNumber 1 connections_max (connections_default until) (first_of (codes "connections") rows)
 
 -- the lease is the one that `--lease` gives, or the default
 abbrev pub IsLease : List Row → ℕ → Type 0
@@ -135,7 +165,8 @@ IsOnce rows o =
 abbrev pub IsServe : List Row → ServeOptions → Type 0
 IsServe rows o =
     (o.listen.now ≡ unwrap_or (first_of (codes "listen") rows) listen_default)
-    × IsConnections rows o.connections
+    × IsUntil rows o.until
+    × IsConnections rows o.until o.connections
     × (text_of o.tree ≡ first_of (codes "tree") rows)
     × IsLease rows o.lease
     × IsEpoch rows o.epoch
@@ -186,17 +217,19 @@ LacksOnce rows = LacksLease rows
     ⊎ (LacksEpoch rows
     ⊎ IsNoNumber 0 moment_max (first_of (codes "now") rows))
 
--- the same for `serve`
+-- the same for `serve`, or both of its flags are given
 abbrev pub LacksServe : List Row → Type 0
-LacksServe rows = IsNoNumber 1 connections_max (first_of (codes "connections") rows)
+LacksServe rows = IsBoth rows
+    ⊎ (IsNoNumber 1 connections_max (first_of (codes "connections") rows)
     ⊎ (LacksLease rows
-    ⊎ LacksEpoch rows)
+    ⊎ LacksEpoch rows))
 
 -- no file is given
 abbrev pub LacksAudit : List Row → Type 0
 LacksAudit rows = first_of (codes "file") rows ≡ None
 
--- what is given for the subcommand of this name can't be followed: there is no file, or a number isn't within its limits
+-- what is given for the subcommand of this name can't be followed: there is no file, a number isn't within its limits, or
+-- there are two flags of which one can be followed
 abbrev pub LacksNamed : Name → List Row → Type 0
 LacksNamed name.Once rows = LacksOnce rows
 LacksNamed name.Serve rows = LacksServe rows

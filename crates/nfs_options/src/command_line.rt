@@ -15,7 +15,7 @@ use std::convert::AsStr;
 pub enum Subcommand<'a> {
     /// Serve standard input to its end.
     Once(OnceOptions<'a>),
-    /// Serve TCP connections until as many as are asked for have ended.
+    /// Serve TCP connections, until as many as are asked for have ended, or for as long as a flag says.
     Serve(ServeOptions<'a>),
     /// Audit the journal in this file.
     Audit(&'a str),
@@ -24,9 +24,10 @@ pub enum Subcommand<'a> {
 /// Reads the words of the command line, the first of which is the program's name: `once`, with `--tree FILE`, `--lease
 /// SECONDS` (1 to 86,400, by default 90), `--epoch NUMBER` (0 to 2^32 - 1, by default 1), `--now SECONDS` (0 to 2^40 - 1,
 /// by default 0) and `--journal FILE`; `serve`, with `--listen ADDR` (by default 127.0.0.1:2049), `--connections NUMBER`
-/// (1 to 64, by default 4), and the options of `once` but `--now`; or `audit FILE`. Each option is given at most once.
-/// Numbers are decimal digits without a sign. The program's name alone means `once` without options, and `--help` or
-/// `-h`, before or after the subcommand, asks for help.
+/// (1 to 64, by default 4, or 64 beside one of the flags), one of the flags `--until-input-ends` and `--until-killed` or
+/// none, and the options of `once` but `--now`; or `audit FILE`. Each option is given at most once. Numbers are decimal
+/// digits without a sign. The program's name alone means `once` without options, and `--help` or `-h`, before or after the
+/// subcommand, asks for help.
 pub fn options<'a, S: AsStr>(alloc: Global, words: &'a [S]) -> Result<Subcommand<'a>, Declined>
     ensures asked { IfOk result (Asks (map S.text words.now)) }
     ensures limits { IfOk result IsWithinLimits }

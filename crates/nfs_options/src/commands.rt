@@ -1,9 +1,10 @@
 ghost use Rattle.std.specs.Prelude.{◌≡◌, IfOk, codes, false};
 ghost use Rattle.clap.specs.Words.{app_of, rule_of};
 ghost use Rattle.clap.specs.declared.builder.command.Command.TheViews.{out-Command};
-ghost use Rattle.nfs_options.specs.CommandLine.{audit, core_options, once, option_rule, program, serve, with_options, word_rule};
+ghost use Rattle.nfs_options.specs.CommandLine.{audit, core_options, flag_rule, once, option_rule, program, serve, with_options, word_rule};
 
 use crate::name::Name;
+use crate::until::{INPUT_ENDS, KILLED};
 use clap::error::ErrorKind;
 use clap::{Arg, ArgAction, Command, Error};
 use std::alloc::{AllocError, Global};
@@ -74,15 +75,25 @@ fn serve_command<'a>(alloc: Global) -> Result<Command<'a>, AllocError>
         alloc,
         "connections",
         "NUMBER",
-        "How many connections to serve before ending, 1 to 64 [default: 4]",
+        "How many connections to serve before ending, 1 to 64 [default: 4]; with a flag that says when to end, how many at once [default: 64]",
+    );
+    let input_ends = flag(
+        alloc,
+        INPUT_ENDS,
+        "Take the next connection where one has ended, and end when standard input ends",
+    );
+    let killed = flag(
+        alloc,
+        KILLED,
+        "Take the next connection where one has ended, and go on until killed; standard input is never looked at",
     );
     let serve = Command::new(alloc, "serve")
         .about("Answers the records on TCP connections, each to its end")
         .after_help(SERVE_NOTE)
         .arg(listen)?
         .arg(connections)?
-        .arg(Arg::new(alloc, "until-input-ends").long("until-input-ends").action(ArgAction::SetTrue))?
-        .arg(Arg::new(alloc, "until-killed").long("until-killed").action(ArgAction::SetTrue))?;
+        .arg(input_ends)?
+        .arg(killed)?;
     with_core_options(alloc, serve)?.arg(journal_option(alloc))
 }
 
@@ -133,6 +144,16 @@ fn option<'a>(alloc: Global, name: &'a str, value_name: &'a str, help: &'a str) 
     Arg::new(alloc, name)
         .long(name)
         .value_name(value_name)
+        .help(help)
+}
+
+fn flag<'a>(alloc: Global, name: &'a str, help: &'a str) -> Arg<'a>
+    ensures rule { rule_of result ≡ flag_rule name.now }
+    ensures local { result.global ≡ false }
+{
+    Arg::new(alloc, name)
+        .long(name)
+        .action(ArgAction::SetTrue)
         .help(help)
 }
 

@@ -35,18 +35,25 @@ impl Declined {
         }
     }
 
-    /// For an `audit` to which no file is given.
-    pub(crate) fn without_file(alloc: Global) -> Declined
+    /// For a mistake of this kind in what is given for a subcommand.
+    pub(crate) fn usage(alloc: Global, name: Name, kind: ErrorKind, message: &str) -> Declined
         ensures { IsMemoryOr ⊤ result }
     {
-        let kind = ErrorKind::MissingRequiredArgument;
-        match error_of(alloc, Name::Audit, kind, "no FILE is given") {
+        match error_of(alloc, name, kind, message) {
             Ok(error) => match format!(in alloc; "{error}") {
                 Ok(text) => Declined::Usage(text),
                 Err(_) => Declined::Memory,
             },
             Err(_) => Declined::Memory,
         }
+    }
+
+    /// For an `audit` to which no file is given.
+    pub(crate) fn without_file(alloc: Global) -> Declined
+        ensures { IsMemoryOr ⊤ result }
+    {
+        let kind = ErrorKind::MissingRequiredArgument;
+        Declined::usage(alloc, Name::Audit, kind, "no FILE is given")
     }
 }
 

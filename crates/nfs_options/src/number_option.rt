@@ -3,7 +3,6 @@ ghost use Rattle.std.specs.Str.Parse.{IsNumeral, digits_value};
 ghost use Rattle.nfs_options.specs.CommandLine.{IsMemoryOr, IsNoNumber, IsNumber, SpellsWithin, text_of};
 
 use crate::Declined;
-use crate::commands::error_of;
 use crate::name::Name;
 use clap::error::ErrorKind;
 use nfs_core::{LEASE_MAX, LEASE_MIN};
@@ -83,28 +82,23 @@ impl NumberOption {
     fn refusal(&self, alloc: Global, subcommand: Name, text: &str) -> Declined
         ensures { IsMemoryOr ⊤ result }
     {
-        match self.refusal_text(alloc, subcommand, text) {
-            Ok(text) => Declined::Usage(text),
+        match self.message(alloc, text) {
+            Ok(message) => {
+                let kind = ErrorKind::ValueValidation;
+                Declined::usage(alloc, subcommand, kind, message.as_str())
+            }
             Err(_) => Declined::Memory,
         }
     }
 
-    fn refusal_text(
-        &self,
-        alloc: Global,
-        subcommand: Name,
-        text: &str,
-    ) -> Result<String, AllocError> {
+    fn message(&self, alloc: Global, text: &str) -> Result<String, AllocError> {
         let name = self.name;
         let value_name = self.value_name;
         let least = self.least;
         let most = self.most;
-        let message = format!(in alloc;
+        format!(in alloc;
             "invalid value '{text}' for '--{name} <{value_name}>': not a number from {least} to {most}"
-        )?;
-        let kind = ErrorKind::ValueValidation;
-        let error = error_of(alloc, subcommand, kind, message.as_str())?;
-        format!(in alloc; "{error}")
+        )
     }
 }
 

@@ -1,10 +1,11 @@
-ghost use Rattle.std.specs.Prelude.{IfErr, IfOk};
+ghost use Rattle.std.specs.Prelude.{◌≡◌, IfErr, IfOk, codes};
 ghost use Rattle.clap.specs.Words.{found_of, rows_of};
-ghost use Rattle.nfs_options.specs.CommandLine.{IsMemoryOr, IsServe, IsServeWithinLimits, LacksServe};
+ghost use Rattle.nfs_options.specs.CommandLine.{IsMemoryOr, IsServe, IsServeWithinLimits, LacksServe, connections_default, connections_max};
 
-use crate::{Declined, Until};
+use crate::Declined;
 use crate::name::Name;
 use crate::number_option::NumberOption;
+use crate::until::Until;
 use clap::ArgMatches;
 use std::alloc::Global;
 
@@ -13,7 +14,9 @@ use std::alloc::Global;
 pub struct ServeOptions<'a> {
     /// The address to listen on, as it is written.
     pub listen: &'a str,
-    /// How many connections to serve before ending, from 1 to 64.
+    /// Until when the run goes on, if it isn't to end with a number of connections.
+    pub until: Option<Until>,
+    /// How many connections to serve before ending, or how many at once in a run that goes on, from 1 to 64.
     pub connections: u32,
     /// The file that describes the tree of files to serve, if there is one.
     pub tree: Option<&'a str>,
@@ -23,8 +26,6 @@ pub struct ServeOptions<'a> {
     pub epoch: u32,
     /// The file to which the journal is written at the end, if there is one.
     pub journal: Option<&'a str>,
-    /// What ends the run, if it goes on after so many connections.
-    pub until: Option<Until>,
 }
 
 /// How many connections to serve before ending.
@@ -36,16 +37,31 @@ const CONNECTIONS: NumberOption = NumberOption {
     default: 4,
 };
 
+// How many connections to serve before ending, or how many at once in a run that goes on: by default as many as may be.
+fn connections_option(until: Option<Until>) -> NumberOption
+    ensures name { result.name.now ≡ codes "connections" }
+    ensures limits { (result.least ≡ 1) × (result.most ≡ connections_max) }
+    ensures default { result.default ≡ connections_default until }
+{
+    match until {
+        None => CONNECTIONS,
+        Some(_) => NumberOption {
+            default: CONNECTIONS.most,
+            ..CONNECTIONS
+        },
+    }
+}
+
 impl<'a> ServeOptions<'a> {
     /// The values of the options that are absent.
     pub const DEFAULT: ServeOptions<'static> = ServeOptions {
         listen: "127.0.0.1:2049",
+        until: None,
         connections: CONNECTIONS.default as u32,
         tree: None,
         lease: NumberOption::LEASE.default as u32,
         epoch: NumberOption::EPOCH.default as u32,
         journal: None,
-        until: None,
     };
 
     /// The options that clap found, with the defaults for the others.
@@ -54,13 +70,15 @@ impl<'a> ServeOptions<'a> {
         ensures limits { IfOk result IsServeWithinLimits }
         ensures err { IfErr result (IsMemoryOr (LacksServe (rows_of (found_of matches.now)))) }
     {
-        let connections = CONNECTIONS;
+        let until = Until::of(alloc, matches)?;
+        let connections = connections_option(until);
         let lease = NumberOption::LEASE;
         let epoch = NumberOption::EPOCH;
         Ok(ServeOptions {
             listen: matches
                 .get_str("listen")
                 .unwrap_or(ServeOptions::DEFAULT.listen),
+            until,
             connections: connections.short_number(
                 alloc,
                 Name::Serve,
@@ -70,13 +88,6 @@ impl<'a> ServeOptions<'a> {
             lease: lease.short_number(alloc, Name::Serve, matches.get_str(lease.name))?,
             epoch: epoch.short_number(alloc, Name::Serve, matches.get_str(epoch.name))?,
             journal: matches.get_str("journal"),
-            until: if matches.get_flag("until-input-ends") {
-                Some(Until::InputEnds)
-            } else if matches.get_flag("until-killed") {
-                Some(Until::Killed)
-            } else {
-                None
-            },
         })
     }
 }
