@@ -30,7 +30,9 @@ impl Listening {
     /// left to the system; and by another one what is served. An error in writing them is ignored, as others are.
     pub(crate) fn tell(&self, rt: &HostRuntime, tree: &Tree, options: &ServeOptions<'_>) {
         let nodes = tree.nodes().iter();
-        let files = nodes.filter(|node| matches!(node.kind, NodeKind::File(_))).count();
+        let files = nodes
+            .filter(|node| matches!(node.kind, NodeKind::File(_)))
+            .count();
         let (lease, epoch) = (options.lease, options.epoch);
         let _ = eprintln!(rt; "listening on {}", self.address);
         let _ = eprintln!(rt; "serving {files} files, lease {lease} s, epoch {epoch}");

@@ -104,6 +104,8 @@ fn beginning_of<'r, 'n>(
 fn tell_no_connection(rt: &HostRuntime, options: &ServeOptions<'_>, run: &RunEnd) {
     let is_unused = |worker: &WorkerAccount| worker.shift.connections.is_empty();
     if options.until == Some(Until::InputEnds) && run.workers.iter().all(is_unused) {
-        let _ = eprintln!(rt; "the input ended before a connection came; `--until-killed` doesn't look at it");
+        let _ = eprintln!(rt;
+            "the input ended before a connection came; `--until-killed` doesn't look at it"
+        );
     }
 }

@@ -5,7 +5,6 @@ use Rattle.std.proofs.lemmas.List.{get_or-drop, length-drop}
 use Rattle.std.proofs.lemmas.Option.{slice_get_read}
 use Rattle.nfs_program.specs.Backlog.{HasNoPlace, HasNoPlaceAt}
 use Rattle.nfs_program.specs.declared.backlog.Backlog.{Backlog}
-use Rattle.nfs_state.specs.EntryForm.{entry}
 use Rattle.nfs_state.specs.declared.entry.Entry.{Entry}
 
 -- with less room it has none either
@@ -30,5 +29,5 @@ no_place_at old mid new entries rest i e is lt item counted room bytes count pla
       e,
       slice_get_read entries (length entries) new.count e refl below here,
       subst (λ (n : ℕ). HasNoPlace (vec_capacity old.bytes) n e) (sym (ap length bytes))
-      (less_room (vec_capacity old.bytes) (vec_capacity mid.bytes) (length mid.bytes.items) e room place),
+          (less_room (vec_capacity old.bytes) (vec_capacity mid.bytes) (length mid.bytes.items) e room place),
     )

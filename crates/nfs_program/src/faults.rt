@@ -22,8 +22,8 @@ fn first_fault_of_workers(workers: &[WorkerAccount]) -> Option<Fault>
     ensures { result ≡ first_fault_of_workers workers.now }
 {
     for worker in workers {
-        if let Some(fault) = first_fault(worker.shift.connections.as_slice()) {
-            return Some(fault);
+        if let Some(first) = first_fault(worker.shift.connections.as_slice()) {
+            return Some(first);
         }
         if worker.shift.end.is_err() {
             return Some(Fault::NoMemory);

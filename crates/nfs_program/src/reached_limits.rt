@@ -94,8 +94,12 @@ impl ReachedLimits {
         ensures journal { self.new.journal ≡ after_telling self.old.journal }
     {
         let most_clients = CLIENT_LIMIT as usize;
-        self.clients = self.clients.told(lines, "no client number is left", most_clients);
-        self.journal = self.journal.told(lines, "the journal is full", JOURNAL_LIMIT);
+        self.clients = self
+            .clients
+            .told(lines, "no client number is left", most_clients);
+        self.journal = self
+            .journal
+            .told(lines, "the journal is full", JOURNAL_LIMIT);
     }
 }
 

@@ -30,7 +30,11 @@ impl<'a, R: Wait, E: Write + Drop, D: Draft + Drop> Reporter<'a, R, E, D> {
     /// Ends with the run. The beginning of the journal is brought up to the last entry of this one; where there is none,
     /// it isn't wanted any more, and is removed. Returns where the lines go.
     pub fn end(self, journal: Option<&Journal>) -> E {
-        let Reporter { rt: _, lines, sight } = self;
+        let Reporter {
+            rt: _,
+            lines,
+            sight,
+        } = self;
         let mut lines = lines.into_inner();
         if let Some(mut beginning) = sight.into_inner().into_beginning() {
             match journal {
@@ -48,7 +52,11 @@ impl<'a, R: Wait, E: Write, D: Draft> Watcher for Reporter<'a, R, E, D> {
         if let Some(fault) = Fault::of(outcome) {
             let mut lines = self.lines.lock(self.rt);
             let (number, address) = (peer.number, peer.address);
-            let _ = writeln!(lines, "connection {number} from {address}: {}", fault.words());
+            let _ = writeln!(
+                lines,
+                "connection {number} from {address}: {}",
+                fault.words()
+            );
         }
     }
 

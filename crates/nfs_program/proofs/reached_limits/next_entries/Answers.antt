@@ -1,4 +1,4 @@
-use Rattle.std.proofs.Common.{ℕ, ◌<◌, length, inl, inr, arith}
+use Rattle.std.proofs.Common.{◌<◌, length, inl, inr, arith}
 use Rattle.nfs_program.proofs.Rests.{short_rest}
 use Rattle.nfs_program.proofs.reached_limits.next_entries.Goals as goal
 
