@@ -6,7 +6,7 @@ use Rattle.nfs_shared.specs.declared.receipt.Receipt.{Receipt}
 use Rattle.nfs_server.specs.Connection.{all_exchanges}
 use Rattle.nfs_server.specs.Exchange.{questions_of}
 use Rattle.nfs_threads.specs.Receipts.{GainsReceipts}
-use Rattle.nfs_threads.specs.Worker.{IsServed, Linking, Stand, stand}
+use Rattle.nfs_threads.specs.Worker.{IsServed, Linking, Stand}
 use Rattle.nfs_threads.specs.declared.connection_end.ConnectionEnd.{ConnectionEnd}
 use Rattle.nfs_threads.specs.declared.worker_end.WorkerEnd.{WorkerEnd}
 use Rattle.nfs_tree.specs.Tree.{Files}
