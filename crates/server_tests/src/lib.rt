@@ -14,8 +14,6 @@ mod faults;
 #[cfg(test)]
 mod journals;
 #[cfg(test)]
-mod reports;
-#[cfg(test)]
 mod streams;
 #[cfg(test)]
 mod trees;
