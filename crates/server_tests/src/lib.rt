@@ -8,8 +8,6 @@ mod devices;
 #[cfg(test)]
 mod faults;
 #[cfg(test)]
-mod reports;
-#[cfg(test)]
 mod streams;
 #[cfg(test)]
 mod trees;
