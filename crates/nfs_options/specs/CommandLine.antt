@@ -106,7 +106,7 @@ epoch_default = 1
 abbrev pub epoch_max : ℕ
 epoch_max = 4294967295
 
--- one that goes on has as many as there may be
+-- how many connections without `--connections`: in a run that goes on as many at once as there may be
 abbrev pub connections_default : Option Until → ℕ
 connections_default None = 4
 connections_default (Some until) = 64

@@ -75,7 +75,7 @@ fn serve_command<'a>(alloc: Global) -> Result<Command<'a>, AllocError>
         alloc,
         "connections",
         "NUMBER",
-        "How many connections to serve before ending, 1 to 64 [default: 4]; with a flag that says when to end, how many at once [default: 64]",
+        "How many connections, 1 to 64: to serve before ending [default: 4], or at once with a flag below [default: 64]",
     );
     let input_ends = flag(
         alloc,
