@@ -20,6 +20,9 @@ use nfs_server::{Counted, Sides};
 use std::process::ExitCode;
 use std::{env, io};
 
+// What `--version` prints: the toolchain by which all of this is proved.
+const VERSION: &str = "nfs4state, proved by rattle-kit-13f\n";
+
 /// Does what the words of the command line ask for: see `nfs4state --help`.
 fn main(rt: HostRuntime) -> ExitCode {
     let words = match words(&rt) {
@@ -29,6 +32,9 @@ fn main(rt: HostRuntime) -> ExitCode {
         }
         Err(_) => return print_usage(&rt, "error: a word isn't UTF-8\n"),
     };
+    if asks_version(words.as_slice()) {
+        return print_help(&rt, VERSION);
+    }
     match options(rt.alloc(), words.as_slice()) {
         Ok(Subcommand::Once(options)) => ExitCode::from(once(&rt, &options)),
         Ok(Subcommand::Serve(options)) => ExitCode::from(serve(&rt, rt, &options)),
@@ -36,6 +42,14 @@ fn main(rt: HostRuntime) -> ExitCode {
         Err(Declined::Help(text)) => print_help(&rt, text.as_str()),
         Err(Declined::Usage(text)) => print_usage(&rt, text.as_str()),
         Err(Declined::Memory) => ExitCode::from(report(&rt, Fault::NoMemory)),
+    }
+}
+
+// Whether `--version` is all that is asked for.
+fn asks_version(words: &[String]) -> bool {
+    match words {
+        [_, word] => word.as_str() == "--version",
+        _ => false,
     }
 }
 

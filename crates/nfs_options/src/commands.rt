@@ -10,7 +10,8 @@ use clap::{Arg, ArgAction, Command, Error};
 use std::alloc::{AllocError, Global};
 
 const PROGRAM_NOTE: &str = "Without a command it does what `nfs4state once` does without options.
-`nfs4state once --help` and `nfs4state serve --help` show the options.";
+`nfs4state once --help` and `nfs4state serve --help` show the options,
+and `nfs4state --version` the toolchain by which it is proved.";
 
 const ONCE_NOTE: &str = "Example:
   nfs4state once --tree files.toml < records > replies";
