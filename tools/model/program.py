@@ -52,12 +52,18 @@ class Program:
             return [wrong for wrong in pool.map(self.wrong_once, *zip(*written)) if wrong is not None]
 
     def once(self, row, environment=None):
-        """How `once` ends for the row, and the bytes of the journal that it leaves."""
+        """How `once` ends for the row, but for a line that says what is wrong with its tree; and the bytes of the
+        journal that it leaves."""
         path, connection = self.new_path(), row.connections[0]
         options = [f"--lease={row.lease}", f"--epoch={row.epoch}", f"--now={connection.moment}"]
-        if row.document is not None:
-            options += ["--tree", self.file_of(row.document.encode())]
-        return self.run(["once", "--journal", path, *options], connection.sent, environment), bytes_of(path)
+        tree = None if row.document is None else self.file_of(row.document.encode())
+        if tree is not None:
+            options += ["--tree", tree]
+        status, output, errors = self.run(["once", "--journal", path, *options], connection.sent, environment)
+        lines = errors.splitlines(True)
+        if tree is not None and lines and lines[0].startswith(f"{tree}: ".encode()):
+            lines = lines[1:]
+        return (status, output, b"".join(lines)), bytes_of(path)
 
     def wrong_once(self, row, data):
         """What is wrong with how `once` carries the row, or None."""
