@@ -94,7 +94,7 @@ impl<'a, R> Socket<'a, R> {
         Ok(())
     }
 
-    // Whether a further read may be made. Once the run has ended, there are some more, which wait for a moment only.
+    // Whether a further read may be made. Once the run has ended, there are some more.
     fn may_read(&mut self) -> bool
         ensures keeps { KeepsConnection self.old self.new }
         ensures failures { HasFailed 0 0 self.old self.new }
@@ -107,10 +107,6 @@ impl<'a, R> Socket<'a, R> {
             return false;
         }
         self.reads_left -= 1;
-        if let Some(stream) = &self.stream {
-            let short = Duration::from_millis(SHORT_WAIT_MILLIS);
-            let _ = stream.set_read_timeout(Some(short));
-        }
         true
     }
 }
@@ -144,7 +140,8 @@ impl<'a, R: Wait> Socket<'a, R> {
     }
 }
 
-// Reads some bytes. A read that comes back with nothing is made again, unless the run has ended: then the input is over.
+// Reads some bytes. A read that comes back with nothing is made again, unless the run had ended before it: then the input
+// is over.
 fn read_waiting<R: Wait>(
     rt: &R,
     bell: &Bell,
@@ -154,25 +151,33 @@ fn read_waiting<R: Wait>(
     ensures within { IfOk result (λ n. n ≤ length buffer.new) }
 {
     for _ in rt.forever() {
+        let is_last = bell.is_rung();
+        if is_last {
+            let _ = stream.set_read_timeout(Some(Duration::from_millis(SHORT_WAIT_MILLIS)));
+        }
         match read_from(stream, buffer) {
             Err(error) if comes_back(&error) => {}
             result => return result,
         }
-        if bell.is_rung() {
+        if is_last {
             return Ok(0);
         }
     }
     unreachable!()
 }
 
-// Writes some bytes. A write that comes back with nothing is made again, unless the run has ended. One that takes nothing
-// is a failure.
+// Writes some bytes. A write that comes back with nothing is made again, unless the run had ended before it. One that takes
+// nothing is a failure.
 fn write_waiting<R: Wait>(rt: &R, bell: &Bell, stream: &TcpStream, bytes: &[u8]) -> Option<usize>
     ensures within { IfSome result (λ n. (0 < n) × (n ≤ length bytes.now)) }
 {
     for _ in rt.forever() {
+        let is_last = bell.is_rung();
+        if is_last {
+            let _ = stream.set_write_timeout(Some(Duration::from_millis(SHORT_WAIT_MILLIS)));
+        }
         match write_to(stream, bytes) {
-            Err(error) if comes_back(&error) && !bell.is_rung() => {}
+            Err(error) if comes_back(&error) && !is_last => {}
             Ok(n) if n > 0 => return Some(n),
             _ => return None,
         }
