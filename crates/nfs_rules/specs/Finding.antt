@@ -6,8 +6,9 @@ use Rattle.nfs_locks.specs.AllLocks.{LockAt}
 use Rattle.nfs_locks.specs.LockFound.{lock_found_seen}
 use Rattle.nfs_locks.specs.StoredLocks.{lock_seen}
 use Rattle.nfs_locks.specs.declared.locks.LockFound.{LockFound}
+use Rattle.nfs_share.specs.declared.opens.DelegationFound.{DelegationFound}
 use Rattle.nfs_share.specs.declared.opens.OpenFound.{OpenFound}
-use Rattle.nfs_share.specs.OpenFound.{open_seen}
+use Rattle.nfs_share.specs.OpenFound.{delegation_seen, open_seen}
 use Rattle.nfs_rules.specs.declared.newcomer.Newcomer.{Newcomer}
 use Rattle.nfs_rules.specs.declared.newcomer.Newcomer.TheVariants as found_newcomers
 use Rattle.nfs_rules.specs.declared.operations.lock.Locking.{Locking}
@@ -21,10 +22,10 @@ use Rattle.nfs_rules.specs.Newcomers as newcomers
 use Rattle.nfs_rules.specs.Sequences as sequences
 use Rattle.nfs_rules.specs.Refusing.{◌>>=◌}
 use Rattle.nfs_rules.specs.Stateids as stateids
-use Rattle.nfs_rules.specs.Stateids.{as_lock, as_open, verdict_on}
+use Rattle.nfs_rules.specs.Stateids.{as_delegation, as_lock, as_open, verdict_on}
 use Rattle.nfs_rules.specs.declared.demand.Demand.{Demand}
 use Rattle.nfs_rules.specs.operations.Lock as lock
-use Rattle.nfs_share.specs.AllOpens.{OpenAt}
+use Rattle.nfs_share.specs.AllOpens.{DelegationAt, OpenAt}
 use Rattle.nfs_state.specs.State.{State}
 use Rattle.nfs_forms.specs.declared.stateid.Stateid.{Stateid}
 use Rattle.nfs_forms.specs.declared.status.Refusal.{Refusal}
@@ -35,6 +36,7 @@ use Rattle.nfs_owners.specs.declared.state_owner.StateOwner.{StateOwner}
 abbrev pub found_seen : Found → stateids.Found
 found_seen (found_states.AnOpen found) = stateids.AnOpen (open_seen found)
 found_seen (found_states.ALock found) = stateids.ALock (lock_found_seen found)
+found_seen (found_states.ADelegation found) = stateids.ADelegation (delegation_seen found)
 
 abbrev pub target_seen : Result (Option Found) Refusal → Result (Option stateids.Found) Refusal
 target_seen (Ok found) = Ok (option_map found_seen found)
@@ -44,7 +46,7 @@ abbrev pub found_or_refusal_seen : Result Found Refusal → Result stateids.Foun
 found_or_refusal_seen (Ok found) = Ok (found_seen found)
 found_or_refusal_seen (Err refusal) = Err refusal
 
--- the open, or the lock state, that an operation works on, by the verdict on a stateid that names this
+-- the open, the lock state or the delegation that an operation works on, by the verdict on a stateid that names this
 abbrev pub open_by : Demand → State → Stateid → Result (Option stateids.Found) Refusal
     → Result OpenAt Refusal
 open_by demand state id target = verdict_on demand state id target >>= as_open
@@ -53,6 +55,10 @@ abbrev pub lock_by : Demand → State → Stateid → Result (Option stateids.Fo
     → Result LockAt Refusal
 lock_by demand state id target = verdict_on demand state id target >>= as_lock
 
+abbrev pub delegation_by : Demand → State → Stateid → Result (Option stateids.Found) Refusal
+    → Result DelegationAt Refusal
+delegation_by demand state id target = verdict_on demand state id target >>= as_delegation
+
 abbrev pub open_or_refusal_seen : Result OpenFound Refusal → Result OpenAt Refusal
 open_or_refusal_seen (Ok found) = Ok (open_seen found)
 open_or_refusal_seen (Err refusal) = Err refusal
@@ -60,6 +66,10 @@ open_or_refusal_seen (Err refusal) = Err refusal
 abbrev pub lock_or_refusal_seen : Result LockFound Refusal → Result LockAt Refusal
 lock_or_refusal_seen (Ok found) = Ok (lock_found_seen found)
 lock_or_refusal_seen (Err refusal) = Err refusal
+
+abbrev pub delegation_or_refusal_seen : Result DelegationFound Refusal → Result DelegationAt Refusal
+delegation_or_refusal_seen (Ok found) = Ok (delegation_seen found)
+delegation_or_refusal_seen (Err refusal) = Err refusal
 
 abbrev pub newcomer_seen : Newcomer → newcomers.Newcomer
 newcomer_seen found_newcomers.Nobody = newcomers.Nobody

@@ -3,6 +3,7 @@ pub mod Refusing
 pub mod Newcomers
 pub mod Sequences
 pub mod Judging
+pub mod Lending
 pub mod Locking
 pub mod operations
 pub mod Deciding

@@ -83,17 +83,18 @@ abbrev pub owner_or_bad : ℕ → Option KnownOwner → Requester
 owner_or_bad seqid None = Refused refusals.BadStateId
 owner_or_bad seqid (Some o) = Owner o.name seqid
 
--- the owner of a state that was found
-abbrev pub owner_of_found : Found → StateOwner
-owner_of_found (stateids.AnOpen at) = open_owner at.state.owner
-owner_of_found (stateids.ALock at) = lock_owner at.state.owner
+-- The owner of a state that was found. A delegation has none.
+abbrev pub requester_of_found : ℕ → Found → Requester
+requester_of_found seqid (stateids.AnOpen at) = Owner (open_owner at.state.owner) seqid
+requester_of_found seqid (stateids.ALock at) = Owner (lock_owner at.state.owner) seqid
+requester_of_found seqid (stateids.ADelegation at) = Refused refusals.BadStateId
 
 -- The owner that a stateid names: that of its open or lock state, no matter which file the state is of, whether its
 -- owner is confirmed, and how old the stateid is; or the owner whose kept request closed the stateid's open.
 abbrev pub requester_of_target : History → State → Stateid → ℕ → Result (Option Found) Refusal
     → Requester
 requester_of_target journal state id seqid (Err refusal) = Refused refusal
-requester_of_target journal state id seqid (Ok (Some found)) = Owner (owner_of_found found) seqid
+requester_of_target journal state id seqid (Ok (Some found)) = requester_of_found seqid found
 requester_of_target journal state id seqid (Ok None) =
     owner_or_bad seqid (find (λ o. has_closed id (kept_for journal o)) state.owners)
 

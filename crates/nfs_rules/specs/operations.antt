@@ -3,6 +3,7 @@ use Rattle.std.specs.Prelude.{◌≡◌, Option, None}
 use Rattle.nfs_rules.specs.declared.decision.Decision.{Decision}
 use Rattle.nfs_state.specs.declared.request.Request.{Request}
 use Rattle.nfs_rules.specs.operations.Close as close
+use Rattle.nfs_rules.specs.operations.Delegreturn as delegreturn
 use Rattle.nfs_rules.specs.operations.Getattr as getattr
 use Rattle.nfs_rules.specs.operations.Lock as lock
 use Rattle.nfs_rules.specs.operations.Lockt as lockt
@@ -19,6 +20,7 @@ use Rattle.nfs_xdr.specs.Names.{Names, Opener, Owned, names_of}
 use Rattle.nfs_xdr.specs.declared.op.Op.{Op}
 use Rattle.nfs_xdr.specs.declared.op.Op.TheVariants as ops
 pub mod Close
+pub mod Delegreturn
 pub mod Getattr
 pub mod Lock
 pub mod Lockt
@@ -43,6 +45,8 @@ own_of op journal state = λ request node passage ruling. ⊥
 
 -- what the rule of an operation decides that goes by no sequence id
 abbrev pub IsPlain : Op → History → State → Request → Option Decision → Type 0
+IsPlain (ops.Delegreturn args) journal state request decision =
+    decision ≡ delegreturn.rule journal state request.filehandle args
 IsPlain (ops.Getattr mask) journal state request decision =
     decision ≡ getattr.rule journal state request.filehandle mask
 IsPlain (ops.Setclientid args) journal state request decision =

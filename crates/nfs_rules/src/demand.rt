@@ -1,11 +1,14 @@
 ghost use Rattle.std.specs.Prelude.{◌≡◌};
-ghost use Rattle.nfs_rules.specs.Stateids.{any_open, confirmed_open, lock_state};
+ghost use Rattle.nfs_rules.specs.Stateids.{any_open, confirmed_open, delegation, delegation_of, lock_state};
+
+use nfs_xdr::ClientId;
 
 /// The kinds of state that an operation works on.
 #[derive(Clone, Copy, Debug)]
 pub struct Kinds {
     pub opens: bool,
     pub locks: bool,
+    pub delegations: bool,
 }
 
 /// What an operation demands of the state that its stateid names.
@@ -16,6 +19,8 @@ pub struct Demand {
     pub kinds: Kinds,
     /// An unconfirmed owner's open is accepted as well.
     pub also_unconfirmed: bool,
+    /// The client whose state it has to be, if not any client's is accepted.
+    pub client: Option<ClientId>,
 }
 
 impl Demand {
@@ -28,8 +33,10 @@ impl Demand {
             kinds: Kinds {
                 opens: true,
                 locks: false,
+                delegations: false,
             },
             also_unconfirmed: false,
+            client: None,
         }
     }
 
@@ -42,8 +49,10 @@ impl Demand {
             kinds: Kinds {
                 opens: true,
                 locks: false,
+                delegations: false,
             },
             also_unconfirmed: true,
+            client: None,
         }
     }
 
@@ -56,8 +65,36 @@ impl Demand {
             kinds: Kinds {
                 opens: false,
                 locks: true,
+                delegations: false,
             },
             also_unconfirmed: false,
+            client: None,
+        }
+    }
+
+    /// A delegation of the node's file.
+    pub(crate) fn delegation(node: u32) -> Demand
+        ensures { result ≡ delegation node }
+    {
+        Demand {
+            node,
+            kinds: Kinds {
+                opens: false,
+                locks: false,
+                delegations: true,
+            },
+            also_unconfirmed: false,
+            client: None,
+        }
+    }
+
+    /// A delegation of the node's file that this client has.
+    pub(crate) fn delegation_of(client: ClientId, node: u32) -> Demand
+        ensures { result ≡ delegation_of client node }
+    {
+        Demand {
+            client: Some(client),
+            ..Demand::delegation(node)
         }
     }
 }

@@ -1,3 +1,5 @@
 //! The rules of the entries that are no calls, a file each.
 
 pub(crate) mod expire;
+pub(crate) mod path;
+pub(crate) mod revoke;

@@ -9,6 +9,7 @@ ghost use Rattle.nfs_xdr.specs.Names.{is_sequenced};
 ghost use Rattle.nfs_xdr.specs.Op.{has_entry};
 
 mod close;
+mod delegreturn;
 mod getattr;
 mod lock;
 mod lockt;
@@ -33,7 +34,7 @@ pub fn decide(alloc: Global, store: &Store, request: &Request) -> Result<Decisio
     requires entry { IsTrue (has_entry request.now.op) }
     requires node { IsFilehandle store.now.journal.history request.now.filehandle }
     requires numbers { store.now.tables.clients.registry.last_confirm < 2 ^ 64 - 1 }
-    requires states { store.now.tables.numbers < 2 ^ 32 - 1 }
+    requires states { store.now.tables.numbers < 2 ^ 32 - 2 }
     requires kept { OwnersAgree store.now }
     ensures { Decides (IsRuled request.now.op store.now.journal.history (state_of store.now.tables)
         request.now) (state_of store.now.tables) request.now.op result }
@@ -64,6 +65,7 @@ fn decide_plain(alloc: Global, store: &Store, request: &Request) -> Result<Decis
         request.now) (state_of store.now.tables) request.now.op result }
 {
     match &request.op {
+        Op::Delegreturn(args) => delegreturn::decide(store, request.filehandle, args),
         Op::Getattr(mask) => getattr::decide(alloc, store, request, mask),
         Op::Setclientid(args) => setclientid::decide(store, request, args),
         Op::SetclientidConfirm(args) => setclientid_confirm::decide(alloc, store, request, args),

@@ -6,7 +6,7 @@ ghost use Rattle.nfs_state.specs.Kept.{Agrees};
 ghost use Rattle.nfs_state.specs.Room.{state_of};
 ghost use Rattle.nfs_state.specs.State.{History};
 ghost use Rattle.nfs_state.specs.Store.{OwnersAgree};
-ghost use Rattle.nfs_rules.specs.Sequences.{IsJudged, IsOfKnown, IsOfUnknown, IsRestart, IsSequence, is_open, owner_of_found, refusal_to, requester_of_open, requester_of_target};
+ghost use Rattle.nfs_rules.specs.Sequences.{IsJudged, IsOfKnown, IsOfUnknown, IsRestart, IsSequence, is_open, refusal_to, requester_of_found, requester_of_open, requester_of_target};
 ghost use Rattle.nfs_owners.specs.Kept.{closes};
 ghost use Rattle.nfs_owners.specs.StateOwner.{owner_seen};
 
@@ -63,19 +63,21 @@ pub(crate) fn requester_of_target<'a>(
     match target {
         Err(refusal) => Requester::Refused(refusal),
         Ok(found) => match found {
-            Some(found) => Requester::Owner(owner_of_found(found), seqid),
+            Some(found) => requester_of_found(seqid, found),
             None => closer_of(tables, stateid, seqid),
         },
     }
 }
 
-// The owner of a state that was found.
-fn owner_of_found<'a>(found: Found<'a>) -> OwnerRef<'a>
-    ensures { owner_seen result ≡ owner_of_found (found_seen found.entry) }
+// The owner of a state that was found. A delegation has none.
+fn requester_of_found<'a>(seqid: u32, found: Found<'a>) -> Requester<'a>
+    ensures requester { requester_seen result ≡ requester_of_found seqid (found_seen found.entry) }
+    ensures refusal { HasOtherRefusal (requester_seen result) }
 {
     match found {
-        Found::AnOpen(found) => OwnerRef::of_open(&found.state.owner),
-        Found::ALock(found) => OwnerRef::of_lock(&found.state.owner),
+        Found::AnOpen(found) => Requester::Owner(OwnerRef::of_open(&found.state.owner), seqid),
+        Found::ALock(found) => Requester::Owner(OwnerRef::of_lock(&found.state.owner), seqid),
+        Found::ADelegation(_) => Requester::Refused(Refusal::BadStateId),
     }
 }
 

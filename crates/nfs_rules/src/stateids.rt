@@ -1,24 +1,25 @@
 ghost use Rattle.std.specs.Prelude.{◌≡◌, option_map};
 ghost use Rattle.nfs_owners.specs.StateOwner.{open_owner};
-ghost use Rattle.nfs_rules.specs.Finding.{found_or_refusal_seen, found_seen, lock_by, lock_or_refusal_seen, open_by, open_or_refusal_seen, target_seen};
+ghost use Rattle.nfs_rules.specs.Finding.{delegation_by, delegation_or_refusal_seen, found_or_refusal_seen, found_seen, lock_by, lock_or_refusal_seen, open_by, open_or_refusal_seen, target_seen};
 ghost use Rattle.nfs_rules.specs.Refusing.{first_refusal};
 ghost use Rattle.nfs_state.specs.Owners.{is_confirmed};
 ghost use Rattle.nfs_state.specs.Room.{state_of};
 ghost use Rattle.nfs_rules.specs.Stateids as stateids;
-ghost use Rattle.nfs_rules.specs.Stateids.{found_in, has_confirmed_owner, is_of_kinds, node_of, of_state, seqid_of, verdict_on};
+ghost use Rattle.nfs_rules.specs.Stateids.{found_in, has_confirmed_owner, is_of_demanded, is_of_kinds, node_of, of_state, seqid_of, verdict_on};
 
 use crate::demand::{Demand, Kinds};
 use nfs_locks::LockFound;
 use nfs_owners::{OwnerRef, OwnerStanding};
-use nfs_share::OpenFound;
+use nfs_share::{DelegationFound, OpenFound};
 use nfs_state::Tables;
-use nfs_xdr::{OpenOwner, Refusal, Stateid};
+use nfs_xdr::{ClientId, OpenOwner, Refusal, Stateid};
 
 /// A state that a stateid names, as it was found.
 #[derive(Clone, Copy, Debug)]
 pub(crate) enum Found<'a> {
     AnOpen(OpenFound<'a>),
     ALock(LockFound<'a>),
+    ADelegation(DelegationFound),
 }
 
 /// What the stateid names, in the server's run `epoch`, or why it can't name a state.
@@ -44,10 +45,13 @@ pub(crate) fn target_of(
     Ok(found_in(tables, stateid))
 }
 
-// The open or the lock state that the stateid names.
+// The open, the lock state or the delegation that the stateid names.
 fn found_in(tables: &Tables, stateid: Stateid) -> Option<Found<'_>>
     ensures { option_map found_seen result ≡ found_in (state_of tables.now) stateid }
 {
+    if let Some(found) = tables.opens.find_delegation(stateid) {
+        return Some(Found::ADelegation(found));
+    }
     if let Some(found) = tables.opens.find(stateid) {
         return Some(Found::AnOpen(found));
     }
@@ -98,6 +102,9 @@ fn judge<'a>(
     if node_of(found) != demand.node {
         return Err(Refusal::BadStateId);
     }
+    if !is_of_demanded(demand.client, stateid) {
+        return Err(Refusal::BadStateId);
+    }
     if !demand.also_unconfirmed && !has_confirmed_owner(tables, found) {
         return Err(Refusal::BadStateId);
     }
@@ -118,6 +125,17 @@ fn is_of_kinds(kinds: Kinds, found: Found<'_>) -> bool
     match found {
         Found::AnOpen(_) => kinds.opens,
         Found::ALock(_) => kinds.locks,
+        Found::ADelegation(_) => kinds.delegations,
+    }
+}
+
+// Whether the stateid is of the client whose state is demanded, if only one client's is.
+fn is_of_demanded(client: Option<ClientId>, stateid: Stateid) -> bool
+    ensures { result ≡ is_of_demanded client stateid }
+{
+    match client {
+        Some(client) => stateid.client == client,
+        None => true,
     }
 }
 
@@ -128,6 +146,7 @@ fn node_of(found: Found<'_>) -> u32
     match found {
         Found::AnOpen(found) => found.node,
         Found::ALock(found) => found.node,
+        Found::ADelegation(found) => found.node,
     }
 }
 
@@ -137,7 +156,7 @@ fn has_confirmed_owner(tables: &Tables, found: Found<'_>) -> bool
 {
     match found {
         Found::AnOpen(found) => is_confirmed(tables, &found.state.owner),
-        Found::ALock(_) => true,
+        Found::ALock(_) | Found::ADelegation(_) => true,
     }
 }
 
@@ -148,6 +167,7 @@ fn seqid_of(found: Found<'_>) -> u32
     match found {
         Found::AnOpen(found) => found.state.seqid,
         Found::ALock(found) => found.state.seqid,
+        Found::ADelegation(_) => 1,
     }
 }
 
@@ -164,7 +184,7 @@ pub(crate) fn open_verdict<'a>(
     match verdict(tables, demand, stateid, target) {
         Err(refusal) => Err(refusal),
         Ok(Found::AnOpen(found)) => Ok(found),
-        Ok(Found::ALock(_)) => Err(Refusal::BadStateId),
+        Ok(Found::ALock(_) | Found::ADelegation(_)) => Err(Refusal::BadStateId),
     }
 }
 
@@ -181,6 +201,23 @@ pub(crate) fn lock_verdict<'a>(
     match verdict(tables, demand, stateid, target) {
         Err(refusal) => Err(refusal),
         Ok(Found::ALock(found)) => Ok(found),
-        Ok(Found::AnOpen(_)) => Err(Refusal::BadStateId),
+        Ok(Found::AnOpen(_) | Found::ADelegation(_)) => Err(Refusal::BadStateId),
+    }
+}
+
+/// The verdict of an operation that works on delegations alone.
+pub(crate) fn delegation_verdict(
+    tables: &Tables,
+    demand: Demand,
+    stateid: Stateid,
+    target: Result<Option<Found<'_>>, Refusal>,
+) -> Result<DelegationFound, Refusal>
+    ensures { delegation_or_refusal_seen result
+        ≡ delegation_by demand (state_of tables.now) stateid (target_seen target.entry) }
+{
+    match verdict(tables, demand, stateid, target) {
+        Err(refusal) => Err(refusal),
+        Ok(Found::ADelegation(found)) => Ok(found),
+        Ok(Found::AnOpen(_) | Found::ALock(_)) => Err(Refusal::BadStateId),
     }
 }

@@ -1,6 +1,6 @@
 -- What an entry of the journal changes in the state: first what it means for an owner, then the operation's own change,
 -- and then what the entry tells of that.
-use Rattle.std.specs.Prelude.{ℕ, ◌+◌, Bool, not, filter, map, is_some, if◌then◌else◌}
+use Rattle.std.specs.Prelude.{ℕ, ◌+◌, Bool, not, [], ◌∷◌, ◌++◌, filter, map, Option, Some, None, is_some, if◌then◌else◌}
 use Rattle.nfs_forms.specs.ClientId.{is_same_client}
 use Rattle.nfs_forms.specs.OpenOwner.{is_same_owner}
 use Rattle.nfs_forms.specs.declared.client_id.ClientId.{ClientId}
@@ -12,8 +12,13 @@ use Rattle.nfs_locks.specs.AllLocks.{with_locks}
 use Rattle.nfs_locks.specs.Locks.{with_first_lock, with_lock_change}
 use Rattle.nfs_locks.specs.Locks as locks
 use Rattle.nfs_owners.specs.Registry as registry
+use Rattle.nfs_owners.specs.Registry.{with_mark}
 use Rattle.nfs_owners.specs.StateOwner.{lock_owner, open_owner}
-use Rattle.nfs_share.specs.AllOpens.{opens_of, with_opens}
+use Rattle.nfs_share.specs.AllOpens.{opens_of, with_delegations, with_opens}
+use Rattle.nfs_share.specs.Delegations.{first_delegation, is_delegation_numbered, is_lent_to, with_recalls, without_lent}
+use Rattle.nfs_share.specs.declared.delegation.DelegationKind.{DelegationKind}
+use Rattle.nfs_share.specs.declared.delegation.FileUse.TheVariants as uses
+use Rattle.nfs_share.specs.declared.share.Share.{Share}
 use Rattle.nfs_share.specs.Opens.{after_downgrade, is_numbered, is_of_client, open_of, with_each, with_next_seqid, with_opening}
 use Rattle.nfs_share.specs.Opens as opens
 use Rattle.nfs_state.specs.Owners.{with_confirmation, with_kept_entry, with_record, without_owner}
@@ -49,13 +54,14 @@ with_owner_change (Restarts name) number old =
     record fresh { owners = with_record number (open_owner name) fresh.owners }
 with_owner_change (Drops name) number old = without name old
 
--- The state without the owners, the opens and the lock states of a client that a confirmation replaces, or that expires
--- (section 9.6).
+-- The state without the owners, the opens, the lock states and the delegations of a client that a confirmation replaces,
+-- or that expires (section 9.6).
 abbrev pub without_client : ClientId → State → State
 without_client client old = record old {
   owners = filter (λ o. not (is_same_client o.name.client client)) old.owners;
   opens = map (opens.without (is_of_client client)) old.opens;
   locks = map (locks.without (locks.is_lock_of_client client)) old.locks;
+  delegations = map (without_lent (is_lent_to client)) old.delegations;
 }
 
 abbrev pub left_by : ClientChange → State → State
@@ -66,16 +72,31 @@ left_by change old = old
 abbrev pub last_state_after : Bool → ℕ → ℕ
 last_state_after has_open last = if has_open then last else last + 1
 
+-- the state after an OPEN of the node's file by the owner for this share
+abbrev pub with_open : ℕ → OpenOwner → Share → State → State
+with_open node owner share old = record old {
+  opens = with_opens node (with_opening owner share (old.last_state + 1)) old.opens;
+  last_state = last_state_after (is_some (open_of owner (opens_of node old.opens))) old.last_state;
+}
+
+-- the state after a delegation of the node's file, if one of a kind is given: it has the next number
+abbrev pub with_grant : ℕ → ClientId → Option DelegationKind → State → State
+with_grant node client None old = old
+with_grant node client (Some kind) old = record old {
+  delegations = with_delegations node
+      (λ lent. lent ++ first_delegation client kind (old.last_state + 1) ∷ []) old.delegations;
+  last_state = old.last_state + 1;
+}
+
 -- the state after an operation's own change
 abbrev pub with_state_change : Change → State → State
 with_state_change changes.Nothing old = old
 with_state_change (changes.Clients change) old =
     let left = left_by change old in
     record left { clients = with_change change old.clients }
-with_state_change (changes.Opens node owner share) old = record old {
-  opens = with_opens node (with_opening owner share (old.last_state + 1)) old.opens;
-  last_state = last_state_after (is_some (open_of owner (opens_of node old.opens))) old.last_state;
-}
+-- the open's number is given first
+with_state_change (changes.Opens node owner share lent) old =
+    with_grant node owner.client lent (with_open node owner share old)
 with_state_change (changes.Confirms node number owner) old = record old {
   owners = with_confirmation (open_owner owner) old.owners;
   opens = with_opens node (with_each (is_numbered number) with_next_seqid) old.opens;
@@ -102,6 +123,16 @@ with_state_change (changes.Releases owner) old = record old {
 with_state_change (changes.Expires client) old =
     let left = without_client client old in
     record left { clients = registry.without_client client.number old.clients }
+
+-- what is in the way of an open is called back (section 10.4.4)
+with_state_change (changes.Recalls node client share moment) old = record old {
+  delegations = with_delegations node (with_recalls client (uses.Open share) moment) old.delegations;
+}
+with_state_change (changes.Returns node number) old = record old {
+  delegations = with_delegations node (without_lent (is_delegation_numbered number)) old.delegations;
+}
+with_state_change (changes.MarksPath client path) old =
+    record old { clients = with_mark client path old.clients }
 
 -- a change of an entry that means nothing for the owners
 abbrev pub change_alone : Change → Effect

@@ -48,6 +48,8 @@ entry_of request answer =
 abbrev pub call_of : Entry → Option Call
 call_of (entries.Call call) = Some call
 call_of (entries.Expire expire) = None
+call_of (entries.Revoke revoke) = None
+call_of (entries.Path path) = None
 
 -- the journal with one more entry at the end
 abbrev pub with_entry : Entry → History → History

@@ -10,6 +10,8 @@ use Rattle.nfs_state.specs.declared.entry.Call.{Call}
 use Rattle.nfs_state.specs.declared.entry.Entry.{Entry}
 use Rattle.nfs_state.specs.declared.entry.Entry.TheVariants as entries
 use Rattle.nfs_state.specs.declared.entry.Expire.{Expire}
+use Rattle.nfs_state.specs.declared.entry.Path.{Path}
+use Rattle.nfs_state.specs.declared.entry.Revoke.{Revoke}
 use Rattle.nfs_state.specs.declared.request.Request.{Request}
 use Rattle.nfs_state.specs.declared.entry_kind.EntryKind.{EntryKind}
 use Rattle.nfs_state.specs.declared.entry_kind.EntryKind.TheVariants as kinds
@@ -100,13 +102,25 @@ unfoldable pub expire : Form Expire
 expire = of (λ p. record { client = p.0; seen = p.1.0; now = p.1.1 }) (λ e. (e.client, (e.seen, e.now)))
     (λ p. refl) (λ e. refl) (u32 and moment and moment)
 
+-- struct { u32 number; now; }
+unfoldable pub revoke : Form Revoke
+revoke = of (λ p. record { number = p.0; now = p.1 }) (λ r. (r.number, r.now)) (λ p. refl) (λ r. refl)
+    (u32 and moment)
+
+-- struct { u32 client; bool up; }
+unfoldable pub path : Form Path
+path = of (λ p. record { client = p.0; up = p.1 }) (λ m. (m.client, m.up)) (λ p. refl) (λ m. refl)
+    (u32 and flag)
+
 -- union switch (kind): a kind's row is its number, and what an entry of the kind has after that
 abbrev pub row_of_kind : EntryKind → ℕ × Case Entry
 row_of_kind kinds.Call = (1, case call entries.Call)
 row_of_kind kinds.Expire = (2, case expire entries.Expire)
+row_of_kind kinds.Revoke = (3, case revoke entries.Revoke)
+row_of_kind kinds.Path = (4, case path entries.Path)
 
 abbrev pub entry_kinds : List EntryKind
-entry_kinds = kinds.Call ∷ kinds.Expire ∷ []
+entry_kinds = kinds.Call ∷ kinds.Expire ∷ kinds.Revoke ∷ kinds.Path ∷ []
 
 abbrev pub number_of : EntryKind → ℕ
 number_of k = (row_of_kind k).0
@@ -128,6 +142,8 @@ row k content = (k, arm_in (entry_case k) content)
 abbrev pub row_of : Entry → EntryKind × Arm Entry
 row_of (entries.Call c) = row kinds.Call c
 row_of (entries.Expire e) = row kinds.Expire e
+row_of (entries.Revoke r) = row kinds.Revoke r
+row_of (entries.Path p) = row kinds.Path p
 
 abbrev pub kind_of : Entry → EntryKind
 kind_of e = (row_of e).0

@@ -8,7 +8,7 @@ use Rattle.nfs_state.specs.declared.change.Change.TheVariants as changes
 abbrev pub live_change_of : Change → LiveChange
 live_change_of changes.Nothing = Same
 live_change_of (changes.Clients change) = live_change change
-live_change_of (changes.Opens node owner share) = Same
+live_change_of (changes.Opens node owner share lent) = Same
 live_change_of (changes.Confirms node number owner) = Same
 live_change_of (changes.Downgrades node number share) = Same
 live_change_of (changes.Closes node number) = Same
@@ -16,3 +16,6 @@ live_change_of (changes.Begins node first) = Same
 live_change_of (changes.Locks node number change) = Same
 live_change_of (changes.Releases owner) = Same
 live_change_of (changes.Expires client) = Goes client.number
+live_change_of (changes.Recalls node client share moment) = Same
+live_change_of (changes.Returns node number) = Same
+live_change_of (changes.MarksPath client path) = Same

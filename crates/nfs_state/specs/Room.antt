@@ -1,5 +1,6 @@
 -- What the tables store, and the memory and the numbers that a change of them needs.
-use Rattle.std.specs.Prelude.{◌≡◌, ◌<◌, ◌+◌, ◌-◌, ◌^◌, ⊤, None, Bool, IsFalse, IsTrue, is_some, length}
+use Rattle.std.specs.Prelude.{◌≡◌, ◌≢◌, ◌<◌, ◌+◌, ◌-◌, ◌^◌, ⊤, None, Bool, IsFalse, IsTrue, is_some, length}
+use Rattle.std.specs.List.{AllByRecursion}
 use Rattle.nfs_state.specs.declared.change.Change.{Change}
 use Rattle.nfs_state.specs.declared.change.Change.TheVariants as changes
 use Rattle.nfs_state.specs.declared.effect.Effect.{Effect}
@@ -21,7 +22,8 @@ use Rattle.nfs_owners.specs.declared.owner.TheConstants.{OWNER_LIMIT}
 use Rattle.nfs_state.specs.State.{State}
 use Rattle.nfs_state.specs.Stored.{Stored, meaning}
 use Rattle.nfs_owners.specs.ClientRoom.{FitsRecords, HasNumbersFor, HasRoomFor}
-use Rattle.nfs_share.specs.AllOpens.{HasRoomAt, opens_in}
+use Rattle.nfs_share.specs.AllOpens.{HasLendingRoomAt, HasRoomAt, delegations_in, opens_in}
+use Rattle.nfs_share.specs.Delegations.{IsAboveLent}
 use Rattle.nfs_share.specs.AllOpens as opens
 
 -- what the tables store, no matter how much room they have
@@ -31,6 +33,7 @@ stored_of tables = record {
   owners = tables.owners.owners;
   opens = opens_in tables.opens;
   locks = stored_in tables.locks;
+  delegations = delegations_in tables.opens;
   last_state = tables.numbers;
   files = tables.files;
 }
@@ -43,7 +46,8 @@ state_of tables = meaning (stored_of tables)
 abbrev pub HasRoom : Change → Tables → Type 0
 HasRoom changes.Nothing tables = ⊤
 HasRoom (changes.Clients change) tables = HasRoomFor change tables.clients
-HasRoom (changes.Opens node owner share) tables = HasRoomAt node tables.opens
+HasRoom (changes.Opens node owner share lent) tables =
+    HasRoomAt node tables.opens × (lent ≢ None → HasLendingRoomAt node tables.opens)
 HasRoom (changes.Confirms node number owner) tables = ⊤
 HasRoom (changes.Downgrades node number share) tables = ⊤
 HasRoom (changes.Closes node number) tables = ⊤
@@ -51,6 +55,9 @@ HasRoom (changes.Begins node first) tables = HasLockRoomAt node tables.locks
 HasRoom (changes.Locks node number change) tables = locks.HasRoomFor node number tables.locks
 HasRoom (changes.Releases owner) tables = ⊤
 HasRoom (changes.Expires client) tables = ⊤
+HasRoom (changes.Recalls node client share moment) tables = ⊤
+HasRoom (changes.Returns node number) tables = ⊤
+HasRoom (changes.MarksPath client path) tables = ⊤
 
 -- what the entry means for an owner takes no memory
 abbrev pub HasOwnerRoom : OwnerChange → Tables → Type 0
@@ -110,16 +117,17 @@ HasOwnerPlace (owner_changes.Drops name) state = ⊤
 abbrev pub IsWithinLimits : Change → State → Type 0
 IsWithinLimits (changes.Clients change) state =
     HasNumbersFor change state.clients × FitsRecords change state.clients
-IsWithinLimits (changes.Opens node owner share) state = state.last_state < 2 ^ 32 - 1
+IsWithinLimits (changes.Opens node owner share lent) state = state.last_state < 2 ^ 32 - 2
 IsWithinLimits (changes.Begins node first) state = state.last_state < 2 ^ 32 - 1
 IsWithinLimits (changes.Locks node number change) state =
     IsFalse (is_full_for number change (locks_of node state.locks))
 IsWithinLimits change state = ⊤
 
--- each open and each lock state has a number that was given: at most the last
+-- each open, each lock state and each delegation has a number that was given: at most the last
 pub record HasGivenNumbers (state : State) : Type 0 where
   pub of_opens : opens.IsAboveAll (state.last_state + 1) state.opens
   pub of_locks : locks.IsAboveAll (state.last_state + 1) state.locks
+  pub of_delegations : AllByRecursion (IsAboveLent (state.last_state + 1)) state.delegations
 
 -- The entry with this effect can be committed in this state: owners may keep it, the numbers that its change uses are
 -- left, and there is a place for an owner that it records.

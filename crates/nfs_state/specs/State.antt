@@ -8,6 +8,8 @@ use Rattle.nfs_owners.specs.Registry.{Registry, no_clients}
 use Rattle.nfs_state.specs.Owners.{KnownOwner}
 use Rattle.nfs_state.specs.declared.stored_file.StoredFile.{StoredFile}
 use Rattle.nfs_share.specs.declared.open_state.OpenState.{OpenState}
+use Rattle.nfs_share.specs.declared.delegation.Delegation.{Delegation}
+use Rattle.nfs_share.specs.Delegations.{is_lent_to}
 use Rattle.nfs_locks.specs.Locks.{ByteLocks, is_lock_of_client}
 use Rattle.nfs_share.specs.Opens.{is_of_client}
 use Rattle.nfs_tree.specs.declared.node.Node.{Node}
@@ -22,6 +24,8 @@ pub record State : Type 0 where
   pub opens : List (List OpenState)
   -- those of each node, as the opens are
   pub locks : List (List ByteLocks)
+  -- those of each node, as the opens are
+  pub delegations : List (List Delegation)
   -- the number that was given to a state last; 0 before the first
   pub last_state : ℕ
   -- ordered by the numbers of their nodes
@@ -60,6 +64,7 @@ empty_server nodes = record {
   owners = [];
   opens = replicate (node_count nodes) [];
   locks = replicate (node_count nodes) [];
+  delegations = replicate (node_count nodes) [];
   last_state = 0;
   files = initial_files nodes;
 }
@@ -75,11 +80,13 @@ pub record History : Type 0 where
   pub policy : Policy
   pub entries : List Entry
 
--- whether the client has state (RFC 7530, section 9.1.1): an open, also one of an unconfirmed owner, or a lock state
+-- whether the client has state (RFC 7530, section 9.1.1): an open, also one of an unconfirmed owner, a lock state, or a
+-- delegation
 abbrev pub has_state : State → ClientId → Bool
 has_state state client =
     list_any (list_any (is_of_client client)) state.opens
     || list_any (list_any (is_lock_of_client client)) state.locks
+    || list_any (list_any (is_lent_to client)) state.delegations
 
 -- whether the client of a record has state, if there is a record
 abbrev pub record_has_state : State → Option ClientState → Bool

@@ -7,6 +7,7 @@ use Rattle.nfs_owners.specs.declared.owner.Owner.{Owner}
 use Rattle.nfs_owners.specs.Registry.{Registry, no_clients}
 use Rattle.nfs_locks.specs.StoredLocks.{StoredLock, byte_locks}
 use Rattle.nfs_share.specs.declared.open_state.OpenState.{OpenState}
+use Rattle.nfs_share.specs.declared.delegation.Delegation.{Delegation}
 use Rattle.nfs_tree.specs.declared.node.Node.{Node}
 use Rattle.nfs_tree.specs.Tree.{node_count}
 
@@ -18,6 +19,8 @@ pub record Stored : Type 0 where
   pub opens : List (List OpenState)
   -- those of each node, by its number
   pub locks : List (List StoredLock)
+  -- those of each node, by its number
+  pub delegations : List (List Delegation)
   -- the number that was given to a state last
   pub last_state : ℕ
   -- ordered by the numbers of their nodes
@@ -38,6 +41,7 @@ meaning stored = record {
   owners = map known_owner stored.owners;
   opens = stored.opens;
   locks = map (map byte_locks) stored.locks;
+  delegations = stored.delegations;
   last_state = stored.last_state;
   files = stored.files;
 }
@@ -49,6 +53,7 @@ empty_store nodes = record {
   owners = [];
   opens = replicate (node_count nodes) [];
   locks = replicate (node_count nodes) [];
+  delegations = replicate (node_count nodes) [];
   last_state = 0;
   files = initial_files nodes;
 }

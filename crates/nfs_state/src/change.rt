@@ -1,22 +1,41 @@
-use nfs_forms::LockOwner;
+use nfs_forms::{LockOwner, Moment};
 use nfs_locks::FirstLock;
-use nfs_owners::{ClientChange, LiveChange};
+use nfs_owners::{ClientChange, LiveChange, PathMark};
 use nfs_ranges::Piece;
-use nfs_share::Share;
+use nfs_share::{DelegationKind, Share};
 use nfs_xdr::{ClientId, OpenOwner};
 
 /// What an entry changes in the state, besides what its entry means for an owner.
 #[derive(Debug, Drop)]
 pub enum Change {
     Nothing,
-    /// The clients' records. A client that is replaced loses its owners, its opens and its lock states.
+    /// The clients' records. A client that is replaced loses its owners, its opens, its lock states and its
+    /// delegations.
     Clients(ClientChange),
     /// The owner opens the node's file for this share: its open of the file gains it, or it gets one with the next
-    /// number.
+    /// number. Its client may be given a delegation of the file as well, with the number after that.
     Opens {
         node: u32,
         owner: OpenOwner,
         share: Share,
+        delegation: Option<DelegationKind>,
+    },
+    /// What is in the way of an open of the node's file by this client, for this share, is called back at this moment.
+    Recalls {
+        node: u32,
+        client: ClientId,
+        share: Share,
+        moment: Moment,
+    },
+    /// The delegation of the node's file with this number is given back, or revoked.
+    Returns {
+        node: u32,
+        number: u32,
+    },
+    /// Whether callbacks reach the client with this number.
+    MarksPath {
+        client: u32,
+        path: PathMark,
     },
     /// The owner is confirmed, and its open with this number gets its next seqid.
     Confirms {
@@ -50,7 +69,7 @@ pub enum Change {
     Releases {
         owner: LockOwner,
     },
-    /// The client is removed with all its records, its owners, its opens and its lock states.
+    /// The client is removed with all its records, its owners, its opens, its lock states and its delegations.
     Expires(ClientId),
 }
 
@@ -67,6 +86,9 @@ impl Change {
             Change::Expires(client) => LiveChange::Goes(client.number),
             Change::Nothing
             | Change::Opens { .. }
+            | Change::Recalls { .. }
+            | Change::Returns { .. }
+            | Change::MarksPath { .. }
             | Change::Confirms { .. }
             | Change::Downgrades { .. }
             | Change::Closes { .. }

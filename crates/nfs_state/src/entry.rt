@@ -15,6 +15,10 @@ pub enum Entry {
     Call(Call),
     /// A client whose lease had run out was removed.
     Expire(Expire),
+    /// A delegation that wasn't given back in time was taken away.
+    Revoke(Revoke),
+    /// It became known whether callbacks reach a client.
+    Path(Path),
 }
 
 /// A request and its answer.
@@ -33,6 +37,23 @@ pub struct Expire {
     pub seen: Moment,
     /// When it was removed.
     pub now: Moment,
+}
+
+/// The end of a delegation that was called back and wasn't given back within a lease (RFC 7530, section 10.4.6).
+#[derive(Debug, Drop)]
+pub struct Revoke {
+    /// The number in the delegation's stateid.
+    pub number: u32,
+    /// When it was taken away.
+    pub now: Moment,
+}
+
+/// Whether callbacks reach a client, as far as is known (RFC 7530, section 10.2).
+#[derive(Debug, Drop)]
+pub struct Path {
+    /// The client's number.
+    pub client: u32,
+    pub up: bool,
 }
 
 /// How many entries a journal can have.

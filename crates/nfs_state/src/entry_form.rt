@@ -7,7 +7,7 @@ ghost use Rattle.xdr.specs.Reading.{Gives};
 ghost use Rattle.xdr.specs.Switch.{case_at};
 
 use crate::entry_kind::each_kind;
-use crate::{Call, Entry, EntryKind, Expire, Moment, Request};
+use crate::{Call, Entry, EntryKind, Expire, Moment, Path, Request, Revoke};
 use nfs_xdr::{Op, OpResult, Principal};
 use std::alloc::Global;
 use xdr::{Wire, WireError, write_four, write_three, write_two};
@@ -31,6 +31,40 @@ impl Wire for Expire {
     #[tactic(auto, unfolding(crate::specs::EntryForm::expire))]
     fn write(&self, out: &mut Vec<u8>) -> Result<(), WireError> {
         write_three(out, &self.client, &self.seen, &self.now)
+    }
+}
+
+impl Wire for Revoke {
+    ghost form = { forms.revoke };
+
+    #[tactic(auto, unfolding(crate::specs::EntryForm::revoke))]
+    fn read(alloc: Global, bytes: &[u8]) -> Result<(Revoke, &[u8]), WireError> {
+        let (number, rest) = u32::read(alloc, bytes)?;
+        match Moment::read(alloc, rest) {
+            Ok((now, rest)) => Ok((Revoke { number, now }, rest)),
+            Err(error) => Err(error),
+        }
+    }
+
+    #[tactic(auto, unfolding(crate::specs::EntryForm::revoke))]
+    fn write(&self, out: &mut Vec<u8>) -> Result<(), WireError> {
+        write_two(out, &self.number, &self.now)
+    }
+}
+
+impl Wire for Path {
+    ghost form = { forms.path };
+
+    #[tactic(auto, unfolding(crate::specs::EntryForm::path))]
+    fn read(alloc: Global, bytes: &[u8]) -> Result<(Path, &[u8]), WireError> {
+        let (client, rest) = u32::read(alloc, bytes)?;
+        let (up, rest) = bool::read(alloc, rest)?;
+        Ok((Path { client, up }, rest))
+    }
+
+    #[tactic(auto, unfolding(crate::specs::EntryForm::path))]
+    fn write(&self, out: &mut Vec<u8>) -> Result<(), WireError> {
+        write_two(out, &self.client, &self.up)
     }
 }
 

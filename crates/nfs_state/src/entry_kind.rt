@@ -7,7 +7,7 @@ use xdr::{Wire, WireError, read_u32, write_u32};
 // Hands to a macro the kinds of entries with their numbers. An entry of a kind has what the type of that name has.
 macro_rules! each_kind {
     ($then:ident $($given:tt)*) => {
-        $then!([Call = 1, Expire = 2] $($given)*)
+        $then!([Call = 1, Expire = 2, Revoke = 3, Path = 4] $($given)*)
     };
 }
 
@@ -27,6 +27,8 @@ macro_rules! kind_of_number {
 pub enum EntryKind {
     Call = 1,
     Expire = 2,
+    Revoke = 3,
+    Path = 4,
 }
 
 impl Wire for EntryKind {

@@ -1,4 +1,4 @@
-ghost use Rattle.std.specs.Prelude.{◌≡◌, ◌<◌, ◌≤◌, ◌-◌, ◌^◌, IfErr, IfOk, IsOk, IsTrue, OnOk, map};
+ghost use Rattle.std.specs.Prelude.{◌≡◌, ◌<◌, ◌≤◌, ◌+◌, ◌-◌, ◌^◌, IfErr, IfOk, IsOk, IsTrue, OnOk, Some, map};
 
 use crate::change::Change;
 use crate::limits::STATE_LIMIT;
@@ -8,7 +8,7 @@ use crate::shortage::Shortage;
 use crate::stored_files::StoredFiles;
 use nfs_locks::{FirstLock, Locks};
 use nfs_owners::{ClientChange, ClientState, Clients, Numbers, OwnerRef, Owners, StateOwner};
-use nfs_share::{Opens, Share};
+use nfs_share::{DelegationKind, FileUse, Opens, Share};
 use nfs_tree::Tree;
 use nfs_xdr::{ClientId, OpenOwner};
 use std::alloc::{AllocError, Global};
@@ -18,9 +18,10 @@ use std::alloc::{AllocError, Global};
 pub struct Tables {
     pub clients: Clients,
     pub owners: Owners,
+    /// The opens and the delegations of all files.
     pub opens: Opens,
     pub locks: Locks,
-    /// The numbers of the opens and lock states.
+    /// The numbers of the opens, lock states and delegations.
     pub numbers: Numbers,
     pub files: StoredFiles,
 }
@@ -29,7 +30,7 @@ impl Tables {
     ghost use Rattle.std.specs.Option.{option_copied};
     ghost use Rattle.nfs_state.specs.State.{change_of, file_of, has_state, record_has_state, size_of, History};
     ghost use Rattle.nfs_state.specs.Kept.{Agrees, kept_by, owners_after, update_of};
-    ghost use Rattle.nfs_state.specs.Changes.{with_owner_change, with_state_change, without_client};
+    ghost use Rattle.nfs_state.specs.Changes.{with_grant, with_open, with_owner_change, with_state_change, without_client};
     ghost use Rattle.nfs_state.specs.Changes as changed_state;
     ghost use Rattle.nfs_state.specs.Room.{IsWithinLimits, HasGivenNumbers, HasOwnerPlace, HasOwnerRoom, HasRoom, HasUpdateRoom, CanKeep, state_of, stored_of};
     ghost use Rattle.nfs_state.specs.declared.owner_change.OwnerChange.{OwnerChange};
@@ -40,9 +41,10 @@ impl Tables {
     ghost use Rattle.nfs_owners.specs.declared.state_owner.OwnerKind.{OwnerKind};
     ghost use Rattle.nfs_owners.specs.declared.state_owner.StateOwner.{StateOwner};
     ghost use Rattle.nfs_locks.specs.AllLocks.{HasLockRoomAt};
-    ghost use Rattle.nfs_state.specs.Places.{has_state_place};
+    ghost use Rattle.nfs_state.specs.Places.{has_state_place, has_state_place_beside};
     ghost use Rattle.nfs_owners.specs.Owners.{has_place, without_owner};
-    ghost use Rattle.nfs_share.specs.AllOpens.{HasRoomAt, opens_in};
+    ghost use Rattle.nfs_share.specs.AllOpens.{HasLendingRoomAt, HasRoomAt, delegation_count, opens_in};
+    ghost use Rattle.nfs_locks.specs.AllLocks.{lock_count};
     ghost use Rattle.nfs_share.specs.Opens.{is_of, without};
     ghost use Rattle.nfs_state.specs.declared.change.Change.TheVariants as changes;
     ghost use Rattle.nfs_owners.specs.ClientRoom.{FitsRecords, HasNumbersFor, HasRoomFor};
@@ -87,22 +89,39 @@ impl Tables {
     fn has_state(&self, client: ClientId) -> bool
         ensures { result ≡ has_state (state_of self.now) client }
     {
-        self.opens.has_client(client) || self.locks.has_client(client)
+        self.opens.has_client(client)
+            || self.locks.has_client(client)
+            || self.opens.has_delegation_of(client)
     }
 
-    /// Whether there is a place for one more open or lock state.
+    /// Whether there is a place for one more open, lock state or delegation.
     pub fn has_state_place(&self) -> bool
         ensures { result ≡ has_state_place (state_of self.now) }
     {
-        self.opens.has_place(self.locks.places_left(STATE_LIMIT))
+        self.opens.has_place(self.places_left())
     }
 
-    /// Whether there is a place for one more open or lock state without the opens of this owner.
+    /// Whether there is a place for one more of them beside so many others that come as well.
+    pub fn has_state_place_beside(&self, others: usize) -> bool
+        ensures { result ≡ has_state_place_beside others (state_of self.now) }
+    {
+        self.opens.has_place(self.places_left().saturating_sub(others))
+    }
+
+    // How many places the lock states and the delegations leave.
+    fn places_left(&self) -> usize
+        ensures { result ≡ STATE_LIMIT - (lock_count (state_of self.now).locks
+            + delegation_count (state_of self.now).delegations) }
+    {
+        let left = self.locks.places_left(STATE_LIMIT);
+        self.opens.delegation_places_left(left)
+    }
+
+    /// Whether there is a place for one more of them without the opens of this owner.
     pub fn has_state_place_without(&self, owner: &OpenOwner) -> bool
         ensures { result ≡ has_state_place (changed_state.without owner.now (state_of self.now)) }
     {
-        self.opens
-            .has_place_without(owner, self.locks.places_left(STATE_LIMIT))
+        self.opens.has_place_without(owner, self.places_left())
     }
 
     /// Makes room for the change, and for what the entry means for an owner. Fails for want of memory alone, and never
@@ -123,7 +142,14 @@ impl Tables {
         self.make_owner_room(owner)?;
         match change {
             Change::Clients(change) => self.clients.make_room(change)?,
-            Change::Opens { node, .. } => self.opens.reserve(*node)?,
+            Change::Opens {
+                node, delegation, ..
+            } => {
+                self.opens.reserve(*node)?;
+                if delegation.is_some() {
+                    self.opens.reserve_delegation(*node)?;
+                }
+            }
             Change::Begins { node, .. } => self.locks.reserve(alloc, *node)?,
             Change::Locks { node, number, .. } => self.locks.reserve_change(*node, *number)?,
             Change::Nothing
@@ -131,7 +157,10 @@ impl Tables {
             | Change::Downgrades { .. }
             | Change::Closes { .. }
             | Change::Releases { .. }
-            | Change::Expires(_) => {}
+            | Change::Expires(_)
+            | Change::Recalls { .. }
+            | Change::Returns { .. }
+            | Change::MarksPath { .. } => {}
         }
         Ok(())
     }
@@ -227,7 +256,26 @@ impl Tables {
         match change {
             Change::Nothing => {}
             Change::Clients(change) => self.commit_clients(change),
-            Change::Opens { node, owner, share } => self.commit_open(node, owner, share),
+            Change::Opens {
+                node,
+                owner,
+                share,
+                delegation,
+            } => {
+                let client = owner.client;
+                self.commit_open(node, owner, share);
+                if let Some(kind) = delegation {
+                    self.commit_grant(node, client, kind);
+                }
+            }
+            Change::Recalls {
+                node,
+                client,
+                share,
+                moment,
+            } => self.opens.recall(node, client, FileUse::Open(share), moment),
+            Change::Returns { node, number } => self.opens.give_back(node, number),
+            Change::MarksPath { client, path } => self.clients.mark(client, path),
             Change::Confirms {
                 node,
                 number,
@@ -267,15 +315,31 @@ impl Tables {
         requires room { HasRoomAt node self.old.opens }
         requires numbers { self.old.numbers < 2 ^ 32 - 1 }
         requires given { HasGivenNumbers (state_of self.old) }
-        ensures state { state_of self.new
-            ≡ with_state_change (changes.Opens node owner share) (state_of self.old) }
+        ensures state { state_of self.new ≡ with_open node owner share (state_of self.old) }
         ensures owners { self.new.owners ≡ self.old.owners }
+        ensures room { HasLendingRoomAt node self.old.opens
+            → HasLendingRoomAt node self.new.opens }
+        ensures numbers { self.new.numbers ≤ self.old.numbers + 1 }
+        ensures given { HasGivenNumbers (state_of self.new) }
     {
         let number = self.numbers.upcoming();
         if self.opens.open_of(node, &owner).is_none() {
             self.numbers.next();
         }
         self.opens.grant(node, owner, share, number);
+    }
+
+    // Gives the client a delegation with the next number.
+    fn commit_grant(&mut self, node: u32, client: ClientId, kind: DelegationKind)
+        requires room { HasLendingRoomAt node self.old.opens }
+        requires numbers { self.old.numbers < 2 ^ 32 - 1 }
+        requires given { HasGivenNumbers (state_of self.old) }
+        ensures state { state_of self.new ≡ with_grant node client (Some kind) (state_of self.old) }
+        ensures owners { self.new.owners ≡ self.old.owners }
+    {
+        let number = self.numbers.upcoming();
+        self.numbers.next();
+        self.opens.lend(node, client, kind, number);
     }
 
     // Makes a lock state with the next number.
@@ -292,7 +356,8 @@ impl Tables {
         self.locks.begin(node, first, number);
     }
 
-    // Changes the clients' records. A client that is replaced loses its owners, its opens and its lock states.
+    // Changes the clients' records. A client that is replaced loses its owners, its opens, its lock states and its
+    // delegations.
     fn commit_clients(&mut self, change: ClientChange)
         requires room { HasRoomFor change self.old.clients }
         requires numbers { HasNumbersFor change self.old.clients.registry }
@@ -308,7 +373,7 @@ impl Tables {
         self.clients.commit(change);
     }
 
-    // Forgets the owners, the opens and the lock states of the client.
+    // Forgets the owners, the opens, the lock states and the delegations of the client.
     fn leave(&mut self, client: ClientId)
         ensures state { state_of self.new ≡ without_client client (state_of self.old) }
         ensures clients { self.new.clients ≡ self.old.clients }

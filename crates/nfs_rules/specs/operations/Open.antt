@@ -1,19 +1,24 @@
 -- OPEN (RFC 7530, section 16.16): opens a file for an owner.
 use Rattle.std.specs.Prelude.{◌≡◌, ℕ, ◌+◌, nat_lt, Bool, true, false, ◌&&◌, ◌||◌, List, [], length, Option, Some, None, is_some, Result, Ok, Err, if◌then◌else◌}
-use Rattle.nfs_state.specs.declared.change.Change.TheVariants.{Nothing, Opens}
+use Rattle.std.specs.List.{list_any}
+use Rattle.nfs_state.specs.declared.change.Change.TheVariants.{Nothing, Opens, Recalls}
 use Rattle.nfs_rules.specs.declared.passage.Passage.{Passage}
 use Rattle.nfs_rules.specs.declared.passage.Passage.TheVariants.{Continues}
 use Rattle.nfs_state.specs.Places.{has_state_place}
 use Rattle.nfs_rules.specs.declared.opening.Opening.{Opening}
 use Rattle.nfs_rules.specs.declared.ruling.Ruling.{Ruling}
+use Rattle.nfs_rules.specs.Lending.{delegation_with, has_lending_place, lending_number, lent}
 use Rattle.nfs_rules.specs.Refusing.{◌>>=◌}
 use Rattle.nfs_rules.specs.Sequences.{Own, before_own}
-use Rattle.nfs_rules.specs.Stateids.{target_of}
+use Rattle.nfs_rules.specs.Stateids.{delegation_of, verdict}
 use Rattle.nfs_state.specs.State.{State, History}
 use Rattle.nfs_owners.specs.declared.owner.TheConstants.{OWNER_LIMIT}
 use Rattle.nfs_share.specs.declared.open_state.OpenState.{OpenState}
+use Rattle.nfs_share.specs.declared.delegation.DelegationKind.{DelegationKind}
+use Rattle.nfs_share.specs.declared.delegation.FileUse.TheVariants as uses
 use Rattle.nfs_share.specs.declared.share.Share.{Share}
-use Rattle.nfs_share.specs.AllOpens.{opens_of}
+use Rattle.nfs_share.specs.AllOpens.{delegations_of, opens_of}
+use Rattle.nfs_share.specs.Delegations.{conflicts}
 use Rattle.nfs_share.specs.Opens.{is_refused, next_stateid_of, open_of}
 use Rattle.nfs_share.specs.Share.{share_of_numbers}
 use Rattle.nfs_tree.specs.Tree.{is_directory, resolution}
@@ -22,9 +27,9 @@ use Rattle.nfs_forms.specs.declared.claim.Claim.{Claim}
 use Rattle.nfs_forms.specs.declared.claim.Claim.TheVariants as claims
 use Rattle.nfs_forms.specs.declared.create_how.CreateHow.TheVariants as creates
 use Rattle.nfs_xdr.specs.declared.op_result.OpResult.TheVariants as results
-use Rattle.nfs_forms.specs.declared.open_delegation.OpenDelegation.TheVariants as delegations
 use Rattle.nfs_forms.specs.declared.open_how.OpenHow.{OpenHow}
 use Rattle.nfs_forms.specs.declared.open_how.OpenHow.TheVariants as hows
+use Rattle.nfs_forms.specs.declared.client_id.ClientId.{ClientId}
 use Rattle.nfs_forms.specs.declared.open_owner.OpenOwner.{OpenOwner}
 use Rattle.nfs_operations.specs.declared.«open».Open.{Open}
 use Rattle.nfs_operations.specs.declared.«open».OpenOk.{OpenOk}
@@ -63,11 +68,12 @@ file_at journal how node =
     else if wants_new how then Err refusals.Exist
     else Ok node
 
--- The delegation's stateid in a CLAIM_DELEGATE_CUR: there are no delegations, so it never names one.
-abbrev pub unless_delegated : History → State → Claim → ℕ → Result ℕ Refusal
-unless_delegated journal state (claims.DelegateCur id name) node =
-    target_of journal.epoch state id >>= λ found. Err refusals.BadStateId
-unless_delegated journal state claim node = Ok node
+-- The file, if the claim may open it: the stateid in a CLAIM_DELEGATE_CUR has to name a delegation of it to the client,
+-- be it called back or not.
+abbrev pub claimed : History → State → ClientId → Claim → ℕ → Result ℕ Refusal
+claimed journal state client (claims.DelegateCur id name) node =
+    verdict (delegation_of client node) journal.epoch state id >>= λ found. Ok node
+claimed journal state client claim node = Ok node
 
 -- NFS4ERR_SHARE_DENIED if an open of another owner conflicts with the share of this OPEN alone (section 9.9)
 abbrev pub unless_denied : State → OpenOwner → Share → ℕ → Result Opening Refusal
@@ -82,17 +88,32 @@ opening journal state directory args =
     share_or_inval (share_of_numbers args.access args.deny) >>= λ share.
     found_by args.how (resolution journal.nodes directory name) >>= λ found.
     file_at journal args.how found >>= λ file.
-    unless_delegated journal state args.claim file >>= λ node.
+    claimed journal state args.owner.client args.claim file >>= λ node.
     unless_denied state args.owner share node
 
 -- an OPEN that is refused changes nothing
 abbrev pub refused : Refusal → Ruling
 refused refusal = record { answer = results.Open (Refused refusal); change = Nothing }
 
+-- NFS4ERR_DELAY: what is in the way is called back at this moment
+abbrev pub delayed : ℕ → ClientId → Opening → Ruling
+delayed moment client o = record {
+  answer = results.Open (Refused refusals.Delay);
+  change = Recalls o.node client o.share moment;
+}
+
+-- what an OPEN of the client opens, unless a delegation of another client is in the way (section 10.4.4)
+abbrev pub unless_lent : State → ℕ → ClientId → Opening → Result Opening Ruling
+unless_lent state moment client o =
+    if list_any (conflicts client (uses.Open o.share)) (delegations_of o.node state.delegations)
+    then Err (delayed moment client o)
+    else Ok o
+
 -- what an OPEN opens, or the ruling of its refusal
-abbrev pub opening_or_ruling : Result Opening Refusal → Result Opening Ruling
-opening_or_ruling (Err refusal) = Err (refused refusal)
-opening_or_ruling (Ok o) = Ok o
+abbrev pub opening_or_ruling : State → ℕ → ClientId → Result Opening Refusal
+    → Result Opening Ruling
+opening_or_ruling state moment client (Err refusal) = Err (refused refusal)
+opening_or_ruling state moment client (Ok o) = unless_lent state moment client o
 
 -- the stateid that the owner gets for the file: that of its open with the next seqid, or that of a new open
 abbrev pub stateid_after : State → OpenOwner → Option OpenState → Stateid
@@ -106,13 +127,18 @@ abbrev pub rflags_of : Passage → ℕ
 rflags_of Continues = 4
 rflags_of passage = 4 + 2
 
-abbrev pub answer_of : State → Passage → OpenOwner → ℕ → OpenOk
-answer_of state passage owner node = record {
+-- the owner has an open of the node's file already
+abbrev pub has_open : State → OpenOwner → ℕ → Bool
+has_open state owner node = is_some (open_of owner (opens_of node state.opens))
+
+-- the answer, with the delegation that is given, if one is; the number of a new open is given first
+abbrev pub answer_of : State → Passage → OpenOwner → ℕ → Option DelegationKind → OpenOk
+answer_of state passage owner node kind = record {
   stateid = stateid_after state owner (open_of owner (opens_of node state.opens));
   change = record { atomic = true; before = 0; after = 0 };
   rflags = rflags_of passage;
   attrset = [];
-  delegation = delegations.None;
+  delegation = delegation_with (lending_number state (has_open state owner node)) owner.client kind;
 }
 
 -- There is a place for the owner, if this OPEN records it. An owner that starts anew has left its own place.
@@ -122,23 +148,37 @@ has_owner_place passage state = nat_lt (length state.owners) OWNER_LIMIT
 
 -- the owner has an open of the file already, or there is a place for one
 abbrev pub has_open_place : State → OpenOwner → ℕ → Bool
-has_open_place state owner node =
-    is_some (open_of owner (opens_of node state.opens)) || has_state_place state
+has_open_place state owner node = has_open state owner node || has_state_place state
 
--- the answer and the change, or `None` if a limit would be exceeded
-abbrev pub ruling_of : State → Passage → OpenOwner → Result Opening Ruling → Option Ruling
-ruling_of state passage owner (Err ruling) = Some ruling
-ruling_of state passage owner (Ok o) =
-    if has_owner_place passage state && has_open_place state owner o.node
-    then Some (record {
-      answer = results.Open (Done (answer_of state passage owner o.node));
-      change = Opens o.node owner o.share;
-    })
+-- there are places for all that the OPEN makes
+abbrev pub has_places : State → Passage → OpenOwner → ℕ → Option DelegationKind → Bool
+has_places state passage owner node kind =
+    has_owner_place passage state && has_open_place state owner node
+    && has_lending_place state (has_open state owner node) kind
+
+-- what is decided of an OPEN that is granted with this delegation, or with none
+abbrev pub granted : State → Passage → OpenOwner → Opening → Option DelegationKind → Ruling
+granted state passage owner o kind = record {
+  answer = results.Open (Done (answer_of state passage owner o.node kind));
+  change = Opens o.node owner o.share kind;
+}
+
+-- the same, or `None` if a limit would be exceeded
+abbrev pub granted_within : State → Passage → OpenOwner → Opening → Option DelegationKind
+    → Option Ruling
+granted_within state passage owner o kind =
+    if has_places state passage owner o.node kind then Some (granted state passage owner o kind)
     else None
+
+-- the answer and the change of an OPEN, or `None` if a limit would be exceeded
+abbrev pub ruling_of : History → State → Passage → Open → Result Opening Ruling → Option Ruling
+ruling_of journal state passage args (Err ruling) = Some ruling
+ruling_of journal state passage args (Ok o) =
+    granted_within state passage args.owner o (lent journal state passage args o)
 
 -- the rule of OPEN under the current filehandle, in the state without an owner that starts anew
 abbrev pub own : History → State → Open → Own
 own journal state args request node passage ruling =
     let seen = before_own passage args.owner state in
-    ruling ≡ ruling_of seen passage args.owner
-    (opening_or_ruling (opening journal seen node args))
+    ruling ≡ ruling_of journal seen passage args
+    (opening_or_ruling seen request.moment args.owner.client (opening journal seen node args))

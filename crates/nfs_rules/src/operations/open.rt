@@ -1,60 +1,99 @@
-ghost use Rattle.std.specs.Prelude.{◌≡◌, ◌<◌, ◌-◌, ◌^◌, Ok, OnErr};
+ghost use Rattle.std.specs.Prelude.{◌≡◌, ◌≢◌, ◌<◌, ◌-◌, ◌^◌, None, Ok, OnErr};
 ghost use Rattle.std.specs.Option.{option_copied};
 ghost use Rattle.std.specs.Result.{IsOk, result_map_both};
 ghost use Rattle.nfs_owners.specs.StateOwner.{open_owner};
 ghost use Rattle.nfs_rules.specs.Deciding.{ByOwnRule, IsPassage};
 ghost use Rattle.nfs_state.specs.Room.{state_of};
 ghost use Rattle.nfs_rules.specs.Sequences.{before_own};
-ghost use Rattle.nfs_rules.specs.operations.Open.{file_at, found_by, has_owner_place, name_of, opening, opening_or_ruling, own, rflags_of, ruling_of, unless_delegated, unless_denied, wants_new};
-ghost use Rattle.nfs_rules.specs.operations.OpenGrant.{ok_answer, granted_stateid, new_stateid};
+ghost use Rattle.nfs_rules.specs.operations.Open.{claimed, delayed, file_at, found_by, has_owner_place, name_of, opening, opening_or_ruling, own, rflags_of, ruling_of, unless_denied, unless_lent, wants_new};
+ghost use Rattle.nfs_rules.specs.Lending.{lending_number};
+ghost use Rattle.nfs_rules.specs.operations.OpenGrant.{granted_stateid, new_stateid, ok_answer, opened};
 ghost use Rattle.nfs_share.specs.AllOpens.{opens_of};
 ghost use Rattle.nfs_state.specs.Places.{has_state_place};
 ghost use Rattle.nfs_state.specs.declared.request.Request.{Request};
 ghost use Rattle.nfs_share.specs.Opens.{open_of};
 
+use crate::demand::Demand;
+use crate::lending::{delegation_for, delegation_with, has_lending_place};
 use crate::opening::Opening;
 use crate::passage::Passage;
 use crate::ruling::Ruling;
-use crate::stateids::target_of;
+use crate::stateids::{target_of, verdict};
 use nfs_operations::open::{Open, OpenOk};
 use nfs_owners::OwnerRef;
-use nfs_share::{OpenState, Share};
-use nfs_state::{Change, Journal, Shortage, Store, Tables};
+use nfs_share::{DelegationKind, FileUse, OpenState, Share};
+use nfs_state::{Change, Journal, Moment, Shortage, Store, Tables};
 use nfs_xdr::{
-    Answer, Bitmap, ChangeInfo, Claim, CreateHow, Op, OpResult, OpenDelegation, OpenHow, OpenOwner,
-    Opnum, Refusal, Stateid,
+    Answer, Bitmap, ChangeInfo, Claim, ClientId, CreateHow, Op, OpResult, OpenDelegation, OpenHow,
+    OpenOwner, Opnum, Refusal, Stateid,
 };
 use std::alloc::Global;
 
-/// The own rule of OPEN, under the current filehandle `directory`.
+/// The own rule of OPEN, under the current filehandle `directory`, of a call at this moment.
 pub(super) fn rule(
     alloc: Global,
     store: &Store,
     directory: u32,
     passage: Passage,
     args: &Open,
+    moment: Moment,
 ) -> Result<Ruling, Shortage>
-    requires states { store.now.tables.numbers < 2 ^ 32 - 1 }
+    requires states { store.now.tables.numbers < 2 ^ 32 - 2 }
     requires passage { IsPassage passage (open_owner args.now.owner) (state_of store.now.tables) }
-    ensures rules { (request : Request) → ByOwnRule (own store.now.journal.history
-        (state_of store.now.tables) args.now request directory passage)
-        (state_of store.now.tables) (Op.Open args.now) result }
+    ensures rules { (request : Request) → request.moment ≡ moment
+        → ByOwnRule (own store.now.journal.history (state_of store.now.tables) args.now request
+        directory passage) (state_of store.now.tables) (Op.Open args.now) result }
     ensures error { OnErr result (IsOk
         (opening store.now.journal.history (state_of store.now.tables) directory args.now)) }
 {
-    match opening_or_ruling(find_opening(store, directory, args)) {
-        Ok(opening) => grant(alloc, &store.tables, passage, args, opening),
+    let opening = find_opening(store, directory, args);
+    match opening_or_ruling(&store.tables, moment, args.owner.client, opening) {
+        Ok(opening) => grant(alloc, store, passage, args, opening),
         Err(ruling) => Ok(ruling),
     }
 }
 
 // What the OPEN opens, or the ruling of its refusal.
-fn opening_or_ruling(opening: Result<Opening, Refusal>) -> Result<Opening, Ruling>
-    ensures { result ≡ opening_or_ruling opening }
+fn opening_or_ruling(
+    tables: &Tables,
+    moment: Moment,
+    client: ClientId,
+    opening: Result<Opening, Refusal>,
+) -> Result<Opening, Ruling>
+    ensures { result ≡ opening_or_ruling (state_of tables.now) moment client opening }
 {
     match opening {
         Err(refusal) => Err(Ruling::refusal(Opnum::Open, refusal)),
-        Ok(opening) => Ok(opening),
+        Ok(opening) => unless_lent(tables, moment, client, opening),
+    }
+}
+
+// What the OPEN opens, unless a delegation of another client is in the way: what is in the way is called back.
+fn unless_lent(
+    tables: &Tables,
+    moment: Moment,
+    client: ClientId,
+    opening: Opening,
+) -> Result<Opening, Ruling>
+    ensures { result ≡ unless_lent (state_of tables.now) moment client opening }
+{
+    if tables.opens.conflicts(opening.node, client, FileUse::Open(opening.share)) {
+        return Err(delayed(moment, client, opening));
+    }
+    Ok(opening)
+}
+
+fn delayed(moment: Moment, client: ClientId, opening: Opening) -> Ruling
+    ensures { result ≡ delayed moment client opening }
+{
+    Ruling {
+        answer: Opnum::Open.refusal(Refusal::Delay),
+        change: Change::Recalls {
+            node: opening.node,
+            client,
+            share: opening.share,
+            moment,
+        },
     }
 }
 
@@ -68,7 +107,7 @@ fn find_opening(store: &Store, directory: u32, args: &Open) -> Result<Opening, R
     let share = Share::from_numbers(args.access, args.deny).ok_or(Refusal::Inval)?;
     let found = found_by(&args.how, store.journal.tree().resolve(directory, name))?;
     let file = file_at(&store.journal, &args.how, found)?;
-    let node = unless_delegated(store, &args.claim, file)?;
+    let node = claimed(store, args.owner.client, &args.claim, file)?;
     unless_denied(&store.tables, &args.owner, share, node)
 }
 
@@ -119,17 +158,19 @@ fn file_at(journal: &Journal, how: &OpenHow, node: u32) -> Result<u32, Refusal>
     }
 }
 
-// There are no delegations: the delegation's stateid in a CLAIM_DELEGATE_CUR never names one.
-fn unless_delegated(store: &Store, claim: &Claim, node: u32) -> Result<u32, Refusal>
-    ensures { result
-        ≡ unless_delegated store.now.journal.history (state_of store.now.tables) claim.now node }
+// The file, if the claim may open it: the stateid in a CLAIM_DELEGATE_CUR has to name a delegation of it to the client.
+fn claimed(store: &Store, client: ClientId, claim: &Claim, node: u32) -> Result<u32, Refusal>
+    ensures { result ≡ claimed store.now.journal.history (state_of store.now.tables) client
+        claim.now node }
 {
     let Claim::DelegateCur { stateid, .. } = claim else {
         return Ok(node);
     };
-    match target_of(&store.tables, store.journal.epoch(), *stateid) {
+    let target = target_of(&store.tables, store.journal.epoch(), *stateid);
+    let demand = Demand::delegation_of(client, node);
+    match verdict(&store.tables, demand, *stateid, target) {
         Err(refusal) => Err(refusal),
-        Ok(_) => Err(Refusal::BadStateId),
+        Ok(_) => Ok(node),
     }
 }
 
@@ -148,37 +189,73 @@ fn unless_denied(
     Ok(Opening { node, share })
 }
 
-// Grants the OPEN, unless a limit would be exceeded.
+// Grants the OPEN, unless a limit would be exceeded, with a delegation where one goes with it.
 fn grant(
     alloc: Global,
-    tables: &Tables,
+    store: &Store,
     passage: Passage,
     args: &Open,
     opening: Opening,
 ) -> Result<Ruling, Shortage>
-    requires states { tables.now.numbers < 2 ^ 32 - 1 }
-    requires passage { IsPassage passage (open_owner args.now.owner) (state_of tables.now) }
-    ensures { ByOwnRule (λ ruling. ruling ≡ ruling_of
-        (before_own passage args.now.owner (state_of tables.now))
-        passage args.now.owner (Ok opening))
-        (state_of tables.now) (Op.Open args.now) result }
+    requires states { store.now.tables.numbers < 2 ^ 32 - 2 }
+    requires passage { IsPassage passage (open_owner args.now.owner) (state_of store.now.tables) }
+    ensures { ByOwnRule (λ ruling. ruling ≡ ruling_of store.now.journal.history
+        (before_own passage args.now.owner (state_of store.now.tables))
+        passage args.now (Ok opening))
+        (state_of store.now.tables) (Op.Open args.now) result }
 {
-    let Some(stateid) = stateid_for(tables, passage, &args.owner, opening.node) else {
+    let kind = delegation_for(store, passage, args, opening);
+    let opened = opened_for(&store.tables, passage, &args.owner, opening.node, kind);
+    let Some((stateid, delegation)) = opened else {
         return Err(Shortage::Limit);
     };
     Ok(Ruling {
-        answer: ok_answer(alloc, passage, stateid),
+        answer: ok_answer(alloc, passage, stateid, delegation),
         change: Change::Opens {
             node: opening.node,
             owner: args.owner.clone()?,
             share: opening.share,
+            delegation: kind,
         },
     })
 }
 
+// What the owner gets for the file: its stateid, and the delegation of this kind, if it is given one; `None` if a limit
+// would be exceeded.
+fn opened_for(
+    tables: &Tables,
+    passage: Passage,
+    owner: &OpenOwner,
+    node: u32,
+    kind: Option<DelegationKind>,
+) -> Option<(Stateid, OpenDelegation)>
+    requires states { tables.now.numbers < 2 ^ 32 - 2 }
+    requires passage { IsPassage passage (open_owner owner.now) (state_of tables.now) }
+    requires kind { kind ≢ None → passage ≡ Passage.Continues }
+    ensures { result ≡ opened passage (before_own passage owner.now (state_of tables.now))
+        owner.now node kind }
+{
+    let stateid = stateid_for(tables, passage, owner, node)?;
+    let has_open = open_of(tables, passage, owner, node).is_some();
+    if !has_lending_place(tables, has_open, kind) {
+        return None;
+    }
+    let number = lending_number(tables, has_open);
+    Some((stateid, delegation_with(number, owner.client, kind)))
+}
+
+// The number that a delegation is given: a new open's is given before.
+fn lending_number(tables: &Tables, has_open: bool) -> u32
+    requires states { tables.now.numbers < 2 ^ 32 - 2 }
+    ensures { result ≡ lending_number (state_of tables.now) has_open }
+{
+    let next = tables.numbers.upcoming();
+    if has_open { next } else { next + 1 }
+}
+
 // The stateid that the owner gets for the file; `None` if a limit would be exceeded.
 fn stateid_for(tables: &Tables, passage: Passage, owner: &OpenOwner, node: u32) -> Option<Stateid>
-    requires states { tables.now.numbers < 2 ^ 32 - 1 }
+    requires states { tables.now.numbers < 2 ^ 32 - 2 }
     requires passage { IsPassage passage (open_owner owner.now) (state_of tables.now) }
     ensures { result ≡ granted_stateid passage
         (before_own passage owner.now (state_of tables.now)) owner.now node }
@@ -219,7 +296,7 @@ fn open_of<'a>(
 
 // The stateid of a new open; `None` if there is no place for one.
 fn new_stateid(tables: &Tables, passage: Passage, owner: &OpenOwner) -> Option<Stateid>
-    requires states { tables.now.numbers < 2 ^ 32 - 1 }
+    requires states { tables.now.numbers < 2 ^ 32 - 2 }
     ensures { result ≡ new_stateid (before_own passage owner.now (state_of tables.now)) owner.now }
 {
     if !has_state_place(tables, passage, owner) {
@@ -243,8 +320,13 @@ fn has_state_place(tables: &Tables, passage: Passage, owner: &OpenOwner) -> bool
 }
 
 // The answer to an OPEN that is granted.
-fn ok_answer(alloc: Global, passage: Passage, stateid: Stateid) -> OpResult
-    ensures value { result ≡ ok_answer passage stateid }
+fn ok_answer(
+    alloc: Global,
+    passage: Passage,
+    stateid: Stateid,
+    delegation: OpenDelegation,
+) -> OpResult
+    ensures value { result ≡ ok_answer passage stateid delegation }
 {
     OpResult::Open(Answer::Done(OpenOk {
         stateid,
@@ -255,7 +337,7 @@ fn ok_answer(alloc: Global, passage: Passage, stateid: Stateid) -> OpResult
         },
         rflags: rflags_of(passage),
         attrset: Bitmap::new(Vec::new(alloc)),
-        delegation: OpenDelegation::None,
+        delegation,
     }))
 }
 

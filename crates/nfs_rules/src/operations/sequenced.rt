@@ -36,7 +36,7 @@ pub(super) fn decide(
     requires target { IsTargetOf (names_of request.now.op) store.now.journal.history
         (state_of store.now.tables) (target_seen target) }
     requires sequenced { IsTrue (is_sequenced request.now.op) }
-    requires states { store.now.tables.numbers < 2 ^ 32 - 1 }
+    requires states { store.now.tables.numbers < 2 ^ 32 - 2 }
     requires kept { OwnersAgree store.now }
     requires owner { IsRequesterOf request.now.op (requester_seen requester) }
     ensures { Decides (IsSequenced store.now.journal.history (state_of store.now.tables)
@@ -75,7 +75,7 @@ fn answer_alone(answer: OpResult) -> Decision
 // The operation's own rule.
 fn rule(alloc: Global, store: &Store, request: &Request, turn: Turn<'_>) -> Result<Ruling, Shortage>
     requires sequenced { IsTrue (is_sequenced request.now.op) }
-    requires states { store.now.tables.numbers < 2 ^ 32 - 1 }
+    requires states { store.now.tables.numbers < 2 ^ 32 - 2 }
     requires kept { OwnersAgree store.now }
     requires passage { IsPassageOf request.now.op turn.passage (state_of store.now.tables) }
     requires target { IsTargetOf (names_of request.now.op) store.now.journal.history
@@ -90,7 +90,7 @@ fn rule(alloc: Global, store: &Store, request: &Request, turn: Turn<'_>) -> Resu
         target,
     } = turn;
     match &request.op {
-        Op::Open(args) => open::rule(alloc, store, node, passage, args),
+        Op::Open(args) => open::rule(alloc, store, node, passage, args, request.moment),
         Op::OpenConfirm(args) => open_confirm::rule(&store.tables, node, args, target),
         Op::OpenDowngrade(args) => Ok(open_downgrade::rule(&store.tables, node, args, target)),
         Op::Close(args) => Ok(close::rule(&store.tables, node, args, target)),

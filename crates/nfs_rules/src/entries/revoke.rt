@@ -1,0 +1,24 @@
+//! The end of a delegation that was called back and not given back within a lease (RFC 7530, section 10.4.6).
+
+ghost use Rattle.std.specs.Prelude.{IfNone, IfSome};
+ghost use Rattle.nfs_rules.specs.entries.Revoke.{IsRevocation};
+ghost use Rattle.nfs_state.specs.Room.{state_of};
+ghost use Rattle.nfs_state.specs.declared.effect.Effect.{Effect};
+
+use nfs_state::{Change, Effect, Revoke, Store};
+
+/// The effect of a delegation's end, if it is the next one to be taken away; `None` otherwise.
+pub fn revoke(store: &Store, revoke: &Revoke) -> Option<Effect>
+    ensures revocation { IfSome result (λ effect.
+        IsRevocation store.now.journal.history (state_of store.now.tables) revoke.now effect) }
+    ensures none { IfNone result ((effect : Effect)
+        → IsRevocation store.now.journal.history (state_of store.now.tables) revoke.now effect → ⊥) }
+{
+    let found = store.tables.opens.delegation_numbered(revoke.number)?;
+    let next = store.tables.opens.next_due(0, store.journal.lease(), revoke.now)?;
+    (next.state.number == revoke.number && found.state.is_due(store.journal.lease(), revoke.now))
+        .then(|| Effect::change_alone(Change::Returns {
+            node: found.node,
+            number: revoke.number,
+        }))
+}
