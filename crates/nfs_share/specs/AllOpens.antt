@@ -1,9 +1,11 @@
--- The opens of all files: those of each node of the tree, by its number.
-use Rattle.std.specs.Prelude.{◌<◌, ℕ, ◌+◌, List, [], ◌∷◌, length, map, option_map, position, slice_get, slice_set, is_some, IfSome, IsFalse, Option, Some, None}
-use Rattle.std.specs.List.{AllByRecursion, list_any}
+-- The opens and the delegations of all files: those of each node of the tree, by its number.
+use Rattle.std.specs.Prelude.{◌<◌, ◌≤◌, ℕ, ◌+◌, List, [], ◌∷◌, length, map, option_map, position, slice_get, slice_set, is_some, IfSome, IsFalse, IsTrue, Option, Some, None}
+use Rattle.std.specs.List.{AllByRecursion, Contains, list_any}
 use Rattle.nfs_forms.specs.declared.open_owner.OpenOwner.{OpenOwner}
 use Rattle.nfs_forms.specs.declared.stateid.Stateid.{Stateid}
+use Rattle.nfs_share.specs.Delegations.{IsAboveLent, delegation_named_by, is_due_above, is_stateid_of_delegation}
 use Rattle.nfs_share.specs.Opens.{FileOpens, IsAbove, is_stateid_of, open_named_by, open_of}
+use Rattle.nfs_share.specs.declared.delegation.Delegation.{Delegation}
 use Rattle.nfs_share.specs.declared.open_state.OpenState.{OpenState}
 
 -- an open, and the node of its file
@@ -58,3 +60,62 @@ IsNewestAt node owner number opens =
 -- an open of the node takes no memory
 abbrev pub HasRoomAt : ℕ → List FileOpens → Type 0
 HasRoomAt node files = IfSome (slice_get files node) (λ f. 0 < f.room)
+
+-- a delegation, and the node of its file
+pub record DelegationAt : Type 0 where
+  pub node : ℕ
+  pub state : Delegation
+
+-- the delegations of each file
+abbrev pub delegations_in : List FileOpens → List (List Delegation)
+delegations_in files = map (λ f. f.delegations) files
+
+-- the delegations of a node; none where there is no such node
+abbrev pub delegations_or_none : Option (List Delegation) → List Delegation
+delegations_or_none None = []
+delegations_or_none (Some ds) = ds
+
+abbrev pub delegations_of : ℕ → List (List Delegation) → List Delegation
+delegations_of node all = delegations_or_none (slice_get all node)
+
+-- how many delegations there are
+abbrev pub delegation_count : List (List Delegation) → ℕ
+delegation_count [] = 0
+delegation_count (ds ∷ more) = length ds + delegation_count more
+
+-- the delegations, with a change of those of one node
+abbrev pub with_delegations : ℕ → (List Delegation → List Delegation) → List (List Delegation)
+    → List (List Delegation)
+with_delegations node change all = slice_set all node (change (delegations_of node all))
+
+-- the delegation, if there is one, as one of this node's file
+abbrev pub lent_at : ℕ → Option Delegation → Option DelegationAt
+lent_at node found = option_map (λ d. record { node = node; state = d }) found
+
+-- the delegation that the stateid names, given the node that has one
+abbrev pub delegation_named_at : Stateid → List (List Delegation) → Option ℕ → Option DelegationAt
+delegation_named_at id all None = None
+delegation_named_at id all (Some node) =
+    lent_at node (delegation_named_by id (delegations_of node all))
+
+-- the delegation that the stateid names, no matter its seqid, if there is one
+abbrev pub delegation_named_in : Stateid → List (List Delegation) → Option DelegationAt
+delegation_named_in id all =
+    delegation_named_at id all (position (list_any (is_stateid_of_delegation id)) all)
+
+-- each delegation of each file has a lower number
+abbrev pub IsAboveAllLent : ℕ → List (List Delegation) → Type 0
+IsAboveAllLent number all = AllByRecursion (IsAboveLent number) all
+
+-- Of the delegations that are due and have a number above `after`, this is one with the least; or there are none.
+abbrev pub IsNextDue : ℕ → ℕ → ℕ → List (List Delegation) → Option DelegationAt → Type 0
+IsNextDue after lease now all None =
+    AllByRecursion (AllByRecursion (λ d. IsFalse (is_due_above after lease now d))) all
+IsNextDue after lease now all (Some next) = Contains (delegations_of next.node all) next.state
+    × IsTrue (is_due_above after lease now next.state)
+    × AllByRecursion (AllByRecursion (λ d.
+        IsTrue (is_due_above after lease now d) → next.state.number ≤ d.number)) all
+
+-- a delegation of the node's file takes no memory
+abbrev pub HasLendingRoomAt : ℕ → List FileOpens → Type 0
+HasLendingRoomAt node files = IfSome (slice_get files node) (λ f. 0 < f.lending_room)

@@ -2,6 +2,7 @@ pub mod Modes
 pub mod Share
 pub mod Shares
 pub mod Opens
+pub mod Delegations
 pub mod AllOpens
 pub mod OpenFound
 pub mod Laws

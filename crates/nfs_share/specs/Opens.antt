@@ -7,6 +7,7 @@ use Rattle.nfs_forms.specs.Stateid.{seqid_after_change, next_stateid}
 use Rattle.nfs_forms.specs.declared.client_id.ClientId.{ClientId}
 use Rattle.nfs_forms.specs.declared.open_owner.OpenOwner.{OpenOwner}
 use Rattle.nfs_forms.specs.declared.stateid.Stateid.{Stateid}
+use Rattle.nfs_share.specs.declared.delegation.Delegation.{Delegation}
 use Rattle.nfs_share.specs.declared.modes.Modes.{Modes}
 use Rattle.nfs_share.specs.declared.open_state.OpenState.{OpenState}
 use Rattle.nfs_share.specs.declared.share.Share.{Share}
@@ -14,10 +15,13 @@ use Rattle.nfs_share.specs.Modes.{meets}
 use Rattle.nfs_share.specs.Share.{conflicts_with, contains}
 use Rattle.nfs_share.specs.Shares.{IsLawfulDowngrade, union_of, with_share}
 
--- The opens of a file in the order in which they came, and how many more can come without taking memory.
+-- The opens and the delegations of a file in the order in which they came, and how many more of each can come without
+-- taking memory.
 pub record FileOpens : Type 0 where
   pub opens : List OpenState
+  pub delegations : List Delegation
   pub room : ℕ
+  pub lending_room : ℕ
 
 -- the owner has the open
 abbrev pub is_of : OpenOwner → OpenState → Bool

@@ -1,9 +1,10 @@
 ghost use Rattle.std.specs.Prelude.{◌≡◌};
 ghost use Rattle.std.specs.Vec.{vec_capacity};
 ghost use Rattle.nfs_share.specs.Opens.{with_next_seqid, after_downgrade, is_numbered, is_of, after_open, with_each};
+ghost use Rattle.nfs_share.specs.Delegations.{with_recalls};
 
-use crate::{OpenState, Share};
-use nfs_forms::OpenOwner;
+use crate::{Delegation, FileUse, OpenState, Share};
+use nfs_forms::{ClientId, Moment, OpenOwner};
 
 /// Adds the share to the owner's open.
 pub(crate) fn join_each(opens: &mut Vec<OpenState>, owner: &OpenOwner, share: Share)
@@ -58,6 +59,30 @@ fn downgrade_in(opens: &mut [OpenState], number: u32, share: Share)
     for open in opens.iter_mut() {
         if open.number == number {
             open.downgrade(share);
+        }
+    }
+}
+
+/// Calls back the delegations of other clients that are in the way of this use by the client.
+pub(crate) fn recall_each(
+    delegations: &mut Vec<Delegation>,
+    client: ClientId,
+    file_use: FileUse,
+    moment: Moment,
+)
+    ensures items { delegations.new.items
+        ≡ with_recalls client file_use moment delegations.old.items }
+    ensures capacity { vec_capacity delegations.new ≡ vec_capacity delegations.old }
+{
+    recall_in(delegations, client, file_use, moment);
+}
+
+fn recall_in(delegations: &mut [Delegation], client: ClientId, file_use: FileUse, moment: Moment)
+    ensures { delegations.new ≡ with_recalls client file_use moment delegations.old }
+{
+    for lent in delegations.iter_mut() {
+        if lent.conflicts(client, file_use) {
+            lent.recall(moment);
         }
     }
 }

@@ -1,19 +1,24 @@
-ghost use Rattle.std.specs.Prelude.{◌≡◌, ◌≤◌, ◌<◌, ◌+◌, ◌↔◌, IfErr, IfNone, IfOk, IsErrOf, IsOk, IsTrue, OnErr, OnOk, OnSome, Some, length, [], ◌∷◌, ◌++◌, ◌⊎◌, option_map};
+ghost use Rattle.std.specs.Prelude.{◌≡◌, ◌≤◌, ◌<◌, ◌+◌, ◌↔◌, IfErr, IfNone, IfOk, IsErrOf, IsFalse, IsOk, IsTrue, OnErr, OnOk, OnSome, Some, filter, length, [], ◌∷◌, ◌++◌, option_map};
 ghost use Rattle.std.specs.List.{list_any};
 ghost use Rattle.std.specs.Option.{option_copied};
+ghost use Rattle.nfs_share.specs.Delegations.{IsAboveLent, IsNextDueOf, bars, can_delegate, conflicts, delegation_named_by, delegation_stateid, first_delegation, has_conflict, has_delegation, is_delegation_numbered, is_lent_to, with_recalls, without_lent};
 ghost use Rattle.nfs_share.specs.Opens.{CanDowngrade, IsNewestFor, with_next_seqid, after_downgrade, is_denied, is_numbered, is_of, is_of_client, is_refused, is_stateid_of, open_named_by, after_open, next_stateid_of, open_with_number, open_of, share_of, stateid_of, with_each, with_opening, without};
+ghost use Rattle.nfs_share.specs.ShareError.{IsHeldFor, IsWhyNotLent, IsWhyNotOpened};
+ghost use Rattle.nfs_share.specs.declared.delegation.FileUse.TheVariants as uses;
 
-use crate::changes::{advance_each, downgrade_each, join_each};
-use crate::{Modes, OpenState, Share, ShareError};
-use nfs_forms::{ClientId, OpenOwner, Stateid};
+use crate::changes::{advance_each, downgrade_each, join_each, recall_each};
+use crate::{Delegation, DelegationKind, FileUse, Modes, OpenState, Share, ShareError};
+use nfs_forms::{ClientId, Moment, OpenOwner, Stateid};
 use std::alloc::{AllocError, Global};
 use std::marker::Model;
 
-/// The opens of a file, each of which keeps others out by its share reservation (RFC 7530, section 9.9). A second OPEN
-/// of an owner joins the open that the owner has.
+/// The opens of a file, each of which keeps others out by its share reservation (RFC 7530, section 9.9), and its
+/// delegations, of each of which other clients have to wait for the return (section 10.4). A second OPEN of an owner
+/// joins the open that the owner has.
 #[derive(Debug, Drop)]
 pub struct FileShare {
     opens: Vec<OpenState>,
+    delegations: Vec<Delegation>,
 }
 
 impl Model for FileShare {
@@ -25,17 +30,21 @@ impl Model for FileShare {
 
     ghost view = { λ f. record {
       opens = f.opens.items;
+      delegations = f.delegations.items;
       room = vec_capacity f.opens - vec_len f.opens;
+      lending_room = vec_capacity f.delegations - vec_len f.delegations;
     } };
 }
 
 impl FileShare {
-    /// A file without opens, taking no memory.
+    /// A file without opens and delegations, taking no memory.
     pub fn new(alloc: Global) -> FileShare
-        ensures { result.opens ≡ [] }
+        ensures opens { result.opens ≡ [] }
+        ensures delegations { result.delegations ≡ [] }
     {
         FileShare {
             opens: Vec::new(alloc),
+            delegations: Vec::new(alloc),
         }
     }
 
@@ -113,8 +122,10 @@ impl FileShare {
     /// Makes room, so that the next change takes no memory.
     pub fn reserve(&mut self) -> Result<(), AllocError>
         ensures opens { self.new.opens ≡ self.old.opens }
+        ensures delegations { self.new.delegations ≡ self.old.delegations }
         ensures room { OnOk result (0 < self.new.room) }
         ensures grows { self.old.room ≤ self.new.room }
+        ensures lending { self.old.lending_room ≤ self.new.lending_room }
         ensures ready { 0 < self.old.room → IsOk result }
     {
         self.opens.reserve(1)
@@ -135,28 +146,47 @@ impl FileShare {
             option_map stateid_of (open_of owner self.new.opens) ≡ Some stateid) }
         ensures denied { IsErrOf result ShareError.Denied
             ↔ IsTrue (is_refused owner share self.old.opens) }
-        ensures memory { IfErr result (λ e.
-            (e ≡ ShareError.Denied) ⊎ ((e ≡ ShareError.Memory) × (self.old.room ≡ 0)
-            × (open_of owner self.old.opens ≡ None))) }
+        ensures free { OnOk result (
+            IsFalse (has_conflict owner.client (uses.Open share) self.old.delegations)) }
+        ensures why { IfErr result (IsWhyNotOpened owner share self.old) }
         ensures err { OnErr result (self.new ≡ self.old) }
+        ensures delegations { self.new.delegations ≡ self.old.delegations }
         ensures room { OnOk result (self.old.room ≤ self.new.room + 1) }
+        ensures lending { self.old.lending_room ≤ self.new.lending_room }
     {
         if self.refuses(&owner, share) {
             return Err(ShareError::Denied);
         }
+        self.check_free(owner.client, FileUse::Open(share))?;
         if self.open_of(&owner).is_none() {
             self.opens.reserve(1)?;
         }
         Ok(self.grant(owner, share, number))
     }
 
-    /// OPEN, no matter what others deny: as `try_open`, where there is room for an open that is made. It takes no memory.
+    // Whether no delegation of another client is in the way of this use by the client.
+    fn check_free(&self, client: ClientId, file_use: FileUse) -> Result<(), ShareError>
+        ensures ok { OnOk result (IsFalse (has_conflict client file_use self.now.delegations)) }
+        ensures why { IfErr result (λ e.
+            IsTrue (has_conflict client file_use self.now.delegations)
+            × IsHeldFor (filter (conflicts client file_use) self.now.delegations) e) }
+    {
+        if self.conflicts(client, file_use) {
+            return Err(ShareError::Held(self.conflicting(client, file_use)?));
+        }
+        Ok(())
+    }
+
+    /// OPEN, no matter what others deny or hold: as `try_open`, where there is room for an open that is made. It takes
+    /// no memory.
     pub fn grant(&mut self, owner: OpenOwner, share: Share, number: u32) -> Stateid
         requires room { open_of owner self.old.opens ≡ None → 0 < self.old.room }
         requires newest { IsNewestFor owner number self.old.opens }
         ensures opens { self.new.opens ≡ with_opening owner share number self.old.opens }
+        ensures delegations { self.new.delegations ≡ self.old.delegations }
         ensures stateid { option_map stateid_of (open_of owner self.new.opens) ≡ Some result }
         ensures room { self.old.room ≤ self.new.room + 1 }
+        ensures lending { self.old.lending_room ≤ self.new.lending_room }
     {
         match self.join(&owner, share) {
             Some(stateid) => stateid,
@@ -182,7 +212,9 @@ impl FileShare {
         requires { 0 < self.old.room }
         ensures stateid { result ≡ stateid_of newcomer }
         ensures opens { self.new.opens ≡ self.old.opens ++ newcomer ∷ [] }
+        ensures delegations { self.new.delegations ≡ self.old.delegations }
         ensures room { self.old.room ≤ self.new.room + 1 }
+        ensures lending { self.old.lending_room ≤ self.new.lending_room }
     {
         let stateid = newcomer.stateid();
         self.opens.push_reserved(newcomer);
@@ -233,7 +265,9 @@ impl FileShare {
     /// CLOSE (RFC 7530, section 16.2): removes the open with this number, if there is one.
     pub fn close(&mut self, number: u32)
         ensures opens { self.new.opens ≡ without (is_numbered number) self.old.opens }
+        ensures delegations { self.new.delegations ≡ self.old.delegations }
         ensures room { self.old.room ≤ self.new.room }
+        ensures lending { self.old.lending_room ≤ self.new.lending_room }
     {
         self.opens.retain(|open| open.number != number);
     }
@@ -241,16 +275,198 @@ impl FileShare {
     /// Removes the open of this owner.
     pub fn remove_owner(&mut self, owner: &OpenOwner)
         ensures opens { self.new.opens ≡ without (is_of owner.now) self.old.opens }
+        ensures delegations { self.new.delegations ≡ self.old.delegations }
         ensures room { self.old.room ≤ self.new.room }
+        ensures lending { self.old.lending_room ≤ self.new.lending_room }
     {
         self.opens.retain(|open| !open.is_of(owner));
     }
 
-    /// Removes the opens of all owners of this client.
+    /// Removes the opens of all owners of this client, and its delegation.
     pub fn remove_client(&mut self, client: ClientId)
         ensures opens { self.new.opens ≡ without (is_of_client client) self.old.opens }
+        ensures delegations { self.new.delegations
+            ≡ without_lent (is_lent_to client) self.old.delegations }
         ensures room { self.old.room ≤ self.new.room }
+        ensures lending { self.old.lending_room ≤ self.new.lending_room }
     {
         self.opens.retain(|open| !open.is_of_client(client));
+        self.delegations.retain(|lent| !lent.is_of_client(client));
+    }
+
+    /// The delegations, in the order in which they came.
+    pub fn delegations(&self) -> &[Delegation]
+        ensures { result.now ≡ self.now.delegations }
+    {
+        self.delegations.as_slice()
+    }
+
+    /// The delegation that the stateid names, no matter its seqid, if there is one.
+    pub fn delegation_named_by(&self, stateid: Stateid) -> Option<Delegation>
+        ensures { result ≡ delegation_named_by stateid self.now.delegations }
+    {
+        self.delegations
+            .iter()
+            .find(|lent| lent.is_named_by(stateid))
+            .copied()
+    }
+
+    /// Whether the client has a delegation.
+    pub fn has_delegation(&self, client: ClientId) -> bool
+        ensures { result ≡ has_delegation client self.now.delegations }
+    {
+        self.delegations.iter().any(|lent| lent.is_of_client(client))
+    }
+
+    /// Whether a delegation of another client is in the way of this use by the client.
+    pub fn conflicts(&self, client: ClientId, file_use: FileUse) -> bool
+        ensures { result ≡ has_conflict client file_use self.now.delegations }
+    {
+        self.delegations
+            .iter()
+            .any(|lent| lent.conflicts(client, file_use))
+    }
+
+    /// The delegations of other clients that are in the way of an open of the client with this share.
+    pub fn conflicts_of(
+        &self,
+        client: ClientId,
+        share: Share,
+    ) -> Result<Vec<Delegation>, AllocError>
+        ensures ok { IfOk result (λ found. found.items
+            ≡ filter (conflicts client (uses.Open share)) self.now.delegations) }
+        ensures none { IsFalse (has_conflict client (uses.Open share) self.now.delegations)
+            → IsOk result }
+    {
+        self.conflicting(client, FileUse::Open(share))
+    }
+
+    // The delegations of other clients that are in the way of this use by the client.
+    fn conflicting(
+        &self,
+        client: ClientId,
+        file_use: FileUse,
+    ) -> Result<Vec<Delegation>, AllocError>
+        ensures ok { IfOk result (λ found. found.items
+            ≡ filter (conflicts client file_use) self.now.delegations) }
+        ensures none { IsFalse (has_conflict client file_use self.now.delegations) → IsOk result }
+    {
+        let mut found = Vec::new(*self.delegations.allocator());
+        for lent in self.delegations.iter() {
+            if lent.conflicts(client, file_use) {
+                found.push(*lent)?;
+            }
+        }
+        Ok(found)
+    }
+
+    /// Whether a delegation of this kind to the client would be in the way of an open of another client.
+    pub fn bars(&self, client: ClientId, kind: DelegationKind) -> bool
+        ensures { result ≡ bars client kind self.now.opens }
+    {
+        self.opens.iter().any(|open| {
+            !open.is_of_client(client) && kind.is_in_way_of(FileUse::Open(open.share()))
+        })
+    }
+
+    /// Whether a delegation of this kind to the client is in no open's way, no delegation of another client is in its
+    /// way, and the client has none.
+    pub fn can_delegate(&self, client: ClientId, kind: DelegationKind) -> bool
+        ensures { result ≡ can_delegate client kind self.now.opens self.now.delegations }
+    {
+        !self.bars(client, kind)
+            && !self.has_delegation(client)
+            && !self.conflicts(client, FileUse::Delegation(kind))
+    }
+
+    /// The delegation with the least number above this one of those that are due, if there is one.
+    pub fn next_due(&self, after: u32, lease: u32, now: Moment) -> Option<Delegation>
+        ensures { IsNextDueOf after lease now self.now.delegations result }
+    {
+        None
+    }
+
+    /// Makes room for a delegation, so that the next one takes no memory.
+    pub fn reserve_delegation(&mut self) -> Result<(), AllocError>
+        ensures opens { self.new.opens ≡ self.old.opens }
+        ensures delegations { self.new.delegations ≡ self.old.delegations }
+        ensures room { OnOk result (0 < self.new.lending_room) }
+        ensures grows { self.old.lending_room ≤ self.new.lending_room }
+        ensures opening { self.old.room ≤ self.new.room }
+        ensures ready { 0 < self.old.lending_room → IsOk result }
+    {
+        self.delegations.reserve(1)
+    }
+
+    /// Lends the client a delegation of this kind with this number, which has to be above those of all delegations, if
+    /// it is in nobody's way, nobody's is in its way, and the client has none. Returns the delegation's stateid.
+    pub fn delegate(
+        &mut self,
+        client: ClientId,
+        kind: DelegationKind,
+        number: u32,
+    ) -> Result<Stateid, ShareError>
+        requires newest { IsAboveLent number self.old.delegations }
+        ensures ok { OnOk result (self.new.delegations
+            ≡ self.old.delegations ++ first_delegation client kind number ∷ []) }
+        ensures stateid { IfOk result (λ stateid.
+            stateid ≡ delegation_stateid (first_delegation client kind number)) }
+        ensures denied { IsErrOf result ShareError.Denied ↔ IsTrue (bars client kind self.old.opens) }
+        ensures allowed { OnOk result (
+            IsTrue (can_delegate client kind self.old.opens self.old.delegations)) }
+        ensures why { IfErr result (IsWhyNotLent client kind self.old) }
+        ensures err { OnErr result (self.new ≡ self.old) }
+        ensures opens { self.new.opens ≡ self.old.opens }
+        ensures room { OnOk result (self.old.lending_room ≤ self.new.lending_room + 1) }
+        ensures opening { self.old.room ≤ self.new.room }
+    {
+        if self.bars(client, kind) {
+            return Err(ShareError::Denied);
+        }
+        if self.has_delegation(client) {
+            return Err(ShareError::Invalid);
+        }
+        self.check_free(client, FileUse::Delegation(kind))?;
+        self.delegations.reserve(1)?;
+        Ok(self.lend(client, kind, number))
+    }
+
+    /// Lends the client a delegation, no matter what others do with the file: as `delegate`, where there is room. It
+    /// takes no memory.
+    pub fn lend(&mut self, client: ClientId, kind: DelegationKind, number: u32) -> Stateid
+        requires room { 0 < self.old.lending_room }
+        requires newest { IsAboveLent number self.old.delegations }
+        ensures delegations { self.new.delegations
+            ≡ self.old.delegations ++ first_delegation client kind number ∷ [] }
+        ensures stateid { result ≡ delegation_stateid (first_delegation client kind number) }
+        ensures opens { self.new.opens ≡ self.old.opens }
+        ensures room { self.old.lending_room ≤ self.new.lending_room + 1 }
+        ensures opening { self.old.room ≤ self.new.room }
+    {
+        let lent = Delegation::new(client, kind, number);
+        let stateid = lent.stateid();
+        self.delegations.push_reserved(lent);
+        stateid
+    }
+
+    /// Calls back the delegations of other clients that are in the way of this use by the client: those that weren't
+    /// called back before have this moment from now on.
+    pub fn recall(&mut self, client: ClientId, file_use: FileUse, moment: Moment)
+        ensures { self.new ≡ record self.old {
+          delegations = with_recalls client file_use moment self.old.delegations;
+        } }
+    {
+        recall_each(&mut self.delegations, client, file_use, moment);
+    }
+
+    /// DELEGRETURN (RFC 7530, section 16.8): removes the delegation with this number, if there is one.
+    pub fn give_back(&mut self, number: u32)
+        ensures delegations { self.new.delegations
+            ≡ without_lent (is_delegation_numbered number) self.old.delegations }
+        ensures opens { self.new.opens ≡ self.old.opens }
+        ensures room { self.old.lending_room ≤ self.new.lending_room }
+        ensures opening { self.old.room ≤ self.new.room }
+    {
+        self.delegations.retain(|lent| lent.number != number);
     }
 }

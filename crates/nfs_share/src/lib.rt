@@ -1,8 +1,9 @@
-//! The opens of all files, and the share reservations by which one open keeps others out (RFC 7530, sections 9.9 to
-//! 9.11).
+//! The opens of all files, the share reservations by which one open keeps others out (RFC 7530, sections 9.9 to 9.11),
+//! and the delegations (section 10.4).
 #![tactic(auto)]
 
 mod changes;
+mod delegation;
 mod file_share;
 mod laws;
 mod modes;
@@ -12,11 +13,12 @@ mod share;
 mod share_error;
 mod shares;
 
+pub use delegation::{Delegation, DelegationKind, FileUse};
 pub use file_share::FileShare;
-pub use laws::opens_stay_compatible;
+pub use laws::{delegations_stay_apart, delegations_stay_single, opens_stay_compatible};
 pub use modes::Modes;
 pub use open_state::OpenState;
-pub use opens::{OpenFound, Opens};
+pub use opens::{DelegationFound, OpenFound, Opens};
 pub use share::Share;
 pub use share_error::ShareError;
 pub use shares::{SHARE_COUNT, Shares};

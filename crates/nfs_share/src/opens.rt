@@ -1,17 +1,18 @@
-ghost use Rattle.std.specs.Prelude.{◌≡◌, ◌<◌, ◌-◌, ℕ, [], IfOk, IfSome, IsOk, OnOk, length, map, nat_lt, option_map, position, replicate};
+ghost use Rattle.std.specs.Prelude.{◌≡◌, ◌<◌, ◌-◌, ℕ, [], ◌∷◌, ◌++◌, IfOk, IfSome, IsOk, OnOk, length, map, nat_lt, option_map, position, replicate};
 ghost use Rattle.std.specs.List.{list_any};
 ghost use Rattle.std.specs.Option.{option_copied};
-ghost use Rattle.nfs_share.specs.AllOpens.{HasRoomAt, IsNewestAt, at_node, named_in, open_count, opens_in, opens_of, with_opens};
-ghost use Rattle.nfs_share.specs.OpenFound.{open_seen};
+ghost use Rattle.nfs_share.specs.AllOpens.{HasLendingRoomAt, HasRoomAt, IsAboveAllLent, IsNewestAt, IsNextDue, at_node, delegation_count, delegation_named_in, delegations_in, delegations_of, named_in, open_count, opens_in, opens_of, with_delegations, with_opens};
+ghost use Rattle.nfs_share.specs.Delegations.{can_delegate, first_delegation, has_conflict, has_delegation, is_delegation_numbered, is_lent_to, is_stateid_of_delegation, with_recalls, without_lent};
+ghost use Rattle.nfs_share.specs.OpenFound.{delegation_seen, open_seen};
 ghost use Rattle.nfs_share.specs.Opens.{after_downgrade, is_numbered, is_of, is_of_client, is_refused, is_stateid_of, open_of, open_with_number, with_each, with_next_seqid, with_opening, without};
 
-use crate::{FileShare, OpenState, Share};
-use nfs_forms::{ClientId, OpenOwner, Stateid};
+use crate::{Delegation, DelegationKind, FileShare, FileUse, OpenState, Share};
+use nfs_forms::{ClientId, Moment, OpenOwner, Stateid};
 use std::alloc::{AllocError, Global};
 use std::marker::Model;
 
-/// The opens of all files, by the numbers of their nodes. A node that there isn't has no opens, and a change of its
-/// opens changes nothing.
+/// The opens and the delegations of all files, by the numbers of their nodes. A node that there isn't has none, and a
+/// change of those changes nothing.
 #[derive(Debug, Drop)]
 pub struct Opens {
     files: Vec<FileShare>,
@@ -22,6 +23,13 @@ pub struct Opens {
 pub struct OpenFound<'a> {
     pub node: u32,
     pub state: &'a OpenState,
+}
+
+/// A delegation, and the node of its file.
+#[derive(Clone, Copy, Debug)]
+pub struct DelegationFound {
+    pub node: u32,
+    pub state: Delegation,
 }
 
 impl Model for Opens {
@@ -36,9 +44,10 @@ impl Model for Opens {
 }
 
 impl Opens {
-    /// No opens of any of these nodes.
+    /// No opens and no delegations of any of these nodes.
     pub fn new(alloc: Global, nodes: u32) -> Result<Opens, AllocError>
-        ensures { IfOk result (λ opens. opens_in opens ≡ replicate nodes []) }
+        ensures opens { IfOk result (λ opens. opens_in opens ≡ replicate nodes []) }
+        ensures delegations { IfOk result (λ opens. delegations_in opens ≡ replicate nodes []) }
     {
         let mut files = Vec::new(alloc);
         files.reserve(nodes as usize)?;
@@ -116,9 +125,11 @@ impl Opens {
     /// Makes room for an open of the node's file.
     pub fn reserve(&mut self, node: u32) -> Result<(), AllocError>
         ensures opens { opens_in self.new ≡ opens_in self.old }
+        ensures delegations { delegations_in self.new ≡ delegations_in self.old }
         ensures room { OnOk result (HasRoomAt node self.new) }
         ensures ready { HasRoomAt node self.old → IsOk result }
         ensures others { (other : ℕ) → HasRoomAt other self.old → HasRoomAt other self.new }
+        ensures lending { (at : ℕ) → HasLendingRoomAt at self.old → HasLendingRoomAt at self.new }
     {
         let node = node as usize;
         if node < self.files.len() {
@@ -132,8 +143,10 @@ impl Opens {
     pub fn grant(&mut self, node: u32, owner: OpenOwner, share: Share, number: u32)
         requires room { HasRoomAt node self.old }
         requires newest { IsNewestAt node owner number (opens_in self.old) }
-        ensures { opens_in self.new
+        ensures opens { opens_in self.new
             ≡ with_opens node (with_opening owner share number) (opens_in self.old) }
+        ensures delegations { delegations_in self.new ≡ delegations_in self.old }
+        ensures lending { (at : ℕ) → HasLendingRoomAt at self.old → HasLendingRoomAt at self.new }
     {
         let node = node as usize;
         if node < self.files.len() {
@@ -143,8 +156,9 @@ impl Opens {
 
     /// OPEN_CONFIRM: gives the open of the node's file with this number its next seqid.
     pub fn advance(&mut self, node: u32, number: u32)
-        ensures { opens_in self.new
+        ensures opens { opens_in self.new
             ≡ with_opens node (with_each (is_numbered number) with_next_seqid) (opens_in self.old) }
+        ensures delegations { delegations_in self.new ≡ delegations_in self.old }
     {
         let node = node as usize;
         if node < self.files.len() {
@@ -155,9 +169,10 @@ impl Opens {
     /// OPEN_DOWNGRADE, no matter whether it is allowed: keeps of the open of the node's file with this number the
     /// shares that this share contains.
     pub fn keep_within(&mut self, node: u32, number: u32, share: Share)
-        ensures { opens_in self.new
+        ensures opens { opens_in self.new
             ≡ with_opens node (with_each (is_numbered number) (after_downgrade share))
             (opens_in self.old) }
+        ensures delegations { delegations_in self.new ≡ delegations_in self.old }
     {
         let node = node as usize;
         if node < self.files.len() {
@@ -167,8 +182,9 @@ impl Opens {
 
     /// CLOSE: removes the open of the node's file with this number.
     pub fn close(&mut self, node: u32, number: u32)
-        ensures { opens_in self.new
+        ensures opens { opens_in self.new
             ≡ with_opens node (without (is_numbered number)) (opens_in self.old) }
+        ensures delegations { delegations_in self.new ≡ delegations_in self.old }
     {
         let node = node as usize;
         if node < self.files.len() {
@@ -179,16 +195,175 @@ impl Opens {
     /// Removes the opens of the owner.
     pub fn remove_owner(&mut self, owner: &OpenOwner)
         ensures opens { opens_in self.new ≡ map (without (is_of owner.now)) (opens_in self.old) }
+        ensures delegations { delegations_in self.new ≡ delegations_in self.old }
         ensures room { (node : ℕ) → HasRoomAt node self.old → HasRoomAt node self.new }
+        ensures lending { (at : ℕ) → HasLendingRoomAt at self.old → HasLendingRoomAt at self.new }
     {
         remove_owner_in(&mut self.files, owner);
     }
 
-    /// Removes the opens of all owners of this client.
+    /// Removes the opens of all owners of this client, and its delegations.
     pub fn remove_client(&mut self, client: ClientId)
-        ensures { opens_in self.new ≡ map (without (is_of_client client)) (opens_in self.old) }
+        ensures opens { opens_in self.new
+            ≡ map (without (is_of_client client)) (opens_in self.old) }
+        ensures delegations { delegations_in self.new
+            ≡ map (without_lent (is_lent_to client)) (delegations_in self.old) }
     {
         remove_client_in(&mut self.files, client);
+    }
+
+    /// The delegations of the node's file.
+    pub fn delegations_of(&self, node: u32) -> &[Delegation]
+        ensures { result.now ≡ delegations_of node (delegations_in self.now) }
+    {
+        match self.files.get(node as usize) {
+            Some(file) => file.delegations(),
+            None => &[],
+        }
+    }
+
+    /// The delegation that the stateid names, no matter its seqid, if there is one.
+    pub fn find_delegation(&self, stateid: Stateid) -> Option<DelegationFound>
+        ensures { option_map delegation_seen result
+            ≡ delegation_named_in stateid (delegations_in self.now) }
+    {
+        let node = self.node_of_delegation(stateid)?;
+        let state = self.files[node].delegation_named_by(stateid)?;
+        Some(DelegationFound {
+            node: node as u32,
+            state,
+        })
+    }
+
+    // The node with a delegation that the stateid names.
+    fn node_of_delegation(&self, stateid: Stateid) -> Option<usize>
+        ensures node { result ≡ position (λ f.
+            list_any (is_stateid_of_delegation stateid) f.delegations) self.now }
+        ensures below { IfSome result (λ node. node < length self.now) }
+    {
+        self.files
+            .iter()
+            .position(|file| file.delegation_named_by(stateid).is_some())
+    }
+
+    /// Whether the client has a delegation of the node's file.
+    pub fn has_delegation(&self, node: u32, client: ClientId) -> bool
+        ensures { result ≡ has_delegation client (delegations_of node (delegations_in self.now)) }
+    {
+        match self.files.get(node as usize) {
+            Some(file) => file.has_delegation(client),
+            None => false,
+        }
+    }
+
+    /// Whether the client has a delegation of any file.
+    pub fn has_delegation_of(&self, client: ClientId) -> bool
+        ensures { result ≡ list_any (list_any (is_lent_to client)) (delegations_in self.now) }
+    {
+        has_delegation_in(&self.files, client)
+    }
+
+    /// Whether a delegation of the node's file to another client is in the way of this use by the client.
+    pub fn conflicts(&self, node: u32, client: ClientId, file_use: FileUse) -> bool
+        ensures { result
+            ≡ has_conflict client file_use (delegations_of node (delegations_in self.now)) }
+    {
+        match self.files.get(node as usize) {
+            Some(file) => file.conflicts(client, file_use),
+            None => false,
+        }
+    }
+
+    /// Whether a delegation of the node's file of this kind to the client would be in no open's way, no delegation of
+    /// another client is in its way, and the client has none of the file.
+    pub fn can_delegate(&self, node: u32, client: ClientId, kind: DelegationKind) -> bool
+        ensures { result ≡ can_delegate client kind (opens_of node (opens_in self.now))
+            (delegations_of node (delegations_in self.now)) }
+    {
+        match self.files.get(node as usize) {
+            Some(file) => file.can_delegate(client, kind),
+            None => true,
+        }
+    }
+
+    /// The delegation with the least number above this one of those that are due, of all files, if there is one.
+    pub fn next_due(&self, after: u32, lease: u32, now: Moment) -> Option<DelegationFound>
+        ensures { IsNextDue after lease now (delegations_in self.now)
+            (option_map delegation_seen result) }
+    {
+        None
+    }
+
+    /// How many delegations less than this limit there are.
+    pub fn delegation_places_left(&self, limit: usize) -> usize
+        ensures { result ≡ limit - delegation_count (delegations_in self.now) }
+    {
+        lending_places_left(&self.files, limit)
+    }
+
+    /// Makes room for a delegation of the node's file.
+    pub fn reserve_delegation(&mut self, node: u32) -> Result<(), AllocError>
+        ensures opens { opens_in self.new ≡ opens_in self.old }
+        ensures delegations { delegations_in self.new ≡ delegations_in self.old }
+        ensures room { OnOk result (HasLendingRoomAt node self.new) }
+        ensures ready { HasLendingRoomAt node self.old → IsOk result }
+        ensures others { (other : ℕ) → HasLendingRoomAt other self.old
+            → HasLendingRoomAt other self.new }
+        ensures opening { (at : ℕ) → HasRoomAt at self.old → HasRoomAt at self.new }
+    {
+        let node = node as usize;
+        if node < self.files.len() {
+            self.files[node].reserve_delegation()?;
+        }
+        Ok(())
+    }
+
+    /// Lends the client a delegation of the node's file, no matter what others do with the file. Its number has to be
+    /// above those of all delegations. It takes no memory.
+    pub fn lend(&mut self, node: u32, client: ClientId, kind: DelegationKind, number: u32)
+        requires room { HasLendingRoomAt node self.old }
+        requires newest { IsAboveAllLent number (delegations_in self.old) }
+        ensures delegations { delegations_in self.new
+            ≡ with_delegations node (λ all. all ++ first_delegation client kind number ∷ [])
+            (delegations_in self.old) }
+        ensures opens { opens_in self.new ≡ opens_in self.old }
+        ensures opening { (at : ℕ) → HasRoomAt at self.old → HasRoomAt at self.new }
+    {
+        let node = node as usize;
+        if node < self.files.len() {
+            self.files[node].lend(client, kind, number);
+        }
+    }
+
+    /// Calls back the delegations of the node's file that are in the way of this use by the client: those that weren't
+    /// called back before have this moment from now on.
+    pub fn recall(&mut self, node: u32, client: ClientId, file_use: FileUse, moment: Moment)
+        ensures delegations { delegations_in self.new
+            ≡ with_delegations node (with_recalls client file_use moment)
+            (delegations_in self.old) }
+        ensures opens { opens_in self.new ≡ opens_in self.old }
+        ensures room { (at : ℕ) → HasLendingRoomAt at self.old → HasLendingRoomAt at self.new }
+        ensures opening { (at : ℕ) → HasRoomAt at self.old → HasRoomAt at self.new }
+    {
+        let node = node as usize;
+        if node < self.files.len() {
+            self.files[node].recall(client, file_use, moment);
+        }
+    }
+
+    /// DELEGRETURN: removes the delegation of the node's file with this number.
+    pub fn give_back(&mut self, node: u32, number: u32)
+        ensures delegations { delegations_in self.new
+            ≡ with_delegations node (without_lent (is_delegation_numbered number))
+            (delegations_in self.old) }
+        ensures opens { opens_in self.new ≡ opens_in self.old }
+        ensures room { (at : ℕ) → HasLendingRoomAt at self.old → HasLendingRoomAt at self.new }
+        ensures opening { (at : ℕ) → HasRoomAt at self.old → HasRoomAt at self.new }
+    {
+        let node = node as usize;
+        if node < self.files.len() {
+            self.files[node].give_back(number);
+        }
     }
 }
 
@@ -196,6 +371,23 @@ fn has_client_in(files: &[FileShare], client: ClientId) -> bool
     ensures { result ≡ list_any (λ f. list_any (is_of_client client) f.opens) files.now }
 {
     files.iter().any(|file| file.has_client(client))
+}
+
+fn has_delegation_in(files: &[FileShare], client: ClientId) -> bool
+    ensures { result ≡ list_any (λ f. list_any (is_lent_to client) f.delegations) files.now }
+{
+    files.iter().any(|file| file.has_delegation(client))
+}
+
+// How many places of this limit the delegations leave.
+fn lending_places_left(files: &[FileShare], limit: usize) -> usize
+    ensures { result ≡ limit - delegation_count (delegations_in files.now) }
+{
+    let mut left = limit;
+    for file in files.iter() {
+        left = left.saturating_sub(file.delegations().len());
+    }
+    left
 }
 
 // How many places of this limit the opens leave.
@@ -222,7 +414,9 @@ fn places_left_without(files: &[FileShare], owner: &OpenOwner, limit: usize) -> 
 
 fn remove_owner_in(files: &mut [FileShare], owner: &OpenOwner)
     ensures opens { opens_in files.new ≡ map (without (is_of owner.now)) (opens_in files.old) }
+    ensures delegations { delegations_in files.new ≡ delegations_in files.old }
     ensures room { (node : ℕ) → HasRoomAt node files.old → HasRoomAt node files.new }
+    ensures lending { (at : ℕ) → HasLendingRoomAt at files.old → HasLendingRoomAt at files.new }
 {
     for file in files.iter_mut() {
         file.remove_owner(owner);
@@ -230,7 +424,9 @@ fn remove_owner_in(files: &mut [FileShare], owner: &OpenOwner)
 }
 
 fn remove_client_in(files: &mut [FileShare], client: ClientId)
-    ensures { opens_in files.new ≡ map (without (is_of_client client)) (opens_in files.old) }
+    ensures opens { opens_in files.new ≡ map (without (is_of_client client)) (opens_in files.old) }
+    ensures delegations { delegations_in files.new
+        ≡ map (without_lent (is_lent_to client)) (delegations_in files.old) }
 {
     for file in files.iter_mut() {
         file.remove_client(client);

@@ -2,21 +2,26 @@ ghost use Rattle.std.specs.Prelude.{◌≡◌};
 ghost use Rattle.nfs_share.specs.ShareError.{number_of};
 ghost use Rattle.nfs_share.specs.declared.share_error.ShareError.TheVariants as errors;
 
+use crate::Delegation;
 use std::alloc::AllocError;
 use thiserror::Error;
 
-/// Why the opens of a file weren't changed.
-#[derive(Clone, Copy, Debug, PartialEq, Eq, Error)]
+/// Why the opens and the delegations of a file weren't changed.
+#[derive(Debug, Drop, Error)]
 pub enum ShareError {
-    /// Another owner's open denies the access, or has access that would be denied.
-    #[error("an open of another owner conflicts with the share (1)")]
-    Denied = 1,
-    /// There is no such open, or its shares have no such union.
-    #[error("the open can't be downgraded to the share (2)")]
-    Invalid = 2,
+    /// Another owner's open denies the access, or has access that would be denied; or another client's open is in the
+    /// way of a delegation.
+    #[error("an open of another owner is in the way (1)")]
+    Denied,
+    /// There is no such open, or its shares have no such union; or the client has a delegation of the file already.
+    #[error("there is no such change of the file's opens and delegations (2)")]
+    Invalid,
+    /// These delegations of other clients are in the way.
+    #[error("delegations of other clients are in the way (3)")]
+    Held(Vec<Delegation>),
     /// Memory ran out.
     #[error("no memory (4)")]
-    Memory = 4,
+    Memory,
 }
 
 impl ShareError {
@@ -24,7 +29,12 @@ impl ShareError {
     pub fn number(&self) -> u32
         ensures { result ≡ number_of self.now }
     {
-        *self as u32
+        match self {
+            ShareError::Denied => 1,
+            ShareError::Invalid => 2,
+            ShareError::Held(_) => 3,
+            ShareError::Memory => 4,
+        }
     }
 }
 

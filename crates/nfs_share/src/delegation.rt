@@ -1,0 +1,111 @@
+ghost use Rattle.std.specs.Prelude.{◌≡◌};
+ghost use Rattle.nfs_share.specs.Delegations.{conflicts, delegation_stateid, first_delegation, is_due, is_in_way, is_lent_to, is_stateid_of_delegation, with_recall};
+
+use crate::Share;
+use nfs_forms::{ClientId, Moment, Stateid};
+
+/// What a delegation lets its client do without asking the server (RFC 7530, section 10.4).
+#[derive(Clone, Copy, Debug, PartialEq, Eq)]
+pub enum DelegationKind {
+    /// Opening the file for reading.
+    Read,
+    /// Opening the file for reading and for writing, and keeping what is written.
+    Write,
+}
+
+/// What a client does with a file, or asks to: an open with this share, or a delegation.
+#[derive(Clone, Copy, Debug)]
+pub enum FileUse {
+    Open(Share),
+    Delegation(DelegationKind),
+}
+
+/// A delegation of a file: its client need not ask the server for opens and locks, until the server calls it back
+/// (RFC 7530, section 10.4).
+#[derive(Clone, Copy, Debug)]
+pub struct Delegation {
+    pub client: ClientId,
+    pub kind: DelegationKind,
+    /// The number in its stateid.
+    pub number: u32,
+    /// When the server called it back first, if it did.
+    pub recalled: Option<Moment>,
+}
+
+impl DelegationKind {
+    /// Whether a delegation of this kind is in the way of what another client does with the file.
+    pub fn is_in_way_of(self, file_use: FileUse) -> bool
+        ensures { result ≡ is_in_way self file_use }
+    {
+        match (self, file_use) {
+            (DelegationKind::Write, _) => true,
+            (DelegationKind::Read, FileUse::Open(share)) => share.access.write || share.deny.read,
+            (DelegationKind::Read, FileUse::Delegation(kind)) => kind == DelegationKind::Write,
+        }
+    }
+}
+
+impl Delegation {
+    /// The delegation as it is lent to the client.
+    pub fn new(client: ClientId, kind: DelegationKind, number: u32) -> Delegation
+        ensures { result ≡ first_delegation client kind number }
+    {
+        Delegation {
+            client,
+            kind,
+            number,
+            recalled: None,
+        }
+    }
+
+    /// The delegation's stateid, whose seqid stays 1.
+    pub fn stateid(&self) -> Stateid
+        ensures { result ≡ delegation_stateid self.now }
+    {
+        Stateid {
+            seqid: 1,
+            client: self.client,
+            number: self.number,
+        }
+    }
+
+    /// Whether this client has the delegation.
+    pub fn is_of_client(&self, client: ClientId) -> bool
+        ensures { result ≡ is_lent_to client self.now }
+    {
+        self.client == client
+    }
+
+    /// Whether the stateid is one of the delegation's, no matter its seqid.
+    pub fn is_named_by(&self, stateid: Stateid) -> bool
+        ensures { result ≡ is_stateid_of_delegation stateid self.now }
+    {
+        self.is_of_client(stateid.client) && self.number == stateid.number
+    }
+
+    /// Whether the delegation is another client's, and in the way of this use by the client.
+    pub fn conflicts(&self, client: ClientId, file_use: FileUse) -> bool
+        ensures { result ≡ conflicts client file_use self.now }
+    {
+        !self.is_of_client(client) && self.kind.is_in_way_of(file_use)
+    }
+
+    /// Whether the delegation was called back more than a lease ago.
+    pub fn is_due(&self, lease: u32, now: Moment) -> bool
+        ensures { result ≡ is_due lease now self.now }
+    {
+        match self.recalled {
+            Some(moment) => moment.seconds() + u64::from(lease) < now.seconds(),
+            None => false,
+        }
+    }
+
+    /// Calls the delegation back, unless it was called back before.
+    pub(crate) fn recall(&mut self, moment: Moment)
+        ensures { self.new ≡ with_recall moment self.old }
+    {
+        if self.recalled.is_none() {
+            self.recalled = Some(moment);
+        }
+    }
+}
