@@ -6,6 +6,8 @@ use Rattle.nfs_core.specs.Step.{Allows}
 use Rattle.nfs_core.specs.declared.following.FollowError.{FollowError}
 use Rattle.nfs_core.specs.declared.following.FollowError.TheVariants as errors
 use Rattle.nfs_rules.specs.declared.decision.Decision.{Decision}
+use Rattle.nfs_rules.specs.entries.Expire.{is_live}
+use Rattle.nfs_rules.specs.entries.Revoke.{IsRevocation}
 use Rattle.nfs_rules.specs.operations.{IsRuled}
 use Rattle.nfs_state.specs.declared.effect.Effect.{Effect}
 use Rattle.nfs_state.specs.declared.entry.Entry.{Entry}
@@ -49,13 +51,20 @@ MayBeAnswered journal old request =
     × ((decision : Decision) × IsRuled request.op journal old request (Some decision))
 
 -- As far as an entry can be judged without the answer that it has, it may come next: a call can be asked, and may be
--- answered; a client whose end it is may end, and the journal isn't full.
+-- answered; a client whose end it is may end, a delegation that is taken away is the next one that may be, a client whose
+-- path is marked is live, and the journal isn't full.
 abbrev pub MayFollow : Server → Entry → Type 0
 MayFollow server (entries.Call call) =
     CanBeAsked server.journal call.request
     × MayBeAnswered server.journal (meaning server.stored) call.request
 MayFollow server (entries.Expire expire) =
     MayEnd server expire × (length server.journal.entries < JOURNAL_LIMIT)
+MayFollow server (entries.Revoke revoke) =
+    ((effect : Effect) × IsRevocation server.journal (meaning server.stored) revoke effect)
+    × (length server.journal.entries < JOURNAL_LIMIT)
+MayFollow server (entries.Path path) =
+    IsTrue (is_live server.journal (meaning server.stored) path.client)
+    × (length server.journal.entries < JOURNAL_LIMIT)
 
 -- Where a limit would be passed, no entry may come next.
 abbrev pub error_of : Shortage → FollowError

@@ -14,6 +14,8 @@ use Rattle.nfs_state.specs.State.{State, History}
 use Rattle.nfs_state.specs.declared.entry.Entry.{Entry}
 use Rattle.nfs_state.specs.declared.entry.Entry.TheVariants as entries
 use Rattle.nfs_state.specs.declared.entry.Expire.{Expire}
+use Rattle.nfs_state.specs.declared.entry.Path.{Path}
+use Rattle.nfs_state.specs.declared.entry.Revoke.{Revoke}
 use Rattle.nfs_state.specs.declared.request.Request.{Request}
 use Rattle.nfs_xdr.specs.declared.op.Op.{Op}
 use Rattle.nfs_xdr.specs.declared.op.Op.TheVariants as ops
@@ -81,6 +83,11 @@ pub record LiveEnd (client : ℕ) (old new : Registry) : Type 0 where
   pub ends : (number : ℕ) → is_live number new ≡ (is_live number old && not (number == client))
   pub once : (number : ℕ) → IsTrue (can_become_live number new) → IsTrue (can_become_live number old)
 
+-- An entry that is no call and no end of a client leaves who is live, and who can become so.
+pub record LiveSame (old new : Registry) : Type 0 where
+  pub live : (number : ℕ) → is_live number new ≡ is_live number old
+  pub come : (number : ℕ) → can_become_live number new ≡ can_become_live number old
+
 -- what each call does to who is live, and what each end of a client does
 abbrev pub CallsFollow : Type 0
 CallsFollow =
@@ -95,3 +102,18 @@ EndsFollow =
     → Lawful journal old
     → Step journal old (entries.Expire expire) new
     → LiveEnd expire.client old.clients new.clients
+
+-- what a revocation does to it, and a mark of a path
+abbrev pub RevocationsFollow : Type 0
+RevocationsFollow =
+    (journal : History) (old new : State) (revoke : Revoke)
+    → Lawful journal old
+    → Step journal old (entries.Revoke revoke) new
+    → LiveSame old.clients new.clients
+
+abbrev pub PathsFollow : Type 0
+PathsFollow =
+    (journal : History) (old new : State) (path : Path)
+    → Lawful journal old
+    → Step journal old (entries.Path path) new
+    → LiveSame old.clients new.clients

@@ -1,4 +1,4 @@
--- What holds of the state at all times (RFC 7530, sections 9.1, 9.9, 9.11, 16.10 and 16.33).
+-- What holds of the state at all times (RFC 7530, sections 9.1, 9.9, 9.11, 10.4, 16.10 and 16.33).
 use Rattle.std.specs.Prelude.{ℕ, ◌&&◌, ◌++◌, ◌==◌, ◌≤◌, Bool, IsSomeAnd, IsTrue, List, flat_map, is_some, length, map, Option, option_and_then, slice_get}
 use Rattle.std.specs.List.{AllByRecursion, IsDistinct, list_any}
 use Rattle.nfs_forms.specs.ClientId.{is_same_client}
@@ -23,9 +23,10 @@ use Rattle.nfs_state.specs.declared.entry.Call.{Call}
 use Rattle.nfs_state.specs.declared.limits.TheConstants.{STATE_LIMIT}
 use Rattle.nfs_xdr.specs.Names.{is_sequenced}
 use Rattle.nfs_xdr.specs.OpResult.{status_of}
-use Rattle.nfs_share.specs.AllOpens.{opens_of}
-use Rattle.nfs_share.specs.Laws.{AllAreCompatible}
+use Rattle.nfs_share.specs.AllOpens.{delegations_of, opens_of}
+use Rattle.nfs_share.specs.Laws.{AllAreCompatible, AreApart, OneEach}
 use Rattle.nfs_share.specs.Opens.{is_numbered, is_of_client}
+use Rattle.nfs_share.specs.declared.delegation.Delegation.{Delegation}
 use Rattle.nfs_share.specs.declared.open_state.OpenState.{OpenState}
 
 -- the open's owner is known
@@ -72,11 +73,24 @@ StandsUnderOpen state node l = IsTrue (list_any (bears state.owners l) (opens_of
 abbrev pub EachLockAt : (ℕ → ByteLocks → Type 0) → State → Type 0
 EachLockAt P state = (node : ℕ) → AllByRecursion (P node) (locks_of node state.locks)
 
--- the numbers in the stateids of all opens and all lock states (section 9.1.4)
+-- the client that has the delegation has a confirmed record
+abbrev pub HasLiveHolder : State → Delegation → Type 0
+HasLiveHolder state d = IsTrue (is_some (record_of d.client state.clients))
+
+-- each delegation of each node
+abbrev pub EachDelegation : (Delegation → Type 0) → State → Type 0
+EachDelegation P state = AllByRecursion (AllByRecursion P) state.delegations
+
+-- no delegation of the node's file stands beside another client's open or delegation that it conflicts with
+abbrev pub AreApartAt : State → ℕ → Type 0
+AreApartAt state node = AreApart (opens_of node state.opens) (delegations_of node state.delegations)
+
+-- the numbers in the stateids of all opens, all lock states and all delegations (section 9.1.4)
 abbrev pub numbers_of : State → List ℕ
 numbers_of state =
     flat_map (map (λ (o : OpenState). o.number)) state.opens
     ++ flat_map (map (λ (l : ByteLocks). l.number)) state.locks
+    ++ flat_map (map (λ (d : Delegation). d.number)) state.delegations
 
 -- two opens are of one owner
 abbrev pub have_same_owner : OpenState → OpenState → Bool
@@ -100,7 +114,7 @@ HasFewRuns l = runs l.modes ≤ RUN_LIMIT
 
 -- no limit is exceeded
 pub record KeepsLimits (state : State) : Type 0 where
-  -- opens and lock states together
+  -- opens, lock states and delegations together
   pub states : state_count state ≤ STATE_LIMIT
   pub owners : length state.owners ≤ OWNER_LIMIT
   -- the numbers that clients were given
@@ -119,12 +133,18 @@ pub record IsSafe (state : State) : Type 0 where
   pub lockers_known : EachLock (HasKnownLocker state) state
   pub lockers_live : EachLock (HasLiveLocker state) state
   pub locks_under_opens : EachLockAt (StandsUnderOpen state) state
-  -- no two states have one number, be they opens or lock states, of one file or of two
+  -- no two states have one number, be they opens, lock states or delegations, of one file or of two
   pub numbers_differ : IsDistinct (λ a b. a == b) (numbers_of state)
   pub numbers_given : AllByRecursion (WasGiven state.last_state) (numbers_of state)
   -- an owner has at most one open of a file (section 9.11), and at most one lock state (section 9.1.4)
   pub one_open : AllByRecursion (IsDistinct have_same_owner) state.opens
   pub one_lock : AllByRecursion (IsDistinct have_same_lock_owner) state.locks
+  -- a write delegation stands beside no open and no delegation of another client, a read delegation beside no open of
+  -- another client that may write or denies reading (section 10.4)
+  pub apart : (node : ℕ) → AreApartAt state node
+  -- a client has at most one delegation of a file
+  pub one_delegation : AllByRecursion OneEach state.delegations
+  pub holders_live : EachDelegation (HasLiveHolder state) state
   -- an id has at most one confirmed and at most one unconfirmed record (section 16.33.5), and each client number was
   -- given, to one id
   pub records : AreRecords state.clients

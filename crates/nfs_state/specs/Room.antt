@@ -1,6 +1,5 @@
 -- What the tables store, and the memory and the numbers that a change of them needs.
 use Rattle.std.specs.Prelude.{◌≡◌, ◌≢◌, ◌<◌, ◌+◌, ◌-◌, ◌^◌, ⊤, None, Bool, IsFalse, IsTrue, is_some, length}
-use Rattle.std.specs.List.{AllByRecursion}
 use Rattle.nfs_state.specs.declared.change.Change.{Change}
 use Rattle.nfs_state.specs.declared.change.Change.TheVariants as changes
 use Rattle.nfs_state.specs.declared.effect.Effect.{Effect}
@@ -23,7 +22,6 @@ use Rattle.nfs_state.specs.State.{State}
 use Rattle.nfs_state.specs.Stored.{Stored, meaning}
 use Rattle.nfs_owners.specs.ClientRoom.{FitsRecords, HasNumbersFor, HasRoomFor}
 use Rattle.nfs_share.specs.AllOpens.{HasLendingRoomAt, HasRoomAt, delegations_in, opens_in}
-use Rattle.nfs_share.specs.Delegations.{IsAboveLent}
 use Rattle.nfs_share.specs.AllOpens as opens
 
 -- what the tables store, no matter how much room they have
@@ -127,7 +125,7 @@ IsWithinLimits change state = ⊤
 pub record HasGivenNumbers (state : State) : Type 0 where
   pub of_opens : opens.IsAboveAll (state.last_state + 1) state.opens
   pub of_locks : locks.IsAboveAll (state.last_state + 1) state.locks
-  pub of_delegations : AllByRecursion (IsAboveLent (state.last_state + 1)) state.delegations
+  pub of_delegations : opens.IsAboveAllLent (state.last_state + 1) state.delegations
 
 -- The entry with this effect can be committed in this state: owners may keep it, the numbers that its change uses are
 -- left, and there is a place for an owner that it records.
