@@ -1,5 +1,6 @@
 pub mod Access
 pub mod Close
+pub mod Delegreturn
 pub mod Getattr
 pub mod Getfh
 pub mod Lock

@@ -4,6 +4,7 @@
 
 pub mod access;
 pub mod close;
+pub mod delegreturn;
 pub mod getattr;
 pub mod getfh;
 mod limits;

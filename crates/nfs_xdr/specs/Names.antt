@@ -39,6 +39,7 @@ names_of (ops.Locku args) = Owned args.stateid args.seqid
 names_of (ops.Lockt args) = Client args.owner.client
 names_of (ops.ReleaseLockowner args) = Client args.owner.client
 names_of (ops.Renew args) = Client args.client
+names_of (ops.Delegreturn args) = State args.stateid
 names_of (ops.Access args) = Nothing
 names_of (ops.Getattr args) = Nothing
 names_of ops.Getfh = Nothing

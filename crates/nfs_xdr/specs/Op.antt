@@ -15,6 +15,7 @@ use Rattle.xdr.specs.Union.{switch}
 abbrev pub op_case : Opnum → Case Op
 op_case opnums.Access = case of.Access.arguments ops.Access
 op_case opnums.Close = case of.Close.arguments ops.Close
+op_case opnums.Delegreturn = case of.Delegreturn.arguments ops.Delegreturn
 op_case opnums.Getattr = case of.Getattr.arguments ops.Getattr
 op_case opnums.Getfh = case of.Getfh.arguments (λ v. ops.Getfh)
 op_case opnums.Lock = case of.Lock.arguments ops.Lock
@@ -42,6 +43,7 @@ row o content = (o, arm_in (op_case o) content)
 abbrev pub row_of : Op → Opnum × Arm Op
 row_of (ops.Access v) = row opnums.Access v
 row_of (ops.Close v) = row opnums.Close v
+row_of (ops.Delegreturn v) = row opnums.Delegreturn v
 row_of (ops.Getattr v) = row opnums.Getattr v
 row_of ops.Getfh = row opnums.Getfh tt
 row_of (ops.Lock v) = row opnums.Lock v

@@ -36,6 +36,7 @@ outcomes form make = record { read = case form make; refused = λ r. make (Refus
 abbrev pub outcomes_of : Opnum → Outcomes
 outcomes_of opnums.Access = outcomes of.Access.result results.Access
 outcomes_of opnums.Close = outcomes of.Close.result results.Close
+outcomes_of opnums.Delegreturn = outcomes of.Delegreturn.result results.Delegreturn
 outcomes_of opnums.Getattr = outcomes of.Getattr.result results.Getattr
 outcomes_of opnums.Getfh = outcomes of.Getfh.result results.Getfh
 outcomes_of opnums.Lock = outcomes of.Lock.result results.Lock
@@ -75,6 +76,7 @@ row o status content = record { opnum = o; status = status; arm = arm_in (result
 abbrev pub row_of : OpResult → Row
 row_of (results.Access a) = row opnums.Access (answer.status_of a) a
 row_of (results.Close a) = row opnums.Close (answer.status_of a) a
+row_of (results.Delegreturn a) = row opnums.Delegreturn (answer.status_of a) a
 row_of (results.Getattr a) = row opnums.Getattr (answer.status_of a) a
 row_of (results.Getfh a) = row opnums.Getfh (answer.status_of a) a
 row_of (results.Lock a) = row opnums.Lock (answer.status_of a) a

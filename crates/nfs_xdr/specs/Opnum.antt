@@ -16,7 +16,6 @@ abbrev pub number_of_unsupported : Unsupported → ℕ
 number_of_unsupported without.Commit = 5
 number_of_unsupported without.Create = 6
 number_of_unsupported without.Delegpurge = 7
-number_of_unsupported without.Delegreturn = 8
 number_of_unsupported without.Link = 11
 number_of_unsupported without.Lookupp = 16
 number_of_unsupported without.Nverify = 17
@@ -36,6 +35,7 @@ number_of_unsupported without.Write = 38
 abbrev pub row_of : Opnum → ℕ × Class
 row_of op.Access = (3, OnTree)
 row_of op.Close = (4, OnState)
+row_of op.Delegreturn = (8, OnState)
 row_of op.Getattr = (9, OnState)
 row_of op.Getfh = (10, OnTree)
 row_of op.Lock = (12, OnState)

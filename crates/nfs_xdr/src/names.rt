@@ -53,6 +53,7 @@ impl Op {
             Op::Lockt(args) => Names::Client(args.owner.client),
             Op::ReleaseLockowner(args) => Names::Client(args.owner.client),
             Op::Renew(args) => Names::Client(args.client),
+            Op::Delegreturn(args) => Names::State(args.stateid),
             Op::Access(_)
             | Op::Getattr(_)
             | Op::Getfh

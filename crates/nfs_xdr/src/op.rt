@@ -55,6 +55,7 @@ macro_rules! write_op_of {
 pub enum Op {
     Access(of::access::Arguments),
     Close(of::close::Arguments),
+    Delegreturn(of::delegreturn::Arguments),
     Getattr(of::getattr::Arguments),
     Getfh,
     Lock(of::lock::Arguments),

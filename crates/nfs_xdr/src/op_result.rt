@@ -107,6 +107,7 @@ macro_rules! copy_of_result {
 pub enum OpResult {
     Access(of::access::Outcome),
     Close(of::close::Outcome),
+    Delegreturn(of::delegreturn::Outcome),
     Getattr(of::getattr::Outcome),
     Getfh(of::getfh::Outcome),
     Lock(of::lock::Outcome),

@@ -16,6 +16,7 @@ macro_rules! each_operation {
             [
                 Access = 3 OnTree,
                 Close = 4 OnState,
+                Delegreturn = 8 OnState,
                 Getattr = 9 OnState,
                 Lock = 12 OnState,
                 Lockt = 13 OnState,
@@ -49,7 +50,6 @@ pub enum Unsupported {
     Commit = 5,
     Create = 6,
     Delegpurge = 7,
-    Delegreturn = 8,
     Link = 11,
     Lookupp = 16,
     Nverify = 17,
@@ -79,6 +79,7 @@ impl Unsupported {
 pub enum Opnum {
     Access,
     Close,
+    Delegreturn,
     Getattr,
     Getfh,
     Lock,
@@ -146,7 +147,7 @@ pub const OPNUMS: [Opnum; 38] = [
     Opnum::Unsupported(Unsupported::Commit),
     Opnum::Unsupported(Unsupported::Create),
     Opnum::Unsupported(Unsupported::Delegpurge),
-    Opnum::Unsupported(Unsupported::Delegreturn),
+    Opnum::Delegreturn,
     Opnum::Getattr,
     Opnum::Getfh,
     Opnum::Unsupported(Unsupported::Link),

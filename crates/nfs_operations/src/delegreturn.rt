@@ -1,0 +1,35 @@
+ghost use Rattle.nfs_operations.specs.Delegreturn as forms;
+ghost use Rattle.xdr.specs.Reading.{Answers};
+
+use nfs_forms::{Answer, Stateid};
+use std::alloc::Global;
+use xdr::{Wire, WireError};
+
+/// A delegation that is given back (RFC 7530, section 16.8).
+pub type Arguments = Delegreturn;
+
+/// The arguments of DELEGRETURN.
+#[derive(Clone, Copy, Debug, PartialEq, Eq)]
+pub struct Delegreturn {
+    pub stateid: Stateid,
+}
+
+/// A status without further data.
+pub type Outcome = Answer<()>;
+
+impl Wire for Delegreturn {
+    ghost form = { forms.arguments };
+
+    #[tactic(auto, unfolding(crate::specs::Delegreturn::arguments))]
+    fn read(alloc: Global, bytes: &[u8]) -> Result<(Delegreturn, &[u8]), WireError>
+        ensures { Answers (λ x. (x.0, x.1.now)) result (forms.arguments.at bytes.now) }
+    {
+        let (stateid, rest) = Stateid::read(alloc, bytes)?;
+        Ok((Delegreturn { stateid }, rest))
+    }
+
+    #[tactic(auto, unfolding(crate::specs::Delegreturn::arguments))]
+    fn write(&self, out: &mut Vec<u8>) -> Result<(), WireError> {
+        self.stateid.write(out)
+    }
+}
