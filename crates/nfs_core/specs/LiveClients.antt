@@ -2,6 +2,7 @@
 use Rattle.std.specs.Prelude.{◌≡◌, ℕ, ⊤, not, ◌&&◌, ◌==◌, IsFalse, IsTrue, Option, Some, None, option_and_then}
 use Rattle.nfs_core.specs.Lawful.{Lawful}
 use Rattle.nfs_core.specs.Step.{Step}
+use Rattle.nfs_owners.specs.ClientLaws.{HaveSameClients}
 use Rattle.nfs_owners.specs.LiveChange.{is_live_after}
 use Rattle.nfs_owners.specs.LiveClients.{can_become_live, replaced_by}
 use Rattle.nfs_owners.specs.Registry.{IsClientNumber, Registry, is_live}
@@ -83,11 +84,6 @@ pub record LiveEnd (client : ℕ) (old new : Registry) : Type 0 where
   pub ends : (number : ℕ) → is_live number new ≡ (is_live number old && not (number == client))
   pub once : (number : ℕ) → IsTrue (can_become_live number new) → IsTrue (can_become_live number old)
 
--- An entry that is no call and no end of a client leaves who is live, and who can become so.
-pub record LiveSame (old new : Registry) : Type 0 where
-  pub live : (number : ℕ) → is_live number new ≡ is_live number old
-  pub come : (number : ℕ) → can_become_live number new ≡ can_become_live number old
-
 -- what each call does to who is live, and what each end of a client does
 abbrev pub CallsFollow : Type 0
 CallsFollow =
@@ -103,17 +99,17 @@ EndsFollow =
     → Step journal old (entries.Expire expire) new
     → LiveEnd expire.client old.clients new.clients
 
--- what a revocation does to it, and a mark of a path
+-- a revocation leaves the clients as they are, and so does a mark of a path
 abbrev pub RevocationsFollow : Type 0
 RevocationsFollow =
     (journal : History) (old new : State) (revoke : Revoke)
     → Lawful journal old
     → Step journal old (entries.Revoke revoke) new
-    → LiveSame old.clients new.clients
+    → HaveSameClients old.clients new.clients
 
 abbrev pub PathsFollow : Type 0
 PathsFollow =
     (journal : History) (old new : State) (path : Path)
     → Lawful journal old
     → Step journal old (entries.Path path) new
-    → LiveSame old.clients new.clients
+    → HaveSameClients old.clients new.clients
