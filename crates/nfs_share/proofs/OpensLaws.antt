@@ -1,5 +1,5 @@
 -- Laws of the opens of a file.
-use Rattle.std.proofs.Common.{◌≡◌, ℕ, ◌+◌, ◌<◌, Bool, true, false, cond, List, [], ◌∷◌, ◌++◌, drop, length, find, get_or, set, take, None, Some, option_map, refl, sym, ◌∙◌, ap}
+use Rattle.std.proofs.Common.{◌≡◌, ℕ, ◌+◌, ◌<◌, Bool, true, false, cond, List, [], ◌∷◌, ◌++◌, drop, length, find, get_or, map, set, take, None, Some, option_map, refl, sym, ◌∙◌, ap}
 use Rattle.std.proofs.Common.{inl, inr}
 use Rattle.std.proofs.lemmas.Bool.{and_from, eq-eqb, cases_Bool, cond-true, cond-false}
 use Rattle.std.proofs.lemmas.List.{get_or_default}
@@ -17,31 +17,36 @@ use Rattle.nfs_forms.specs.ClientId.{is_same_client}
 use Rattle.nfs_forms.specs.OpenOwner.{is_same_owner}
 use Rattle.nfs_share.specs.Opens.{first_open, is_of, next_stateid_of, open_of, stateid_of, with_each}
 
-module _ (test : OpenState → Bool) (change : OpenState → OpenState) where
-  each_more : (old new : List OpenState) (i : ℕ) (d next : OpenState) → i < length old → i < length new
-      → new ≡ with_each test change (take i old) ++ drop i old
+module _ {X : Type 0} (test : X → Bool) (change : X → X) where
+  -- the elements, with a change of each that passes the test
+  abbrev each : List X → List X
+  each xs = map (λ x. cond (test x) (change x) x) xs
+
+  each_more : (old new : List X) (i : ℕ) (d next : X) → i < length old → i < length new
+      → new ≡ each (take i old) ++ drop i old
       → next ≡ cond (test (get_or new i d)) (change (get_or new i d)) (get_or new i d)
-      → set new i next ≡ with_each test change (take (i + 1) old) ++ drop (i + 1) old
+      → set new i next ≡ each (take (i + 1) old) ++ drop (i + 1) old
   each_more old new i d next below within so_far is =
       ap (set new i) is
-      ∙ map_over_more (λ o. cond (test o) (change o) o) old new i (get_or new i d) below so_far (get_or_default new i d (get_or new i d) within)
+      ∙ map_over_more (λ x. cond (test x) (change x) x) old new i (get_or new i d) below so_far (get_or_default new i d (get_or new i d) within)
 
-  -- the loop changes an open that passes the test
-  pub changes_one_more : (old new : List OpenState) (i : ℕ) (d next : OpenState) → i < length old → i < length new
-      → new ≡ with_each test change (take i old) ++ drop i old
+  -- the loop changes an element that passes the test
+  pub changes_one_more : (old new : List X) (i : ℕ) (d next : X) → i < length old → i < length new
+      → new ≡ each (take i old) ++ drop i old
       → test (get_or new i d) ≡ true → next ≡ change (get_or new i d)
-      → set new i next ≡ with_each test change (take (i + 1) old) ++ drop (i + 1) old
+      → set new i next ≡ each (take (i + 1) old) ++ drop (i + 1) old
   changes_one_more old new i d next below within so_far passes is =
       each_more old new i d next below within so_far (is ∙ sym (cond-true (test (get_or new i d)) (change (get_or new i d)) (get_or new i d) passes))
 
-  -- the loop leaves an open that doesn't
-  pub leaves_one_more : (old new : List OpenState) (i : ℕ) (d : OpenState) → i < length old → i < length new
-      → new ≡ with_each test change (take i old) ++ drop i old
+  -- the loop leaves an element that doesn't
+  pub leaves_one_more : (old new : List X) (i : ℕ) (d : X) → i < length old → i < length new
+      → new ≡ each (take i old) ++ drop i old
       → test (get_or new i d) ≡ false
-      → set new i (get_or new i d) ≡ with_each test change (take (i + 1) old) ++ drop (i + 1) old
+      → set new i (get_or new i d) ≡ each (take (i + 1) old) ++ drop (i + 1) old
   leaves_one_more old new i d below within so_far fails =
       each_more old new i d (get_or new i d) below within so_far (sym (cond-false (test (get_or new i d)) (change (get_or new i d)) (get_or new i d) fails))
 
+module _ (test : OpenState → Bool) (change : OpenState → OpenState) where
   -- the first that passes the test, once it is changed
   pub find-with_each : ((o : OpenState) → test (change o) ≡ test o) → (opens : List OpenState)
       → find test (with_each test change opens) ≡ option_map change (find test opens)

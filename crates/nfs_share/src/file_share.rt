@@ -307,8 +307,8 @@ impl FileShare {
     {
         self.delegations
             .iter()
-            .find(|lent| lent.is_named_by(stateid))
             .copied()
+            .find(|lent| lent.is_named_by(stateid))
     }
 
     /// Whether the client has a delegation.
@@ -443,7 +443,12 @@ impl FileShare {
         ensures room { self.old.lending_room ≤ self.new.lending_room + 1 }
         ensures opening { self.old.room ≤ self.new.room }
     {
-        let lent = Delegation::new(client, kind, number);
+        let lent = Delegation {
+            client,
+            kind,
+            number,
+            recalled: None,
+        };
         let stateid = lent.stateid();
         self.delegations.push_reserved(lent);
         stateid

@@ -1,6 +1,7 @@
 use Rattle.std.proofs.Common.{◌∙◌, ap, rules}
 use Rattle.std.specs.Prelude.{not}
 use Rattle.std.proofs.lemmas.Fn.{filter_same}
+use Rattle.nfs_share.specs.Delegations.{is_lent_to, without_lent}
 use Rattle.nfs_share.specs.Opens.{FileOpens, is_of_client, without}
 use Rattle.nfs_share.proofs.file_share.FileShare.remove_client.Goals as goal
 
@@ -8,3 +9,8 @@ pub returns-clause-opens : goal.returns-clause-opens
 returns-clause-opens c =
     filter_same _ (λ o. not (is_of_client c.args.client o)) _ (λ x b f' k. search rules) _ _ c.retain.ensures.filtered
     ∙ ap (λ (f : FileOpens). without (is_of_client c.args.client) f.opens) c.self.view_is
+
+pub returns-clause-delegations : goal.returns-clause-delegations
+returns-clause-delegations c =
+    filter_same _ (λ d. not (is_lent_to c.args.client d)) _ (λ x b f' k. search rules) _ _ c.retain-2.ensures.filtered
+    ∙ ap (λ (f : FileOpens). without_lent (is_lent_to c.args.client) f.delegations) c.self.view_is

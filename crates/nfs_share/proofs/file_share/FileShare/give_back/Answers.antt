@@ -1,0 +1,11 @@
+use Rattle.std.proofs.Common.{◌∙◌, ap, rules}
+use Rattle.std.specs.Prelude.{not}
+use Rattle.std.proofs.lemmas.Fn.{filter_same}
+use Rattle.nfs_share.specs.Delegations.{is_delegation_numbered, without_lent}
+use Rattle.nfs_share.specs.Opens.{FileOpens}
+use Rattle.nfs_share.proofs.file_share.FileShare.give_back.Goals as goal
+
+pub returns-clause-delegations : goal.returns-clause-delegations
+returns-clause-delegations c =
+    filter_same _ (λ d. not (is_delegation_numbered c.args.number d)) _ (λ x b f' k. search rules) _ _ c.retain.ensures.filtered
+    ∙ ap (λ (f : FileOpens). without_lent (is_delegation_numbered c.args.number) f.delegations) c.self.view_is
