@@ -2,3 +2,4 @@ pub mod Lists
 pub mod ClientLists
 pub mod NextLive
 pub mod OwnerLists
+pub mod UnknownPaths

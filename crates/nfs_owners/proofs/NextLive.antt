@@ -1,8 +1,10 @@
 -- The least client number above another among records.
-use Rattle.std.proofs.Common.{◌≡◌, ℕ, Bool, true, false, ◌&&◌, ◌||◌, ◌==◌, List, [], ◌∷◌, ◌++◌, Option, Some, None, refl, arith, nat_lt, if◌then◌else◌}
+use Rattle.std.proofs.Common.{◌≡◌, ℕ, Bool, true, false, ◌&&◌, ◌||◌, ◌==◌, List, [], ◌∷◌, ◌++◌, Option, Some, None, filter, refl, arith, nat_lt, if◌then◌else◌}
 use Rattle.std.specs.List.{list_any}
 use Rattle.std.proofs.lemmas.Grind.{common_steps}
-use Rattle.nfs_owners.specs.LiveClients.{IsNextAmong, nearer_of}
+use Rattle.std.proofs.lemmas.List.{append-nil}
+use Rattle.std.proofs.lemmas.List.Elements.{filter-append}
+use Rattle.nfs_owners.specs.LiveClients.{IsNextAmong, has_unknown_path, nearer_of}
 use Rattle.nfs_owners.specs.Registry.{is_of_client}
 use Rattle.nfs_owners.specs.declared.client_record.ClientRecord.{ClientRecord}
 
@@ -36,3 +38,13 @@ later_is_next after records next r false e h = (
 pub nearer_is_next : (after : ℕ) (records : List ClientRecord) (least : Option ℕ) (r : ClientRecord) → IsNextAmong after records least → IsNextAmong after (records ++ r ∷ []) (nearer_of after least r)
 nearer_is_next after records None r h = first_is_next after records r (nat_lt after r.state.client.number) refl h
 nearer_is_next after records (Some next) r h = later_is_next after records next r (nat_lt after r.state.client.number && nat_lt r.state.client.number next) refl h
+
+-- and among those records of whose clients' paths nothing is known
+
+pub nearer_unknown_is_next : (after : ℕ) (records : List ClientRecord) (least : Option ℕ) (r : ClientRecord) → IsNextAmong after (filter has_unknown_path records) least
+    → IsNextAmong after (filter has_unknown_path (records ++ r ∷ [])) (if has_unknown_path r then nearer_of after least r else least)
+nearer_unknown_is_next after records least r h = rw (filter-append has_unknown_path records (r ∷ [])) (by (has_unknown_path r) refl)
+  where
+    by : (b : Bool) → has_unknown_path r ≡ b → IsNextAmong after (filter has_unknown_path records ++ filter has_unknown_path (r ∷ [])) (if b then nearer_of after least r else least)
+    by true unknown = rw unknown (nearer_is_next after (filter has_unknown_path records) least r h)
+    by false known = rw (known, append-nil (filter has_unknown_path records)) h

@@ -11,5 +11,7 @@ pub mod Owners
 pub mod OwnerLaws
 pub mod LiveClients
 pub mod LiveChange
+pub mod ClientLaws
 pub mod Numbers
 pub mod OwnersError
+pub mod laws

@@ -1,8 +1,11 @@
 -- Which clients are live, which come next, and which one a confirmation ends (RFC 7530, sections 9.1.1 and 16.34.5).
-use Rattle.std.specs.Prelude.{ℕ, ◌<◌, ◌≤◌, nat_lt, Bool, ◌&&◌, ◌||◌, ◌==◌, not, IsTrue, List, find, Option, Some, None, option_and_then, if◌then◌else◌}
+use Rattle.std.specs.Prelude.{◌≡◌, ℕ, ◌<◌, ◌≤◌, nat_lt, Bool, true, false, ◌&&◌, ◌||◌, ◌==◌, not, IsTrue, List, filter, find, Option, Some, None, option_and_then, if◌then◌else◌}
 use Rattle.std.specs.List.{list_any}
-use Rattle.nfs_owners.specs.Registry.{Registry, confirmed_of, is_live, is_of_client, was_given}
+use Rattle.nfs_owners.specs.Registry.{Registry, confirmed_of, is_live, is_of_client, record_of, record_state, was_given}
 use Rattle.nfs_owners.specs.declared.client_record.ClientRecord.{ClientRecord}
+use Rattle.nfs_owners.specs.declared.client_record.ClientState.{ClientState}
+use Rattle.nfs_owners.specs.declared.client_record.PathMark.{PathMark}
+use Rattle.nfs_owners.specs.declared.client_record.PathMark.TheVariants as marks
 
 -- the least client number above this one that one of the records has, or that none has one
 abbrev pub IsNextAmong : ℕ → List ClientRecord → Option ℕ → Type 0
@@ -17,6 +20,26 @@ IsNextAmong after records (Some next) =
 -- the least number above this one that a live client has, or that none has one
 abbrev pub IsNextLive : ℕ → Registry → Option ℕ → Type 0
 IsNextLive after registry next = IsNextAmong after registry.confirmed next
+
+-- nothing is known of the path
+abbrev pub is_unknown : PathMark → Bool
+is_unknown marks.Unknown = true
+is_unknown marks.Up = false
+is_unknown marks.Down = false
+
+-- the record is of a client of whose path nothing is known
+abbrev pub has_unknown_path : ClientRecord → Bool
+has_unknown_path r = is_unknown r.state.path
+
+-- Of the live clients of whose paths nothing is known, the one with the least number above this one, by what its
+-- confirmed record has; or that there is none.
+abbrev pub IsNextUnknown : ℕ → Registry → Option ClientState → Type 0
+IsNextUnknown after registry None =
+    IsNextAmong after (filter has_unknown_path registry.confirmed) None
+IsNextUnknown after registry (Some state) =
+    IsNextAmong after (filter has_unknown_path registry.confirmed) (Some state.client.number)
+    × (record_state (record_of state.client registry) ≡ Some state)
+    × (state.path ≡ marks.Unknown)
 
 -- the least number so far, and one more record
 abbrev pub nearer_of : ℕ → Option ℕ → ClientRecord → Option ℕ

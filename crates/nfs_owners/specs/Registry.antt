@@ -1,5 +1,5 @@
 -- The clients' records (RFC 7530, section 16.33.5).
-use Rattle.std.specs.Prelude.{◌≡◌, ℕ, ◌≤◌, nat_le, Bool, ◌&&◌, ◌==◌, not, IsFalse, IsTrue, List, [], filter, find, Option, Some, option_map}
+use Rattle.std.specs.Prelude.{◌≡◌, ℕ, ◌≤◌, nat_le, Bool, ◌&&◌, ◌==◌, not, IsFalse, IsTrue, List, [], filter, find, map, Option, Some, option_map, if◌then◌else◌}
 use Rattle.std.specs.List.{AllByRecursion, IsDistinct, list_any}
 use Rattle.std.specs.Str.{bytes_eq}
 use Rattle.nfs_forms.specs.ClientId.{is_same_client}
@@ -7,6 +7,7 @@ use Rattle.nfs_forms.specs.declared.client_id.ClientId.{ClientId}
 use Rattle.nfs_operations.specs.declared.setclientid_confirm.SetclientidConfirm.{SetclientidConfirm}
 use Rattle.nfs_owners.specs.declared.client_record.ClientRecord.{ClientRecord}
 use Rattle.nfs_owners.specs.declared.client_record.ClientState.{ClientState}
+use Rattle.nfs_owners.specs.declared.client_record.PathMark.{PathMark}
 use Rattle.nfs_owners.specs.declared.client_record.TheConstants.{CLIENT_LIMIT}
 use Rattle.nfs_owners.specs.declared.client_ref.ClientRef.{ClientRef}
 
@@ -71,6 +72,17 @@ abbrev pub without_client : ℕ → Registry → Registry
 without_client number registry = record registry {
   confirmed = without_number number registry.confirmed;
   unconfirmed = without_number number registry.unconfirmed;
+}
+
+-- the record with this mark for its path, if it is one of the client with this number
+abbrev pub after_mark : ℕ → PathMark → ClientRecord → ClientRecord
+after_mark number path r =
+    if is_of_client number r then record r { state = record r.state { path = path } } else r
+
+-- the confirmed record of the client with this number has this mark for its path
+abbrev pub with_mark : ℕ → PathMark → Registry → Registry
+with_mark number path registry = record registry {
+  confirmed = map (after_mark number path) registry.confirmed;
 }
 
 -- the arguments of SETCLIENTID_CONFIRM name the record, by its clientid and its confirm value

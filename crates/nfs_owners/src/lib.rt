@@ -3,6 +3,7 @@
 #![tactic(auto)]
 
 mod client_callback;
+mod client_laws;
 mod client_record;
 mod client_ref;
 mod clients;
@@ -19,6 +20,7 @@ mod owners_error;
 mod state_owner;
 
 pub use client_callback::{ADDRESS_LIMIT, ClientCallback};
+pub use client_laws::marks_keep_clients;
 pub use client_record::{CLIENT_LIMIT, ClientRecord, ClientState, PathMark};
 pub use client_ref::ClientRef;
 pub use clients::{ClientChange, Clients};

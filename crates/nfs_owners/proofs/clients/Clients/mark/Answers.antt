@@ -1,0 +1,13 @@
+use Rattle.nfs_owners.specs.Registry.{Registry}
+use Rattle.nfs_owners.specs.laws.Marks.{mark_keeps_records}
+use Rattle.nfs_owners.proofs.clients.Clients.mark.Goals as goal
+
+pub invariant_of-self : goal.invariant_of-self
+invariant_of-self c =
+    let old : Registry = record {
+      confirmed = c.self.inside.confirmed.items;
+      unconfirmed = c.self.inside.unconfirmed.items;
+      last_number = c.self.inside.last_number;
+      last_confirm = c.self.inside.last_confirm;
+    } in
+    rw c.mark_each.ensures.items (mark_keeps_records c.args.number c.args.path old c.self.invariant)
