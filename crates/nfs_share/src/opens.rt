@@ -227,12 +227,10 @@ impl Opens {
         ensures { option_map delegation_seen result
             ≡ delegation_named_in stateid (delegations_in self.now) }
     {
-        let node = self.node_of_delegation(stateid)?;
-        let state = self.files[node].delegation_named_by(stateid)?;
-        Some(DelegationFound {
-            node: node as u32,
-            state,
-        })
+        match self.node_of_delegation(stateid) {
+            Some(node) => lent_at(node as u32, self.files[node].delegation_named_by(stateid)),
+            None => None,
+        }
     }
 
     // The node with a delegation that the stateid names.
@@ -241,9 +239,7 @@ impl Opens {
             list_any (is_stateid_of_delegation stateid) f.delegations) self.now }
         ensures below { IfSome result (λ node. node < length self.now) }
     {
-        self.files
-            .iter()
-            .position(|file| file.delegation_named_by(stateid).is_some())
+        self.files.iter().position(|file| file.names_delegation(stateid))
     }
 
     /// Whether the client has a delegation of the node's file.
@@ -463,9 +459,9 @@ fn lesser(first: Option<DelegationFound>, second: Option<DelegationFound>) -> Op
     ensures { option_map delegation_seen result
         ≡ lesser_at (option_map delegation_seen first) (option_map delegation_seen second) }
 {
-    match (first, second) {
-        (Some(first), Some(second)) if first.state.number <= second.state.number => Some(first),
-        (first, None) => first,
-        (_, second) => second,
+    let Some(second) = second else { return first };
+    match first {
+        Some(first) if first.state.number <= second.state.number => Some(first),
+        _ => Some(second),
     }
 }
