@@ -1,79 +1,90 @@
--- Lemmas on the opens of all files.
+-- Lemmas on the opens and the delegations of all files.
 use Rattle.std.proofs.Common.{◌≡◌, ℕ, zero, suc, ◌+◌, ◌-◌, ◌<◌, ◌≤◌, Bool, ◌||◌, List, [], ◌∷◌, ◌++◌, drop, length, get_or, map, set, take, refl, sym, ◌∙◌, ap, arith}
+use Rattle.std.specs.Prelude.{slice_get, IfSome}
 use Rattle.std.specs.List.{list_any}
 use Rattle.std.proofs.lemmas.List.{append-nil, drop_all, get_or-map, length-map, map-set, take_all}
 use Rattle.std.proofs.lemmas.List.Edits.{map_over_more}
-use Rattle.nfs_share.specs.AllOpens.{HasRoomAt, open_count, opens_in}
+use Rattle.nfs_share.specs.AllOpens.{total_length}
 use Rattle.nfs_share.specs.Opens.{FileOpens}
-use Rattle.nfs_share.specs.declared.open_state.OpenState.{OpenState}
 
--- a test of each file's opens is one of the opens of all files
-pub any_seen : (p : List OpenState → Bool) (files : List FileOpens) → list_any (λ f. p f.opens) files ≡ list_any p (opens_in files)
-any_seen p [] = refl
-any_seen p (f ∷ files) = ap (λ b. p f.opens || b) (any_seen p files)
+module _ {X : Type 0} where
+  -- the count from an index on is the length there, and the count behind
+  count_from : (all : List (List X)) (i : ℕ) (d : List X) → i < length all
+      → total_length (drop i all) ≡ length (get_or all i d) + total_length (drop (i + 1) all)
+  count_from [] i d below = absurd (omega arith)
+  count_from (xs ∷ all) zero d below = refl
+  count_from (xs ∷ all) (suc i) d below =
+      let next : suc i + 1 ≡ suc (i + 1) = omega arith in
+      rw next (count_from all i d (omega arith))
 
--- a loop changes the opens of one more file
-pub changes_one_more : (f : List OpenState → List OpenState) (old new : List FileOpens) (i : ℕ) (d next : FileOpens)
-    → i < length old → length new ≡ length old
-    → opens_in new ≡ map f (take i (opens_in old)) ++ drop i (opens_in old)
-    → next.opens ≡ f (get_or new i d).opens
-    → opens_in (set new i next) ≡ map f (take (i + 1) (opens_in old)) ++ drop (i + 1) (opens_in old)
-changes_one_more f old new i d next below same so_far is =
-    map-set (λ (g : FileOpens). g.opens) new i next
-    ∙ ap (set (opens_in new) i) is
-    ∙ map_over_more f (opens_in old) (opens_in new) i (get_or new i d).opens
-    (omega (arith, length-map old (λ (g : FileOpens). g.opens))) so_far
-    (sym (get_or-map (λ (g : FileOpens). g.opens) new i d (get_or new i d).opens (omega arith)))
+  -- the places that are left after one more file
+  pub place_taken : (all : List (List X)) (i : ℕ) (d : List X) (left taken next whole : ℕ) → i < length all
+      → taken ≡ length (get_or all i d) → next ≡ left - taken → left - total_length (drop i all) ≡ whole
+      → next - total_length (drop (i + 1) all) ≡ whole
+  place_taken all i d left taken next whole below is less so_far =
+      omega (arith, count_from all i d below, is, less, so_far)
+
+module _ {X : Type 0} (get : FileOpens → List X) where
+  -- a test of what each file has is one of what all files have
+  pub any_seen : (p : List X → Bool) (files : List FileOpens) → list_any (λ f. p (get f)) files ≡ list_any p (map get files)
+  any_seen p [] = refl
+  any_seen p (f ∷ files) = ap (λ b. p (get f) || b) (any_seen p files)
+
+  -- a loop changes what one more file has
+  pub changes_one_more : (change : List X → List X) (old new : List FileOpens) (i : ℕ) (d next : FileOpens)
+      → i < length old → length new ≡ length old
+      → map get new ≡ map change (take i (map get old)) ++ drop i (map get old)
+      → get next ≡ change (get (get_or new i d))
+      → map get (set new i next) ≡ map change (take (i + 1) (map get old)) ++ drop (i + 1) (map get old)
+  changes_one_more change old new i d next below same so_far is =
+      map-set get new i next
+      ∙ ap (set (map get new) i) is
+      ∙ map_over_more change (map get old) (map get new) i (get (get_or new i d))
+      (omega (arith, length-map old get)) so_far
+      (sym (get_or-map get new i d (get (get_or new i d)) (omega arith)))
+
+  -- after the loop what all files have is changed
+  pub all_changed : (change : List X → List X) (old new : List FileOpens) (i : ℕ) → length old ≤ i
+      → map get new ≡ map change (take i (map get old)) ++ drop i (map get old)
+      → map get new ≡ map change (map get old)
+  all_changed change old new i past so_far =
+      let end : length (map get old) ≤ i = omega (arith, length-map old get) in
+      so_far
+      ∙ ap (λ front. map change front ++ drop i (map get old)) (take_all i (map get old) end)
+      ∙ ap (λ back. map change (map get old) ++ back) (drop_all i (map get old) end)
+      ∙ append-nil (map change (map get old))
+
+  -- a loop leaves what one more file has
+  pub leaves_one_more : (old new : List FileOpens) (i : ℕ) (d next : FileOpens) → i < length new
+      → map get new ≡ map get old → get next ≡ get (get_or new i d)
+      → map get (set new i next) ≡ map get old
+  leaves_one_more old [] i d next below so_far is = absurd (omega (arith, below))
+  leaves_one_more old (f ∷ new) zero d next below so_far is = ap (λ x. x ∷ map get new) is ∙ so_far
+  leaves_one_more old (f ∷ new) (suc i) d next below so_far is =
+      ap (λ xs. get f ∷ xs) (leaves_one_more new new i d next (omega (arith, below)) refl is) ∙ so_far
+
+  -- what a file has among what all files have
+  pub one_seen : (change : List X → List X) (files : List FileOpens) (i : ℕ) (d : FileOpens) (e : List X) → i < length files
+      → change (get (get_or files i d)) ≡ get_or (map change (map get files)) i e
+  one_seen change files i d e below =
+      sym (get_or-map change (map get files) i (get (get_or files i d)) e (omega (arith, length-map files get))
+      ∙ ap change (get_or-map get files i d (get (get_or files i d)) below))
+
+  pub one_there : (files : List FileOpens) (i : ℕ) (d : FileOpens) (e : List X) → i < length files
+      → get (get_or files i d) ≡ get_or (map get files) i e
+  one_there files i d e below = sym (get_or-map get files i d e below)
+
+  pub as_many : (files : List FileOpens) → length (map get files) ≡ length files
+  as_many files = length-map files get
+
+  pub as_many_changed : (change : List X → List X) (files : List FileOpens) → length (map change (map get files)) ≡ length files
+  as_many_changed change files = length-map (map get files) change ∙ as_many files
 
 -- a change of a file that leaves it its room leaves each file its room
-pub keeps_room : (files : List FileOpens) (i node : ℕ) (d next : FileOpens) → (get_or files i d).room ≤ next.room
-    → HasRoomAt node files → HasRoomAt node (set files i next)
-keeps_room [] i node d next more room = room
-keeps_room (f ∷ files) zero zero d next more room = omega (arith, more, room)
-keeps_room (f ∷ files) zero (suc node) d next more room = room
-keeps_room (f ∷ files) (suc i) zero d next more room = room
-keeps_room (f ∷ files) (suc i) (suc node) d next more room = keeps_room files i node d next more room
-
--- the count from an index on is the length there, and the count behind
-count_from : (all : List (List OpenState)) (i : ℕ) (d : List OpenState) → i < length all
-    → open_count (drop i all) ≡ length (get_or all i d) + open_count (drop (i + 1) all)
-count_from [] i d below = absurd (omega arith)
-count_from (opens ∷ all) zero d below = refl
-count_from (opens ∷ all) (suc i) d below =
-    let next : suc i + 1 ≡ suc (i + 1) = omega arith in
-    rw next (count_from all i d (omega arith))
-
--- the places that are left after one more file
-pub place_taken : (all : List (List OpenState)) (i : ℕ) (d : List OpenState) (left taken next whole : ℕ) → i < length all
-    → taken ≡ length (get_or all i d) → next ≡ left - taken → left - open_count (drop i all) ≡ whole
-    → next - open_count (drop (i + 1) all) ≡ whole
-place_taken all i d left taken next whole below is less so_far =
-    omega (arith, count_from all i d below, is, less, so_far)
-
--- after the loop the opens of all files are changed
-pub all_changed : (f : List OpenState → List OpenState) (old new : List FileOpens) (i : ℕ) → length old ≤ i
-    → opens_in new ≡ map f (take i (opens_in old)) ++ drop i (opens_in old)
-    → opens_in new ≡ map f (opens_in old)
-all_changed f old new i past so_far =
-    let end : length (opens_in old) ≤ i = omega (arith, length-map old (λ (g : FileOpens). g.opens)) in
-    so_far
-    ∙ ap (λ front. map f front ++ drop i (opens_in old)) (take_all i (opens_in old) end)
-    ∙ ap (λ back. map f (opens_in old) ++ back) (drop_all i (opens_in old) end)
-    ∙ append-nil (map f (opens_in old))
-
--- the opens of a file among those of all files
-pub opens_at : (f : List OpenState → List OpenState) (files : List FileOpens) (i : ℕ) (d : FileOpens) (e : List OpenState) → i < length files
-    → f (get_or files i d).opens ≡ get_or (map f (opens_in files)) i e
-opens_at f files i d e below =
-    sym (get_or-map f (opens_in files) i (get_or files i d).opens e (omega (arith, length-map files (λ (g : FileOpens). g.opens)))
-    ∙ ap f (get_or-map (λ (g : FileOpens). g.opens) files i d (get_or files i d).opens below))
-
-pub opens_seen : (files : List FileOpens) (i : ℕ) (d : FileOpens) (e : List OpenState) → i < length files
-    → (get_or files i d).opens ≡ get_or (opens_in files) i e
-opens_seen files i d e below = sym (get_or-map (λ (g : FileOpens). g.opens) files i d e below)
-
-pub as_many : (files : List FileOpens) → length (opens_in files) ≡ length files
-as_many files = length-map files (λ (g : FileOpens). g.opens)
-
-pub as_many_changed : (f : List OpenState → List OpenState) (files : List FileOpens) → length (map f (opens_in files)) ≡ length files
-as_many_changed f files = length-map (opens_in files) f ∙ as_many files
+pub keeps_room : (room : FileOpens → ℕ) (files : List FileOpens) (i node : ℕ) (d next : FileOpens) → room (get_or files i d) ≤ room next
+    → IfSome (slice_get files node) (λ f. 0 < room f) → IfSome (slice_get (set files i next) node) (λ f. 0 < room f)
+keeps_room room [] i node d next more has = has
+keeps_room room (f ∷ files) zero zero d next more has = omega (arith, more, has)
+keeps_room room (f ∷ files) zero (suc node) d next more has = has
+keeps_room room (f ∷ files) (suc i) zero d next more has = has
+keeps_room room (f ∷ files) (suc i) (suc node) d next more has = keeps_room room files i node d next more has

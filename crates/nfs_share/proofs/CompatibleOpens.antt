@@ -16,33 +16,7 @@ use Rattle.nfs_share.specs.Share.{conflicts_with, contains, union}
 use Rattle.nfs_share.proofs.ShareLaws.{conflicts_with-union, conflicts_with_comm, union-none, union-self}
 use Rattle.nfs_share.proofs.SharesLaws.{AllByRecursion-filter, union-some, union_of-with_share}
 use Rattle.nfs_share.proofs.OpensLaws.{is_same_owner_self}
-
-module _ {X : Type 0} where
-  all_weaken : (P Q : X → Type 0) → ((x : X) → P x → Q x) → (xs : List X) → AllByRecursion P xs → AllByRecursion Q xs
-  all_weaken P Q weaken [] h = tt
-  all_weaken P Q weaken (x ∷ xs) h = (weaken x h.0, all_weaken P Q weaken xs h.1)
-
-  all_both : (P Q : X → Type 0) (xs : List X) → AllByRecursion P xs → AllByRecursion Q xs → AllByRecursion (λ x. P x × Q x) xs
-  all_both P Q [] h k = tt
-  all_both P Q (x ∷ xs) h k = ((h.0, k.0), all_both P Q xs h.1 k.1)
-
-  all_map : (P : X → Type 0) (f : X → X) (xs : List X) → AllByRecursion (λ x. P (f x)) xs → AllByRecursion P (map f xs)
-  all_map P f [] h = tt
-  all_map P f (x ∷ xs) h = (h.0, all_map P f xs h.1)
-
-  all_push : (P : X → Type 0) (xs : List X) (x : X) → AllByRecursion P xs → P x → AllByRecursion P (xs ++ x ∷ [])
-  all_push P [] x h last = (last, tt)
-  all_push P (y ∷ xs) x h last = (h.0, all_push P xs x h.1 last)
-
-  all_fail : (test : X → Bool) (xs : List X) → list_any test xs ≡ false → AllByRecursion (λ x. test x ≡ false) xs
-  all_fail test [] h = tt
-  all_fail test (x ∷ xs) h =
-      let both = or_parts (test x) (list_any test xs) h in
-      (both.0, all_fail test xs both.1)
-
-  all_always : (xs : List X) → AllByRecursion (λ x. ⊤) xs
-  all_always [] = tt
-  all_always (x ∷ xs) = (tt, all_always xs)
+use Rattle.nfs_share.proofs.EachElement.{all_always, all_both, all_fail, all_map, all_push, all_weaken}
 
 -- two owners that are the same are equal
 equal_owners : (a b : OpenOwner) → is_same_owner a b ≡ true → a ≡ b

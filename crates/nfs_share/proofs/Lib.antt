@@ -1,7 +1,9 @@
 pub mod ShareLaws
 pub mod SharesLaws
 pub mod OpensLaws
+pub mod EachElement
 pub mod CompatibleOpens
 pub mod OneFile
 pub mod Names
 pub mod AllOpens
+pub mod NextDue

@@ -3,10 +3,27 @@ use Rattle.std.specs.Prelude.{◌<◌, ◌≤◌, ℕ, ◌+◌, List, [], ◌∷
 use Rattle.std.specs.List.{AllByRecursion, Contains, list_any}
 use Rattle.nfs_forms.specs.declared.open_owner.OpenOwner.{OpenOwner}
 use Rattle.nfs_forms.specs.declared.stateid.Stateid.{Stateid}
-use Rattle.nfs_share.specs.Delegations.{IsAboveLent, delegation_named_by, is_due_above, is_stateid_of_delegation}
+use Rattle.nfs_share.specs.Delegations.{IsAboveLent, delegation_named_by, is_due_above, is_stateid_of_delegation, lesser}
 use Rattle.nfs_share.specs.Opens.{FileOpens, IsAbove, is_stateid_of, open_named_by, open_of}
 use Rattle.nfs_share.specs.declared.delegation.Delegation.{Delegation}
 use Rattle.nfs_share.specs.declared.open_state.OpenState.{OpenState}
+
+-- the list at a node; the empty one where there is no such node
+abbrev pub list_or_none : {X : Type 0} → Option (List X) → List X
+list_or_none None = []
+list_or_none (Some xs) = xs
+
+abbrev pub list_at : {X : Type 0} → ℕ → List (List X) → List X
+list_at node lists = list_or_none (slice_get lists node)
+
+-- the lists, with a change of that at a node
+abbrev pub with_list_at : {X : Type 0} → ℕ → (List X → List X) → List (List X) → List (List X)
+with_list_at node change lists = slice_set lists node (change (list_at node lists))
+
+-- how many elements the lists have
+abbrev pub total_length : {X : Type 0} → List (List X) → ℕ
+total_length [] = 0
+total_length (xs ∷ more) = length xs + total_length more
 
 -- an open, and the node of its file
 pub record OpenAt : Type 0 where
@@ -18,22 +35,17 @@ abbrev pub opens_in : List FileOpens → List (List OpenState)
 opens_in files = map (λ f. f.opens) files
 
 -- the opens of a node; none where there is no such node
-abbrev pub opens_or_none : Option (List OpenState) → List OpenState
-opens_or_none None = []
-opens_or_none (Some opens) = opens
-
 abbrev pub opens_of : ℕ → List (List OpenState) → List OpenState
-opens_of node opens = opens_or_none (slice_get opens node)
+opens_of node opens = list_at node opens
 
 -- how many opens there are
 abbrev pub open_count : List (List OpenState) → ℕ
-open_count [] = 0
-open_count (opens ∷ more) = length opens + open_count more
+open_count opens = total_length opens
 
 -- the opens, with a change of those of one node
 abbrev pub with_opens : ℕ → (List OpenState → List OpenState) → List (List OpenState)
     → List (List OpenState)
-with_opens node change opens = slice_set opens node (change (opens_of node opens))
+with_opens node change opens = with_list_at node change opens
 
 -- the open, if there is one, as one of this node's file
 abbrev pub at_node : ℕ → Option OpenState → Option OpenAt
@@ -71,22 +83,17 @@ abbrev pub delegations_in : List FileOpens → List (List Delegation)
 delegations_in files = map (λ f. f.delegations) files
 
 -- the delegations of a node; none where there is no such node
-abbrev pub delegations_or_none : Option (List Delegation) → List Delegation
-delegations_or_none None = []
-delegations_or_none (Some ds) = ds
-
 abbrev pub delegations_of : ℕ → List (List Delegation) → List Delegation
-delegations_of node all = delegations_or_none (slice_get all node)
+delegations_of node all = list_at node all
 
 -- how many delegations there are
 abbrev pub delegation_count : List (List Delegation) → ℕ
-delegation_count [] = 0
-delegation_count (ds ∷ more) = length ds + delegation_count more
+delegation_count all = total_length all
 
 -- the delegations, with a change of those of one node
 abbrev pub with_delegations : ℕ → (List Delegation → List Delegation) → List (List Delegation)
     → List (List Delegation)
-with_delegations node change all = slice_set all node (change (delegations_of node all))
+with_delegations node change all = with_list_at node change all
 
 -- the delegation, if there is one, as one of this node's file
 abbrev pub lent_at : ℕ → Option Delegation → Option DelegationAt
@@ -106,6 +113,10 @@ delegation_named_in id all =
 -- each delegation of each file has a lower number
 abbrev pub IsAboveAllLent : ℕ → List (List Delegation) → Type 0
 IsAboveAllLent number all = AllByRecursion (IsAboveLent number) all
+
+-- of two delegations, of which there may be none, the one with the lesser number
+abbrev pub lesser_at : Option DelegationAt → Option DelegationAt → Option DelegationAt
+lesser_at a b = lesser (λ found. found.state.number) a b
 
 -- Of the delegations that are due and have a number above `after`, this is one with the least; or there are none.
 abbrev pub IsNextDue : ℕ → ℕ → ℕ → List (List Delegation) → Option DelegationAt → Type 0

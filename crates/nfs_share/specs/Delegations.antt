@@ -103,6 +103,12 @@ can_delegate client kind opens ds =
 abbrev pub IsAboveLent : ℕ → List Delegation → Type 0
 IsAboveLent number ds = AllByRecursion (λ d. d.number < number) ds
 
+-- of two, of which there may be none, the one with the lesser number
+abbrev pub lesser : {X : Type 0} → (X → ℕ) → Option X → Option X → Option X
+lesser number None b = b
+lesser number (Some a) None = Some a
+lesser number (Some a) (Some b) = if nat_lt (number b) (number a) then Some b else Some a
+
 -- Of the delegations that are due and have a number above `after`, this is one with the least; or there are none.
 abbrev pub IsNextDueOf : ℕ → ℕ → ℕ → List Delegation → Option Delegation → Type 0
 IsNextDueOf after lease now ds None =

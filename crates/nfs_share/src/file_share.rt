@@ -1,7 +1,7 @@
 ghost use Rattle.std.specs.Prelude.{◌≡◌, ◌≤◌, ◌<◌, ◌+◌, ◌↔◌, IfErr, IfNone, IfOk, IsErrOf, IsFalse, IsOk, IsTrue, OnErr, OnOk, OnSome, Some, filter, length, [], ◌∷◌, ◌++◌, option_map};
 ghost use Rattle.std.specs.List.{list_any};
 ghost use Rattle.std.specs.Option.{option_copied};
-ghost use Rattle.nfs_share.specs.Delegations.{IsAboveLent, IsNextDueOf, bars, can_delegate, conflicts, delegation_named_by, delegation_stateid, first_delegation, has_conflict, has_delegation, is_delegation_numbered, is_lent_to, with_recalls, without_lent};
+ghost use Rattle.nfs_share.specs.Delegations.{IsAboveLent, IsNextDueOf, bars, can_delegate, conflicts, delegation_named_by, delegation_stateid, first_delegation, has_conflict, has_delegation, is_delegation_numbered, is_lent_to, is_stateid_of_delegation, lesser, with_recalls, without_lent};
 ghost use Rattle.nfs_share.specs.Opens.{CanDowngrade, IsNewestFor, with_next_seqid, after_downgrade, is_denied, is_numbered, is_of, is_of_client, is_refused, is_stateid_of, open_named_by, after_open, next_stateid_of, open_with_number, open_of, share_of, stateid_of, with_each, with_opening, without};
 ghost use Rattle.nfs_share.specs.ShareError.{IsHeldFor, IsWhyNotLent, IsWhyNotOpened};
 ghost use Rattle.nfs_share.specs.declared.delegation.FileUse.TheVariants as uses;
@@ -311,6 +311,13 @@ impl FileShare {
             .find(|lent| lent.is_named_by(stateid))
     }
 
+    /// Whether the stateid names a delegation.
+    pub fn names_delegation(&self, stateid: Stateid) -> bool
+        ensures { result ≡ list_any (is_stateid_of_delegation stateid) self.now.delegations }
+    {
+        self.delegations.iter().any(|lent| lent.is_named_by(stateid))
+    }
+
     /// Whether the client has a delegation.
     pub fn has_delegation(&self, client: ClientId) -> bool
         ensures { result ≡ has_delegation client self.now.delegations }
@@ -383,7 +390,13 @@ impl FileShare {
     pub fn next_due(&self, after: u32, lease: u32, now: Moment) -> Option<Delegation>
         ensures { IsNextDueOf after lease now self.now.delegations result }
     {
-        None
+        let mut next = None;
+        for lent in self.delegations.iter() {
+            if lent.is_due_above(after, lease, now) {
+                next = lesser(next, *lent);
+            }
+        }
+        next
     }
 
     /// Makes room for a delegation, so that the next one takes no memory.
@@ -473,5 +486,15 @@ impl FileShare {
         ensures opening { self.old.room ≤ self.new.room }
     {
         self.delegations.retain(|lent| lent.number != number);
+    }
+}
+
+// Of the two delegations the one with the lesser number; the second where there is no first.
+fn lesser(first: Option<Delegation>, second: Delegation) -> Option<Delegation>
+    ensures { result ≡ lesser (λ d. d.number) first (Some second) }
+{
+    match first {
+        Some(first) if first.number <= second.number => Some(first),
+        _ => Some(second),
     }
 }

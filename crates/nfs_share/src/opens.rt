@@ -1,7 +1,7 @@
 ghost use Rattle.std.specs.Prelude.{◌≡◌, ◌<◌, ◌-◌, ℕ, [], ◌∷◌, ◌++◌, IfOk, IfSome, IsOk, OnOk, length, map, nat_lt, option_map, position, replicate};
 ghost use Rattle.std.specs.List.{list_any};
 ghost use Rattle.std.specs.Option.{option_copied};
-ghost use Rattle.nfs_share.specs.AllOpens.{HasLendingRoomAt, HasRoomAt, IsAboveAllLent, IsNewestAt, IsNextDue, at_node, delegation_count, delegation_named_in, delegations_in, delegations_of, named_in, open_count, opens_in, opens_of, with_delegations, with_opens};
+ghost use Rattle.nfs_share.specs.AllOpens.{HasLendingRoomAt, HasRoomAt, IsAboveAllLent, IsNewestAt, IsNextDue, at_node, delegation_count, delegation_named_in, delegations_in, delegations_of, lent_at, lesser_at, named_in, open_count, opens_in, opens_of, with_delegations, with_opens};
 ghost use Rattle.nfs_share.specs.Delegations.{can_delegate, first_delegation, has_conflict, has_delegation, is_delegation_numbered, is_lent_to, is_stateid_of_delegation, with_recalls, without_lent};
 ghost use Rattle.nfs_share.specs.OpenFound.{delegation_seen, open_seen};
 ghost use Rattle.nfs_share.specs.Opens.{after_downgrade, is_numbered, is_of, is_of_client, is_refused, is_stateid_of, open_of, open_with_number, with_each, with_next_seqid, with_opening, without};
@@ -227,12 +227,10 @@ impl Opens {
         ensures { option_map delegation_seen result
             ≡ delegation_named_in stateid (delegations_in self.now) }
     {
-        let node = self.node_of_delegation(stateid)?;
-        let state = self.files[node].delegation_named_by(stateid)?;
-        Some(DelegationFound {
-            node: node as u32,
-            state,
-        })
+        match self.node_of_delegation(stateid) {
+            Some(node) => lent_at(node as u32, self.files[node].delegation_named_by(stateid)),
+            None => None,
+        }
     }
 
     // The node with a delegation that the stateid names.
@@ -241,9 +239,7 @@ impl Opens {
             list_any (is_stateid_of_delegation stateid) f.delegations) self.now }
         ensures below { IfSome result (λ node. node < length self.now) }
     {
-        self.files
-            .iter()
-            .position(|file| file.delegation_named_by(stateid).is_some())
+        self.files.iter().position(|file| file.names_delegation(stateid))
     }
 
     /// Whether the client has a delegation of the node's file.
@@ -291,7 +287,12 @@ impl Opens {
         ensures { IsNextDue after lease now (delegations_in self.now)
             (option_map delegation_seen result) }
     {
-        None
+        let mut next = None;
+        for node in 0..self.files.len() {
+            let due = self.files[node].next_due(after, lease, now);
+            next = lesser(next, lent_at(node as u32, due));
+        }
+        next
     }
 
     /// How many delegations less than this limit there are.
@@ -440,5 +441,27 @@ fn found_at(node: u32, open: Option<&OpenState>) -> Option<OpenFound<'_>>
     match open {
         Some(state) => Some(OpenFound { node, state }),
         None => None,
+    }
+}
+
+// The delegation, if there is one, as one of this node's file.
+fn lent_at(node: u32, lent: Option<Delegation>) -> Option<DelegationFound>
+    ensures { option_map delegation_seen result ≡ lent_at node lent }
+{
+    match lent {
+        Some(state) => Some(DelegationFound { node, state }),
+        None => None,
+    }
+}
+
+// Of the two delegations, of which there may be none, the one with the lesser number.
+fn lesser(first: Option<DelegationFound>, second: Option<DelegationFound>) -> Option<DelegationFound>
+    ensures { option_map delegation_seen result
+        ≡ lesser_at (option_map delegation_seen first) (option_map delegation_seen second) }
+{
+    let Some(second) = second else { return first };
+    match first {
+        Some(first) if first.state.number <= second.state.number => Some(first),
+        _ => Some(second),
     }
 }

@@ -9,5 +9,5 @@ pub returns : goal.returns
 returns c =
     let p = list_any (is_of_client c.args.client) in
     c.has_client_in.ensures
-    ∙ any_seen p c.deref.result.now
+    ∙ any_seen (λ f. f.opens) p c.deref.result.now
     ∙ ap (λ (files : List FileOpens). list_any p (opens_in files)) (c.deref.ensures.value ∙ c.self.view_is)

@@ -1,0 +1,36 @@
+use Rattle.std.proofs.Common.{◌≡◌, ◌+◌, ◌<◌, ◌∙◌, List, arith, ap, length, option_map, subst, sym, take, take_all}
+use Rattle.nfs_share.specs.AllOpens.{delegations_in, lesser_at}
+use Rattle.nfs_share.specs.OpenFound.{delegation_seen}
+use Rattle.nfs_share.specs.Opens.{FileOpens}
+use Rattle.nfs_share.proofs.AllOpens.{as_many, one_there}
+use Rattle.nfs_share.proofs.Names.{list_there}
+use Rattle.nfs_share.proofs.NextDue.{IsLeast, file_at, next_of_all}
+use Rattle.nfs_share.proofs.opens.Opens.next_due.Goals as goal
+
+pub loop-node-preserved : goal.loop-node-preserved
+loop-node-preserved c = record {
+  least =
+      let files = c.self.inside.files.items in
+      let node = c.loop-node.node in
+      let file = c.index.result.now in
+      let below : node < length files = omega (arith, c.loop-node-test.true, c.len-node-end.ensures) in
+      let next = option_map delegation_seen c.loop-node.next in
+      let new = option_map delegation_seen c.lesser-next.result in
+      subst (λ (files : List FileOpens). IsLeast c.args.after c.args.lease c.args.now (delegations_in files) (take node (delegations_in files)) next
+      → IsLeast c.args.after c.args.lease c.args.now (delegations_in files) (take (node + 1) (delegations_in files)) new) c.self.view_is
+      (file_at c.args.after c.args.lease c.args.now (delegations_in files) node file.delegations next new c.next_due-due.result
+      (omega (arith, below, as_many (λ f. f.delegations) files))
+      (ap (λ (f : FileOpens). f.delegations) c.index.ensures ∙ one_there (λ f. f.delegations) files node file file.delegations below)
+      (list_there (λ f. f.delegations) files node file below c.index.ensures)
+      c.next_due-due.ensures
+      (c.lesser-next.ensures ∙ ap (lesser_at next) c.lent_at.ensures))
+      c.loop-node.invariant.least;
+}
+
+pub returns : goal.returns
+returns c =
+    let all = delegations_in c.args.self.now in
+    let end : length all ≡ length c.self.inside.files.items =
+    as_many (λ f. f.delegations) c.args.self.now ∙ ap (λ (files : List FileOpens). length files) (sym c.self.view_is) in
+    next_of_all c.args.after c.args.lease c.args.now all _ (option_map delegation_seen c.loop-node.next)
+    (take_all c.loop-node.node all (omega (arith, end, c.loop-node-test.false, c.len-node-end.ensures))) c.loop-node.invariant.least
