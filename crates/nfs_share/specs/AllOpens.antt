@@ -3,7 +3,7 @@ use Rattle.std.specs.Prelude.{◌<◌, ◌≤◌, ℕ, ◌+◌, List, [], ◌∷
 use Rattle.std.specs.List.{AllByRecursion, Contains, list_any}
 use Rattle.nfs_forms.specs.declared.open_owner.OpenOwner.{OpenOwner}
 use Rattle.nfs_forms.specs.declared.stateid.Stateid.{Stateid}
-use Rattle.nfs_share.specs.Delegations.{IsAboveLent, delegation_named_by, is_due_above, is_stateid_of_delegation, lesser}
+use Rattle.nfs_share.specs.Delegations.{IsAboveLent, delegation_named_by, delegation_with_number, is_delegation_numbered, is_due_above, is_stateid_of_delegation, lesser}
 use Rattle.nfs_share.specs.Opens.{FileOpens, IsAbove, is_stateid_of, open_named_by, open_of}
 use Rattle.nfs_share.specs.declared.delegation.Delegation.{Delegation}
 use Rattle.nfs_share.specs.declared.open_state.OpenState.{OpenState}
@@ -109,6 +109,17 @@ delegation_named_at id all (Some node) =
 abbrev pub delegation_named_in : Stateid → List (List Delegation) → Option DelegationAt
 delegation_named_in id all =
     delegation_named_at id all (position (list_any (is_stateid_of_delegation id)) all)
+
+-- the delegation with this number, given the node that has one
+abbrev pub delegation_numbered_at : ℕ → List (List Delegation) → Option ℕ → Option DelegationAt
+delegation_numbered_at number all None = None
+delegation_numbered_at number all (Some node) =
+    lent_at node (delegation_with_number number (delegations_of node all))
+
+-- the delegation with this number, if there is one
+abbrev pub delegation_numbered_in : ℕ → List (List Delegation) → Option DelegationAt
+delegation_numbered_in number all =
+    delegation_numbered_at number all (position (list_any (is_delegation_numbered number)) all)
 
 -- each delegation of each file has a lower number
 abbrev pub IsAboveAllLent : ℕ → List (List Delegation) → Type 0

@@ -52,6 +52,10 @@ delegation_stateid d = record { seqid = 1; client = d.client; number = d.number 
 abbrev pub delegation_named_by : Stateid → List Delegation → Option Delegation
 delegation_named_by stateid ds = find (is_stateid_of_delegation stateid) ds
 
+-- the delegation with this number, if there is one
+abbrev pub delegation_with_number : ℕ → List Delegation → Option Delegation
+delegation_with_number number ds = find (is_delegation_numbered number) ds
+
 -- the client has a delegation
 abbrev pub has_delegation : ClientId → List Delegation → Bool
 has_delegation client ds = list_any (is_lent_to client) ds
