@@ -9,7 +9,8 @@ use Rattle.nfs_rules.specs.declared.demand.Demand.{Demand}
 use Rattle.nfs_rules.specs.declared.ruling.Ruling.{Ruling}
 use Rattle.nfs_state.specs.State.{State, History}
 use Rattle.nfs_rules.specs.Refusing.{◌>>=◌, first_refusal, refused_if}
-use Rattle.nfs_rules.specs.Stateids.{ALock, AnOpen, Found, as_lock, as_open, before_state, confirmed_open, found_in, judged, lock_state, of_state, target_of, verdict}
+use Rattle.nfs_rules.specs.Stateids.{ADelegation, ALock, AnOpen, Found, as_delegation, as_lock, as_open, before_state, confirmed_open, delegation, found_in, judged, lock_state, of_state, target_of, verdict}
+use Rattle.nfs_rules.specs.operations.Delegreturn.{delegation_at}
 use Rattle.nfs_rules.specs.operations.Lock.{introduction, locking_of}
 use Rattle.nfs_rules.specs.operations.Lockt.{lockt_file, place_of}
 use Rattle.nfs_rules.proofs.Sequencing.{refusal_sendable}
@@ -20,6 +21,7 @@ use Rattle.nfs_forms.specs.declared.locker.Locker.TheVariants as lockers
 use Rattle.nfs_forms.specs.declared.locker.NewLocker.{NewLocker}
 use Rattle.nfs_locks.specs.AllLocks.{LockAt, locks_of}
 use Rattle.nfs_locks.specs.Locks.{lock_of}
+use Rattle.nfs_operations.specs.declared.delegreturn.Delegreturn.{Delegreturn}
 use Rattle.nfs_operations.specs.declared.lock.Lock.{Lock}
 use Rattle.nfs_operations.specs.declared.lockt.Lockt.{Lockt}
 use Rattle.nfs_share.specs.AllOpens.{OpenAt}
@@ -60,25 +62,35 @@ target_other epoch state id =
 judged_other : (demand : Demand) (state : State) (id : Stateid) (found : Option Found) → IsOther (judged demand state id found)
 judged_other demand state id None = λ e. cc
 judged_other demand state id (Some found) =
-    first_other (of_state demand state id found) found ((λ e. cc), ((λ e. cc), ((λ e. cc), ((λ e. cc), ((λ e. cc), tt)))))
+    first_other (of_state demand state id found) found ((λ e. cc), ((λ e. cc), ((λ e. cc), ((λ e. cc), ((λ e. cc), ((λ e. cc), tt))))))
 
-verdict_other : (demand : Demand) (epoch : ℕ) (state : State) (id : Stateid) → IsOther (verdict demand epoch state id)
+pub verdict_other : (demand : Demand) (epoch : ℕ) (state : State) (id : Stateid) → IsOther (verdict demand epoch state id)
 verdict_other demand epoch state id =
     then_other (target_of epoch state id) (judged demand state id) (target_other epoch state id) (judged_other demand state id)
 
 as_open_other : (found : Found) → IsOther (as_open found)
 as_open_other (AnOpen at) = tt
 as_open_other (ALock at) = λ e. cc
+as_open_other (ADelegation at) = λ e. cc
 
 as_lock_other : (found : Found) → IsOther (as_lock found)
 as_lock_other (AnOpen at) = λ e. cc
 as_lock_other (ALock at) = tt
+as_lock_other (ADelegation at) = λ e. cc
+
+as_delegation_other : (found : Found) → IsOther (as_delegation found)
+as_delegation_other (AnOpen at) = λ e. cc
+as_delegation_other (ALock at) = λ e. cc
+as_delegation_other (ADelegation at) = tt
 
 open_other : (demand : Demand) (epoch : ℕ) (state : State) (id : Stateid) → IsOther (verdict demand epoch state id >>= as_open)
 open_other demand epoch state id = then_other (verdict demand epoch state id) as_open (verdict_other demand epoch state id) as_open_other
 
 lock_other : (demand : Demand) (epoch : ℕ) (state : State) (id : Stateid) → IsOther (verdict demand epoch state id >>= as_lock)
 lock_other demand epoch state id = then_other (verdict demand epoch state id) as_lock (verdict_other demand epoch state id) as_lock_other
+
+delegation_other : (demand : Demand) (epoch : ℕ) (state : State) (id : Stateid) → IsOther (verdict demand epoch state id >>= as_delegation)
+delegation_other demand epoch state id = then_other (verdict demand epoch state id) as_delegation (verdict_other demand epoch state id) as_delegation_other
 
 -- the verdict on a stateid is never NFS4ERR_RESOURCE
 pub open_refusal : (demand : Demand) (epoch : ℕ) (state : State) (id : Stateid) (refusal : Refusal) → Err refusal ≡ (verdict demand epoch state id >>= as_open) → refusal ≢ refusals.Resource
@@ -128,10 +140,16 @@ locking_other journal state node args (lockers.Known locker) =
 pub locking_refusal : (journal : History) (state : State) (node : ℕ) (args : Lock) (refusal : Refusal) → Err refusal ≡ locking_of journal state node args args.locker → refusal ≢ refusals.Resource
 locking_refusal journal state node args refusal same = subst IsOther (sym same) (locking_other journal state node args args.locker)
 
--- nor is a refusal of the file that a LOCKT asks about
+-- nor is a refusal of the delegation that a DELEGRETURN gives back, or of the file that a LOCKT asks about
 file_place_other : (filehandle : Option ℕ) → IsOther (place_of filehandle)
 file_place_other None = λ e. cc
 file_place_other (Some node) = tt
+
+pub returned_refusal : (journal : History) (state : State) (filehandle : Option ℕ) (args : Delegreturn) (refusal : Refusal) → Err refusal ≡ delegation_at journal state filehandle args → refusal ≢ refusals.Resource
+returned_refusal journal state filehandle args refusal same =
+    subst IsOther (sym same)
+    (then_other (place_of filehandle) _ (file_place_other filehandle) λ node.
+    delegation_other (delegation node) journal.epoch state args.stateid)
 
 pub asked_refusal : (journal : History) (state : State) (filehandle : Option ℕ) (args : Lockt) (refusal : Refusal) → Err refusal ≡ lockt_file journal state filehandle args → refusal ≢ refusals.Resource
 asked_refusal journal state filehandle args refusal same =
