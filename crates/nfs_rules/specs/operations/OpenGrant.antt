@@ -33,8 +33,10 @@ abbrev pub opened : Passage → State → OpenOwner → ℕ → Option Delegatio
     → Option (Stateid × OpenDelegation)
 opened passage state owner node kind =
     if has_places state passage owner node kind
-    then Some (stateid_after state owner (open_of owner (opens_of node state.opens)),
-    delegation_with (lending_number state (has_open state owner node)) owner.client kind)
+    then Some (
+      stateid_after state owner (open_of owner (opens_of node state.opens)),
+      delegation_with (lending_number state (has_open state owner node)) owner.client kind,
+    )
     else None
 
 -- the answer to an OPEN that is granted with this stateid and this delegation

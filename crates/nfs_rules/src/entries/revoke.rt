@@ -15,10 +15,15 @@ pub fn revoke(store: &Store, revoke: &Revoke) -> Option<Effect>
         → IsRevocation store.now.journal.history (state_of store.now.tables) revoke.now effect → ⊥) }
 {
     let found = store.tables.opens.delegation_numbered(revoke.number)?;
-    let next = store.tables.opens.next_due(0, store.journal.lease(), revoke.now)?;
-    (next.state.number == revoke.number && found.state.is_due(store.journal.lease(), revoke.now))
-        .then(|| Effect::change_alone(Change::Returns {
+    let next = store
+        .tables
+        .opens
+        .next_due(0, store.journal.lease(), revoke.now)?;
+    (next.state.number == revoke.number
+        && found.state.is_due(store.journal.lease(), revoke.now)).then(|| Effect::change_alone(
+        Change::Returns {
             node: found.node,
             number: revoke.number,
-        }))
+        },
+    ))
 }

@@ -47,5 +47,10 @@ fn delegation_at(
 {
     let node = filehandle.ok_or(Refusal::NoFileHandle)?;
     let target = target_of(&store.tables, store.journal.epoch(), args.stateid);
-    delegation_verdict(&store.tables, Demand::delegation(node), args.stateid, target)
+    delegation_verdict(
+        &store.tables,
+        Demand::delegation(node),
+        args.stateid,
+        target,
+    )
 }

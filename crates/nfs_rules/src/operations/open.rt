@@ -77,7 +77,10 @@ fn unless_lent(
 ) -> Result<Opening, Ruling>
     ensures { result ≡ unless_lent (state_of tables.now) moment client opening }
 {
-    if tables.opens.conflicts(opening.node, client, FileUse::Open(opening.share)) {
+    if tables
+        .opens
+        .conflicts(opening.node, client, FileUse::Open(opening.share))
+    {
         return Err(delayed(moment, client, opening));
     }
     Ok(opening)
