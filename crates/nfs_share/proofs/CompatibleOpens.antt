@@ -19,7 +19,7 @@ use Rattle.nfs_share.proofs.OpensLaws.{is_same_owner_self}
 use Rattle.nfs_share.proofs.EachElement.{all_always, all_both, all_fail, all_map, all_push, all_weaken}
 
 -- two owners that are the same are equal
-equal_owners : (a b : OpenOwner) → is_same_owner a b ≡ true → a ≡ b
+pub equal_owners : (a b : OpenOwner) → is_same_owner a b ≡ true → a ≡ b
 equal_owners a b same =
     let both = and_parts (is_same_client a.client b.client) (bytes_eq a.name b.name) same in
     let client = and_parts (a.client.epoch == b.client.epoch) (a.client.number == b.client.number) both.0 in

@@ -7,3 +7,4 @@ pub mod OneFile
 pub mod Names
 pub mod AllOpens
 pub mod NextDue
+pub mod ApartDelegations

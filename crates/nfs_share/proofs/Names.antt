@@ -1,10 +1,10 @@
 -- The open or the delegation that a stateid names, among those of all files.
 use Rattle.std.proofs.Common.{◌≡◌, ℕ, zero, suc, ◌<◌, Bool, Some, None, List, [], ◌∷◌, length, map, slice_index_or, refl, sym, ap, ◌∙◌, arith}
-use Rattle.std.specs.Prelude.{position}
+use Rattle.std.specs.Prelude.{find, position}
 use Rattle.std.specs.List.{list_any}
 use Rattle.nfs_forms.specs.declared.stateid.Stateid.{Stateid}
-use Rattle.nfs_share.specs.AllOpens.{at_node, delegation_named_at, delegation_named_in, delegations_in, lent_at, list_at, named_at, named_in, opens_in}
-use Rattle.nfs_share.specs.Delegations.{delegation_named_by, is_stateid_of_delegation}
+use Rattle.nfs_share.specs.AllOpens.{at_node, delegations_in, lent_at, lent_found, lent_in, list_at, named_at, named_in, opens_in}
+use Rattle.nfs_share.specs.declared.delegation.Delegation.{Delegation}
 use Rattle.nfs_share.specs.Opens.{FileOpens, is_stateid_of, open_named_by}
 
 module _ {X : Type 0} (get : FileOpens → List X) where
@@ -26,11 +26,11 @@ named_there id files node file some below is =
     ap (λ opens. at_node node (open_named_by id opens)) (sym (list_there (λ f. f.opens) files node file below is))
     ∙ ap (named_at id (opens_in files)) (sym some ∙ position_seen (λ f. f.opens) (list_any (is_stateid_of id)) files)
 
-pub no_delegation_named : (id : Stateid) (files : List FileOpens) → position (λ f. list_any (is_stateid_of_delegation id) f.delegations) files ≡ None → delegation_named_in id (delegations_in files) ≡ None
-no_delegation_named id files none =
-    ap (delegation_named_at id (delegations_in files)) (sym (position_seen (λ f. f.delegations) (list_any (is_stateid_of_delegation id)) files) ∙ none)
+pub none_lent : (test : Delegation → Bool) (files : List FileOpens) → position (λ f. list_any test f.delegations) files ≡ None → lent_in test (delegations_in files) ≡ None
+none_lent test files none =
+    ap (lent_found test (delegations_in files)) (sym (position_seen (λ f. f.delegations) (list_any test) files) ∙ none)
 
-pub delegation_there : (id : Stateid) (files : List FileOpens) (node : ℕ) (file : FileOpens) → position (λ f. list_any (is_stateid_of_delegation id) f.delegations) files ≡ Some node → node < length files → file ≡ slice_index_or files node file → lent_at node (delegation_named_by id file.delegations) ≡ delegation_named_in id (delegations_in files)
-delegation_there id files node file some below is =
-    ap (λ ds. lent_at node (delegation_named_by id ds)) (sym (list_there (λ f. f.delegations) files node file below is))
-    ∙ ap (delegation_named_at id (delegations_in files)) (sym some ∙ position_seen (λ f. f.delegations) (list_any (is_stateid_of_delegation id)) files)
+pub lent_there : (test : Delegation → Bool) (files : List FileOpens) (node : ℕ) (file : FileOpens) → position (λ f. list_any test f.delegations) files ≡ Some node → node < length files → file ≡ slice_index_or files node file → lent_at node (find test file.delegations) ≡ lent_in test (delegations_in files)
+lent_there test files node file some below is =
+    ap (λ ds. lent_at node (find test ds)) (sym (list_there (λ f. f.delegations) files node file below is))
+    ∙ ap (lent_found test (delegations_in files)) (sym some ∙ position_seen (λ f. f.delegations) (list_any test) files)

@@ -6,54 +6,62 @@ use Rattle.std.proofs.lemmas.Bool.{cond_both, false≢true, ltb-true, ltb-false}
 use Rattle.std.proofs.lemmas.List.{take_more}
 use Rattle.std.proofs.lemmas.List.Elements.{Contains-get_or}
 use Rattle.nfs_share.specs.AllOpens.{DelegationAt, IsNextDue, delegations_of, lent_at, lesser_at}
-use Rattle.nfs_share.specs.Delegations.{IsNextDueOf, is_due_above, lesser}
+use Rattle.nfs_share.specs.Delegations.{IsNextDueOf, is_due_from, lesser}
 use Rattle.nfs_share.specs.declared.delegation.Delegation.{Delegation}
 use Rattle.nfs_share.proofs.EachElement.{all_push, all_weaken}
 
-module _ (after lease now : ℕ) where
+module _ (from lease now : ℕ) where
   -- none of those seen is due
   abbrev AreUndue : List Delegation → Type 0
-  AreUndue seen = AllByRecursion (λ d. IsFalse (is_due_above after lease now d)) seen
+  AreUndue seen = AllByRecursion (λ d. IsFalse (is_due_from from lease now d)) seen
 
   -- each of those seen that is due has no lesser number
   abbrev AreAbove : ℕ → List Delegation → Type 0
-  AreAbove number seen = AllByRecursion (λ d. IsTrue (is_due_above after lease now d) → number ≤ d.number) seen
+  AreAbove number seen = AllByRecursion (λ d. IsTrue (is_due_from from lease now d) → number ≤ d.number) seen
 
   undue_above : (number : ℕ) (seen : List Delegation) → AreUndue seen → AreAbove number seen
   undue_above number seen none =
-      all_weaken (λ d. IsFalse (is_due_above after lease now d)) (λ d. IsTrue (is_due_above after lease now d) → number ≤ d.number)
+      all_weaken (λ d. IsFalse (is_due_from from lease now d)) (λ d. IsTrue (is_due_from from lease now d) → number ≤ d.number)
       (λ d undue due. absurd (false≢true (sym undue ∙ due))) seen none
 
   lower_above : (number lower : ℕ) (seen : List Delegation) → lower ≤ number → AreAbove number seen → AreAbove lower seen
   lower_above number lower seen below each =
-      all_weaken (λ d. IsTrue (is_due_above after lease now d) → number ≤ d.number) (λ d. IsTrue (is_due_above after lease now d) → lower ≤ d.number)
+      all_weaken (λ d. IsTrue (is_due_from from lease now d) → number ≤ d.number) (λ d. IsTrue (is_due_from from lease now d) → lower ≤ d.number)
       (λ d above due. omega (arith, above due, below)) seen each
 
   -- of the delegations, this is the next one that is due among those seen
   abbrev pub IsLeastOf : List Delegation → List Delegation → Option Delegation → Type 0
   IsLeastOf ds seen None = AreUndue seen
-  IsLeastOf ds seen (Some next) = Contains ds next × IsTrue (is_due_above after lease now next) × AreAbove next.number seen
+  IsLeastOf ds seen (Some next) = Contains ds next × IsTrue (is_due_from from lease now next) × AreAbove next.number seen
 
-  due_more : (ds seen : List Delegation) (d : Delegation) (next : Option Delegation) → Contains ds d → is_due_above after lease now d ≡ true
+  due_more : (ds seen : List Delegation) (d : Delegation) (next : Option Delegation) → Contains ds d → is_due_from from lease now d ≡ true
       → IsLeastOf ds seen next → IsLeastOf ds (seen ++ d ∷ []) (lesser (λ d. d.number) next (Some d))
   due_more ds seen d None there due none =
-      (there, due, all_push (λ e. IsTrue (is_due_above after lease now e) → d.number ≤ e.number) seen d (undue_above d.number seen none) (λ _. omega arith))
+      (there, due, all_push (λ e. IsTrue (is_due_from from lease now e) → d.number ≤ e.number) seen d (undue_above d.number seen none) (λ _. omega arith))
   due_more ds seen d (Some n) there due least =
       cond_both (nat_lt d.number n.number) (Some d) (Some n) (IsLeastOf ds (seen ++ d ∷ []))
-      (λ less. (there, due, all_push (λ e. IsTrue (is_due_above after lease now e) → d.number ≤ e.number) seen d
-      (lower_above n.number d.number seen (omega (arith, ltb-true d.number n.number less)) least.2) (λ _. omega arith)))
-      (λ not_less. (least.0, least.1, all_push (λ e. IsTrue (is_due_above after lease now e) → n.number ≤ e.number) seen d least.2
-      (λ _. omega (arith, ltb-false d.number n.number not_less))))
+      (λ less. (
+        there,
+        due,
+        all_push (λ e. IsTrue (is_due_from from lease now e) → d.number ≤ e.number) seen d
+            (lower_above n.number d.number seen (omega (arith, ltb-true d.number n.number less)) least.2) (λ _. omega arith),
+      ))
+      (λ not_less. (
+        least.0,
+        least.1,
+        all_push (λ e. IsTrue (is_due_from from lease now e) → n.number ≤ e.number) seen d least.2
+            (λ _. omega (arith, ltb-false d.number n.number not_less)),
+      ))
 
-  undue_more : (ds seen : List Delegation) (d : Delegation) (next : Option Delegation) → is_due_above after lease now d ≡ false
+  undue_more : (ds seen : List Delegation) (d : Delegation) (next : Option Delegation) → is_due_from from lease now d ≡ false
       → IsLeastOf ds seen next → IsLeastOf ds (seen ++ d ∷ []) next
-  undue_more ds seen d None undue none = all_push (λ e. IsFalse (is_due_above after lease now e)) seen d none undue
+  undue_more ds seen d None undue none = all_push (λ e. IsFalse (is_due_from from lease now e)) seen d none undue
   undue_more ds seen d (Some n) undue least =
-      (least.0, least.1, all_push (λ e. IsTrue (is_due_above after lease now e) → n.number ≤ e.number) seen d least.2 (λ due. absurd (false≢true (sym undue ∙ due))))
+      (least.0, least.1, all_push (λ e. IsTrue (is_due_from from lease now e) → n.number ≤ e.number) seen d least.2 (λ due. absurd (false≢true (sym undue ∙ due))))
 
   -- the loop comes by a delegation that is due
   pub due_at : (ds : List Delegation) (i : ℕ) (d : Delegation) (next new : Option Delegation) → i < length ds → d ≡ get_or ds i d
-      → is_due_above after lease now d ≡ true → new ≡ lesser (λ d. d.number) next (Some d)
+      → is_due_from from lease now d ≡ true → new ≡ lesser (λ d. d.number) next (Some d)
       → IsLeastOf ds (take i ds) next → IsLeastOf ds (take (i + 1) ds) new
   due_at ds i d next new below is due new_is least =
       let there : Contains ds d = subst (Contains ds) (sym is) (Contains-get_or ds i d below) in
@@ -62,14 +70,14 @@ module _ (after lease now : ℕ) where
 
   -- the loop comes by one that isn't
   pub undue_at : (ds : List Delegation) (i : ℕ) (d : Delegation) (next new : Option Delegation) → i < length ds → d ≡ get_or ds i d
-      → is_due_above after lease now d ≡ false → new ≡ next
+      → is_due_from from lease now d ≡ false → new ≡ next
       → IsLeastOf ds (take i ds) next → IsLeastOf ds (take (i + 1) ds) new
   undue_at ds i d next new below is undue new_is least =
       let seen : take (i + 1) ds ≡ take i ds ++ d ∷ [] = take_more ds i d below ∙ ap (λ e. take i ds ++ e ∷ []) (sym is) in
       subst (λ xs. IsLeastOf ds xs new) (sym seen) (subst (IsLeastOf ds (take i ds ++ d ∷ [])) (sym new_is) (undue_more ds (take i ds) d next undue least))
 
   -- the next one of all is the next one
-  pub next_of : (ds seen : List Delegation) (next : Option Delegation) → seen ≡ ds → IsLeastOf ds seen next → IsNextDueOf after lease now ds next
+  pub next_of : (ds seen : List Delegation) (next : Option Delegation) → seen ≡ ds → IsLeastOf ds seen next → IsNextDueOf from lease now ds next
   next_of ds seen None all least = subst AreUndue all least
   next_of ds seen (Some next) all least = (least.0, least.1, subst (AreAbove next.number) all least.2)
 
@@ -77,10 +85,10 @@ module _ (after lease now : ℕ) where
   abbrev pub IsLeast : List (List Delegation) → List (List Delegation) → Option DelegationAt → Type 0
   IsLeast all seen None = AllByRecursion AreUndue seen
   IsLeast all seen (Some next) = Contains (delegations_of next.node all) next.state
-      × IsTrue (is_due_above after lease now next.state) × AllByRecursion (AreAbove next.state.number) seen
+      × IsTrue (is_due_from from lease now next.state) × AllByRecursion (AreAbove next.state.number) seen
 
   file_more : (all seen : List (List Delegation)) (node : ℕ) (ds : List Delegation) (next : Option DelegationAt) (found : Option Delegation)
-      → delegations_of node all ≡ ds → IsNextDueOf after lease now ds found
+      → delegations_of node all ≡ ds → IsNextDueOf from lease now ds found
       → IsLeast all seen next → IsLeast all (seen ++ ds ∷ []) (lesser_at next (lent_at node found))
   file_more all seen node ds None None is one none = all_push AreUndue seen ds none one
   file_more all seen node ds None (Some d) is one none =
@@ -90,19 +98,27 @@ module _ (after lease now : ℕ) where
   file_more all seen node ds (Some n) (Some d) is one least =
       let here : DelegationAt = record { node = node; state = d } in
       cond_both (nat_lt d.number n.state.number) (Some here) (Some n) (IsLeast all (seen ++ ds ∷ []))
-      (λ less. (subst (λ xs. Contains xs d) (sym is) one.0, one.1, all_push (AreAbove d.number) seen ds
-      (all_weaken (AreAbove n.state.number) (AreAbove d.number) (λ xs. lower_above n.state.number d.number xs (omega (arith, ltb-true d.number n.state.number less))) seen least.2) one.2))
-      (λ not_less. (least.0, least.1, all_push (AreAbove n.state.number) seen ds least.2
-      (lower_above d.number n.state.number ds (omega (arith, ltb-false d.number n.state.number not_less)) one.2)))
+      (λ less. (
+        subst (λ xs. Contains xs d) (sym is) one.0,
+        one.1,
+        all_push (AreAbove d.number) seen ds
+            (all_weaken (AreAbove n.state.number) (AreAbove d.number) (λ xs. lower_above n.state.number d.number xs (omega (arith, ltb-true d.number n.state.number less))) seen least.2) one.2,
+      ))
+      (λ not_less. (
+        least.0,
+        least.1,
+        all_push (AreAbove n.state.number) seen ds least.2
+            (lower_above d.number n.state.number ds (omega (arith, ltb-false d.number n.state.number not_less)) one.2),
+      ))
 
   -- the loop comes by one more file
   pub file_at : (all : List (List Delegation)) (node : ℕ) (ds : List Delegation) (next new : Option DelegationAt) (found : Option Delegation) → node < length all
-      → ds ≡ get_or all node ds → delegations_of node all ≡ ds → IsNextDueOf after lease now ds found → new ≡ lesser_at next (lent_at node found)
+      → ds ≡ get_or all node ds → delegations_of node all ≡ ds → IsNextDueOf from lease now ds found → new ≡ lesser_at next (lent_at node found)
       → IsLeast all (take node all) next → IsLeast all (take (node + 1) all) new
   file_at all node ds next new found below is there one new_is least =
       let seen : take (node + 1) all ≡ take node all ++ ds ∷ [] = take_more all node ds below ∙ ap (λ xs. take node all ++ xs ∷ []) (sym is) in
       subst (λ xs. IsLeast all xs new) (sym seen) (subst (IsLeast all (take node all ++ ds ∷ [])) (sym new_is) (file_more all (take node all) node ds next found there one least))
 
-  pub next_of_all : (all seen : List (List Delegation)) (next : Option DelegationAt) → seen ≡ all → IsLeast all seen next → IsNextDue after lease now all next
+  pub next_of_all : (all seen : List (List Delegation)) (next : Option DelegationAt) → seen ≡ all → IsLeast all seen next → IsNextDue from lease now all next
   next_of_all all seen None end least = subst (AllByRecursion AreUndue) end least
   next_of_all all seen (Some next) end least = (least.0, least.1, subst (AllByRecursion (AreAbove next.state.number)) end least.2)

@@ -158,7 +158,7 @@ distinct_length shares distinct =
     (λ s _. is_there_always s.access.read s.access.write s.deny.read s.deny.write)
 
 -- Conflicts of a union.
-or_swap : (p q r s : Bool) → ((p || q) || (r || s)) ≡ ((p || r) || (q || s))
+pub or_swap : (p q r s : Bool) → ((p || q) || (r || s)) ≡ ((p || r) || (q || s))
 or_swap true q r s = refl
 or_swap false true true s = refl
 or_swap false true false s = refl

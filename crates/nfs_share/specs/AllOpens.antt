@@ -1,9 +1,9 @@
 -- The opens and the delegations of all files: those of each node of the tree, by its number.
-use Rattle.std.specs.Prelude.{◌<◌, ◌≤◌, ℕ, ◌+◌, List, [], ◌∷◌, length, map, option_map, position, slice_get, slice_set, is_some, IfSome, IsFalse, IsTrue, Option, Some, None}
+use Rattle.std.specs.Prelude.{◌<◌, ◌≤◌, ℕ, ◌+◌, Bool, List, [], ◌∷◌, length, map, option_map, find, position, slice_get, slice_set, is_some, IfSome, IsFalse, IsTrue, Option, Some, None}
 use Rattle.std.specs.List.{AllByRecursion, Contains, list_any}
 use Rattle.nfs_forms.specs.declared.open_owner.OpenOwner.{OpenOwner}
 use Rattle.nfs_forms.specs.declared.stateid.Stateid.{Stateid}
-use Rattle.nfs_share.specs.Delegations.{IsAboveLent, delegation_named_by, delegation_with_number, is_delegation_numbered, is_due_above, is_stateid_of_delegation, lesser}
+use Rattle.nfs_share.specs.Delegations.{IsAboveLent, is_delegation_numbered, is_due_from, is_stateid_of_delegation, lesser}
 use Rattle.nfs_share.specs.Opens.{FileOpens, IsAbove, is_stateid_of, open_named_by, open_of}
 use Rattle.nfs_share.specs.declared.delegation.Delegation.{Delegation}
 use Rattle.nfs_share.specs.declared.open_state.OpenState.{OpenState}
@@ -99,27 +99,22 @@ with_delegations node change all = with_list_at node change all
 abbrev pub lent_at : ℕ → Option Delegation → Option DelegationAt
 lent_at node found = option_map (λ d. record { node = node; state = d }) found
 
--- the delegation that the stateid names, given the node that has one
-abbrev pub delegation_named_at : Stateid → List (List Delegation) → Option ℕ → Option DelegationAt
-delegation_named_at id all None = None
-delegation_named_at id all (Some node) =
-    lent_at node (delegation_named_by id (delegations_of node all))
+-- the delegation that passes the test, given the node that has one
+abbrev pub lent_found : (Delegation → Bool) → List (List Delegation) → Option ℕ → Option DelegationAt
+lent_found test all None = None
+lent_found test all (Some node) = lent_at node (find test (delegations_of node all))
+
+-- the first delegation that passes the test, if there is one
+abbrev pub lent_in : (Delegation → Bool) → List (List Delegation) → Option DelegationAt
+lent_in test all = lent_found test all (position (list_any test) all)
 
 -- the delegation that the stateid names, no matter its seqid, if there is one
 abbrev pub delegation_named_in : Stateid → List (List Delegation) → Option DelegationAt
-delegation_named_in id all =
-    delegation_named_at id all (position (list_any (is_stateid_of_delegation id)) all)
-
--- the delegation with this number, given the node that has one
-abbrev pub delegation_numbered_at : ℕ → List (List Delegation) → Option ℕ → Option DelegationAt
-delegation_numbered_at number all None = None
-delegation_numbered_at number all (Some node) =
-    lent_at node (delegation_with_number number (delegations_of node all))
+delegation_named_in id all = lent_in (is_stateid_of_delegation id) all
 
 -- the delegation with this number, if there is one
 abbrev pub delegation_numbered_in : ℕ → List (List Delegation) → Option DelegationAt
-delegation_numbered_in number all =
-    delegation_numbered_at number all (position (list_any (is_delegation_numbered number)) all)
+delegation_numbered_in number all = lent_in (is_delegation_numbered number) all
 
 -- each delegation of each file has a lower number
 abbrev pub IsAboveAllLent : ℕ → List (List Delegation) → Type 0
@@ -129,14 +124,14 @@ IsAboveAllLent number all = AllByRecursion (IsAboveLent number) all
 abbrev pub lesser_at : Option DelegationAt → Option DelegationAt → Option DelegationAt
 lesser_at a b = lesser (λ found. found.state.number) a b
 
--- Of the delegations that are due and have a number above `after`, this is one with the least; or there are none.
+-- Of the delegations that are due and have no number below `from`, this is one with the least; or there are none.
 abbrev pub IsNextDue : ℕ → ℕ → ℕ → List (List Delegation) → Option DelegationAt → Type 0
-IsNextDue after lease now all None =
-    AllByRecursion (AllByRecursion (λ d. IsFalse (is_due_above after lease now d))) all
-IsNextDue after lease now all (Some next) = Contains (delegations_of next.node all) next.state
-    × IsTrue (is_due_above after lease now next.state)
+IsNextDue from lease now all None =
+    AllByRecursion (AllByRecursion (λ d. IsFalse (is_due_from from lease now d))) all
+IsNextDue from lease now all (Some next) = Contains (delegations_of next.node all) next.state
+    × IsTrue (is_due_from from lease now next.state)
     × AllByRecursion (AllByRecursion (λ d.
-        IsTrue (is_due_above after lease now d) → next.state.number ≤ d.number)) all
+    IsTrue (is_due_from from lease now d) → next.state.number ≤ d.number)) all
 
 -- a delegation of the node's file takes no memory
 abbrev pub HasLendingRoomAt : ℕ → List FileOpens → Type 0

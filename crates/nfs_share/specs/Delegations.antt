@@ -1,5 +1,5 @@
 -- The delegations of a file (RFC 7530, section 10.4), beside its opens.
-use Rattle.std.specs.Prelude.{ℕ, ◌<◌, ◌≤◌, ◌+◌, Bool, true, false, ◌&&◌, ◌||◌, ◌==◌, nat_lt, not, if◌then◌else◌, List, filter, find, map, Option, Some, None, is_none, IsFalse, IsTrue}
+use Rattle.std.specs.Prelude.{ℕ, ◌<◌, ◌≤◌, ◌+◌, Bool, true, false, ◌&&◌, ◌||◌, ◌==◌, nat_le, nat_lt, not, if◌then◌else◌, List, filter, find, map, Option, Some, None, is_none, IsFalse, IsTrue}
 use Rattle.std.specs.List.{AllByRecursion, Contains, list_any}
 use Rattle.nfs_forms.specs.ClientId.{is_same_client}
 use Rattle.nfs_forms.specs.declared.client_id.ClientId.{ClientId}
@@ -69,9 +69,9 @@ is_lease_before lease now (Some moment) = nat_lt (moment + lease) now
 abbrev pub is_due : ℕ → ℕ → Delegation → Bool
 is_due lease now d = is_lease_before lease now d.recalled
 
--- the delegation is due, and has a number above this one
-abbrev pub is_due_above : ℕ → ℕ → ℕ → Delegation → Bool
-is_due_above after lease now d = nat_lt after d.number && is_due lease now d
+-- the delegation is due, and its number isn't below this one
+abbrev pub is_due_from : ℕ → ℕ → ℕ → Delegation → Bool
+is_due_from from lease now d = nat_le from d.number && is_due lease now d
 
 -- the delegation, called back at the moment if it wasn't before
 abbrev pub with_recall : ℕ → Delegation → Delegation
@@ -113,10 +113,10 @@ lesser number None b = b
 lesser number (Some a) None = Some a
 lesser number (Some a) (Some b) = if nat_lt (number b) (number a) then Some b else Some a
 
--- Of the delegations that are due and have a number above `after`, this is one with the least; or there are none.
+-- Of the delegations that are due and have no number below `from`, this is one with the least; or there are none.
 abbrev pub IsNextDueOf : ℕ → ℕ → ℕ → List Delegation → Option Delegation → Type 0
-IsNextDueOf after lease now ds None =
-    AllByRecursion (λ d. IsFalse (is_due_above after lease now d)) ds
-IsNextDueOf after lease now ds (Some next) = Contains ds next
-    × IsTrue (is_due_above after lease now next)
-    × AllByRecursion (λ d. IsTrue (is_due_above after lease now d) → next.number ≤ d.number) ds
+IsNextDueOf from lease now ds None =
+    AllByRecursion (λ d. IsFalse (is_due_from from lease now d)) ds
+IsNextDueOf from lease now ds (Some next) = Contains ds next
+    × IsTrue (is_due_from from lease now next)
+    × AllByRecursion (λ d. IsTrue (is_due_from from lease now d) → next.number ≤ d.number) ds

@@ -1,5 +1,5 @@
 ghost use Rattle.std.specs.Prelude.{◌≡◌};
-ghost use Rattle.nfs_share.specs.Delegations.{conflicts, delegation_stateid, first_delegation, is_due, is_due_above, is_in_way, is_lent_to, is_stateid_of_delegation, with_recall};
+ghost use Rattle.nfs_share.specs.Delegations.{conflicts, delegation_stateid, first_delegation, is_due, is_due_from, is_in_way, is_lent_to, is_stateid_of_delegation, with_recall};
 
 use crate::Share;
 use nfs_forms::{ClientId, Moment, Stateid};
@@ -100,11 +100,11 @@ impl Delegation {
         }
     }
 
-    /// Whether the delegation is due, and has a number above this one.
-    pub(crate) fn is_due_above(&self, after: u32, lease: u32, now: Moment) -> bool
-        ensures { result ≡ is_due_above after lease now self.now }
+    /// Whether the delegation is due, and its number isn't below this one.
+    pub(crate) fn is_due_from(&self, from: u32, lease: u32, now: Moment) -> bool
+        ensures { result ≡ is_due_from from lease now self.now }
     {
-        after < self.number && self.is_due(lease, now)
+        from <= self.number && self.is_due(lease, now)
     }
 
     /// Calls the delegation back, unless it was called back before.

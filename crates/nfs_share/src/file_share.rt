@@ -1,7 +1,7 @@
 ghost use Rattle.std.specs.Prelude.{◌≡◌, ◌≤◌, ◌<◌, ◌+◌, ◌↔◌, IfErr, IfNone, IfOk, IsErrOf, IsFalse, IsOk, IsTrue, OnErr, OnOk, OnSome, Some, filter, length, [], ◌∷◌, ◌++◌, option_map};
 ghost use Rattle.std.specs.List.{list_any};
 ghost use Rattle.std.specs.Option.{option_copied};
-ghost use Rattle.nfs_share.specs.Delegations.{IsAboveLent, IsNextDueOf, bars, can_delegate, conflicts, delegation_named_by, delegation_stateid, first_delegation, has_conflict, has_delegation, is_delegation_numbered, is_lent_to, is_stateid_of_delegation, lesser, with_recalls, without_lent};
+ghost use Rattle.nfs_share.specs.Delegations.{IsAboveLent, IsNextDueOf, bars, can_delegate, conflicts, delegation_named_by, delegation_stateid, delegation_with_number, first_delegation, has_conflict, has_delegation, is_delegation_numbered, is_lent_to, is_stateid_of_delegation, lesser, with_recalls, without_lent};
 ghost use Rattle.nfs_share.specs.Opens.{CanDowngrade, IsNewestFor, with_next_seqid, after_downgrade, is_denied, is_numbered, is_of, is_of_client, is_refused, is_stateid_of, open_named_by, after_open, next_stateid_of, open_with_number, open_of, share_of, stateid_of, with_each, with_opening, without};
 ghost use Rattle.nfs_share.specs.ShareError.{IsHeldFor, IsWhyNotLent, IsWhyNotOpened};
 ghost use Rattle.nfs_share.specs.declared.delegation.FileUse.TheVariants as uses;
@@ -315,14 +315,35 @@ impl FileShare {
     pub fn names_delegation(&self, stateid: Stateid) -> bool
         ensures { result ≡ list_any (is_stateid_of_delegation stateid) self.now.delegations }
     {
-        self.delegations.iter().any(|lent| lent.is_named_by(stateid))
+        self.delegations
+            .iter()
+            .any(|lent| lent.is_named_by(stateid))
+    }
+
+    /// The delegation with this number, if there is one.
+    pub fn delegation_with_number(&self, number: u32) -> Option<Delegation>
+        ensures { result ≡ delegation_with_number number self.now.delegations }
+    {
+        self.delegations
+            .iter()
+            .copied()
+            .find(|lent| lent.number == number)
+    }
+
+    /// Whether a delegation has this number.
+    pub fn has_delegation_numbered(&self, number: u32) -> bool
+        ensures { result ≡ list_any (is_delegation_numbered number) self.now.delegations }
+    {
+        self.delegations.iter().any(|lent| lent.number == number)
     }
 
     /// Whether the client has a delegation.
     pub fn has_delegation(&self, client: ClientId) -> bool
         ensures { result ≡ has_delegation client self.now.delegations }
     {
-        self.delegations.iter().any(|lent| lent.is_of_client(client))
+        self.delegations
+            .iter()
+            .any(|lent| lent.is_of_client(client))
     }
 
     /// Whether a delegation of another client is in the way of this use by the client.
@@ -386,13 +407,13 @@ impl FileShare {
             && !self.conflicts(client, FileUse::Delegation(kind))
     }
 
-    /// The delegation with the least number above this one of those that are due, if there is one.
-    pub fn next_due(&self, after: u32, lease: u32, now: Moment) -> Option<Delegation>
-        ensures { IsNextDueOf after lease now self.now.delegations result }
+    /// Of the delegations that are due and have no number below `from`, the one with the least, if there is one.
+    pub fn next_due(&self, from: u32, lease: u32, now: Moment) -> Option<Delegation>
+        ensures { IsNextDueOf from lease now self.now.delegations result }
     {
         let mut next = None;
         for lent in self.delegations.iter() {
-            if lent.is_due_above(after, lease, now) {
+            if lent.is_due_from(from, lease, now) {
                 next = lesser(next, *lent);
             }
         }

@@ -1,7 +1,7 @@
 ghost use Rattle.std.specs.Prelude.{◌≡◌, ◌<◌, ◌-◌, ℕ, [], ◌∷◌, ◌++◌, IfOk, IfSome, IsOk, OnOk, length, map, nat_lt, option_map, position, replicate};
 ghost use Rattle.std.specs.List.{list_any};
 ghost use Rattle.std.specs.Option.{option_copied};
-ghost use Rattle.nfs_share.specs.AllOpens.{HasLendingRoomAt, HasRoomAt, IsAboveAllLent, IsNewestAt, IsNextDue, at_node, delegation_count, delegation_named_in, delegations_in, delegations_of, lent_at, lesser_at, named_in, open_count, opens_in, opens_of, with_delegations, with_opens};
+ghost use Rattle.nfs_share.specs.AllOpens.{HasLendingRoomAt, HasRoomAt, IsAboveAllLent, IsNewestAt, IsNextDue, at_node, delegation_count, delegation_named_in, delegation_numbered_in, delegations_in, delegations_of, lent_at, lesser_at, named_in, open_count, opens_in, opens_of, with_delegations, with_opens};
 ghost use Rattle.nfs_share.specs.Delegations.{can_delegate, first_delegation, has_conflict, has_delegation, is_delegation_numbered, is_lent_to, is_stateid_of_delegation, with_recalls, without_lent};
 ghost use Rattle.nfs_share.specs.OpenFound.{delegation_seen, open_seen};
 ghost use Rattle.nfs_share.specs.Opens.{after_downgrade, is_numbered, is_of, is_of_client, is_refused, is_stateid_of, open_of, open_with_number, with_each, with_next_seqid, with_opening, without};
@@ -239,7 +239,31 @@ impl Opens {
             list_any (is_stateid_of_delegation stateid) f.delegations) self.now }
         ensures below { IfSome result (λ node. node < length self.now) }
     {
-        self.files.iter().position(|file| file.names_delegation(stateid))
+        self.files
+            .iter()
+            .position(|file| file.names_delegation(stateid))
+    }
+
+    /// The delegation with this number, if there is one.
+    pub fn delegation_numbered(&self, number: u32) -> Option<DelegationFound>
+        ensures { option_map delegation_seen result
+            ≡ delegation_numbered_in number (delegations_in self.now) }
+    {
+        match self.node_with_number(number) {
+            Some(node) => lent_at(node as u32, self.files[node].delegation_with_number(number)),
+            None => None,
+        }
+    }
+
+    // The node with a delegation that has this number.
+    fn node_with_number(&self, number: u32) -> Option<usize>
+        ensures node { result ≡ position (λ f.
+            list_any (is_delegation_numbered number) f.delegations) self.now }
+        ensures below { IfSome result (λ node. node < length self.now) }
+    {
+        self.files
+            .iter()
+            .position(|file| file.has_delegation_numbered(number))
     }
 
     /// Whether the client has a delegation of the node's file.
@@ -282,14 +306,14 @@ impl Opens {
         }
     }
 
-    /// The delegation with the least number above this one of those that are due, of all files, if there is one.
-    pub fn next_due(&self, after: u32, lease: u32, now: Moment) -> Option<DelegationFound>
-        ensures { IsNextDue after lease now (delegations_in self.now)
+    /// Of the delegations that are due and have no number below `from`, the one with the least, of all files, if there is one.
+    pub fn next_due(&self, from: u32, lease: u32, now: Moment) -> Option<DelegationFound>
+        ensures { IsNextDue from lease now (delegations_in self.now)
             (option_map delegation_seen result) }
     {
         let mut next = None;
         for node in 0..self.files.len() {
-            let due = self.files[node].next_due(after, lease, now);
+            let due = self.files[node].next_due(from, lease, now);
             next = lesser(next, lent_at(node as u32, due));
         }
         next
@@ -455,7 +479,10 @@ fn lent_at(node: u32, lent: Option<Delegation>) -> Option<DelegationFound>
 }
 
 // Of the two delegations, of which there may be none, the one with the lesser number.
-fn lesser(first: Option<DelegationFound>, second: Option<DelegationFound>) -> Option<DelegationFound>
+fn lesser(
+    first: Option<DelegationFound>,
+    second: Option<DelegationFound>,
+) -> Option<DelegationFound>
     ensures { option_map delegation_seen result
         ≡ lesser_at (option_map delegation_seen first) (option_map delegation_seen second) }
 {

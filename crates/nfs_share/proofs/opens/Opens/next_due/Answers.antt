@@ -16,9 +16,9 @@ loop-node-preserved c = record {
       let below : node < length files = omega (arith, c.loop-node-test.true, c.len-node-end.ensures) in
       let next = option_map delegation_seen c.loop-node.next in
       let new = option_map delegation_seen c.lesser-next.result in
-      subst (λ (files : List FileOpens). IsLeast c.args.after c.args.lease c.args.now (delegations_in files) (take node (delegations_in files)) next
-      → IsLeast c.args.after c.args.lease c.args.now (delegations_in files) (take (node + 1) (delegations_in files)) new) c.self.view_is
-      (file_at c.args.after c.args.lease c.args.now (delegations_in files) node file.delegations next new c.next_due-due.result
+      subst (λ (files : List FileOpens). IsLeast c.args.from c.args.lease c.args.now (delegations_in files) (take node (delegations_in files)) next
+      → IsLeast c.args.from c.args.lease c.args.now (delegations_in files) (take (node + 1) (delegations_in files)) new) c.self.view_is
+      (file_at c.args.from c.args.lease c.args.now (delegations_in files) node file.delegations next new c.next_due-due.result
       (omega (arith, below, as_many (λ f. f.delegations) files))
       (ap (λ (f : FileOpens). f.delegations) c.index.ensures ∙ one_there (λ f. f.delegations) files node file file.delegations below)
       (list_there (λ f. f.delegations) files node file below c.index.ensures)
@@ -32,5 +32,5 @@ returns c =
     let all = delegations_in c.args.self.now in
     let end : length all ≡ length c.self.inside.files.items =
     as_many (λ f. f.delegations) c.args.self.now ∙ ap (λ (files : List FileOpens). length files) (sym c.self.view_is) in
-    next_of_all c.args.after c.args.lease c.args.now all _ (option_map delegation_seen c.loop-node.next)
+    next_of_all c.args.from c.args.lease c.args.now all _ (option_map delegation_seen c.loop-node.next)
     (take_all c.loop-node.node all (omega (arith, end, c.loop-node-test.false, c.len-node-end.ensures))) c.loop-node.invariant.least
