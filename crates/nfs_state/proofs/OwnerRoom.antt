@@ -88,7 +88,7 @@ owners_changed update change (Some kept) number old new is sendable keeps same p
 limits_alike : (change : Change) (old new : State) → new.clients ≡ old.clients → new.last_state ≡ old.last_state → new.locks ≡ old.locks → IsWithinLimits change old → IsWithinLimits change new
 limits_alike (changes.Clients change) old new clients states locks has =
     subst (λ registry. HasNumbersFor change registry × FitsRecords change registry) (sym clients) has
-limits_alike (changes.Opens node owner share) old new clients states locks has = omega (arith, states, has)
+limits_alike (changes.Opens node owner share lent) old new clients states locks has = omega (arith, states, has)
 limits_alike changes.Nothing old new clients states locks has = tt
 limits_alike (changes.Confirms node number owner) old new clients states locks has = tt
 limits_alike (changes.Downgrades node number share) old new clients states locks has = tt
@@ -98,6 +98,9 @@ limits_alike (changes.Locks node number change) old new clients states locks has
     ap (λ all. is_full_for number change (locks_of node all)) locks ∙ has
 limits_alike (changes.Releases owner) old new clients states locks has = tt
 limits_alike (changes.Expires client) old new clients states locks has = tt
+limits_alike (changes.Recalls node client share moment) old new clients states locks has = tt
+limits_alike (changes.Returns node number) old new clients states locks has = tt
+limits_alike (changes.MarksPath client path) old new clients states locks has = tt
 
 same_clients : (owner : OwnerChange) (number : ℕ) (old : State) → (with_owner_change owner number old).clients ≡ old.clients
 same_clients owner_changes.Nothing number old = refl
@@ -132,9 +135,9 @@ given_without name old given = all_above_left (old.last_state + 1) (λ o. not (i
 
 pub given_after : (owner : OwnerChange) (number : ℕ) (old : State) → HasGivenNumbers old → HasGivenNumbers (with_owner_change owner number old)
 given_after owner_changes.Nothing number old given = given
-given_after (owner_changes.Restarts name) number old given = record { of_opens = given_without name old given; of_locks = given.of_locks }
-given_after (owner_changes.Drops name) number old given = record { of_opens = given_without name old given; of_locks = given.of_locks }
-given_after owner number old given = record { of_opens = given.of_opens; of_locks = given.of_locks }
+given_after (owner_changes.Restarts name) number old given = record { of_opens = given_without name old given; of_locks = given.of_locks; of_delegations = given.of_delegations }
+given_after (owner_changes.Drops name) number old given = record { of_opens = given_without name old given; of_locks = given.of_locks; of_delegations = given.of_delegations }
+given_after owner number old given = record { of_opens = given.of_opens; of_locks = given.of_locks; of_delegations = given.of_delegations }
 
 -- an owner that keeps a request, which is known before it, leaves who is known and how many they are
 known_after_change : (change : OwnerState → OwnerState) (name other : StateOwner) (owners : List Owner) → is_known other (with_change change name owners) ≡ is_known other owners

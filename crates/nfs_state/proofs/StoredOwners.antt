@@ -32,6 +32,8 @@ use Rattle.nfs_owners.specs.declared.owner.TheConstants.{OWNER_LIMIT}
 use Rattle.nfs_owners.specs.Owner.{has_name, is_known, new_owner, with_request}
 use Rattle.nfs_owners.specs.Owners.{has_place, with_change, with_confirmed, with_kept, without_owner, without_owners_of}
 use Rattle.nfs_share.specs.AllOpens.{with_opens}
+use Rattle.nfs_share.specs.Delegations.{is_lent_to, without_lent}
+use Rattle.nfs_share.specs.declared.delegation.Delegation.{Delegation}
 use Rattle.nfs_share.specs.Opens as opens
 use Rattle.nfs_share.specs.declared.open_state.OpenState.{OpenState}
 use Rattle.std.proofs.lemmas.Bool.{cond_both}
@@ -227,23 +229,15 @@ restarts_seen old removed name number kept new removes is (changes.Restarts n) o
     ∙ ap (λ m. with_owner_change (changes.Restarts m) number (meaning old)) same
 
 -- what is stored after an owner and its open are confirmed
-pub confirms_seen : (old : Stored) (node number : ℕ) (name : OpenOwner) (new : List Owner) (opened : List (List OpenState)) → new ≡ with_confirmed (open_owner name) old.owners
+pub confirms_seen : (old : Stored) (node number : ℕ) (name : OpenOwner) (new : List Owner) (opened : List (List OpenState)) (lent : List (List Delegation)) → new ≡ with_confirmed (open_owner name) old.owners
     → opened ≡ with_opens node (opens.with_each (opens.is_numbered number) opens.with_next_seqid) old.opens
-    → (change : Change) → change ≡ own_changes.Confirms node number name
-    → meaning (record old { owners = new; opens = opened }) ≡ with_state_change change (meaning old)
-confirms_seen old node number name new opened confirmed advanced change is =
-    ap (λ (owners : List KnownOwner). record (meaning old) { owners = owners; opens = opened }) (ap (map known_owner) confirmed ∙ confirmed_seen (open_owner name) old.owners)
+    → lent ≡ old.delegations → (change : Change) → change ≡ own_changes.Confirms node number name
+    → meaning (record old { owners = new; opens = opened; delegations = lent }) ≡ with_state_change change (meaning old)
+confirms_seen old node number name new opened lent confirmed advanced stay change is =
+    ap (λ (all : List (List Delegation)). meaning (record old { owners = new; opens = opened; delegations = all })) stay
+    ∙ ap (λ (owners : List KnownOwner). record (meaning old) { owners = owners; opens = opened }) (ap (map known_owner) confirmed ∙ confirmed_seen (open_owner name) old.owners)
     ∙ ap (λ (all : List (List OpenState)). record (meaning old) { owners = known.with_confirmation (open_owner name) (map known_owner old.owners); opens = all }) advanced
     ∙ ap (λ ch. with_state_change ch (meaning old)) (sym is)
-
--- what is stored after an open is freed with its lock states
-pub closes_seen : (old : Stored) (node number : ℕ) (opened : List (List OpenState)) (locked : List (List StoredLock))
-    → opened ≡ with_opens node (opens.without (opens.is_numbered number)) old.opens
-    → map (map byte_locks) locked ≡ with_locks node (locks.without (locks.is_under number)) (map (map byte_locks) old.locks)
-    → (change : Change) → change ≡ own_changes.Closes node number
-    → meaning (record old { opens = opened; locks = locked }) ≡ with_state_change change (meaning old)
-closes_seen old node number opened locked closed freed change is =
-    (λ i. record (meaning old) { opens = closed i; locks = freed i }) ∙ ap (λ ch. with_state_change ch (meaning old)) (sym is)
 
 -- what is stored after a lock owner is forgotten with its lock states
 pub releases_seen : (old : Stored) (name : LockOwner) (new : List Owner) (locked : List (List StoredLock))
@@ -255,13 +249,14 @@ releases_seen old name new locked fewer freed change is =
     (λ i. record (meaning old) { owners = (ap (map known_owner) fewer ∙ without_seen (lock_owner name) old.owners) i; locks = freed i })
     ∙ ap (λ ch. with_state_change ch (meaning old)) (sym is)
 
--- what is stored without the owners, the opens and the lock states of a client
-pub left_seen : (old : Stored) (client : ClientId) (new : List Owner) (opened : List (List OpenState)) (locked : List (List StoredLock)) → new ≡ without_owners_of client old.owners
+-- what is stored without the owners, the opens, the lock states and the delegations of a client
+pub left_seen : (old : Stored) (client : ClientId) (new : List Owner) (opened : List (List OpenState)) (locked : List (List StoredLock)) (lent : List (List Delegation)) → new ≡ without_owners_of client old.owners
     → opened ≡ map (opens.without (opens.is_of_client client)) old.opens
     → map (map byte_locks) locked ≡ map (locks.without (locks.is_lock_of_client client)) (map (map byte_locks) old.locks)
-    → meaning (record old { owners = new; opens = opened; locks = locked }) ≡ without_client client (meaning old)
-left_seen old client new opened locked fewer closed freed =
-    λ i. record (meaning old) { owners = (ap (map known_owner) fewer ∙ without_client_seen client old.owners) i; opens = closed i; locks = freed i }
+    → lent ≡ map (without_lent (is_lent_to client)) old.delegations
+    → meaning (record old { owners = new; opens = opened; locks = locked; delegations = lent }) ≡ without_client client (meaning old)
+left_seen old client new opened locked lent fewer closed freed returned =
+    λ i. record (meaning old) { owners = (ap (map known_owner) fewer ∙ without_client_seen client old.owners) i; opens = closed i; locks = freed i; delegations = returned i }
 
 -- A change for which there is an owner's place has a place among the stored owners.
 pub introduces_place : (old : Stored) (name newcomer : StateOwner) (change : OwnerChange) → change ≡ changes.Introduces name newcomer

@@ -123,7 +123,6 @@ with_state_change (changes.Releases owner) old = record old {
 with_state_change (changes.Expires client) old =
     let left = without_client client old in
     record left { clients = registry.without_client client.number old.clients }
-
 -- what is in the way of an open is called back (section 10.4.4)
 with_state_change (changes.Recalls node client share moment) old = record old {
   delegations = with_delegations node (with_recalls client (uses.Open share) moment) old.delegations;

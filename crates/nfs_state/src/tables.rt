@@ -105,7 +105,8 @@ impl Tables {
     pub fn has_state_place_beside(&self, others: usize) -> bool
         ensures { result ≡ has_state_place_beside others (state_of self.now) }
     {
-        self.opens.has_place(self.places_left().saturating_sub(others))
+        self.opens
+            .has_place(self.places_left().saturating_sub(others))
     }
 
     // How many places the lock states and the delegations leave.
@@ -143,7 +144,9 @@ impl Tables {
         match change {
             Change::Clients(change) => self.clients.make_room(change)?,
             Change::Opens {
-                node, delegation, ..
+                node,
+                delegation,
+                ..
             } => {
                 self.opens.reserve(*node)?;
                 if delegation.is_some() {
@@ -273,7 +276,9 @@ impl Tables {
                 client,
                 share,
                 moment,
-            } => self.opens.recall(node, client, FileUse::Open(share), moment),
+            } => self
+                .opens
+                .recall(node, client, FileUse::Open(share), moment),
             Change::Returns { node, number } => self.opens.give_back(node, number),
             Change::MarksPath { client, path } => self.clients.mark(client, path),
             Change::Confirms {

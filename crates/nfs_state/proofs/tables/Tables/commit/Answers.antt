@@ -11,8 +11,8 @@ use Rattle.nfs_state.proofs.tables.Tables.commit.Goals as goal
 pub returns-in-Confirms-clause-state : goal.returns-in-Confirms-clause-state
 returns-in-Confirms-clause-state c =
     let owners = c.args.self.now.owners.owners in
-    confirms_seen (stored_of c.args.self.now) c.in-Confirms.node c.in-Confirms.number c.in-Confirms.owner c.confirm.new.self.owners _
-    (c.confirm.ensures.owners ∙ ap (λ n. with_confirmed n owners) c.of_open.ensures) c.advance.ensures c.args.change c.in-Confirms.is
+    confirms_seen (stored_of c.args.self.now) c.in-Confirms.node c.in-Confirms.number c.in-Confirms.owner c.confirm.new.self.owners _ _
+    (c.confirm.ensures.owners ∙ ap (λ n. with_confirmed n owners) c.of_open.ensures) c.advance.ensures.opens c.advance.ensures.delegations c.args.change c.in-Confirms.is
 
 pub returns-in-Confirms-clause-kept : goal.returns-in-Confirms-clause-kept
 returns-in-Confirms-clause-kept c journal agrees =

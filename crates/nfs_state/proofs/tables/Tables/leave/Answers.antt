@@ -8,7 +8,7 @@ use Rattle.nfs_state.proofs.tables.Tables.leave.Goals as goal
 
 pub returns-clause-state : goal.returns-clause-state
 returns-clause-state c =
-    left_seen (stored_of c.args.self.now) c.args.client c.remove_client.new.self.owners _ _ c.remove_client.ensures.owners c.remove_client-2.ensures c.remove_client-3.ensures
+    left_seen (stored_of c.args.self.now) c.args.client c.remove_client.new.self.owners _ _ _ c.remove_client.ensures.owners c.remove_client-2.ensures.opens c.remove_client-3.ensures c.remove_client-2.ensures.delegations
 
 pub returns-clause-kept : goal.returns-clause-kept
 returns-clause-kept c journal agrees =
