@@ -8,19 +8,23 @@ use Rattle.std.proofs.lemmas.List.{length-map}
 use Rattle.nfs_rules.specs.declared.passage.Passage.{Passage}
 use Rattle.nfs_rules.specs.declared.passage.Passage.TheVariants as passages
 use Rattle.nfs_state.specs.declared.change.Change.TheVariants.{Opens}
+use Rattle.nfs_rules.specs.declared.demand.Demand.{Demand}
 use Rattle.nfs_rules.specs.declared.opening.Opening.{Opening}
 use Rattle.nfs_rules.specs.declared.ruling.Ruling.{Ruling}
 use Rattle.nfs_locks.specs.AllLocks.{LockAt, lock_named_in}
 use Rattle.nfs_rules.specs.Lending.{delegation_with, lending_number, lent}
 use Rattle.nfs_rules.specs.Refusing.{◌>>=◌, first_refusal}
-use Rattle.nfs_rules.specs.Deciding.{IsOther, IsPassage}
+use Rattle.nfs_rules.specs.Deciding.{ByOwnRule, IsOther, IsPassage}
+use Rattle.nfs_rules.proofs.Sequencing.{refusal_sendable}
 use Rattle.nfs_rules.proofs.Sendable.{then_other, verdict_other}
-use Rattle.nfs_rules.specs.operations.Open.{claimed, delayed, file_at, found_by, granted, granted_within, has_open, has_owner_place, has_places, name_of, opening, opening_or_ruling, refused, ruling_of, share_or_inval, stateid_after, unless_denied}
+use Rattle.nfs_rules.specs.operations.Open.{claimed, delayed, file_at, found_by, granted, granted_within, has_open, has_owner_place, has_places, name_of, opening, opening_or_ruling, own, refused, ruling_of, share_or_inval, stateid_after, unless_denied}
 use Rattle.nfs_rules.specs.operations.OpenGrant.{ok_answer, opened}
 use Rattle.nfs_state.specs.Places as places
 use Rattle.nfs_state.specs.declared.tables.Tables.{Tables}
 use Rattle.nfs_state.specs.Owners.{owner_of, without_owner}
-use Rattle.nfs_state.specs.Room.{state_of}
+use Rattle.nfs_state.specs.Entries.{IsSendable}
+use Rattle.nfs_state.specs.declared.request.Request.{Request}
+use Rattle.nfs_state.specs.Room.{IsWithinLimits, state_of}
 use Rattle.nfs_state.specs.Stored.{known_owner}
 use Rattle.nfs_owners.specs.StateOwner.{open_owner}
 use Rattle.nfs_owners.specs.declared.state_owner.StateOwner.{StateOwner}
@@ -32,7 +36,7 @@ use Rattle.nfs_owners.specs.Owners.{has_place}
 use Rattle.nfs_state.specs.Changes as changes
 use Rattle.nfs_rules.specs.Sequences.{before_own}
 use Rattle.nfs_state.specs.State.{State, History}
-use Rattle.nfs_rules.specs.Stateids.{Found, before_state, delegation_of, delegation_or, found_in, judged, open_or_lock, verdict}
+use Rattle.nfs_rules.specs.Stateids.{Found, before_state, delegation_of, delegation_or, found_in, judged, open_or_lock, target_of, verdict, verdict_on}
 use Rattle.nfs_share.specs.AllOpens.{DelegationAt, OpenAt, delegation_named_in, delegations_of, named_in, opens_of}
 use Rattle.nfs_share.specs.Delegations.{conflicts}
 use Rattle.nfs_share.specs.declared.delegation.DelegationKind.{DelegationKind}
@@ -53,6 +57,7 @@ use Rattle.nfs_operations.specs.declared.«open».Open.{Open}
 use Rattle.nfs_forms.specs.declared.stateid.Stateid.{Stateid}
 use Rattle.nfs_forms.specs.declared.status.Refusal.{Refusal}
 use Rattle.nfs_forms.specs.declared.status.Refusal.TheVariants as refusals
+use Rattle.nfs_xdr.specs.declared.op.Op.TheVariants as ops
 
 -- the opens of a node that are left are among those of all nodes that are left
 pub opens_without : (test : OpenState → Bool) (node : ℕ) (opens : List (List OpenState)) → opens_of node (map (without test) opens) ≡ without test (opens_of node opens)
@@ -128,6 +133,16 @@ pub opening_same : (passage : Passage) (journal : History) (state : State) (dire
 opening_same passages.Restarts journal state directory args = without_same journal state directory args
 opening_same passage journal state directory args = refl
 
+-- what is claimed, by the verdict on the stateid of a CLAIM_DELEGATE_CUR
+pub claimed_by : (journal : History) (state : State) (client : ClientId) (claim : Claim) (id : Stateid) (name : List ℕ) (node epoch : ℕ) (demand : Demand) (target : Result (Option Found) Refusal) (r : Result Found Refusal)
+    → claim ≡ claims.DelegateCur id name → epoch ≡ journal.epoch → demand ≡ delegation_of client node → target ≡ target_of epoch state id → r ≡ verdict_on demand state id target
+    → (r >>= λ found. Ok node) ≡ claimed journal state client claim node
+claimed_by journal state client claim id name node epoch demand target r claims_it is_epoch demands is_target is =
+    ap (λ v. v >>= λ found. Ok node)
+    (is ∙ ap (λ d. verdict_on d state id target) demands
+    ∙ ap (verdict_on (delegation_of client node) state id) (is_target ∙ ap (λ e. target_of e state id) is_epoch))
+    ∙ ap (λ c. claimed journal state client c node) (sym claims_it)
+
 -- the delegations are the same too, so it is delayed by the same ones
 pub delayed_same : (passage : Passage) (owner : OpenOwner) (state : State) (moment : ℕ) (client : ClientId) (r : Result Opening Refusal) → opening_or_ruling (before_own passage owner state) moment client r ≡ opening_or_ruling state moment client r
 delayed_same passage owner state moment client (Err refusal) = refl
@@ -199,8 +214,18 @@ opening_never journal state directory args =
 pub opening_refusal : (journal : History) (state : State) (directory : ℕ) (args : Open) (refusal : Refusal) → opening journal state directory args ≡ Err refusal → refusal ≢ refusals.Resource
 opening_refusal journal state directory args refusal refuses is = opening_never journal state directory args (refuses ∙ ap Err is)
 
+-- what is opened, or the ruling in its place, by what is found in the state with an owner that starts anew
+pub opened_same : (passage : Passage) (journal : History) (state : State) (directory : ℕ) (args : Open) (moment now : ℕ) (found : Result Opening Refusal) → found ≡ opening journal state directory args → now ≡ moment
+    → opening_or_ruling state moment args.owner.client found ≡ opening_or_ruling (before_own passage args.owner state) now args.owner.client (opening journal (before_own passage args.owner state) directory args)
+opened_same passage journal state directory args moment now found is at =
+    let client = args.owner.client in
+    let seen = before_own passage args.owner state in
+    ap (opening_or_ruling state moment client) (is ∙ sym (opening_same passage journal state directory args))
+    ∙ sym (delayed_same passage args.owner state moment client (opening journal seen directory args))
+    ∙ ap (λ m. opening_or_ruling seen m client (opening journal seen directory args)) (sym at)
+
 -- a ruling in place of an opening is that of a refusal
-pub ruling_refuses : (state : State) (moment : ℕ) (client : ClientId) (r : Result Opening Refusal) (ruling : Ruling) → Err ruling ≡ opening_or_ruling state moment client r
+ruling_refuses : (state : State) (moment : ℕ) (client : ClientId) (r : Result Opening Refusal) (ruling : Ruling) → Err ruling ≡ opening_or_ruling state moment client r
     → ((refusal : Refusal) × (r ≡ Err refusal) × (ruling ≡ refused refusal)) ⊎ ((o : Opening) × (ruling ≡ delayed moment client o))
 ruling_refuses state moment client (Err refusal) ruling same = inl (refusal, refl, search same)
 ruling_refuses state moment client (Ok o) ruling same = inr (o, by (list_any (conflicts client (uses.Open o.share)) (delegations_of o.node state.delegations)) same)
@@ -208,6 +233,28 @@ ruling_refuses state moment client (Ok o) ruling same = inr (o, by (list_any (co
     by : (b : Bool) → Err ruling ≡ (if b then Err (delayed moment client o) else Ok o) → ruling ≡ delayed moment client o
     by true same = search same
     by false same = absurd cc
+
+-- it can be sent, and is within the limits
+pub ruling_given : (passage : Passage) (journal : History) (state : State) (directory : ℕ) (args : Open) (request : Request) (ruling : Ruling)
+    → Err ruling ≡ opening_or_ruling (before_own passage args.owner state) request.moment args.owner.client (opening journal (before_own passage args.owner state) directory args)
+    → ByOwnRule (own journal state args request directory passage) state (ops.Open args) (Ok ruling)
+ruling_given passage journal state directory args request ruling same =
+    let seen = before_own passage args.owner state in
+    let found = opening journal seen directory args in
+    let both = by (ruling_refuses seen request.moment args.owner.client found ruling same) (opening_refusal journal seen directory args) in
+    (ap (ruling_of journal seen passage args) same, both.0, both.1)
+  where
+    by : {found : Result Opening Refusal} → ((refusal : Refusal) × (found ≡ Err refusal) × (ruling ≡ refused refusal)) ⊎ ((o : Opening) × (ruling ≡ delayed request.moment args.owner.client o))
+        → ((refusal : Refusal) → found ≡ Err refusal → refusal ≢ refusals.Resource)
+        → IsSendable (ops.Open args) ruling.answer × IsWithinLimits ruling.change state
+    by (inl (refusal, is, made)) never = (
+      refusal_sendable (ops.Open args) refusal ruling.answer (never refusal is) (ap (λ (r : Ruling). r.answer) made),
+      subst (λ (r : Ruling). IsWithinLimits r.change state) (sym made) tt,
+    )
+    by (inr (o, made)) never = (
+      refusal_sendable (ops.Open args) refusals.Delay ruling.answer (λ e. cc) (ap (λ (r : Ruling). r.answer) made),
+      subst (λ (r : Ruling). IsWithinLimits r.change state) (sym made) tt,
+    )
 
 pub opening_opens : (state : State) (moment : ℕ) (client : ClientId) (r : Result Opening Refusal) (o : Opening) → Ok o ≡ opening_or_ruling state moment client r → IsOk r
 opening_opens state moment client (Err refusal) o same = absurd cc

@@ -4,13 +4,15 @@ use Rattle.std.specs.Prelude.{⊤, not, is_some}
 use Rattle.nfs_owners.specs.Registry.{record_of}
 use Rattle.nfs_state.specs.Entries.{IsSendable}
 use Rattle.nfs_state.specs.declared.change.Change.TheVariants.{Nothing}
-use Rattle.nfs_rules.specs.Deciding.{ByOwnRule, IsOther}
+use Rattle.nfs_rules.specs.Deciding.{ByOwnRule, Decides, IsOther}
+use Rattle.nfs_rules.specs.declared.decision.Decision.{Decision}
 use Rattle.nfs_rules.specs.declared.demand.Demand.{Demand}
 use Rattle.nfs_rules.specs.declared.ruling.Ruling.{Ruling}
 use Rattle.nfs_state.specs.State.{State, History}
 use Rattle.nfs_rules.specs.Refusing.{◌>>=◌, first_refusal, refused_if}
 use Rattle.nfs_rules.specs.Stateids.{ADelegation, ALock, AnOpen, Found, as_delegation, as_lock, as_open, before_state, confirmed_open, delegation, found_in, judged, lock_state, of_state, target_of, verdict}
-use Rattle.nfs_rules.specs.operations.Delegreturn.{delegation_at}
+use Rattle.nfs_rules.specs.operations.Delegreturn as delegreturn
+use Rattle.nfs_rules.specs.operations.Delegreturn.{delegation_at, returning}
 use Rattle.nfs_rules.specs.operations.Lock.{introduction, locking_of}
 use Rattle.nfs_rules.specs.operations.Lockt.{lockt_file, place_of}
 use Rattle.nfs_rules.proofs.Sequencing.{refusal_sendable}
@@ -24,7 +26,7 @@ use Rattle.nfs_locks.specs.Locks.{lock_of}
 use Rattle.nfs_operations.specs.declared.delegreturn.Delegreturn.{Delegreturn}
 use Rattle.nfs_operations.specs.declared.lock.Lock.{Lock}
 use Rattle.nfs_operations.specs.declared.lockt.Lockt.{Lockt}
-use Rattle.nfs_share.specs.AllOpens.{OpenAt}
+use Rattle.nfs_share.specs.AllOpens.{DelegationAt, OpenAt}
 use Rattle.nfs_forms.specs.declared.answer.Answer.TheVariants as answers
 use Rattle.nfs_forms.specs.declared.stateid.Stateid.{Stateid}
 use Rattle.nfs_forms.specs.declared.status.Refusal.{Refusal}
@@ -145,11 +147,21 @@ file_place_other : (filehandle : Option ℕ) → IsOther (place_of filehandle)
 file_place_other None = λ e. cc
 file_place_other (Some node) = tt
 
-pub returned_refusal : (journal : History) (state : State) (filehandle : Option ℕ) (args : Delegreturn) (refusal : Refusal) → Err refusal ≡ delegation_at journal state filehandle args → refusal ≢ refusals.Resource
-returned_refusal journal state filehandle args refusal same =
-    subst IsOther (sym same)
-    (then_other (place_of filehandle) _ (file_place_other filehandle) λ node.
-    delegation_other (delegation node) journal.epoch state args.stateid)
+returned_other : (journal : History) (state : State) (filehandle : Option ℕ) (args : Delegreturn) → IsOther (delegation_at journal state filehandle args)
+returned_other journal state filehandle args =
+    then_other (place_of filehandle) _ (file_place_other filehandle) λ node.
+    delegation_other (delegation node) journal.epoch state args.stateid
+
+returned_sendable : (args : Delegreturn) (state : State) (found : Result DelegationAt Refusal) → IsOther found → Decides (λ d. d ≡ Some (returning found)) state (ops.Delegreturn args) (Ok (returning found))
+returned_sendable args state (Err refusal) other = (refl, refusal_sendable (ops.Delegreturn args) refusal _ other refl, tt, tt)
+returned_sendable args state (Ok at) other = (refl, record { not_resource = λ same. absurd cc; opnum = refl; short = tt }, tt, tt)
+
+-- what is decided of a DELEGRETURN
+pub returned_decides : (journal : History) (state : State) (filehandle : Option ℕ) (args : Delegreturn) (decision : Decision) → decision ≡ returning (delegation_at journal state filehandle args)
+    → Decides (λ d. d ≡ delegreturn.rule journal state filehandle args) state (ops.Delegreturn args) (Ok decision)
+returned_decides journal state filehandle args decision is =
+    let P : Decision → Type 0 = λ d. Decides (λ d. d ≡ delegreturn.rule journal state filehandle args) state (ops.Delegreturn args) (Ok d) in
+    subst P (sym is) (returned_sendable args state (delegation_at journal state filehandle args) (returned_other journal state filehandle args))
 
 pub asked_refusal : (journal : History) (state : State) (filehandle : Option ℕ) (args : Lockt) (refusal : Refusal) → Err refusal ≡ lockt_file journal state filehandle args → refusal ≢ refusals.Resource
 asked_refusal journal state filehandle args refusal same =

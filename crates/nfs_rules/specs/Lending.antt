@@ -1,12 +1,11 @@
 -- Which delegation an OPEN is given (RFC 7530, section 10.4).
-use Rattle.std.specs.Prelude.{ℕ, ◌+◌, Bool, true, false, ◌||◌, List, [], ◌∷◌, Option, Some, None, is_some, if◌then◌else◌}
+use Rattle.std.specs.Prelude.{ℕ, ◌+◌, Bool, true, false, ◌||◌, List, [], ◌∷◌, Option, Some, None, if◌then◌else◌}
 use Rattle.std.specs.List.{list_all}
 use Rattle.nfs_forms.specs.declared.claim.Claim.{Claim}
 use Rattle.nfs_forms.specs.declared.claim.Claim.TheVariants as claims
 use Rattle.nfs_forms.specs.declared.client_id.ClientId.{ClientId}
 use Rattle.nfs_forms.specs.declared.open_delegation.OpenDelegation.{OpenDelegation}
 use Rattle.nfs_forms.specs.declared.open_delegation.OpenDelegation.TheVariants as delegations
-use Rattle.nfs_forms.specs.declared.open_owner.OpenOwner.{OpenOwner}
 use Rattle.nfs_forms.specs.declared.stateid.Stateid.{Stateid}
 use Rattle.nfs_operations.specs.declared.«open».Open.{Open}
 use Rattle.nfs_owners.specs.Registry.{Registry, record_of}
@@ -18,7 +17,6 @@ use Rattle.nfs_rules.specs.declared.passage.Passage.{Passage}
 use Rattle.nfs_rules.specs.declared.passage.Passage.TheVariants as passages
 use Rattle.nfs_share.specs.AllOpens.{delegations_of, opens_of}
 use Rattle.nfs_share.specs.Delegations.{can_delegate}
-use Rattle.nfs_share.specs.Opens.{open_of}
 use Rattle.nfs_share.specs.declared.delegation.DelegationKind.{DelegationKind}
 use Rattle.nfs_share.specs.declared.delegation.DelegationKind.TheVariants as kinds
 use Rattle.nfs_share.specs.declared.share.Share.{Share}

@@ -1,7 +1,7 @@
 -- How an OPEN without a refusal is granted; used only in the contracts of this crate's own functions.
 use Rattle.std.specs.Prelude.{ℕ, true, ◌&&◌, [], Option, Some, None, if◌then◌else◌}
 use Rattle.nfs_state.specs.Places.{has_state_place}
-use Rattle.nfs_rules.specs.Lending.{delegation_with, has_lending_place, lending_number}
+use Rattle.nfs_rules.specs.Lending.{delegation_with, lending_number}
 use Rattle.nfs_rules.specs.declared.passage.Passage.{Passage}
 use Rattle.nfs_rules.specs.operations.Open.{has_open, has_open_place, has_owner_place, has_places, rflags_of, stateid_after}
 use Rattle.nfs_state.specs.State.{State}

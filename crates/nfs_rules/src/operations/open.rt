@@ -212,11 +212,12 @@ fn grant(
     let Some((stateid, delegation)) = opened else {
         return Err(Shortage::Limit);
     };
+    let owner = args.owner.clone()?;
     Ok(Ruling {
         answer: ok_answer(alloc, passage, stateid, delegation),
         change: Change::Opens {
             node: opening.node,
-            owner: args.owner.clone()?,
+            owner,
             share: opening.share,
             delegation: kind,
         },
