@@ -1,9 +1,9 @@
 -- Delegations that are in nobody's way stay so, and no client comes to have two.
-use Rattle.std.proofs.Common.{inl, inr, ◌≡◌, ℕ, Bool, true, false, ◌&&◌, ◌||◌, not, cond, List, [], ◌∷◌, ◌++◌, filter, map, Some, refl, sym, ◌∙◌, ap}
+use Rattle.std.proofs.Common.{◌≡◌, ℕ, Bool, true, false, ◌&&◌, ◌||◌, not, cond, List, [], ◌∷◌, ◌++◌, filter, map, Some, refl, sym, ◌∙◌, ap}
 use Rattle.std.specs.Prelude.{◌==◌, IsFalse, is_none, is_some}
 use Rattle.std.specs.Cmp.{IsEquivalence, nat_eq_equiv}
-use Rattle.std.specs.List.{AllByRecursion, IsDistinct, list_any}
-use Rattle.std.proofs.lemmas.Bool.{and_parts, cases_Bool, cond_both, eqb-true, not-true, or_from, or_parts}
+use Rattle.std.specs.List.{AllByRecursion, list_any}
+use Rattle.std.proofs.lemmas.Bool.{and_parts, cond_both, eqb-true, not-true, or_from, or_parts}
 use Rattle.std.proofs.lemmas.List.Folds.{list_any-append}
 use Rattle.std.proofs.lemmas.Map.Keys.{IsDistinct-push, IsDistinct-head, IsDistinct-tail, IsDistinct-cons}
 use Rattle.nfs_forms.specs.ClientId.{is_same_client}
@@ -90,9 +90,9 @@ pub opening_apart : (owner : OpenOwner) (share : Share) (number : ℕ) (opens : 
     → IsFalse (has_conflict owner.client (uses.Open share) ds) → AreApart (with_opening owner share number opens) ds
 opening_apart owner share number opens ds apart clear = (
   cond_both (is_some (open_of owner opens)) (with_each (is_of owner) (after_open share) opens) (opens ++ first_open owner share number ∷ []) (AllByRecursion (IsFree ds))
-    (λ _. each_free ds (is_of owner) (after_open share) (λ o mine free. join_free ds owner share o clear mine free) opens apart.0)
-    (λ _. all_push (IsFree ds) opens (first_open owner share number) apart.0
-    (ap (λ s. has_conflict owner.client (uses.Open s) ds) (union-none share) ∙ clear)),
+      (λ _. each_free ds (is_of owner) (after_open share) (λ o mine free. join_free ds owner share o clear mine free) opens apart.0)
+      (λ _. all_push (IsFree ds) opens (first_open owner share number) apart.0
+      (ap (λ s. has_conflict owner.client (uses.Open s) ds) (union-none share) ∙ clear)),
   apart.1,
 )
 
@@ -133,12 +133,11 @@ module _ (client : ClientId) (file_use : FileUse) (moment : ℕ) where
 
   pub recalling_apart : (opens : List OpenState) (ds : List Delegation) → AreApart opens ds → AreApart opens (with_recalls client file_use moment ds)
   recalling_apart opens ds apart =
-      let back = map called_back ds in
-      (
+      let back = map called_back ds in (
         all_weaken (IsFree ds) (IsFree back) (λ o free. back_same o.owner.client (uses.Open (share_of o)) ds ∙ free) opens apart.0,
         all_map (StandsFree back) called_back ds
-        (all_weaken (StandsFree ds) (λ d. StandsFree back (called_back d))
-        (λ d free. back_keeps (StandsFree back) d (back_same d.client (uses.Delegation d.kind) ds ∙ free) (back_same d.client (uses.Delegation d.kind) ds ∙ free)) ds apart.1),
+            (all_weaken (StandsFree ds) (λ d. StandsFree back (called_back d))
+            (λ d free. back_keeps (StandsFree back) d (back_same d.client (uses.Delegation d.kind) ds ∙ free) (back_same d.client (uses.Delegation d.kind) ds ∙ free)) ds apart.1),
       )
 
   pub recalling_single : (ds : List Delegation) → OneEach ds → OneEach (with_recalls client file_use moment ds)
@@ -164,11 +163,10 @@ none_left p q (d ∷ ds) none =
 pub returning_apart : (test : Delegation → Bool) (opens : List OpenState) (ds : List Delegation) → AreApart opens ds → AreApart opens (without_lent test ds)
 returning_apart test opens ds apart =
     let keep = λ (d : Delegation). not (test d) in
-    let left = filter keep ds in
-    (
+    let left = filter keep ds in (
       all_weaken (IsFree ds) (IsFree left) (λ o free. none_left (conflicts o.owner.client (uses.Open (share_of o))) keep ds free) opens apart.0,
       AllByRecursion-filter (StandsFree left) keep ds
-      (all_weaken (StandsFree ds) (StandsFree left) (λ d free. none_left (conflicts d.client (uses.Delegation d.kind)) keep ds free) ds apart.1),
+          (all_weaken (StandsFree ds) (StandsFree left) (λ d free. none_left (conflicts d.client (uses.Delegation d.kind)) keep ds free) ds apart.1),
     )
 
 pub returning_single : (test : Delegation → Bool) (ds : List Delegation) → OneEach ds → OneEach (without_lent test ds)
@@ -206,19 +204,18 @@ lending_apart client kind number opens ds apart can =
     let all = ds ++ new ∷ [] in
     let parts = can_parts client kind opens ds can in
     let Unbarred = λ (o : OpenState). (not (is_of_client client o) && is_in_way kind (uses.Open (share_of o))) ≡ false in
-    let Clear = λ (d : Delegation). conflicts client (uses.Delegation kind) d ≡ false in
-    (
+    let Clear = λ (d : Delegation). conflicts client (uses.Delegation kind) d ≡ false in (
       all_weaken (λ o. Unbarred o × IsFree ds o) (IsFree all)
-      (λ o h. free_with o.owner.client (uses.Open (share_of o)) ds new h.1
-      (ap (λ b. not b && is_in_way kind (uses.Open (share_of o))) (same_client_comm client o.owner.client) ∙ h.0)) opens
-      (all_both Unbarred (IsFree ds) opens (all_fail (λ o. not (is_of_client client o) && is_in_way kind (uses.Open (share_of o))) opens parts.0) apart.0),
+          (λ o h. free_with o.owner.client (uses.Open (share_of o)) ds new h.1
+          (ap (λ b. not b && is_in_way kind (uses.Open (share_of o))) (same_client_comm client o.owner.client) ∙ h.0)) opens
+          (all_both Unbarred (IsFree ds) opens (all_fail (λ o. not (is_of_client client o) && is_in_way kind (uses.Open (share_of o))) opens parts.0) apart.0),
       all_push (StandsFree all) ds new
-      (all_weaken (λ d. Clear d × StandsFree ds d) (StandsFree all)
-      (λ d h. free_with d.client (uses.Delegation d.kind) ds new h.1
-      ((λ i. not (same_client_comm client d.client i) && way_comm kind d.kind i) ∙ h.0)) ds
-      (all_both Clear (StandsFree ds) ds (all_fail (conflicts client (uses.Delegation kind)) ds parts.2) apart.1))
-      (free_with client (uses.Delegation kind) ds new parts.2
-      (ap (λ b. not b && is_in_way kind (uses.Delegation kind)) (same_client_self client))),
+          (all_weaken (λ d. Clear d × StandsFree ds d) (StandsFree all)
+          (λ d h. free_with d.client (uses.Delegation d.kind) ds new h.1
+          ((λ i. not (same_client_comm client d.client i) && way_comm kind d.kind i) ∙ h.0)) ds
+          (all_both Clear (StandsFree ds) ds (all_fail (conflicts client (uses.Delegation kind)) ds parts.2) apart.1))
+          (free_with client (uses.Delegation kind) ds new parts.2
+          (ap (λ b. not b && is_in_way kind (uses.Delegation kind)) (same_client_self client))),
     )
 
 single_laws : IsEquivalence (λ (a b : Delegation). is_same_client a.client b.client)

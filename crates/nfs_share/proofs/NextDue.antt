@@ -40,10 +40,18 @@ module _ (after lease now : ℕ) where
       (there, due, all_push (λ e. IsTrue (is_due_above after lease now e) → d.number ≤ e.number) seen d (undue_above d.number seen none) (λ _. omega arith))
   due_more ds seen d (Some n) there due least =
       cond_both (nat_lt d.number n.number) (Some d) (Some n) (IsLeastOf ds (seen ++ d ∷ []))
-      (λ less. (there, due, all_push (λ e. IsTrue (is_due_above after lease now e) → d.number ≤ e.number) seen d
-      (lower_above n.number d.number seen (omega (arith, ltb-true d.number n.number less)) least.2) (λ _. omega arith)))
-      (λ not_less. (least.0, least.1, all_push (λ e. IsTrue (is_due_above after lease now e) → n.number ≤ e.number) seen d least.2
-      (λ _. omega (arith, ltb-false d.number n.number not_less))))
+      (λ less. (
+        there,
+        due,
+        all_push (λ e. IsTrue (is_due_above after lease now e) → d.number ≤ e.number) seen d
+            (lower_above n.number d.number seen (omega (arith, ltb-true d.number n.number less)) least.2) (λ _. omega arith),
+      ))
+      (λ not_less. (
+        least.0,
+        least.1,
+        all_push (λ e. IsTrue (is_due_above after lease now e) → n.number ≤ e.number) seen d least.2
+            (λ _. omega (arith, ltb-false d.number n.number not_less)),
+      ))
 
   undue_more : (ds seen : List Delegation) (d : Delegation) (next : Option Delegation) → is_due_above after lease now d ≡ false
       → IsLeastOf ds seen next → IsLeastOf ds (seen ++ d ∷ []) next
@@ -90,10 +98,18 @@ module _ (after lease now : ℕ) where
   file_more all seen node ds (Some n) (Some d) is one least =
       let here : DelegationAt = record { node = node; state = d } in
       cond_both (nat_lt d.number n.state.number) (Some here) (Some n) (IsLeast all (seen ++ ds ∷ []))
-      (λ less. (subst (λ xs. Contains xs d) (sym is) one.0, one.1, all_push (AreAbove d.number) seen ds
-      (all_weaken (AreAbove n.state.number) (AreAbove d.number) (λ xs. lower_above n.state.number d.number xs (omega (arith, ltb-true d.number n.state.number less))) seen least.2) one.2))
-      (λ not_less. (least.0, least.1, all_push (AreAbove n.state.number) seen ds least.2
-      (lower_above d.number n.state.number ds (omega (arith, ltb-false d.number n.state.number not_less)) one.2)))
+      (λ less. (
+        subst (λ xs. Contains xs d) (sym is) one.0,
+        one.1,
+        all_push (AreAbove d.number) seen ds
+            (all_weaken (AreAbove n.state.number) (AreAbove d.number) (λ xs. lower_above n.state.number d.number xs (omega (arith, ltb-true d.number n.state.number less))) seen least.2) one.2,
+      ))
+      (λ not_less. (
+        least.0,
+        least.1,
+        all_push (AreAbove n.state.number) seen ds least.2
+            (lower_above d.number n.state.number ds (omega (arith, ltb-false d.number n.state.number not_less)) one.2),
+      ))
 
   -- the loop comes by one more file
   pub file_at : (all : List (List Delegation)) (node : ℕ) (ds : List Delegation) (next new : Option DelegationAt) (found : Option Delegation) → node < length all

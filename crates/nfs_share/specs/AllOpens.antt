@@ -125,7 +125,7 @@ IsNextDue after lease now all None =
 IsNextDue after lease now all (Some next) = Contains (delegations_of next.node all) next.state
     × IsTrue (is_due_above after lease now next.state)
     × AllByRecursion (AllByRecursion (λ d.
-        IsTrue (is_due_above after lease now d) → next.state.number ≤ d.number)) all
+    IsTrue (is_due_above after lease now d) → next.state.number ≤ d.number)) all
 
 -- a delegation of the node's file takes no memory
 abbrev pub HasLendingRoomAt : ℕ → List FileOpens → Type 0

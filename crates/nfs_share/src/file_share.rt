@@ -315,14 +315,18 @@ impl FileShare {
     pub fn names_delegation(&self, stateid: Stateid) -> bool
         ensures { result ≡ list_any (is_stateid_of_delegation stateid) self.now.delegations }
     {
-        self.delegations.iter().any(|lent| lent.is_named_by(stateid))
+        self.delegations
+            .iter()
+            .any(|lent| lent.is_named_by(stateid))
     }
 
     /// Whether the client has a delegation.
     pub fn has_delegation(&self, client: ClientId) -> bool
         ensures { result ≡ has_delegation client self.now.delegations }
     {
-        self.delegations.iter().any(|lent| lent.is_of_client(client))
+        self.delegations
+            .iter()
+            .any(|lent| lent.is_of_client(client))
     }
 
     /// Whether a delegation of another client is in the way of this use by the client.

@@ -239,7 +239,9 @@ impl Opens {
             list_any (is_stateid_of_delegation stateid) f.delegations) self.now }
         ensures below { IfSome result (λ node. node < length self.now) }
     {
-        self.files.iter().position(|file| file.names_delegation(stateid))
+        self.files
+            .iter()
+            .position(|file| file.names_delegation(stateid))
     }
 
     /// Whether the client has a delegation of the node's file.
@@ -455,7 +457,10 @@ fn lent_at(node: u32, lent: Option<Delegation>) -> Option<DelegationFound>
 }
 
 // Of the two delegations, of which there may be none, the one with the lesser number.
-fn lesser(first: Option<DelegationFound>, second: Option<DelegationFound>) -> Option<DelegationFound>
+fn lesser(
+    first: Option<DelegationFound>,
+    second: Option<DelegationFound>,
+) -> Option<DelegationFound>
     ensures { option_map delegation_seen result
         ≡ lesser_at (option_map delegation_seen first) (option_map delegation_seen second) }
 {
