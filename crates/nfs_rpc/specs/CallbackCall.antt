@@ -47,7 +47,8 @@ callback_header xid program procedure principal = (
 abbrev pub null_call : ℕ → ℕ → CallHeader
 null_call xid program = callback_header xid program CB_NULL AuthNone
 
--- struct CB_COMPOUND4args { utf8str_cs tag; uint32_t minorversion; uint32_t callback_ident; nfs_cb_argop4 argarray<>; };
+-- struct CB_COMPOUND4args { utf8str_cs tag; uint32_t minorversion; uint32_t callback_ident;
+--   nfs_cb_argop4 argarray<>; };
 -- union nfs_cb_argop4 switch (unsigned argop) { case OP_CB_RECALL: CB_RECALL4args opcbrecall; /* and others */ };
 -- This is the form of a list with CB_RECALL alone, up to that operation's arguments.
 abbrev pub recall_list : Form (List ℕ × (ℕ × (ℕ × (Unit {0} × Unit {0}))))

@@ -45,8 +45,8 @@ cb_compound_head = u32 and opaque_bytes and u32
 abbrev pub recall_result : Form (Unit {0} × ℕ)
 recall_result = constant OP_CB_RECALL and u32
 
--- The results begin with that of CB_RECALL, whatever its status, unless there are none: a client that refuses the whole
--- COMPOUND, as for its minor version, runs no operation.
+-- The results begin with that of CB_RECALL, whatever its status, unless there are none: a client that refuses the
+-- whole COMPOUND, as for its minor version, runs no operation.
 abbrev pub HasResults : ℕ → List ℕ → Type 0
 HasResults zero bytes = Unit {0}
 HasResults (suc more) bytes = Holds recall_result bytes
@@ -71,8 +71,8 @@ IsBare state =
     (state ≡ ACCEPTED_PROG_UNAVAIL) ⊎ (state ≡ ACCEPTED_PROC_UNAVAIL)
     ⊎ (state ≡ ACCEPTED_GARBAGE_ARGS) ⊎ (state ≡ ACCEPTED_SYSTEM_ERR)
 
--- The record begins with a reply to the call of this xid. Each form of a reply is here (RFC 5531, section 9), so what has
--- another number for its kind or its state is none.
+-- The record begins with a reply to the call of this xid. Each form of a reply is here (RFC 5531, section 9), so what
+-- has another number for its kind or its state is none.
 abbrev pub IsReply : Bool → ℕ → List ℕ → Type 0
 IsReply compound xid bytes =
     ((status : ℕ) × IsAccepted xid ACCEPTED_SUCCESS (HasStatus compound status) bytes)

@@ -73,6 +73,7 @@ fn write_auths(out: &mut Vec<u8>, principal: Principal) -> Result<(), WireError>
     }
 }
 
+// A credential and a verifier that are both empty.
 #[tactic(auto, unfolding(xdr::specs::Writing::written_opaque, xdr::specs::Writing::written_number))]
 fn write_no_user(out: &mut Vec<u8>) -> Result<(), WireError>
     ensures auths { Writes out.old out.new result
@@ -83,6 +84,7 @@ fn write_no_user(out: &mut Vec<u8>) -> Result<(), WireError>
     write_two(out, &(AUTH_NONE, 0u32), &(AUTH_NONE, 0u32))
 }
 
+// A credential of AUTH_SYS with this user, and an empty verifier.
 #[tactic(auto, unfolding(crate::specs::AuthSys::auth_sys, xdr::specs::Writing::written_opaque, xdr::specs::Writing::written_number))]
 fn write_user(out: &mut Vec<u8>, uid: u32) -> Result<(), WireError>
     ensures auths { Writes out.old out.new result
