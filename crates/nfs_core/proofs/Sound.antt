@@ -8,7 +8,7 @@ use Rattle.std.proofs.lemmas.Slice.Eq.{bytes_eq-Decides}
 use Rattle.nfs_state.specs.Owners.{KnownOwner, confirmed_if_known, has_name, is_confirmed}
 use Rattle.nfs_state.specs.State.{State}
 use Rattle.nfs_core.specs.Safe.{bears}
-use Rattle.nfs_core.proofs.SafeLists.{all_always, all_filter, all_map, all_push, all_weaken, find_filtered, find_mapped, find_more, found_filtered, found_kept, found_map, found_more, pairs_filter}
+use Rattle.nfs_core.proofs.SafeLists.{all_always, all_filter, all_map, all_push, all_weaken, find_filtered, find_mapped, find_more, found_filtered, found_kept, found_map, found_more, pairs_filter, pairs_map}
 use Rattle.nfs_forms.specs.ClientId.{is_same_client}
 use Rattle.nfs_forms.specs.LockOwner.{is_same_lock_owner}
 use Rattle.nfs_forms.specs.OpenOwner.{is_same_owner}
@@ -19,9 +19,11 @@ use Rattle.nfs_locks.specs.AllLocks.{locks_of}
 use Rattle.nfs_locks.specs.Laws.{AllLocksAreCompatible}
 use Rattle.nfs_locks.specs.Locks.{ByteLocks, is_lock_of}
 use Rattle.nfs_locks.specs.Locks as locks
-use Rattle.nfs_owners.specs.Registry.{is_of, is_of_client, without_id}
+use Rattle.nfs_owners.specs.Registry.{after_mark, is_of, is_of_client, without_id}
 use Rattle.nfs_owners.specs.StateOwner.{is_same_kind, is_same_state_owner, lock_owner, open_owner}
 use Rattle.nfs_owners.specs.declared.client_record.ClientRecord.{ClientRecord}
+use Rattle.nfs_owners.specs.declared.client_record.PathMark.{PathMark}
+use Rattle.nfs_owners.specs.laws.Marks.{same_record}
 use Rattle.nfs_owners.specs.declared.state_owner.OwnerKind.{OwnerKind}
 use Rattle.nfs_owners.specs.declared.state_owner.OwnerKind.TheVariants as kinds
 use Rattle.nfs_owners.specs.declared.state_owner.StateOwner.{StateOwner}
@@ -365,3 +367,26 @@ live_expired client records owners alone live =
           (subst (λ c. is_same_client c client ≡ true) (equal_clients s.state.client o.name.client passes) of_owner))
       | inr other ↦ not_from_false (gone s) other
     ]) records alone h) owners live
+
+-- The path of a client is marked.
+
+pub marked_live : (number : ℕ) (path : PathMark) (client : ClientId) (records : List ClientRecord) → is_live_in records client ≡ true → is_live_in (map (after_mark number path) records) client ≡ true
+marked_live number path client records live =
+    found_map (λ r. is_same_client r.state.client client) (after_mark number path) (λ r same. ap (λ c. is_same_client c client) (same_record number path r).1 ∙ same) records live
+
+-- a mark leaves who is live
+pub live_marked : (number : ℕ) (path : PathMark) (records : List ClientRecord) (owners : List KnownOwner) → AreLive records owners → AreLive (map (after_mark number path) records) owners
+live_marked number path records owners live =
+    all_weaken (λ o. is_live_in records o.name.client ≡ true) (λ o. is_live_in (map (after_mark number path) records) o.name.client ≡ true)
+    (λ o h. marked_live number path o.name.client records h) owners live
+
+-- and of which client each id is
+pub single_marked : (number : ℕ) (path : PathMark) (records : List ClientRecord) → AreSingle records → AreSingle (map (after_mark number path) records)
+single_marked number path records single =
+    pairs_map HasSameClient (after_mark number path)
+    (λ r s same of.
+    let first = same_record number path r in
+    let second = same_record number path s in
+    let was : is_of r.id s ≡ true = subst (λ i. is_of i s ≡ true) first.0 (subst (λ i. bytes_eq i (after_mark number path r).id ≡ true) second.0 of) in
+    subst (λ c. is_same_client (after_mark number path s).state.client c ≡ true) (sym first.1)
+    (subst (λ c. is_same_client c r.state.client ≡ true) (sym second.1) (same was))) records single
