@@ -84,11 +84,11 @@ none_each = distinct_none (λ (a : Delegation) b. is_same_client a.client b.clie
 
 -- a change of the opens, or of the delegations, of one node
 apart_opens : (node : ℕ) (change : List OpenState → List OpenState) (opens : List (List OpenState)) (lent : List (List Delegation))
-    → ((ds : List Delegation) → AreApart (opens_of node opens) ds → ds ≡ delegations_of node lent → AreApart (change (opens_of node opens)) ds)
+    → (AreApart (opens_of node opens) (delegations_of node lent) → AreApart (change (opens_of node opens)) (delegations_of node lent))
     → AreApartIn opens lent → AreApartIn (with_opens node change opens) lent
 apart_opens node change opens lent keep apart = λ m.
     lists_where_set (λ xs. AreApart xs (delegations_of m lent)) m node opens (change (opens_of node opens)) (apart m)
-    (λ same. subst (λ k. AreApart (change (opens_of node opens)) (delegations_of k lent)) (sym same) (keep (delegations_of node lent) (apart node) refl))
+    (λ same. subst (λ k. AreApart (change (opens_of node opens)) (delegations_of k lent)) (sym same) (keep (apart node)))
 
 apart_lent : (node : ℕ) (change : List Delegation → List Delegation) (opens : List (List OpenState)) (lent : List (List Delegation))
     → (AreApart (opens_of node opens) (delegations_of node lent) → AreApart (opens_of node opens) (change (delegations_of node lent)))
@@ -198,7 +198,7 @@ opened_sound : StayApart → (node : ℕ) (owner : OpenOwner) (share : Share) (n
     → has_conflict owner.client (uses.Open share) (delegations_of node lent) ≡ false → AreApartIn opens lent → AreApartIn (with_opens node (with_opening owner share number) opens) lent
 opened_sound law node owner share number opens lent free apart =
     apart_opens node (with_opening owner share number) opens lent
-    (λ ds here same. law.try_open owner share number (opens_of node opens) ds here (subst (λ xs. has_conflict owner.client (uses.Open share) xs ≡ false) (sym same) free)) apart
+    (λ here. law.try_open owner share number (opens_of node opens) (delegations_of node lent) here free) apart
 
 delegations_granted : StayApart → StaySingle → (node : ℕ) (owner : OpenOwner) (share : Share) (lent : Option DelegationKind) (old : State)
     → is_live_in old.clients.confirmed owner.client ≡ true → MayOpen node owner share lent old → HasSoundDelegations old → HasSoundDelegations (with_state_change (changes.Opens node owner share lent) old)
@@ -232,18 +232,18 @@ delegations_changed law single (changes.Clients change) old ready sound h = dele
 delegations_changed law single (changes.Opens node owner share lent) old ready sound h =
     delegations_granted law single node owner share lent old (live_owner old sound (open_owner owner) ready.0) ready.1 h
 delegations_changed law single (changes.Confirms node number owner) old ready sound h = record {
-  apart = apart_opens node (with_each (is_numbered number) with_next_seqid) old.opens old.delegations (λ ds here _. law.advance (is_numbered number) (opens_of node old.opens) ds here) h.apart;
+  apart = apart_opens node (with_each (is_numbered number) with_next_seqid) old.opens old.delegations (λ here. law.advance (is_numbered number) (opens_of node old.opens) (delegations_of node old.delegations) here) h.apart;
   single = h.single;
   live = h.live;
 }
 delegations_changed law single (changes.Downgrades node number share) old ready sound h = record {
   apart = apart_opens node (with_each (is_numbered number) (after_downgrade share)) old.opens old.delegations
-      (λ ds here _. law.downgrade (is_numbered number) share (opens_of node old.opens) ds here) h.apart;
+      (λ here. law.downgrade (is_numbered number) share (opens_of node old.opens) (delegations_of node old.delegations) here) h.apart;
   single = h.single;
   live = h.live;
 }
 delegations_changed law single (changes.Closes node number) old ready sound h = record {
-  apart = apart_opens node (without (is_numbered number)) old.opens old.delegations (λ ds here _. law.removal (is_numbered number) (opens_of node old.opens) ds here) h.apart;
+  apart = apart_opens node (without (is_numbered number)) old.opens old.delegations (λ here. law.removal (is_numbered number) (opens_of node old.opens) (delegations_of node old.delegations) here) h.apart;
   single = h.single;
   live = h.live;
 }
