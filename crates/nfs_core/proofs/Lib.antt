@@ -11,6 +11,7 @@ pub mod SafeSums
 pub mod Safety
 pub mod Sound
 pub mod SoundClients
+pub mod SoundDelegations
 pub mod SoundKept
 pub mod SoundLimits
 pub mod SoundLocking
