@@ -15,6 +15,7 @@ use Rattle.nfs_rules.specs.Deciding.{Decides}
 use Rattle.nfs_rules.specs.declared.decision.Decision.{Decision}
 use Rattle.nfs_rules.specs.entries.Expire.{IsExpiry}
 use Rattle.nfs_rules.specs.operations.{AtMostOneDecision, IsPlain, IsRuled, IsRuledBy}
+use Rattle.nfs_rules.specs.operations.Delegreturn as delegreturn
 use Rattle.nfs_rules.specs.operations.Lockt as lockt
 use Rattle.nfs_rules.specs.operations.ReleaseLockowner as release
 use Rattle.nfs_rules.specs.operations.Setclientid as setclientid
@@ -28,6 +29,7 @@ use Rattle.nfs_owners.specs.Registration as registrations
 use Rattle.nfs_owners.specs.Registry.{record_of}
 use Rattle.nfs_owners.specs.declared.clients.client_change.ClientChange.{ClientChange}
 use Rattle.nfs_ranges.specs.declared.range.Range.{Range}
+use Rattle.nfs_share.specs.AllOpens.{DelegationAt}
 use Rattle.nfs_state.specs.Kept.{CanBeKept, kept_with}
 use Rattle.nfs_state.specs.declared.owner_change.OwnerChange.TheVariants as owner_changes
 use Rattle.nfs_xdr.specs.Names as names
@@ -123,7 +125,14 @@ releases old args =
     cond_both (not (is_some (record_of args.owner.client old.clients))) (release.refusal_of refusals.StaleClientId) _ P (λ _. refl)
     (λ _. cond_both (holds args.owner old.locks) (release.refusal_of refusals.LocksHeld) _ P (λ _. refl) (λ _. refl))
 
+returns : (found : Result DelegationAt Refusal) → (delegreturn.returning found).effect.owner ≡ owner_changes.Nothing
+returns (Err refusal) = refl
+returns (Ok at) = refl
+
 plain_owner : (op : Op) (journal : History) (old : State) (request : Request) (decision : Decision) → IsPlain op journal old request (Some decision) → decision.effect.owner ≡ owner_changes.Nothing
+plain_owner (ops.Delegreturn args) journal old request decision is =
+    let found = delegreturn.delegation_at journal old request.filehandle args in
+    ap (λ (d : Decision). d.effect.owner) (some_equal decision (delegreturn.returning found) is) ∙ returns found
 plain_owner (ops.Getattr mask) journal old request decision is = ap (λ (d : Decision). d.effect.owner) (some_equal decision _ is)
 plain_owner (ops.Setclientid args) journal old request decision is = registers decision _ is
 plain_owner (ops.SetclientidConfirm args) journal old request decision is = ap (λ (d : Decision). d.effect.owner) (some_equal decision _ is)
@@ -211,6 +220,8 @@ next_follows server (entries.Call call) effect next =
     let decision : Decision = record { answer = call.answer; effect = effect } in
     (answered_asked server.journal (meaning server.stored) call effect next.allowed, (next.below, (decision, next.allowed.rule)))
 next_follows server (entries.Expire expire) effect next = ((next.allowed.live, next.allowed.due), next.below)
+next_follows server (entries.Revoke revoke) effect next = ((effect, next.allowed), next.below)
+next_follows server (entries.Path path) effect next = (next.allowed.live, next.below)
 
 -- a client's end may come next
 pub expiry_next : (journal : History) (old : State) (expire : Expire) (effect : Effect) → length journal.entries < JOURNAL_LIMIT → IsExpiry journal old expire effect → IsNext journal old (entries.Expire expire) effect
