@@ -499,7 +499,7 @@ impl FileShare {
         recall_each(&mut self.delegations, client, file_use, moment);
     }
 
-    /// DELEGRETURN (RFC 7530, section 16.8): removes the delegation with this number, if there is one.
+    /// DELEGRETURN (RFC 7530, section 16.6): removes the delegation with this number, if there is one.
     pub fn give_back(&mut self, number: u32)
         ensures delegations { self.new.delegations
             ≡ without_lent (is_delegation_numbered number) self.old.delegations }
