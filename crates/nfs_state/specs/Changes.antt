@@ -54,8 +54,8 @@ with_owner_change (Restarts name) number old =
     record fresh { owners = with_record number (open_owner name) fresh.owners }
 with_owner_change (Drops name) number old = without name old
 
--- The state without the owners, the opens, the lock states and the delegations of a client that a confirmation replaces,
--- or that expires (RFC 7530, section 9.6).
+-- The state without the owners, the opens, the lock states and the delegations of a client that a confirmation
+-- replaces, or that expires (RFC 7530, section 9.6).
 abbrev pub without_client : ClientId → State → State
 without_client client old = record old {
   owners = filter (λ o. not (is_same_client o.name.client client)) old.owners;
@@ -137,7 +137,8 @@ with_state_change (changes.MarksPath client path) old =
 abbrev pub change_alone : Change → Effect
 change_alone change = record { owner = Nothing; change = change }
 
--- The state after what the entry itself tells of its change, beyond what the change has: no change needs any of that yet.
+-- The state after what the entry itself tells of its change, beyond what the change has: no change needs any of that
+-- yet.
 abbrev pub with_entry_told : Entry → Change → State → State
 with_entry_told entry change old = old
 
