@@ -11,9 +11,8 @@ from wire import (CLAIM_DELEGATE_CUR, CLAIM_PREVIOUS, EXCLUSIVE4, NewLocker, OPE
 
 MOMENT_LIMIT = 2**40
 
-# The statuses that an answer may have: the server's, and those that it gets with READ, WRITE and delegations (FBIG,
-# DELAY, LOCKED).
-STATUSES = set(Status) | {27, 10008, 10012}
+# The statuses that an answer may have: the server's, and those that it gets with READ and WRITE (FBIG, LOCKED).
+STATUSES = set(Status) | {27, 10012}
 
 # A request with its answer: when it came, who sent it, and the current filehandle's node, or None.
 Call = namedtuple("Call", "moment principal filehandle opnum arguments answer")
@@ -112,6 +111,7 @@ def setclientid_bytes(arguments):
 
 ARGUMENT_BYTES = {
     Opnum.CLOSE: lambda a: u32(a.seqid, *a.stateid),
+    Opnum.DELEGRETURN: lambda a: u32(*a.stateid),
     Opnum.GETATTR: lambda a: bitmap(a.mask),
     Opnum.LOCK: lambda a: u32(a.locktype, a.reclaim) + range_bytes(a) + locker_bytes(a.locker),
     Opnum.LOCKT: lambda a: u32(a.locktype) + range_bytes(a) + owner_bytes(a.owner),

@@ -16,7 +16,8 @@ from collections import Counter
 sys.dont_write_bytecode = True
 
 import wire
-from model import Server, handle_of, next_sequence_id
+from model import Server
+from states import handle_of, next_sequence_id
 from ranges import ALL_ONES, LAST_BYTE
 from wire import Opnum, Status, opaque, u32, u64
 

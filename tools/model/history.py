@@ -4,8 +4,8 @@ from collections import namedtuple
 from dataclasses import dataclass, field
 
 from journal import Recorder
-from model import OpenState, READ, WRITE
-from wire import Opnum
+from states import OpenState
+from wire import Opnum, READ, WRITE
 
 # The operations by which a state may end, beside the end of its client.
 ENDING = {Opnum.OPEN, Opnum.CLOSE, Opnum.RELEASE_LOCKOWNER}

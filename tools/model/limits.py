@@ -11,7 +11,8 @@ import time
 sys.dont_write_bytecode = True
 
 import wire
-from model import OWNERS_LIMIT, STATES_LIMIT, handle_of
+from model import OWNERS_LIMIT, STATES_LIMIT
+from states import handle_of
 from wire import Opnum, Status, opaque, u32, u64
 
 # A file more than each owner opens; many files keep the opens of each few.
