@@ -51,7 +51,8 @@ def outcome_of(server, order):
         case rows.Mark(client, is_up):
             return rows.Mark(client, is_up, is_marked(server, client, is_up))
         case rows.Revoke(moment):
-            return rows.Revoke(moment, server.revoke(moment))
+            found = server.due(moment)
+            return rows.Revoke(moment, None if server.revoke(moment) is None else found.number)
         case rows.Take():
             recall = server.take_recall()
             return rows.Take() if recall is None else rows.Take(recall_call(order.xid, recall))

@@ -101,9 +101,9 @@ class Delegating:
         found = self.due(now)
         if found is None:
             return None
-        entry = self.enter()
+        self.expect_entry()
         self.end_delegation(found)
-        return entry
+        return self.enter()
 
     def end_delegation(self, found):
         self.delegations = [it for it in self.delegations if it is not found]

@@ -404,10 +404,13 @@ class Server(Delegating):
         if not self.is_live(number):
             raise Unchanged(NOT_LIVE)
 
-    def enter(self):
-        """The number of the entry of a change."""
+    def expect_entry(self):
+        """The journal has room for one more."""
         if self.entries >= self.journal_limit:
             raise Unchanged(FULL)
+
+    def enter(self):
+        """Makes the entry of a change that was made: its number."""
         self.entries += 1
         return self.entries - 1
 
@@ -416,16 +419,16 @@ class Server(Delegating):
         self.expect_live(number)
         if seen + self.lease >= now:
             raise Unchanged(NOT_DUE)
-        entry = self.enter()
+        self.expect_entry()
         self.remove_client(number)
-        return entry
+        return self.enter()
 
     def mark_path(self, number, is_up):
         """Says that a client can be called back, or that it can't."""
         self.expect_live(number)
-        entry = self.enter()
+        self.expect_entry()
         self.record_where(True, lambda it: it.number == number).path = UP if is_up else DOWN
-        return entry
+        return self.enter()
 
     # Stateids (section 9.1.4).
 

@@ -199,15 +199,15 @@ def opens():
         ('directory "/" has no "e", and no file can be created', {"name": b"e", "how": Openhow(1, 0, ((), b""))}),
         ('the name is that of directory "/d"', {"name": b"d"}),
         ('file "/a" is there, and GUARDED4 creates a new one', {"how": Openhow(1, 1, ((), b""))}),
-        ('file "/a" is there, and EXCLUSIVE4 creates a new one', {"how": Openhow(1, 2, bytes(8))}),
-        ("the claim names a delegation, and there are none", {"claim": Claim(2, b"a", state(1))}))
+        ('file "/a" is there, and EXCLUSIVE4 creates a new one', {"how": Openhow(1, 2, bytes(8))}))
     seqid = 3
     for text, asked in refused:
         story.open(seqid, (text, "COMPOUND" if text.startswith("no filehandle") else "OPEN"), **asked)
         seqid += not text.startswith("no filehandle")
     other = "of the delegation's stateid: the stateid is of epoch 3, and this server's is 1"
-    # The last one, BAD_STATEID, didn't count.
-    story.open(seqid - 1, (other, STATEIDS), claim=Claim(2, b"a", state(1, epoch=3)))
+    story.open(seqid, (other, STATEIDS), claim=Claim(2, b"a", state(1, epoch=3)))
+    other = f"of the delegation's stateid: the stateid is that of state 1, an {OPEN_A}; a delegation is wanted here"
+    story.open(seqid, (other, STATEIDS), claim=Claim(2, b"a", state(1)))
     story.call(Opnum.GETATTR, Getattr((2,)), (refused[0][0], "COMPOUND"), None)
     return story
 

@@ -49,7 +49,7 @@ NO_END = "the line goes on after its message"
 NO_NUMBER = "a lease is 1 to 86,400 seconds, an epoch below 2^32, a moment below 2^40"
 NO_SWEEP = "no sweep: `sweep SECONDS expired COUNT kept COUNT`, and behind it maybe `revoked COUNT`"
 NO_MARK = "no mark of a path: `mark CLIENT up` or `mark CLIENT down`, and then `done` or `not live`"
-NO_REVOCATION = "no revocation: `revoke SECONDS none` or `revoke SECONDS entry NUMBER`"
+NO_REVOCATION = "no revocation: `revoke SECONDS none` or `revoke SECONDS state NUMBER`"
 NO_TAKE = "no recall that is taken: `take record` with its words, of which the first is its xid, or `take nothing`"
 NO_PENDING = "no number of recalls: `pending COUNT`"
 NO_FAULT = "no fault of a connection"
@@ -104,9 +104,9 @@ class Mark:
 
 @dataclass(frozen=True)
 class Revoke:
-    """A delegation is taken, if one is due; and the number of the entry that is to be made, or None."""
+    """A delegation is taken, if one is due; and the number of the state that it is to be, or None."""
     moment: int
-    entry: int = None
+    state: int = None
 
 
 @dataclass(frozen=True)
@@ -397,12 +397,12 @@ def mark_of(text):
 
 
 def revocation_of(text):
-    """The revocation that is written as SECONDS none or SECONDS entry NUMBER."""
+    """The revocation that is written as SECONDS none or SECONDS state NUMBER."""
     match [*words_of(text)]:
         case [seconds, "none"]:
             return Revoke(decimal(seconds, MOMENT_LIMIT, NO_NUMBER))
-        case [seconds, "entry", entry]:
-            return Revoke(decimal(seconds, MOMENT_LIMIT, NO_NUMBER), decimal(entry, 2**32, NO_REVOCATION))
+        case [seconds, "state", state]:
+            return Revoke(decimal(seconds, MOMENT_LIMIT, NO_NUMBER), decimal(state, 2**32, NO_REVOCATION))
     raise Wrong(NO_REVOCATION)
 
 
@@ -421,8 +421,8 @@ def order_line(order):
             return f"sweep {moment} expired {expired} kept {kept}" + (f" revoked {revoked}" if revoked else "")
         case Mark(client, is_up, is_live):
             return f"mark {client} {'up' if is_up else 'down'} {'done' if is_live else 'not live'}"
-        case Revoke(moment, entry):
-            return f"revoke {moment} " + ("none" if entry is None else f"entry {entry}")
+        case Revoke(moment, state):
+            return f"revoke {moment} " + ("none" if state is None else f"state {state}")
         case Take(record):
             return f"take record hex:{record.hex()}" if record else "take nothing"
         case Pending(count):
