@@ -3,6 +3,7 @@ and ended it. `reasons.py` and `events.py` ask it."""
 from collections import namedtuple
 from dataclasses import dataclass, field
 
+from entries import Call
 from journal import Recorder
 from states import OpenState
 from wire import Opnum, READ, WRITE
@@ -92,6 +93,11 @@ class History(Recorder):
             before = self.pairs.get(found.number, {})
             self.pairs[found.number] = {pair: before.get(pair, self.entries) for pair in found.pairs}
         return super().spelled(found)
+
+    def entry_words(self, number):
+        """An entry by its number, and the operation that it is of."""
+        entry = self.recorded[number]
+        return f"entry {number} ({entry.opnum.name})" if isinstance(entry, Call) else f"entry {number}"
 
     def since(self, opened, side, modes):
         """Which entry brought the last of these modes to what the open has on this side of its pairs: 0 is its

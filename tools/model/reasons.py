@@ -8,6 +8,7 @@ from collections import namedtuple
 
 from delegations import bars
 from entries import Call, Expire, Revoke
+from events import Events
 from history import History
 from journal import states
 from model import JOURNAL_LIMIT, NAME_LIMIT, SEQUENCED
@@ -16,7 +17,7 @@ from states import (Delegation, LockState, OpenState, Request, closed_by, confli
                     mode_of, next_sequence_id, replay, sequence_id_of, stateid_of)
 from wire import (BOTH, CLAIM_DELEGATE_CUR, CLAIM_DELEGATE_PREV, CLAIM_PREVIOUS, EXCLUSIVE4, GUARDED4, NewLocker,
                   OPEN4_CREATE, OPEN_DELEGATE_WRITE, OpenOwner, Opnum, READ, Status, WRITE)
-from words import opaque_words, place_words, principal_words
+from words import opaque_words, place_words, principal_words, purpose_of
 
 # What is answered, what stood in the way, and the heading of the rules.
 Reason = namedtuple("Reason", "status text heading")
@@ -30,15 +31,21 @@ KINDS = {OpenState: "an open", LockState: "a lock state", Delegation: "a delegat
 NAMED = 3
 
 
+# An entry with its number; if it is a call the reason of its answer, or None; and texts of what it does about
+# delegations.
+Told = namedtuple("Told", "number entry reason events")
+
+
 def reasons(journal, limit=JOURNAL_LIMIT):
-    """Each entry's number, the entry, and if it is a call the reason of its answer, or None; or WrongAnswer at the first
-    that can't follow."""
+    """What there is to say of each entry; or WrongAnswer at the first that can't follow."""
     following = states(journal, limit, History)
-    causes = Causes(next(following))
+    server = next(following)
+    causes, events = Causes(server), Events(server)
     for number, entry in enumerate(journal.entries):
         reason = causes.reason_of(entry) if isinstance(entry, Call) else None
+        events.begin(entry)
         next(following)
-        yield number, entry, reason
+        yield Told(number, entry, reason, list(events.texts(number, entry)))
 
 
 # Words.
@@ -92,9 +99,7 @@ class Causes:
     # Words that need the state.
 
     def entry_words(self, number):
-        """An entry by its number, and the operation that it is of."""
-        entry = self.server.recorded[number]
-        return f"entry {number} ({entry.opnum.name})" if isinstance(entry, Call) else f"entry {number}"
+        return self.server.entry_words(number)
 
     def end_words(self, number):
         """The entry by which a state ended, while its client stayed."""
@@ -109,8 +114,7 @@ class Causes:
     def state_words(self, state):
         place = self.place_words(state.file)
         if isinstance(state, Delegation):
-            purpose = "writing" if state.kind == OPEN_DELEGATE_WRITE else "reading"
-            return f"state {state.number}, a delegation of {place} for {purpose} to client {state.client}"
+            return f"state {state.number}, a delegation of {place} for {purpose_of(state.kind)} to client {state.client}"
         return f"state {state.number}, {KINDS[type(state)]} of {place} by {owner_words(state.owner)}"
 
     # What several operations have in common.
@@ -196,7 +200,7 @@ class Causes:
         if stateid.seqid > found.seqid:
             yield Reason(Status.BAD_STATEID, f"{stands}, and the stateid has the later {stateid.seqid}", STATEIDS)
 
-    def of_state(self, stateid, kind, file):
+    def of_state(self, stateid, kind, file, naming="the current filehandle that of"):
         """The same, but for its seqid."""
         found = self.server.looked_up(stateid)
         if found is None:
@@ -205,8 +209,7 @@ class Causes:
             text = f"the stateid is that of {self.state_words(found)}; {KINDS[kind]} is wanted here"
             yield Reason(Status.BAD_STATEID, text, STATEIDS)
         if found.file != file:
-            text = (f"the stateid is that of {self.state_words(found)}, and the current filehandle that of "
-                    f"{self.place_words(file)}")
+            text = f"the stateid is that of {self.state_words(found)}, and {naming} {self.place_words(file)}"
             yield Reason(Status.BAD_STATEID, text, STATEIDS)
 
     def of_range(self, arguments):
@@ -322,7 +325,7 @@ class Causes:
 
     def of_claimed_stateid(self, stateid, client, file):
         yield from self.of_stateid_client(stateid)
-        yield from self.of_state(stateid, Delegation, file)
+        yield from self.of_state(stateid, Delegation, file, "the OPEN names")
         found = self.server.looked_up(stateid)
         if found.client != client:
             text = f"it is that of {self.state_words(found)}, and the OPEN is one of client {client}"
