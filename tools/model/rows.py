@@ -414,19 +414,23 @@ def pending_of(text):
     raise Wrong(NO_PENDING)
 
 
-def order_line(order):
-    """An order as the line of a row; of a recall its record in hexadecimal."""
+def order_lines(order):
+    """An order as the lines of a row."""
     match order:
         case Sweep(moment, expired, kept, revoked):
-            return f"sweep {moment} expired {expired} kept {kept}" + (f" revoked {revoked}" if revoked else "")
+            return [f"sweep {moment} expired {expired} kept {kept}" + (f" revoked {revoked}" if revoked else "")]
         case Mark(client, is_up, is_live):
-            return f"mark {client} {'up' if is_up else 'down'} {'done' if is_live else 'not live'}"
+            return [f"mark {client} {'up' if is_up else 'down'} {'done' if is_live else 'not live'}"]
         case Revoke(moment, state):
-            return f"revoke {moment} " + ("none" if state is None else f"state {state}")
+            return [f"revoke {moment} " + ("none" if state is None else f"state {state}")]
         case Take(record):
-            return f"take record hex:{record.hex()}" if record else "take nothing"
+            return ["take record", f"  hex:{record[4:].hex()}"] if record else ["take nothing"]
         case Pending(count):
-            return f"pending {count}"
+            return [f"pending {count}"]
+
+
+def order_line(order):
+    return " ".join(word for line in order_lines(order) for word in line.split())
 
 
 ORDER_LINES = {"sweep": sweep_of, "mark": mark_of, "revoke": revocation_of, "pending": pending_of}
