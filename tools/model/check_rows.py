@@ -2,7 +2,8 @@
 """check_rows.py FOLDER|FILE.rows..: runs rows through the model, and compares its replies with those that the rows want.
 
 Rows are left out where the model can't judge them: those that use an operation that gets a rule later. The status is 1
-where a row differs or a file can't be read."""
+where a row differs, or a file can't be read; and where a row without orders would get something else from a server that
+finds nobody at the callback addresses: over TCP it calls there at any time."""
 import sys
 
 sys.dont_write_bytecode = True
@@ -11,18 +12,30 @@ import rows
 import wire
 from callbacks import recall_call
 from model import Server
-from states import NOT_LIVE, Unchanged
+from states import DOWN, NOT_LIVE, UNKNOWN, Unchanged
 from tree import DEFAULT, Refused, Tree
 
 
-def run(row):
+class Unreached(Server):
+    """A server whose clients can't be called back, which it finds out at once."""
+
+    def reply(self, record, refused=frozenset()):
+        found = super().reply(record, refused)
+        called = {recall.stateid.client for recall in self.recalls}
+        for it in self.records:
+            if it.is_confirmed and (it.path == UNKNOWN or it.number in called):
+                it.path = DOWN
+        return found
+
+
+def run(row, kind=Server):
     """For each connection what it gets: bytes, the fault that ends it, and what came of the orders meanwhile. And what
     has no rule yet."""
     try:
         tree = Tree(DEFAULT if row.document is None else row.document)
     except Refused as refused:
         return [(b"", f"tree refused ({refused.args[0]})", [])], set()
-    server = Server(tree, row.lease, row.epoch)
+    server = kind(tree, row.lease, row.epoch)
     return [converse(server, connection) for connection in row.connections], server.unknown
 
 
@@ -110,6 +123,10 @@ def main(paths):
                      if got[place:place + 1] != [wanted_of(connection)]]
             if wrong:
                 report(row, row.connections[wrong[0]], got[wrong[0]])
+            elif not row.is_ordering and run(row, Unreached)[0] != got:
+                print(f"{row.file}:{row.line}: it wants a delegation of a client that may have been called back, in vain: "
+                      f"{row.name}")
+                wrong = [0]
             agreed, differ = agreed + (not wrong), differ + bool(wrong)
     print(f"check_rows: {agreed} rows agree with the model, {differ} differ, {left_out} left out, "
           f"{unread} files not read")
