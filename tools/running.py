@@ -99,8 +99,8 @@ def take(driver, step, piece, has_room):
 
 
 def may_come_first(step, got):
-    """Whether this may come of a step, instead of what is wanted, where memory was refused to it. Of a sweep each client
-    that is live was removed, kept, or refused; and where delegations are left that are due, it has stopped."""
+    """Whether this may come of a step, instead of what is wanted, where memory was refused to it. Of a sweep each
+    client that is live was removed, kept, or refused; and where delegations are left that are due, it has stopped."""
     match got:
         case Swept(expired, kept, 0, refused, revoked, stopped):
             is_stopped = stopped == 1 and revoked < step.revoked
@@ -159,8 +159,8 @@ def run_again(row, **program):
 
 
 def run_shared(row, **program):
-    """Each part by a thread, with a state that threads share; and then without, which has to leave the same journal. Only
-    without, if the row orders what a state that threads share isn't told."""
+    """Each part by a thread, with a state that threads share; and then without, which has to leave the same journal.
+    Only without, if the row orders what a state that threads share isn't told."""
     if row.is_unshared:
         return run_once(row, **program)
     shared = run(row, SHARED, PIECE, **program)

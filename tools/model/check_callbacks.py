@@ -1,6 +1,6 @@
 #!/usr/bin/env python3
-"""check_callbacks.py: the records of callbacks, written out; what replies to them are; and where a client can be called.
-They were worked out from RFC 5531 and RFC 7531."""
+"""check_callbacks.py: the records of callbacks, written out; what replies to them are; and where a client can be
+called. They were worked out from RFC 5531 and RFC 7531."""
 import sys
 
 sys.dont_write_bytecode = True
@@ -18,8 +18,9 @@ RECORDS = [
     (recall_call(5, LENT), """8000005c 00000005 00000000 00000002 40000000 00000001 00000001
         00000000 00000000 00000000 00000000 00000000 00000000 00000001 00000001 00000004
         00000001 00000001 00000001 00000002 00000000 00000008 6e666831 00000001"""),
-    (recall_call(5, LENT._replace(principal=(1, 500))), """80000070 00000005 00000000 00000002 40000000 00000001 00000001
-        00000001 00000014 00000000 00000000 000001f4 00000000 00000000 00000000 00000000 00000000 00000000
+    (recall_call(5, LENT._replace(principal=(1, 500))), """
+        80000070 00000005 00000000 00000002 40000000 00000001 00000001 00000001 00000014 00000000 00000000 000001f4
+        00000000 00000000 00000000 00000000 00000000 00000000
         00000001 00000001 00000004 00000001 00000001 00000001 00000002 00000000 00000008 6e666831 00000001"""),
 ]
 XID = 5
@@ -47,7 +48,8 @@ REPLIES = [
     ("nothing", b"", UNREADABLE), ("an xid", u32(XID), UNREADABLE), ("another xid", u32(6, 1, 0, 0, 0, 0), UNREADABLE),
     ("a call", u32(XID, 0, 2), UNREADABLE), ("a reply of no kind", u32(XID, 1, 2), UNREADABLE),
     ("a verifier of 401 bytes", u32(XID, 1, 0, 0) + opaque(bytes(401)) + u32(0) + RECALLED, UNREADABLE),
-    ("no state of an accepted reply", HEAD + u32(6), UNREADABLE), ("no reason of a denial", u32(XID, 1, 1, 2), UNREADABLE),
+    ("no state of an accepted reply", HEAD + u32(6), UNREADABLE),
+    ("no reason of a denial", u32(XID, 1, 1, 2), UNREADABLE),
     ("PROG_MISMATCH that is cut", HEAD + u32(2, 1), UNREADABLE), ("RPC_MISMATCH that is cut", u32(XID, 1, 1, 0, 2),
                                                                    UNREADABLE),
     ("AUTH_BADCRED that is cut", u32(XID, 1, 1, 1), UNREADABLE), ("SUCCESS alone", HEAD + u32(0), UNREADABLE),
@@ -88,8 +90,8 @@ def main():
     found = list(differences())
     for line in found:
         print(f"check_callbacks: {line}")
-    print(f"check_callbacks: {len(RECORDS)} records, {len(REPLIES)} replies and {len(ADDRESSES)} addresses: {len(found)} "
-          "differ")
+    print(f"check_callbacks: {len(RECORDS)} records, {len(REPLIES)} replies and {len(ADDRESSES)} addresses: "
+          f"{len(found)} differ")
     return 1 if found else 0
 
 

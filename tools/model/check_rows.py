@@ -124,7 +124,7 @@ def main(paths):
             if wrong:
                 report(row, row.connections[wrong[0]], got[wrong[0]])
             elif not row.is_ordering and run(row, Unreached)[0] != got:
-                print(f"{row.file}:{row.line}: it wants a delegation of a client that may have been called back, in vain: "
+                print(f"{row.file}:{row.line}: it wants a delegation of a client that may have been called in vain: "
                       f"{row.name}")
                 wrong = [0]
             agreed, differ = agreed + (not wrong), differ + bool(wrong)

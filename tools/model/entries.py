@@ -7,8 +7,8 @@ from collections import namedtuple
 
 import wire
 from wire import (CLAIM_DELEGATE_CUR, CLAIM_PREVIOUS, EXCLUSIVE4, NewLocker, OPEN4_NOCREATE, OPEN_DELEGATE_NONE,
-                  OPEN_DELEGATE_WRITE, Opnum, READ_LT, Status, Unreadable, bitmap, opaque, read_lock_owner, read_stateid,
-                  u32, u64)
+                  OPEN_DELEGATE_WRITE, Opnum, READ_LT, Status, Unreadable, bitmap, opaque, read_lock_owner,
+                  read_stateid, u32, u64)
 
 MOMENT_LIMIT = 2**40
 

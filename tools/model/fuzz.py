@@ -399,8 +399,8 @@ def tell(counts, runs, calls):
     total = sum(number for what, number in counts.items() if isinstance(what, tuple))
     changes = counts[Opnum.LOCK, Status.OK] + counts[Opnum.LOCKU, Status.OK]
     asked = counts[Opnum.LOCKT, Status.OK] + counts[Opnum.LOCKT, Status.DENIED] + counts[Opnum.LOCK, Status.DENIED]
-    print(f"fuzz: {runs} runs of {calls} steps agree with the model: {total} operations on the state, of them {changes} "
-          f"changes of ranges and {asked} questions or refusals of them")
+    print(f"fuzz: {runs} runs of {calls} steps agree with the model: {total} operations on the state, of them "
+          f"{changes} changes of ranges and {asked} questions or refusals of them")
     for what in ("delegations for reading", "delegations for writing"):
         print(f"    {what}: {counts.pop(what, 0)}")
     for (opnum, status), number in sorted(counts.items()):

@@ -1,5 +1,5 @@
-"""A model that follows a journal and knows of what there is, and of what there was, which entries gave, moved, called back
-and ended it. `reasons.py` and `events.py` ask it."""
+"""A model that follows a journal and knows of what there is, and of what there was, which entries gave, moved, called
+back and ended it. `reasons.py` and `events.py` ask it."""
 from collections import namedtuple
 from dataclasses import dataclass, field
 

@@ -1,6 +1,7 @@
 #!/usr/bin/env python3
-"""The model in place of the program `rows`: orders from standard input, and what came of each to standard output, by the
-layouts of crates/rows/README.md. So rows can be run, and the tools that give orders be tried, without a built program:
+"""The model in place of the program `rows`: orders from standard input, and what came of each to standard output, by
+the layouts of crates/rows/README.md. So rows can be run, and the tools that give orders be tried, without a built
+program:
 
     tools/rows --program tools/model/ordered.py FILE.rows
 
@@ -57,8 +58,8 @@ class Input(wire.Reader):
 
 
 def limited(number, limit):
-    """The number, which has to be below the limit."""
-    if number >= limit:
+    """The number, which has to be from 0 on and below the limit."""
+    if not 0 <= number < limit:
         raise Invalid
     return number
 
@@ -87,7 +88,7 @@ class Session:
     def run(self):
         orders = [self.serve, self.sweep, self.mark, self.revoke, self.take, self.pending]
         while (number := self.input.next_order()) is not None:
-            orders[limited(number - 1 if number else len(orders), len(orders))]()
+            orders[limited(number - 1, len(orders))]()
         data = journal_bytes(self.server.journal())
         send(u32(len(data)) + data)
 

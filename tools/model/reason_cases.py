@@ -3,9 +3,9 @@ docs/RULES.md: what stands in the way, since which entry, and under which headin
 from journal import Recorder
 from journal_cases import CALLBACK, LAST, NO_CREATE, NOBODY, SOMEBODY
 from tree import DEFAULT, Tree
-from wire import (Claim, Close, Delegreturn, Getattr, KnownLocker, Lock, LockOwner, Lockt, Locku, NewLocker, Open, OpenConfirm,
-                  OpenDowngrade, OpenOwner, Openhow, Opnum, ReleaseLockowner, Setclientid, SetclientidConfirm,
-                  Stateid)
+from wire import (Claim, Close, Delegreturn, Getattr, KnownLocker, Lock, LockOwner, Lockt, Locku, NewLocker, Open,
+                  OpenConfirm, OpenDowngrade, OpenOwner, Openhow, Opnum, ReleaseLockowner, Setclientid,
+                  SetclientidConfirm, Stateid)
 
 ROOT, FILE, OTHER_FILE, DIRECTORY = 0, 1, 2, 3
 ALL = 2**64 - 1
@@ -390,7 +390,8 @@ def ends_of_delegations():
     bars = f"state 3, {A_DELEGATION} to client 1 since entry 9 (OPEN), keeps out any open of another client, and "
     story.server.moment = 10
     story.open(1, (bars + "is called back now", DELEGATIONS), b"B", 1, client=2)
-    story.tell(f"client 1 loses state 3, {A_DELEGATION}, as it is revoked; it was called back by entry 11 (OPEN), at 10")
+    lost = f"client 1 loses state 3, {A_DELEGATION}, as it is revoked; it was called back by "
+    story.tell(lost + "entry 11 (OPEN), at 10")
     story.server.revoke(101)
     ended = f"state 3, {A_DELEGATION} to client 1, was ended by entry 12, as it wasn't given back in time"
     story.give_back(state(3), (ended, STATEIDS))
@@ -412,8 +413,8 @@ def clients_with_delegations():
     """A delegation is state of its client, and goes where another one takes its place."""
     story = lent("clients with delegations")
     story.close(4, state(1, 3))
-    used = (f'the id "c1" is that of client 1, by AUTH_NONE, which has state: state 2, {A_DELEGATION} to client 1, since '
-            "entry 4 (OPEN)")
+    used = (f'the id "c1" is that of client 1, by AUTH_NONE, which has state: state 2, {A_DELEGATION} to client 1, '
+            "since entry 4 (OPEN)")
     story.introduce(verifier=2, because=(used, "SETCLIENTID"), principal=SOMEBODY)
     story.introduce(verifier=2)
     story.tell(f"client 1 loses state 2, {A_DELEGATION}, as the client is removed; it wasn't called back")

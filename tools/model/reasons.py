@@ -23,7 +23,8 @@ from words import opaque_words, place_words, principal_words, purpose_of
 Reason = namedtuple("Reason", "status text heading")
 
 OWNERS, STATEIDS, CLIENT_IDS, SHARE, RANGES, DELEGATIONS = (
-    "Owners and sequenced operations", "Stateids", "Client ids", "Share reservations", "Byte-range locks", "Delegations")
+    "Owners and sequenced operations", "Stateids", "Client ids", "Share reservations", "Byte-range locks",
+    "Delegations")
 
 MODES = {0: "nothing", READ: "READ", WRITE: "WRITE", BOTH: "READ and WRITE"}
 KINDS = {OpenState: "an open", LockState: "a lock state", Delegation: "a delegation"}
@@ -114,7 +115,8 @@ class Causes:
     def state_words(self, state):
         place = self.place_words(state.file)
         if isinstance(state, Delegation):
-            return f"state {state.number}, a delegation of {place} for {purpose_of(state.kind)} to client {state.client}"
+            lent = f"a delegation of {place} for {purpose_of(state.kind)} to client {state.client}"
+            return f"state {state.number}, {lent}"
         return f"state {state.number}, {KINDS[type(state)]} of {place} by {owner_words(state.owner)}"
 
     # What several operations have in common.

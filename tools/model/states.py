@@ -109,7 +109,7 @@ class LockState:
 
 @dataclass
 class Delegation:
-    """A file that is lent to a client, for reading or for writing (section 10.4). Its stateid has one seqid for good."""
+    """A file that is lent to a client, for reading or for writing (section 10.4). Its seqid is one for good."""
     client: int
     file: int
     kind: int
