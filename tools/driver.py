@@ -18,7 +18,7 @@ PROGRAM = os.path.join(TOP, "crates/rows/out/rows")
 # The ways to keep the state: each connection is served alone, with a core of its own; or each by a thread and a seat of
 # its own, with a state that they share.
 ALONE, SHARED = 0, 1
-SERVE, SWEEP = 1, 2
+SERVE, SWEEP, MARK, REVOKE, TAKE, PENDING = range(1, 7)
 # The seconds in which an order has to be answered, on however busy a machine.
 PATIENCE = 300
 # By the number of an error: the fault with which a connection ends.
@@ -30,8 +30,13 @@ Ended = namedtuple("Ended", "fault replies receipts")
 # What came of those that were served at once; and of the sweeps meanwhile: how many they were, and how many clients they
 # removed.
 Served = namedtuple("Served", "ended sweeps expired")
-# What came of a sweep.
+# What came of a sweep; of a mark, the number of an error, or 0; and of a revocation this, how many delegations were
+# revoked (0 or 1), and the number of the entry, or 0.
 Swept = namedtuple("Swept", "expired kept changed refused revoked stopped")
+Marked = namedtuple("Marked", "error")
+Revoked = namedtuple("Revoked", "error revoked entry")
+# The errors of changes that no call asks for: the client isn't live, the journal is full, memory is refused.
+NOT_LIVE, FULL, MEMORY = 1, 3, 4
 
 
 class Failed(Exception):
@@ -112,6 +117,26 @@ class Driver:
         """Looks through the leases, as at this moment."""
         self.send(u32(SWEEP) + u64(moment))
         return Swept(*[self.word() for _ in Swept._fields])
+
+    def mark(self, client, is_up):
+        """Says that a client can be called back, or that it can't."""
+        self.send(u32(MARK, client, is_up))
+        return Marked(self.word())
+
+    def revoke(self, moment):
+        """Takes the delegation that is due at this moment, if one is; only where each connection is served alone."""
+        self.send(u32(REVOKE) + u64(moment))
+        return Revoked(*[self.word() for _ in Revoked._fields])
+
+    def take_recall(self, xid):
+        """The record of the first recall that waits, with this xid; or nothing where none waits."""
+        self.send(u32(TAKE, xid))
+        return self.part()
+
+    def pending(self):
+        """How many recalls wait; only where each connection is served alone."""
+        self.send(u32(PENDING))
+        return self.word()
 
     def end(self):
         """Ends the input: the file of the journal."""

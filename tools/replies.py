@@ -99,6 +99,11 @@ OF_STATE = [("seqid", NUMBER), ("stateid", STATEID)]
 OF_DENIAL = [("offset", LONG), ("length", LONG), ("type", NUMBER), ("the owner's clientid", CLIENTID), ("owner", TEXT)]
 OF_OPEN = OF_STATE + [("atomic", ATOMIC), ("change before", CHANGE), ("change after", CHANGE), ("rflags", NUMBER),
                       ("attributes set", MASK), ("delegation", NUMBER)]
+# Of a delegation, by its kind.
+OF_DELEGATION = [("the delegation's seqid", NUMBER), ("the delegation's stateid", STATEID), ("recall", NUMBER)]
+OF_SPACE = [("limit's kind", NUMBER), ("limit", LONG)]
+OF_ACE = [("access list entry's type", NUMBER), ("its flag", NUMBER), ("its mask", NUMBER), ("its name", TEXT)]
+OF_KIND = {wire.OPEN_DELEGATE_READ: OF_DELEGATION + OF_ACE, wire.OPEN_DELEGATE_WRITE: OF_DELEGATION + OF_SPACE + OF_ACE}
 RESTS = {
     (Opnum.ACCESS, Status.OK): [("supported", NUMBER), ("access", NUMBER)],
     (Opnum.GETFH, Status.OK): [("filehandle", HANDLE)],
@@ -147,7 +152,9 @@ def take_result(reader, found):
     elif result.number == Opnum.SETATTR:
         take(reader, result.values, [("attributes set", MASK)])
     else:
-        take(reader, result.values, RESTS.get((result.number, status), []))
+        last = take(reader, result.values, RESTS.get((result.number, status), []))
+        if (result.number, status) == (Opnum.OPEN, Status.OK):
+            take(reader, result.values, OF_KIND.get(last, []))
 
 
 def take_denial(reader, head):

@@ -3,12 +3,12 @@ wrong."""
 from collections import namedtuple
 from functools import partial
 
-from driver import ALONE, Driver, Ended, Failed, SHARED, Swept
-from entries import Call
+from driver import ALONE, Driver, Ended, Failed, MEMORY, Marked, NOT_LIVE, Revoked, SHARED, Swept
+from entries import Call, Revoke as Entry
 from journal import NotJournal, read_journal
 from tree import DEFAULT
 
-from rows import Part, Sweep, words_beside
+from rows import Mark, ORDERS, Part, Pending, Revoke, Sweep, Take, order_line, words_beside
 
 # A read of the server asks for less than this, so that such pieces don't cut an input.
 WHOLE = 1 << 20
@@ -16,7 +16,7 @@ PIECE = 1000
 # The pieces that an input comes in; one of more bytes than SHORT comes in none of a few bytes.
 PIECES, SHORT = (WHOLE, PIECE, 3, 1), 10_000
 
-# What comes instead of what is wanted: by the place of a part or a sweep among the row's.
+# What comes instead of what is wanted: by the place of a part or an order among the row's.
 Wrong = namedtuple("Wrong", "place got")
 # How a run of a row goes: what is wrong, or None; and the file of the journal, which a refused tree leaves none of.
 Outcome = namedtuple("Outcome", "wrong journal")
@@ -24,8 +24,9 @@ Outcome = namedtuple("Outcome", "wrong journal")
 
 def run(row, way, piece, is_again=False, **program):
     """Runs a row on a server of its own. Its parts are served one after another; with `is_again`, one that goes wrong
-    is sent once more to the same server, as by a client that asks again where it was refused memory, and a sweep is
-    made once more, which removes the clients for whose end there was none."""
+    is sent once more to the same server, as by a client that asks again where it was refused memory; a sweep is made
+    once more, which removes the clients and takes the delegations for whose ends there was none; and so is a mark or a
+    revocation for which there was none."""
     # In the first way nobody looks at them.
     seats = 0 if way == ALONE else sum(isinstance(step, Part) for step in row.steps) * (2 if is_again else 1)
     document = DEFAULT if row.document is None else row.document
@@ -34,55 +35,108 @@ def run(row, way, piece, is_again=False, **program):
         if refused:
             got = Ended(f"tree refused ({refused})", b"", [])
             return Outcome(None if is_right(row.steps[0], got) else Wrong(0, got), None)
-        wrong = first_wrong(driver, row.steps, piece, is_again)
+        came = []
+        wrong = first_wrong(driver, row.steps, piece, is_again, came)
         journal = driver.end()
-        if driver.receipts != (calls_of(journal, driver.receipts) if way == SHARED else []):
-            raise Failed(f"the receipts {driver.receipts} aren't those of the journal's calls")
-        return Outcome(wrong, journal)
+        entries = entries_of(journal)
+        if entries is not None:
+            expect_receipts(driver.receipts, entries, way)
+        return Outcome(wrong or wrongly_revoked(row.steps, came, entries), journal)
 
 
-def calls_of(journal, otherwise):
-    """The numbers of the entries that are calls. A journal that can't be read is told where it is compared."""
+def entries_of(journal):
+    """The entries of a journal; or None, as one that can't be read is told where it is compared."""
     try:
-        entries = read_journal(journal).entries
+        return read_journal(journal).entries
     except NotJournal:
-        return otherwise
-    return [number for number, entry in enumerate(entries) if isinstance(entry, Call)]
+        return None
 
 
-def first_wrong(driver, steps, piece, is_again):
+def expect_receipts(receipts, entries, way):
+    """The receipts are those of the entries that are calls."""
+    calls = [number for number, entry in enumerate(entries) if isinstance(entry, Call)]
+    if receipts != (calls if way == SHARED else []):
+        raise Failed(f"the receipts {receipts} aren't those of the journal's calls")
+
+
+def wrongly_revoked(steps, came, entries):
+    """The first revocation whose entry is another one than the row wants, if one is."""
+    for place, (step, got) in enumerate(zip(steps, came)):
+        if isinstance(step, Revoke) and got.revoked and entries is not None:
+            if entries[got.entry:got.entry + 1] != [Entry(step.state, step.moment)]:
+                return Wrong(place, got)
+    return None
+
+
+def first_wrong(driver, steps, piece, is_again, came):
+    """The first step of which something else comes than is wanted, if there is one; and adds what came of each."""
     for place, step in enumerate(steps):
         got = take(driver, step, piece, is_again)
-        if is_again and isinstance(step, Sweep) and not is_counted(step, got):
-            return Wrong(place, got)
         if is_again and not is_right(step, got):
+            if not may_come_first(step, got):
+                return Wrong(place, got)
             got = after(got, take(driver, step, piece, is_again))
         if not is_right(step, got):
             return Wrong(place, got)
+        came.append(got)
     return None
 
 
 def take(driver, step, piece, has_room):
-    """What comes of a part or a sweep. Where there is room for the replies, none is lost that isn't refused."""
-    if isinstance(step, Sweep):
-        return driver.sweep(step.moment)
+    """What comes of a part or an order. Where there is room for the replies, none is lost that isn't refused."""
+    match step:
+        case Sweep(moment):
+            return driver.sweep(moment)
+        case Mark(client, is_up):
+            return driver.mark(client, is_up)
+        case Revoke(moment):
+            return driver.revoke(moment)
+        case Take():
+            return driver.take_recall(step.xid)
+        case Pending():
+            return driver.pending()
     return driver.serve([step.sent], step.moment, piece, rooms=[len(step.wanted) if has_room else 0]).ended[0]
 
 
-def is_counted(sweep, got):
-    """Whether each client that is live was removed, kept, or refused for want of memory."""
-    return got == Swept(got.expired, got.kept, 0, sweep.expired + sweep.kept - got.expired - got.kept, 0, 0)
+def may_come_first(step, got):
+    """Whether this may come of a step, instead of what is wanted, where memory was refused to it. Of a sweep each
+    client that is live was removed, kept, or refused; and where delegations are left that are due, it has stopped."""
+    match got:
+        case Swept(expired, kept, 0, refused, revoked, stopped):
+            is_stopped = stopped == 1 and revoked < step.revoked
+            return expired + kept + refused == step.expired + step.kept and (is_stopped or revoked == step.revoked)
+        case Marked(error) | Revoked(error, 0, 0):
+            return error == MEMORY
+    return isinstance(step, Part)
 
 
 def after(first, second):
-    """What came of a step that was taken twice: the clients that a sweep removed are those of both times."""
-    return second._replace(expired=first.expired + second.expired) if isinstance(second, Swept) else second
+    """What came of a step that was taken twice: what a sweep removed and took is that of both times."""
+    if not isinstance(second, Swept):
+        return second
+    return second._replace(expired=first.expired + second.expired, revoked=first.revoked + second.revoked)
+
+
+def wanted_of(step):
+    """What is to come of an order."""
+    match step:
+        case Sweep(_, expired, kept, revoked):
+            # Nobody else renews in between, and there is memory and room in the journal.
+            return Swept(expired, kept, changed=0, refused=0, revoked=revoked, stopped=0)
+        case Mark(_, _, is_live):
+            return Marked(0 if is_live else NOT_LIVE)
+        case Take(record):
+            return record
+        case Pending(count):
+            return count
 
 
 def is_right(step, got):
-    if isinstance(step, Sweep):
-        # Nobody else renews in between, and there is memory and room in the journal.
-        return got == Swept(step.expired, step.kept, changed=0, refused=0, revoked=0, stopped=0)
+    if isinstance(step, Revoke):
+        # Which delegation it is, the entry says.
+        return got[:2] == (0, step.state is not None)
+    if isinstance(step, ORDERS):
+        return got == wanted_of(step)
     return (got.replies, got.fault) == (step.wanted, step.fault)
 
 
@@ -105,7 +159,10 @@ def run_again(row, **program):
 
 
 def run_shared(row, **program):
-    """Each part by a thread, with a state that threads share; and then without, which has to leave the same journal."""
+    """Each part by a thread, with a state that threads share; and then without, which has to leave the same journal.
+    Only without, if the row orders what a state that threads share isn't told."""
+    if row.is_unshared:
+        return run_once(row, **program)
     shared = run(row, SHARED, PIECE, **program)
     if shared.wrong is not None:
         return lines_of(row, shared.wrong)
@@ -117,6 +174,8 @@ def run_shared(row, **program):
 
 def run_shared_again(row, **program):
     """By threads, and once more where it goes wrong."""
+    if row.is_unshared:
+        return run_again(row, **program)
     return lines_of(row, run(row, SHARED, PIECE, is_again=True, **program).wrong)
 
 
@@ -132,12 +191,16 @@ def lines_of(row, wrong, piece=WHOLE):
     if wrong is None:
         return []
     step = row.steps[wrong.place]
-    return list(lines_of_sweep(step, wrong.got) if isinstance(step, Sweep) else lines_of_part(step, wrong.got, piece))
+    return list(lines_of_order(step, wrong.got) if isinstance(step, ORDERS) else lines_of_part(step, wrong.got, piece))
 
 
-def lines_of_sweep(sweep, got):
-    yield f"    sweep {sweep.moment}: wanted expired {sweep.expired} kept {sweep.kept}"
-    yield f"    got expired {got.expired} kept {got.kept} changed {got.changed} refused {got.refused}"
+def lines_of_order(order, got):
+    yield f"    wanted {order_line(order)}"
+    if isinstance(order, Take):
+        yield from words_beside(order.record, got, "got")
+    else:
+        names = got._asdict() if isinstance(got, tuple) else {"pending": got}
+        yield "    got " + " ".join(f"{name} {number}" for name, number in names.items())
 
 
 def lines_of_part(part, got, piece):

@@ -7,7 +7,8 @@ import messages  # It makes the model's modules known.
 
 from entries import Call, Expire, MOMENT_LIMIT
 from journal import states
-from model import Refusal, Result, Server
+from model import Server
+from states import Refusal, Result
 from wire import Opnum, Status, split_records, u32
 
 

@@ -9,7 +9,7 @@ import tempfile
 import threading
 import time
 
-from entries import Expire, NotJournal, Path, entry_bytes
+from entries import Expire, NotJournal, entry_bytes
 from journal import Growing, head_bytes, journal_bytes
 from journal_cases import sample, small, with_words
 from wire import u32
@@ -169,9 +169,6 @@ def try_explained(room):
     path = room.put("unlawful.part", beginning_of(unlawful))
     for tool, words, shown_lines in (("explain", [path], lines), ("show_journal", ["--lawful", path], [])):
         room.expect(tool, words, shown_lines, 1, "fault: wrong answer at entry 5\n")
-    unknown = confirmed._replace(entries=[*confirmed.entries, Path(1, 1)])
-    path = room.put("unknown.part", beginning_of(unknown))
-    room.expect("show_journal", ["--lawful", path], [], 1, "fault: no rule yet at entry 3: Path\n")
 
 
 def following(path):

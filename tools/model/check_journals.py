@@ -21,7 +21,7 @@ from check_beginnings import beginnings, check_beginnings
 from check_reasons import Explained, check_stories
 from check_rows import converse
 from entries import ARGUMENT_BYTES, Call, Expire, NotJournal, RESTS, answer_bytes, entry_bytes
-from journal import Recorder, STEPS, audit, head_bytes, journal_bytes, read_journal, verdict
+from journal import Recorder, audit, head_bytes, journal_bytes, read_journal, verdict
 from journal_cases import (NOT_JOURNAL, all_answers, broken_answers, broken_entries, broken_heads, broken_lengths,
                            broken_nodes, broken_operations, broken_padding, file_of, other_lengths, sample,
                            small, verdicts, whole_files, written_out)
@@ -225,17 +225,6 @@ def check_sample():
 
 # What a program says.
 
-def verdict_of_program(data):
-    """What a program has to say of the file: the model's verdict, but that the program has no form for kinds of entries
-    without a rule, which the model reads."""
-    try:
-        if any(type(entry) not in STEPS for entry in read_journal(data).entries):
-            return False, NOT_JOURNAL
-    except NotJournal:
-        pass
-    return verdict(data)
-
-
 def files_of_cases():
     """The files that are no row's, with their names."""
     for broken in BROKEN:
@@ -252,7 +241,7 @@ def files_of_cases():
 
 def check_program(program, judged, written):
     """How many things are wrong with the program: with what it says of files, and with the files that it writes."""
-    cases = [(name, data, verdict_of_program(data)) for name, data in files_of_cases()]
+    cases = [(name, data, verdict(data)) for name, data in files_of_cases()]
     for nodes, is_given in node_lists():
         cases.append((f"the nodes {nodes}", file_of([], nodes), (True, "lawful: 0 entries") if is_given else
                       (False, NOT_JOURNAL)))

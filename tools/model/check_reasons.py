@@ -25,7 +25,7 @@ class Explained:
 
     def wrong_with(self, journal):
         """What is wrong with the reasons for a journal's answers."""
-        for number, entry, reason in reasons(journal):
+        for number, entry, reason, _ in reasons(journal):
             if not isinstance(entry, Call):
                 continue
             status = Status.OK if reason is None else reason.status
@@ -46,7 +46,14 @@ def check_stories():
         journal = story.server.journal()
         wrong += [f"{story.name}: {what}" for what in explained.wrong_with(journal)]
         found = {number: (reason.text, reason.heading)
-                 for number, entry, reason in reasons(journal) if is_refusal(entry) and reason is not None}
-        wrong += [f"{story.name}: entry {number} is explained by {found.get(number)}, not {story.wanted.get(number)}"
-                  for number in sorted({*found, *story.wanted}) if found.get(number) != story.wanted.get(number)]
+                 for number, entry, reason, _ in reasons(journal) if is_refusal(entry) and reason is not None}
+        wrong += differences(story.name, "is explained by", found, story.wanted)
+        events = {told.number: told.events for told in reasons(journal) if told.events}
+        wrong += differences(story.name, "does", events, story.events)
     return wrong
+
+
+def differences(name, what, found, wanted):
+    """What is said of entries, by their numbers, beside what is wanted."""
+    return [f"{name}: entry {number} {what} {found.get(number)}, not {wanted.get(number)}"
+            for number in sorted({*found, *wanted}) if found.get(number) != wanted.get(number)]

@@ -2,57 +2,101 @@
 """check_rows.py FOLDER|FILE.rows..: runs rows through the model, and compares its replies with those that the rows want.
 
 Rows are left out where the model can't judge them: those that use an operation that gets a rule later. The status is 1
-where a row differs or a file can't be read."""
+where a row differs, or a file can't be read; and where a row without orders would get something else from a server that
+finds nobody at the callback addresses: over TCP it calls there at any time."""
 import sys
 
 sys.dont_write_bytecode = True
 
 import rows
 import wire
-from model import Server, Swept
+from callbacks import recall_call
+from model import Server
+from states import DOWN, NOT_LIVE, UNKNOWN, Unchanged
 from tree import DEFAULT, Refused, Tree
 
 
-def run(row):
-    """For each connection what it gets: bytes, the fault that ends it, and how many clients each sweep removes and
-    keeps. And what has no rule yet."""
+class Unreached(Server):
+    """A server whose clients can't be called back, which it finds out at once."""
+
+    def reply(self, record, refused=frozenset()):
+        found = super().reply(record, refused)
+        called = {recall.stateid.client for recall in self.recalls}
+        for it in self.records:
+            if it.is_confirmed and (it.path == UNKNOWN or it.number in called):
+                it.path = DOWN
+        return found
+
+
+def run(row, kind=Server):
+    """For each connection what it gets: bytes, the fault that ends it, and what came of the orders meanwhile. And what
+    has no rule yet."""
     try:
         tree = Tree(DEFAULT if row.document is None else row.document)
     except Refused as refused:
         return [(b"", f"tree refused ({refused.args[0]})", [])], set()
-    server = Server(tree, row.lease, row.epoch)
+    server = kind(tree, row.lease, row.epoch)
     return [converse(server, connection) for connection in row.connections], server.unknown
 
 
 def converse(server, connection):
     """Sends a connection's bytes to the server, and does in between what the row says."""
     records, fault = wire.split_records(connection.sent)
-    replies, swept, done = [], [], 0
+    replies, done, ordered = [], 0, []
     server.moment = connection.moment
     for place, stop in [*connection.stops, (len(connection.sent), server.moment)]:
         count = len(wire.split_records(connection.sent[:place])[0])
         replies += [server.reply(record) for record in records[done:count]]
         done = count
-        if isinstance(stop, rows.Sweep):
-            swept.append(server.sweep(stop.moment))
+        if isinstance(stop, rows.ORDERS):
+            ordered.append(outcome_of(server, stop))
         else:
             server.moment = stop
-    return b"".join(wire.record(reply) for reply in replies if reply is not None), fault, swept
+    return b"".join(wire.record(reply) for reply in replies if reply is not None), fault, ordered
+
+
+def outcome_of(server, order):
+    """The order, with what came of it in the place of what is wanted."""
+    match order:
+        case rows.Sweep(moment):
+            swept = server.sweep(moment)
+            return rows.Sweep(moment, swept.expired, swept.kept, swept.revoked)
+        case rows.Mark(client, is_up):
+            return rows.Mark(client, is_up, is_marked(server, client, is_up))
+        case rows.Revoke(moment):
+            found = server.due(moment)
+            return rows.Revoke(moment, None if server.revoke(moment) is None else found.number)
+        case rows.Take():
+            recall = server.take_recall()
+            return rows.Take() if recall is None else rows.Take(recall_call(order.xid, recall))
+        case rows.Pending():
+            return rows.Pending(len(server.pending()))
+
+
+def is_marked(server, client, is_up):
+    """Whether the client is live; then its path is marked."""
+    try:
+        server.mark_path(client, is_up)
+    except Unchanged as why:
+        if why.args != (NOT_LIVE,):
+            raise
+        return False
+    return True
 
 
 def wanted_of(connection):
-    sweeps = [stop for _, stop in connection.stops if isinstance(stop, rows.Sweep)]
-    return connection.wanted, connection.fault, [Swept(sweep.expired, sweep.kept) for sweep in sweeps]
+    ordered = [stop for _, stop in connection.stops if isinstance(stop, rows.ORDERS)]
+    return connection.wanted, connection.fault, ordered
 
 
 def report(row, connection, got):
     print(f"{row.file}:{row.line}: {row.name}")
-    replies, fault, swept = got
+    replies, fault, ordered = got
     if fault != connection.fault:
         print(f"    ends: wanted {connection.fault}, the model {fault}")
-    wanted = wanted_of(connection)[2]
-    if swept != wanted:
-        print(f"    sweeps: wanted {wanted}, the model {swept}")
+    for wanted, came in zip(wanted_of(connection)[2], ordered):
+        if came != wanted:
+            print(f"    wanted {rows.order_line(wanted)}, the model {rows.order_line(came)}")
     rows.show_difference(connection.wanted, replies, "model")
 
 
@@ -79,6 +123,10 @@ def main(paths):
                      if got[place:place + 1] != [wanted_of(connection)]]
             if wrong:
                 report(row, row.connections[wrong[0]], got[wrong[0]])
+            elif not row.is_ordering and run(row, Unreached)[0] != got:
+                print(f"{row.file}:{row.line}: it wants a delegation of a client that may have been called in vain: "
+                      f"{row.name}")
+                wrong = [0]
             agreed, differ = agreed + (not wrong), differ + bool(wrong)
     print(f"check_rows: {agreed} rows agree with the model, {differ} differ, {left_out} left out, "
           f"{unread} files not read")

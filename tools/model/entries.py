@@ -6,14 +6,14 @@ There is one spelling: what is read here is written again by the same bytes, so 
 from collections import namedtuple
 
 import wire
-from wire import (CLAIM_DELEGATE_CUR, CLAIM_PREVIOUS, EXCLUSIVE4, NewLocker, OPEN4_NOCREATE, Opnum, READ_LT, Status,
-                  Unreadable, bitmap, opaque, read_lock_owner, read_stateid, u32, u64)
+from wire import (CLAIM_DELEGATE_CUR, CLAIM_PREVIOUS, EXCLUSIVE4, NewLocker, OPEN4_NOCREATE, OPEN_DELEGATE_NONE,
+                  OPEN_DELEGATE_WRITE, Opnum, READ_LT, Status, Unreadable, bitmap, opaque, read_lock_owner,
+                  read_stateid, u32, u64)
 
 MOMENT_LIMIT = 2**40
 
-# The statuses that an answer may have: the server's, and those that it gets with READ, WRITE and delegations (FBIG,
-# DELAY, LOCKED).
-STATUSES = set(Status) | {27, 10008, 10012}
+# The statuses that an answer may have: the server's, and those that it gets with READ and WRITE (FBIG, LOCKED).
+STATUSES = set(Status) | {27, 10012}
 
 # A request with its answer: when it came, who sent it, and the current filehandle's node, or None.
 Call = namedtuple("Call", "moment principal filehandle opnum arguments answer")
@@ -112,6 +112,7 @@ def setclientid_bytes(arguments):
 
 ARGUMENT_BYTES = {
     Opnum.CLOSE: lambda a: u32(a.seqid, *a.stateid),
+    Opnum.DELEGRETURN: lambda a: u32(*a.stateid),
     Opnum.GETATTR: lambda a: bitmap(a.mask),
     Opnum.LOCK: lambda a: u32(a.locktype, a.reclaim) + range_bytes(a) + locker_bytes(a.locker),
     Opnum.LOCKT: lambda a: u32(a.locktype) + range_bytes(a) + owner_bytes(a.owner),
@@ -136,21 +137,32 @@ def read_denied(reader):
 
 
 def read_delegation(reader):
-    """What the server can't choose of a delegation is fixed: it isn't called back, its space is 65,536 bytes, and its
-    access list entry permits nobody anything."""
-    kind = reader.one_of(3)
-    if kind != 0:
-        read_stateid(reader)
+    """Its kind, and its stateid if there is one. What the server can't choose of a delegation is fixed: it isn't called
+    back, its space is 65,536 bytes, and its access list entry permits nobody anything."""
+    kind, stateid = reader.one_of(3), None
+    if kind != OPEN_DELEGATE_NONE:
+        stateid = read_stateid(reader)
         reader.fixed_words(0)
-    if kind == 2:
+    if kind == OPEN_DELEGATE_WRITE:
         reader.fixed_words(1, 0, 65536)
-    if kind != 0:
+    if kind != OPEN_DELEGATE_NONE:
         reader.fixed_words(0, 0, 0, 0)
+    return kind, stateid
 
 
 def read_open_answer(reader):
+    """The delegation that it brings."""
     read_stateid(reader), reader.one_of(2), reader.u64(), reader.u64()
-    reader.u32(), reader.bitmap(), read_delegation(reader)
+    reader.u32(), reader.bitmap()
+    return read_delegation(reader)
+
+
+def delegation_given(entry):
+    """The kind and the stateid of the delegation that an entry gives, or None."""
+    if not isinstance(entry, Call) or (entry.answer.number, entry.answer.status) != (Opnum.OPEN, Status.OK):
+        return None
+    kind, stateid = read_open_answer(StrictReader(entry.answer.rest))
+    return None if stateid is None else (kind, stateid)
 
 
 RESTS = {

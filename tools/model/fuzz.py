@@ -1,28 +1,39 @@
 #!/usr/bin/env python3
-"""fuzz.py PROGRAM [--seed N] [--changes N] [--calls N] [--jobs N]: random calls to a built nfs4state, whose replies are
-compared with the model's, word by word, until so many LOCKs and LOCKUs were OK.
+"""fuzz.py [PROGRAM] [--seed N] [--changes N] [--calls N] [--jobs N]: random calls to a built `rows`, and between them
+orders: sweeps, marks of paths, revocations, and recalls that are taken. Replies, outcomes and the journal are compared
+with the model's, until so many LOCKs and LOCKUs were OK.
 
-Each run is one server and one connection. Most operations are LOCK, LOCKU and LOCKT, of a few lock owners of two clients,
-at the first and the last bytes; the others that ask the state come too. Each operation is made when the model comes to
-it, so that most of them name what is there by then; some are a little off, and some are an earlier one again. At a
-difference the calls that lead to it are printed as a row, without those that it needs not, and the status is 1."""
+Each run is one server and one connection. In half of the runs most operations are LOCK, LOCKU and LOCKT, of a few lock
+owners of two clients, at the first and the last bytes; in the others most are OPEN, CLOSE and DELEGRETURN of three
+clients, which get delegations and are called back. The other operations that ask the state come too. Each operation is
+made when the model comes to it, so that most of them name what is there by then; some are a little off, and some are an
+earlier one again. At a difference the steps that lead to it are printed as a row, without those that it needs not, and
+the status is 1."""
 import argparse
 import multiprocessing
+import os
 import random
-import subprocess
 import sys
 from collections import Counter
 
 sys.dont_write_bytecode = True
+sys.path.append(os.path.join(os.path.dirname(os.path.abspath(__file__)), ".."))
 
+import rows
 import wire
-from model import Server, handle_of, next_sequence_id
+from check_rows import outcome_of
+from driver import ALONE, PROGRAM, SHARED
+from journal import Recorder, journal_bytes
 from ranges import ALL_ONES, LAST_BYTE
+from rows import Mark, Part, Pending, Revoke, Row, Sweep, Take
+from running import WHOLE, run as run_row
+from states import Delegation, LockState, handle_of, next_sequence_id
+from tree import DEFAULT, Tree
 from wire import Opnum, Status, opaque, u32, u64
 
 NAMES = [b"a", b"b", b"d", b"c", b"e", b"", b"x" * 256]
 FILES = [1, 1, 1, 2]
-CLIENTS = [b"c1", b"c2"]
+CLIENTS = [b"c1", b"c2", b"c3"]
 OPEN_OWNERS = [b"A", b"B"]
 LOCK_OWNERS = [b"x", b"y", b"xa", b"A"]
 # The ends of ranges.
@@ -30,12 +41,16 @@ BYTES = [*range(12), *range(LAST_BYTE - 11, LAST_BYTE + 1)]
 LAST = 2**32 - 1
 
 
-class Counting(Server):
+class Counting(Recorder):
     """The model, which counts what it answers."""
 
-    def __init__(self):
-        super().__init__()
+    def __init__(self, *given):
+        super().__init__(*given)
         self.counts = Counter()
+
+    def delegate(self, client, file, kind):
+        self.counts["delegations for writing" if kind == 2 else "delegations for reading"] += kind > 0
+        return super().delegate(client, file, kind)
 
     def apply(self, opnum, arguments, filehandle, principal, is_refused=False):
         result = super().apply(opnum, arguments, filehandle, principal, is_refused)
@@ -58,28 +73,54 @@ class Drawn(wire.Reader):
         return super().u32()
 
 
+def document_of(chance):
+    """Mostly delegations of both kinds, to clients that can be called at once."""
+    delegations, callbacks = chance.choice(["all"] * 6 + ["read", "none"]), chance.choice(["assume"] * 3 + ["probe"])
+    return f'policy = {{ delegations = "{delegations}", callbacks = "{callbacks}" }}\n' + DEFAULT
+
+
 class Caller:
-    """Makes calls from what the server beside it has."""
+    """Makes calls and orders from what the server beside it has."""
 
     def __init__(self, seed):
-        self.chance, self.server = random.Random(seed), Counting()
-        self.calls, self.replies, self.again = [], [], []
-        self.makers = {
-            self.lock: 36, self.locku: 18, self.lockt: 24, self.repeat: 6, self.open: 5, self.release_lockowner: 3,
-            self.close: 2, self.open_downgrade: 2, self.open_confirm: 1, self.on_tree: 1, self.getattr: 1,
-            self.setclientid: 0.3, self.setclientid_confirm: 0.3, self.renew: 0.3}
+        self.chance, self.is_lending = random.Random(seed), seed % 2 == 1
+        self.document, self.lease = document_of(self.chance), self.chance.choice([90, 90, 90, 20, 2])
+        # A state that threads share isn't told all orders.
+        self.way = SHARED if seed % 8 > 5 else ALONE
+        self.server, self.steps, self.again, self.moment = self.new_server(), [], [], 0
+        self.clients = CLIENTS if self.is_lending else CLIENTS[:2]
+        locks = {self.lock: 36, self.locku: 18, self.lockt: 24, self.repeat: 6, self.open: 5, self.release_lockowner: 3,
+                 self.close: 2, self.open_downgrade: 2, self.open_confirm: 1, self.delegreturn: 1}
+        lends = {self.open: 40, self.close: 24, self.delegreturn: 8, self.open_downgrade: 4, self.repeat: 4,
+                 self.open_confirm: 1, self.lock: 2, self.locku: 1, self.lockt: 2, self.release_lockowner: 1}
+        self.makers = (lends if self.is_lending else locks) | {
+            self.on_tree: 1, self.getattr: 1, self.setclientid: 0.3, self.setclientid_confirm: 0.3, self.renew: 0.3}
+
+    def new_server(self):
+        return Counting(Tree(self.document), self.lease)
 
     def is_rare(self, share):
         return self.chance.random() < share
 
+    def next_step(self):
+        """Another call, or an order."""
+        self.steps.append(self.next_order() if self.is_rare(0.15 if self.is_lending else 0.02) else self.next_call())
+
+    def next_order(self):
+        client, late = self.a_client(), self.moment + self.chance.choice([0, 1, self.lease, self.lease + 1])
+        orders = [Take(bytes(4) + u32(self.chance.getrandbits(32)))] * 4 + [Mark(client, not self.is_rare(0.3))] * 2
+        orders += [Sweep(late, 0, 0)] + [Revoke(late), Revoke(late), Pending(0)] * (self.way == ALONE)
+        return outcome_of(self.server, self.chance.choice(orders))
+
     def next_call(self):
-        """Another call, or seldom an earlier one again."""
-        if self.calls and self.is_rare(0.04):
-            call = self.chance.choice(self.calls[-4:])
-            self.calls.append(call)
-            self.replies.append(self.server.reply(call))
-            return
-        xid, count = len(self.calls) + 1, self.chance.choice([1, 2, 4, 8, 24, 64])
+        """A call, at a moment that mostly is that of the one before; seldom it is an earlier one again."""
+        self.moment += self.chance.choice([0] * 6 + [1, 2, self.lease // 2])
+        self.server.moment = max(0, self.moment - self.is_rare(0.05) * self.chance.randint(1, 9))
+        calls = [step.sent for step in self.steps if isinstance(step, Part)]
+        if calls and self.is_rare(0.04):
+            sent = self.chance.choice(calls[-4:])
+            return self.part(sent, self.server.reply(sent[4:]))
+        xid, count = len(calls) + 1, self.chance.choice([1, 2, 4, 8, 24, 64] if not self.is_lending else [1, 2, 4, 8])
         uid = self.chance.choice([None] * 20 + [0, 5])
         credential = u32(0, 0) if uid is None else u32(1, 20) + u32(0, 0, uid, 0, 0)
         head = u32(xid, 0, 2, wire.NFS4_PROGRAM, 4, 1) + credential + u32(0, 0) + u32(0, 0, count)
@@ -87,14 +128,20 @@ class Caller:
         principal = (0, 0) if uid is None else (1, uid)
         results = self.server.run_compound(wire.CompoundCall(xid, principal, b"", 0, count, drawn), frozenset())
         rest = [u32(Opnum.PUTROOTFH)] * (count - len(drawn.operations))
-        self.calls.append(head + b"".join(drawn.operations + rest))
-        self.replies.append(wire.accepted(xid, wire.SUCCESS, results))
+        call = head + b"".join(drawn.operations + rest)
+        return self.part(wire.record(call), wire.accepted(xid, wire.SUCCESS, results))
+
+    def part(self, sent, reply):
+        return Part(self.server.moment, sent, wire.record(reply), goes_on=bool(self.steps))
+
+    def row(self):
+        return row_of(self.steps, self.document, self.lease)
 
     def next_operations(self):
         """An operation, mostly after one that gives it a filehandle."""
-        if len(self.live()) < len(CLIENTS) and self.is_rare(0.6):
+        if len(self.live()) < len(self.clients) and self.is_rare(0.6):
             return self.setclientid() + self.confirm_of_client()
-        if len(self.server.opens) < 4 and self.is_rare(0.5):
+        if len(self.server.opens) < (2 if self.is_lending else 4) and self.is_rare(0.5):
             return self.open()
         makers = list(self.makers)
         return self.chance.choices(makers, self.makers.values())[0]()
@@ -130,8 +177,8 @@ class Caller:
     def setclientid(self):
         verifier = self.chance.choice([b"verifier", b"verified"])
         address = self.chance.choice([b"1.2.3.4.5.6"] * 4 + [b"", b"9" * 129])
-        callback = u32(7) + opaque(b"tcp") + opaque(address) + u32(1)
-        return [u32(Opnum.SETCLIENTID) + verifier + opaque(self.chance.choice(CLIENTS)) + callback]
+        callback = u32(self.chance.choice([7, 8])) + opaque(b"tcp") + opaque(address) + u32(self.chance.choice([1, 2]))
+        return [u32(Opnum.SETCLIENTID) + verifier + opaque(self.chance.choice(self.clients)) + callback]
 
     def setclientid_confirm(self):
         record = self.pick(self.server.records[-2:])
@@ -162,24 +209,27 @@ class Caller:
     def state(self, found):
         """A state, mostly one of these: its file, its stateid, and the sequence id that is the next of its owner."""
         if self.is_rare(0.02):
-            found = self.server.opens + self.server.lock_states
+            found = self.server.states()
         state = self.pick(found)
         if state is None:
             client, number = self.chance.randint(0, 4), self.chance.randint(0, self.server.last_state + 1)
             return 1, u32(self.chance.choice([1, 2, 0]), self.chance.choice([1, 1, 0]), client, number), 3
-        owners = self.server.open_owners if state in self.server.opens else self.server.lock_owners
-        seqid = next_sequence_id(owners[state.owner].kept.seqid)
-        return state.file, u32(self.near(state.seqid), 1, state.owner.client, state.number), self.near(seqid)
+        stateid = u32(self.near(state.seqid), 1, state.client, state.number)
+        if isinstance(state, Delegation):
+            return state.file, stateid, 3
+        owners = self.server.lock_owners if isinstance(state, LockState) else self.server.open_owners
+        return state.file, stateid, self.near(next_sequence_id(owners[state.owner].kept.seqid))
 
     def open(self):
         name = self.chance.choice(OPEN_OWNERS)
         owner = (1, self.a_client(), name)
         known = self.server.open_owners.get(owner)
         seqid = next_sequence_id(known.kept.seqid) if known else self.chance.choice([0, 5, LAST])
-        access = self.chance.choice([3] * 10 + [1] * 4 + [2] * 4 + [0, 4])
+        access = self.chance.choice([3] * 10 + [1] * (12 if self.is_lending else 4) + [2] * 4 + [0, 4])
         deny = self.chance.choice([0] * 30 + [1, 2, 2, 3, 4])
         how = self.chance.choice([u32(0)] * 20 + [u32(1, 0, 0, 0), u32(1, 1, 0, 0), u32(1, 2, 0, 0), u32(2)])
-        claim = self.chance.choice([u32(0)] * 30 + [u32(3), u32(2) + self.state(self.server.opens)[1]])
+        claims = [u32(2) + self.state(self.server.delegations)[1]] * (4 if self.server.delegations else 1)
+        claim = self.chance.choice([u32(0)] * 60 + [u32(3)] + claims)
         claim += opaque(self.chance.choice(NAMES[:2] * 20 + NAMES))
         if self.is_rare(0.02):
             claim = u32(1, self.chance.randint(0, 3))
@@ -204,6 +254,12 @@ class Caller:
     def close(self):
         file, stateid, seqid = self.state(self.server.opens)
         return self.repeatable(self.handle(file) + [u32(Opnum.CLOSE, seqid) + stateid])
+
+    def delegreturn(self):
+        """Mostly of one that is called back, so that others stay for a while."""
+        called = [it for it in self.server.delegations if it.recalled is not None]
+        file, stateid, _ = self.state(self.server.delegations if self.is_rare(0.3) else called)
+        return self.handle(file) + [u32(Opnum.DELEGRETURN) + stateid]
 
     # Byte-range locks.
 
@@ -263,65 +319,97 @@ class Caller:
         return [u32(Opnum.RELEASE_LOCKOWNER) + self.spelled(owner)]
 
 
-def replies_of(program, calls):
-    """The program's replies."""
-    sent = b"".join(wire.record(call) for call in calls)
-    ran = subprocess.run([program, "once"], input=sent, stdout=subprocess.PIPE, timeout=600, check=False)
-    return wire.split_records(ran.stdout)[0]
+def row_of(steps, document, lease):
+    return Row("fuzz.py", 0, "", document=document, lease=lease, is_whole=True, steps=steps)
 
 
-def first_difference(wanted, got):
-    """The place of the first reply that isn't as wanted, or None."""
-    return next((place for place, reply in enumerate(wanted) if got[place:place + 1] != [reply]), None)
+def judged(row):
+    """The row with what the model says in the place of what is wanted; and the model's journal."""
+    server, steps = Recorder(Tree(row.document), row.lease), []
+    for step in row.steps:
+        if isinstance(step, Part):
+            server.moment = step.moment
+            reply = server.reply(step.sent[4:])
+            steps.append(Part(step.moment, step.sent, wire.record(reply), goes_on=bool(steps)))
+        else:
+            steps.append(outcome_of(server, step))
+    return row_of(steps, row.document, row.lease), journal_bytes(server.journal())
+
+
+def first_difference(program, row, way, journal):
+    """The place of the first step of which something else comes, or behind the last one, where the journal is another
+    one; or None."""
+    outcome = run_row(row, way, WHOLE, path=program)
+    if outcome.wrong is not None:
+        return outcome.wrong.place
+    return None if outcome.journal == journal else len(row.steps)
 
 
 def run(words):
-    """A run: the calls up to the first whose reply differs, or None; and what the model answered how often."""
+    """A run: the row up to the first difference, or None; and what the model answered how often."""
     program, seed, count = words
     caller = Caller(seed)
     for _ in range(count):
-        caller.next_call()
-    place = first_difference(caller.replies, replies_of(program, caller.calls))
-    return seed, None if place is None else caller.calls[:place + 1], caller.server.counts
+        caller.next_step()
+    row, journal = caller.row(), journal_bytes(caller.server.journal())
+    place = first_difference(program, row, caller.way, journal)
+    found = None if place is None else (row_of(row.steps[:place + 1], row.document, row.lease), caller.way)
+    return seed, found, caller.server.counts
 
 
-def needed(program, calls):
-    """The calls without those that the difference doesn't need."""
+def needed(program, row, way):
+    """The row without the steps that the difference doesn't need."""
     place = 0
-    while place < len(calls):
-        fewer, server = calls[:place] + calls[place + 1:], Server()
-        at = first_difference([server.reply(call) for call in fewer], replies_of(program, fewer))
+    while place < len(row.steps):
+        fewer, journal = judged(row_of(row.steps[:place] + row.steps[place + 1:], row.document, row.lease))
+        at = first_difference(program, fewer, way, journal)
         if at is None:
             place += 1
         else:
-            calls = fewer[:at + 1]
-    return calls
+            row = row_of(fewer.steps[:at + 1], row.document, row.lease)
+    return row
 
 
-def report(program, seed, calls):
-    print(f"row fuzz.py, seed {seed}, call {len(calls)}")
-    calls, server = needed(program, calls), Server()
-    wanted, got = [server.reply(call) for call in calls], replies_of(program, calls)
-    for call in calls:
-        print(f"  send record\n    hex:{call.hex()}")
-    found = got[len(calls) - 1] if len(got) >= len(calls) else b""
-    print(f"  # The last reply alone: of the model\n  #   {wanted[-1].hex(' ', 4)}\n  # and of the program")
-    print(f"  #   {found.hex(' ', 4)}")
+def lines_of(row):
+    """The row as it stands in a file."""
+    yield from (f"  tree {line}" for line in row.document.splitlines())
+    yield f"  lease {row.lease}"
+    for step in row.steps:
+        if isinstance(step, Part):
+            yield from (f"  at {step.moment}", "  send bytes", f"    hex:{step.sent.hex()}", "  want bytes",
+                        f"    hex:{step.wanted.hex()}")
+        else:
+            yield from (f"  {line}" for line in rows.order_lines(step))
+
+
+def report(program, seed, row, way):
+    count, (row, journal) = len(row.steps), judged(needed(program, row, way))
+    print(f"row fuzz.py, seed {seed}, step {count}{' by threads' * (way == SHARED)}")
+    for line in lines_of(row):
+        print(line)
+    outcome = run_row(row, way, WHOLE, path=program)
+    if outcome.wrong is None:
+        print(f"  # The journal of the model\n  #   {journal.hex(' ', 4)}\n  # and of the program")
+        print(f"  #   {outcome.journal.hex(' ', 4)}")
+    else:
+        print(f"  # The last step, of the program: {outcome.wrong.got}")
 
 
 def tell(counts, runs, calls):
-    total = sum(counts.values())
+    total = sum(number for what, number in counts.items() if isinstance(what, tuple))
     changes = counts[Opnum.LOCK, Status.OK] + counts[Opnum.LOCKU, Status.OK]
     asked = counts[Opnum.LOCKT, Status.OK] + counts[Opnum.LOCKT, Status.DENIED] + counts[Opnum.LOCK, Status.DENIED]
-    print(f"fuzz: {runs} runs of {calls} calls agree with the model: {total} operations on the state, of them {changes} "
-          f"changes of ranges and {asked} questions or refusals of them")
+    print(f"fuzz: {runs} runs of {calls} steps agree with the model: {total} operations on the state, of them "
+          f"{changes} changes of ranges and {asked} questions or refusals of them")
+    for what in ("delegations for reading", "delegations for writing"):
+        print(f"    {what}: {counts.pop(what, 0)}")
     for (opnum, status), number in sorted(counts.items()):
         print(f"    {opnum.name} {status.name}: {number}")
 
 
 def main():
     parser = argparse.ArgumentParser()
-    parser.add_argument("program")
+    parser.add_argument("program", nargs="?", default=PROGRAM, help="a built `rows`")
     parser.add_argument("--seed", type=int, default=0)
     parser.add_argument("--changes", type=int, default=10000)
     parser.add_argument("--calls", type=int, default=200)
@@ -331,9 +419,9 @@ def main():
     with multiprocessing.Pool(words.jobs) as pool:
         while counts[Opnum.LOCK, Status.OK] + counts[Opnum.LOCKU, Status.OK] < words.changes:
             seeds = range(seed, seed + 4 * words.jobs)
-            for found, calls, answered in pool.imap(run, [(words.program, it, words.calls) for it in seeds]):
-                if calls is not None:
-                    report(words.program, found, calls)
+            for found, wrong, answered in pool.imap(run, [(words.program, it, words.calls) for it in seeds]):
+                if wrong is not None:
+                    report(words.program, found, *wrong)
                     return 1
                 counts, runs = counts + answered, runs + 1
             seed = seeds.stop

@@ -1,14 +1,15 @@
-"""A model that follows a journal and knows of what there is, and of what there was, which entries gave, moved and
-ended it. `reasons.py` asks it."""
+"""A model that follows a journal and knows of what there is, and of what there was, which entries gave, moved, called
+back and ended it. `reasons.py` and `events.py` ask it."""
 from collections import namedtuple
 from dataclasses import dataclass, field
 
+from entries import Call
 from journal import Recorder
-from model import OpenState, READ, WRITE
-from wire import Opnum
+from states import OpenState
+from wire import Opnum, READ, WRITE
 
 # The operations by which a state may end, beside the end of its client.
-ENDING = {Opnum.OPEN, Opnum.CLOSE, Opnum.RELEASE_LOCKOWNER}
+ENDING = {Opnum.OPEN, Opnum.CLOSE, Opnum.RELEASE_LOCKOWNER, Opnum.DELEGRETURN}
 
 # A SETCLIENTID that was answered OK: its entry, and the record that it made.
 Introduction = namedtuple("Introduction", "entry record")
@@ -19,14 +20,17 @@ class History(Recorder):
     """A server with the numbers of entries: all of these are kept to the end, also of what is gone."""
     # By the confirm value.
     introductions: dict = field(default_factory=dict)
-    # Of clients, by their numbers: which entry removed them.
+    # Of clients, by their numbers: which entry removed them, and which marked their paths last.
     removals: dict = field(default_factory=dict)
+    path_marks: dict = field(default_factory=dict)
     # Of open owners: which entry confirmed them.
     owner_confirmations: dict = field(default_factory=dict)
-    # The opens and lock states, by their numbers; and which entries gave them, gave their seqid, and ended them.
-    states: dict = field(default_factory=dict)
+    # The opens, lock states and delegations, by their numbers; and which entries gave them, gave their seqid, called
+    # them back, and ended them.
+    given: dict = field(default_factory=dict)
     begun: dict = field(default_factory=dict)
     moved: dict = field(default_factory=dict)
+    recalled: dict = field(default_factory=dict)
     ended: dict = field(default_factory=dict)
     # Of opens, by their numbers: of each pair of access and deny, which entry brought it.
     pairs: dict = field(default_factory=dict)
@@ -41,7 +45,7 @@ class History(Recorder):
         return result
 
     def note_ends(self, entry):
-        present = {it.number for it in self.opens + self.lock_states}
+        present = {it.number for it in self.states()}
         self.ended.update((number, entry) for number in self.present - present)
         self.present = present
 
@@ -50,19 +54,38 @@ class History(Recorder):
         self.introductions[self.last_confirm] = Introduction(self.entries, self.records[-1])
         return rest
 
+    def confirm_record(self, record, principal):
+        super().confirm_record(record, principal)
+        self.path_marks[record.number] = self.entries
+
+    def mark_path(self, number, is_up):
+        entry = super().mark_path(number, is_up)
+        self.path_marks[number] = entry
+        return entry
+
     def remove_client(self, number):
         super().remove_client(number)
         self.removals[number] = self.entries
         self.note_ends(self.entries)
 
+    def recall(self, held):
+        self.recalled.update((it.number, self.entries) for it in held if it.recalled is None)
+        super().recall(held)
+
+    def revoke(self, now):
+        entry = super().revoke(now)
+        if entry is not None:
+            self.note_ends(entry)
+        return entry
+
     def open_confirm(self, arguments, file):
         rest = super().open_confirm(arguments, file)
-        self.owner_confirmations[self.states[arguments.stateid.number].owner] = self.entries
+        self.owner_confirmations[self.given[arguments.stateid.number].owner] = self.entries
         return rest
 
     def spelled(self, found):
         """This entry gives the state's stateid."""
-        self.states[found.number] = found
+        self.given[found.number] = found
         self.begun.setdefault(found.number, self.entries)
         self.moved[found.number] = self.entries
         self.present.add(found.number)
@@ -70,6 +93,11 @@ class History(Recorder):
             before = self.pairs.get(found.number, {})
             self.pairs[found.number] = {pair: before.get(pair, self.entries) for pair in found.pairs}
         return super().spelled(found)
+
+    def entry_words(self, number):
+        """An entry by its number, and the operation that it is of."""
+        entry = self.recorded[number]
+        return f"entry {number} ({entry.opnum.name})" if isinstance(entry, Call) else f"entry {number}"
 
     def since(self, opened, side, modes):
         """Which entry brought the last of these modes to what the open has on this side of its pairs: 0 is its

@@ -11,8 +11,10 @@ from dataclasses import dataclass, field
 
 sys.dont_write_bytecode = True
 
-from entries import Answer, Call, EndsEarly, Expire, NotJournal, StrictReader, entry_bytes, read_entry
+from entries import (Answer, Call, EndsEarly, Expire, NotJournal, Path, Revoke, StrictReader, entry_bytes,
+                     read_entry)
 from model import JOURNAL_LIMIT, Server
+from states import Unchanged
 from tree import CALLBACKS, DELEGATIONS, NAME_LIMIT, Node, Policy, Refused, TEXT_LIMIT, tree_of
 from wire import Status, opaque, u32
 
@@ -24,10 +26,6 @@ Journal = namedtuple("Journal", "epoch lease tree entries")
 
 class WrongAnswer(Exception):
     """The entries before that of this number are lawful, and it can't follow them."""
-
-
-class NoRule(Exception):
-    """The model has no rule yet for entries of this kind; the entries before that of this number are lawful."""
 
 
 @dataclass
@@ -42,12 +40,21 @@ class Recorder(Server):
             self.recorded.append(Call(self.moment, principal, filehandle, opnum, arguments, answer))
         return result
 
-    def sweep(self, now):
-        seen = dict(self.renewals)
-        swept = super().sweep(now)
-        gone = [number for number in sorted(seen) if number not in self.renewals]
-        self.recorded += [Expire(number, seen[number], now) for number in gone]
-        return swept
+    def expire(self, number, seen, now):
+        entry = super().expire(number, seen, now)
+        self.recorded.append(Expire(number, seen, now))
+        return entry
+
+    def mark_path(self, number, is_up):
+        entry = super().mark_path(number, is_up)
+        self.recorded.append(Path(number, is_up))
+        return entry
+
+    def revoke(self, now):
+        found, entry = self.due(now), super().revoke(now)
+        if entry is not None:
+            self.recorded.append(Revoke(found.number, now))
+        return entry
 
     def journal(self):
         return Journal(self.epoch, self.lease, self.tree, self.recorded)
@@ -162,21 +169,19 @@ class Growing:
 # Whether it is lawful.
 
 def audit(journal, limit=JOURNAL_LIMIT):
-    """The server that the journal leads to; or WrongAnswer, or NoRule."""
+    """The server that the journal leads to; or WrongAnswer."""
     *_, server = states(journal, limit)
     return server
 
 
 def states(journal, limit=JOURNAL_LIMIT, kind=Recorder):
-    """The one server, of this kind, that follows the journal: before the first entry, and after each; or WrongAnswer,
-    or NoRule."""
+    """The one server, of this kind, that follows the journal: before the first entry, and after each; or
+    WrongAnswer."""
     server = kind(journal.tree, journal.lease, journal.epoch, limit)
     yield server
     for number, entry in enumerate(journal.entries):
         if server.entries == limit:
             raise WrongAnswer(number)
-        if type(entry) not in STEPS:
-            raise NoRule(number, type(entry).__name__)
         if not STEPS[type(entry)](server, entry):
             raise WrongAnswer(number)
         yield server
@@ -193,17 +198,31 @@ def follow_call(server, call):
 def follow_expire(server, expire):
     """Whether the client may be removed: it is live, and more seconds than the lease have passed since it was seen (RFC
     7530, section 9.5). The server has removed it then."""
-    if not server.is_live(expire.client) or expire.seen + server.lease >= expire.now:
+    return is_made(lambda: server.expire(*expire))
+
+
+def follow_revoke(server, revoke):
+    """Whether the delegation may be taken: it is the one that is due then, as of all that were called back longer ago
+    than the lease the one of the least number is (section 10.4.6). The server has taken it then."""
+    found = server.due(revoke.now)
+    return found is not None and found.number == revoke.state and is_made(lambda: server.revoke(revoke.now))
+
+
+def follow_path(server, path):
+    """Whether the client's path may be marked: it is live. The server has marked it then."""
+    return is_made(lambda: server.mark_path(*path))
+
+
+def is_made(change):
+    """Whether a change is made that no call asked for; the server has its entry then."""
+    try:
+        change()
+    except Unchanged:
         return False
-    server.remove_client(expire.client)
-    server.entries += 1
-    server.recorded.append(expire)
     return True
 
 
-# A kind of entry without a line here is read and written, and has no rule yet: Revoke and Path, as there are no
-# delegations.
-STEPS = {Call: follow_call, Expire: follow_expire}
+STEPS = {Call: follow_call, Expire: follow_expire, Revoke: follow_revoke, Path: follow_path}
 
 
 def verdict(data, limit=JOURNAL_LIMIT):
@@ -218,15 +237,14 @@ def verdict_on(journal, limit=JOURNAL_LIMIT):
     """Whether the journal is lawful, and a line that says so."""
     try:
         audit(journal, limit)
-    except (WrongAnswer, NoRule) as ended:
+    except WrongAnswer as ended:
         return False, fault_of(ended)
     return True, f"lawful: {len(journal.entries)} entries"
 
 
 def fault_of(ended):
     """The line that says at which entry a journal isn't lawful any more."""
-    kind = "wrong answer" if isinstance(ended, WrongAnswer) else "no rule yet"
-    return f"fault: {kind} at entry " + ": ".join(map(str, ended.args))
+    return f"fault: wrong answer at entry {ended.args[0]}"
 
 
 def main(path):

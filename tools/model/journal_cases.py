@@ -3,7 +3,7 @@ reason, and files with what is said of them."""
 import wire
 from entries import Answer, Call, Expire, MOMENT_LIMIT, Path, Revoke, STATUSES, StrictReader
 from journal import Journal, Recorder, head_bytes, journal_bytes, read_whole
-from tree import Node, ROOT, Tree
+from tree import DEFAULT, Node, ROOT, Tree
 from wire import (Callback, Claim, KnownLocker, LockOwner, NewLocker, OpenOwner, Openhow, Opnum, Stateid, Status,
                   opaque, u32, u64)
 
@@ -58,6 +58,54 @@ def calls():
     yield Opnum.GETATTR, wire.Getattr(()), None
 
 
+def open_by(server, client, seqid, access=3, name=b"a"):
+    """An OPEN by the owner A of the client."""
+    arguments = wire.Open(seqid, access, 0, OpenOwner(1, client, b"A"), NO_CREATE, Claim(0, name, None))
+    server.apply(Opnum.OPEN, arguments, 0, NOBODY)
+
+
+def give_back(server, state):
+    """By client 1, which has it on file a."""
+    server.apply(Opnum.DELEGRETURN, wire.Delegreturn(Stateid(1, 1, 1, state)), FILE, NOBODY)
+
+
+def introduce_other(server):
+    """Client 2."""
+    server.apply(Opnum.SETCLIENTID, wire.Setclientid(bytes(8), b"c2", CALLBACK), None, NOBODY)
+    server.apply(Opnum.SETCLIENTID_CONFIRM, wire.SetclientidConfirm(1, 2, server.last_confirm), None, NOBODY)
+
+
+def lend(server, seqid):
+    """Once client 1 can be called, its owner A, whose next sequence id this is, gets a delegation of file a for
+    reading, which it gives back; and one for writing, which an OPEN of client 2 calls back, and which is taken."""
+    server.mark_path(1, True)
+    open_by(server, 1, seqid, 1)
+    give_back(server, server.last_state)
+    open_by(server, 1, seqid + 1)
+    introduce_other(server)
+    open_by(server, 2, 1)
+    server.mark_path(1, False)
+    server.revoke(server.moment + server.lease + 1)
+    give_back(server, server.last_state)
+
+
+def lent():
+    """Ten entries: client 1 has state 2, a delegation of a for writing, and state 4, one of b. Client 2 asks for b at
+    200, and for a at 210."""
+    server = Recorder(Tree('policy.callbacks = "assume"\n' + DEFAULT))
+    introduce(server)
+    open_by(server, 1, 1)
+    server.apply(Opnum.OPEN_CONFIRM, wire.OpenConfirm(OPENED, 2), FILE, NOBODY)
+    open_by(server, 1, 3)
+    open_by(server, 1, 4, name=b"b")
+    introduce_other(server)
+    server.moment = 200
+    open_by(server, 2, 1, name=b"b")
+    server.moment = 210
+    open_by(server, 2, 1)
+    return server
+
+
 def sample():
     server = Recorder(Tree())
     introduce(server)
@@ -66,7 +114,8 @@ def sample():
     server.moment = 100
     # Another principal asks for the id of a client that has an open.
     server.apply(Opnum.SETCLIENTID, wire.Setclientid(bytes(8), b"c1", CALLBACK), None, SOMEBODY)
-    server.apply(Opnum.CLOSE, wire.Close(10, OPENED._replace(seqid=4)), FILE, NOBODY)
+    lend(server, 10)
+    server.apply(Opnum.CLOSE, wire.Close(12, OPENED._replace(seqid=6)), FILE, NOBODY)
     return server.journal()
 
 
@@ -201,7 +250,7 @@ def broken_operations():
     """The number of an operation, and arguments that can't be read."""
     data, begin = journal_bytes(small()), len(head_bytes(small())) + 4 + 28
     without = {Opnum.ACCESS, Opnum.GETFH, Opnum.LOOKUP, Opnum.PUTFH, Opnum.PUTROOTFH, Opnum.RESTOREFH, Opnum.SAVEFH,
-               Opnum.SETATTR, Opnum.ILLEGAL, 0, 2, 8, 25, 30, 38, 40}
+               Opnum.SETATTR, Opnum.ILLEGAL, 0, 2, 7, 25, 30, 38, 40}
     for number in sorted(without):
         yield f"operation {number}", with_words(data, begin, number), "an operation that makes no entry"
     lock, lockt = wire.Lock(2, 0, 0, 9, NewLocker(8, OPENED, 1, LOCKER)), wire.Lockt(2, 0, 9, LOCKER)
@@ -355,11 +404,12 @@ def whole_files():
 
 # Entries that can't follow.
 
+def wrong(number):
+    return f"fault: wrong answer at entry {number}"
+
+
 def verdicts():
     """A name, a file, and what is said of it."""
-    def wrong(number):
-        return f"fault: wrong answer at entry {number}"
-
     entries, data = small().entries, journal_bytes(small())
     yield "three entries", data, "lawful: 3 entries"
     yield "no entries", file_of([]), "lawful: 0 entries"
@@ -378,9 +428,8 @@ def verdicts():
     late[-1] = Expire(1, MOMENT_LIMIT - 91, MOMENT_LIMIT - 1)
     yield "an expiry at the last moment, at the edge", file_of(late), wrong(3)
     yield "an expiry before it was seen", file_of([*entries, Expire(1, 200, 100)]), wrong(3)
-    yield "a revocation", file_of([*entries, Revoke(1, 100)]), "fault: no rule yet at entry 3: Revoke"
-    yield "a path", file_of([*entries, Path(1, 1)]), "fault: no rule yet at entry 3: Path"
-    yield "a path after a wrong answer", file_of([entries[1], Path(1, 1)]), wrong(0)
+    yield from verdicts_on_paths(entries)
+    yield from verdicts_on_revocations()
     yield "moments that go down", file_of([entries[0]._replace(moment=5), *entries[1:]]), "lawful: 3 entries"
     yield "the last moment of a call", file_of([entries[0]._replace(moment=MOMENT_LIMIT - 1)]), "lawful: 1 entries"
     yield "another principal", file_of([entries[0], entries[1]._replace(principal=SOMEBODY)]), wrong(1)
@@ -396,6 +445,44 @@ def verdicts():
     yield "a wrong answer, and a byte after the last entry", file_of(wrong_first) + b"\0", NOT_JOURNAL
     outside = [*wrong_first, entries[2]._replace(filehandle=5)]
     yield "a wrong answer, and a node that isn't there later", file_of(outside), NOT_JOURNAL
+
+
+def verdicts_on_paths(entries):
+    """After those of a client that is confirmed; and with the grant of a delegation."""
+    yield "a path", file_of([*entries, Path(1, 1), Path(1, 1), Path(1, 0)]), "lawful: 6 entries"
+    yield "a path of nobody", file_of([*entries, Path(2, 1)]), wrong(3)
+    yield "a path of client 0", file_of([*entries, Path(0, 0)]), wrong(3)
+    yield "a path before the confirmation", file_of([entries[0], Path(1, 1), *entries[1:]]), wrong(1)
+    yield "a path after the expiry", file_of([*entries, Expire(1, 100, 191), Path(1, 1)]), wrong(4)
+    yield "a path after a wrong answer", file_of([entries[1], Path(1, 1)]), wrong(0)
+    journal = lent().journal()
+    before, after = journal.entries[:4], journal.entries[4:]
+    for marks, said in (([], "lawful: 10 entries"), ([0], wrong(5)), ([0, 1], "lawful: 12 entries")):
+        marked = journal._replace(entries=[*before, *[Path(1, is_up) for is_up in marks], *after])
+        yield f"paths {marks} before a delegation is given", journal_bytes(marked), said
+
+
+def verdicts_on_revocations():
+    """After the delegations 2 and 4 were called back, the second at 200 and the first at 210."""
+    journal = lent().journal()
+    again = [call for call in journal.entries if isinstance(call, Call)][-2]
+    returned = lent()
+    give_back(returned, 2)
+    more = {
+        "nothing that is due": ([Revoke(4, 290)], 10), "one that is due": ([Revoke(4, 291)], None),
+        "one that isn't": ([Revoke(2, 291)], 10), "one at the edge": ([Revoke(2, 300)], 10),
+        "the least of two": ([Revoke(2, 301)], None), "not the least of two": ([Revoke(4, 301)], 10),
+        "one after the other": ([Revoke(2, 301), Revoke(4, 301)], None),
+        "the oldest first": ([Revoke(4, 300), Revoke(2, 301)], None),
+        "one twice": ([Revoke(4, 291), Revoke(4, 291)], 11),
+        "an open": ([Revoke(1, 400)], 10), "state 0": ([Revoke(0, 400)], 10), "what isn't": ([Revoke(5, 400)], 10),
+        "what was given back": ([*returned.recorded[10:], Revoke(2, 400)], 11),
+        "what is left": ([*returned.recorded[10:], Revoke(4, 400)], None),
+        "what went with its client": ([Expire(1, 0, 91), Revoke(2, 400)], 11),
+        "what still is in the way": ([again], None), "what isn't any longer": ([Revoke(4, 291), again], 11)}
+    for name, (entries, number) in more.items():
+        said = f"lawful: {10 + len(entries)} entries" if number is None else wrong(number)
+        yield f"a revocation: {name}", journal_bytes(journal._replace(entries=journal.entries + entries)), said
 
 
 def all_answers():

@@ -1,5 +1,6 @@
 #!/usr/bin/env python3
-"""limits.py PROGRAM: a built nfs4state at its limits of 16,384 owners and of 65,536 opens, each met and passed by one.
+"""limits.py PROGRAM: a built nfs4state at its limits of 16,384 owners, of 65,536 opens, and of as many opens and
+delegations together, each met and passed by one.
 
 What is wanted is written beside each call, since the model would take minutes for so many. lock_limits.py does the same
 with lock owners and lock states."""
@@ -11,12 +12,15 @@ import time
 sys.dont_write_bytecode = True
 
 import wire
-from model import OWNERS_LIMIT, STATES_LIMIT, handle_of
+from model import OWNERS_LIMIT, STATES_LIMIT
+from states import handle_of
 from wire import Opnum, Status, opaque, u32, u64
 
 # A file more than each owner opens; many files keep the opens of each few.
 FILES = 33
 TREE = "".join(f'[[file]]\npath = "f{number}"\n' for number in range(FILES))
+# The same files, which are lent to clients at once.
+LENDING = 'policy.callbacks = "assume"\n' + TREE
 READ, NONE = 1, 0
 
 
@@ -34,12 +38,15 @@ def introduce(verifier, number):
         (u32(Opnum.SETCLIENTID_CONFIRM, 1, number) + u64(number), result(Opnum.SETCLIENTID_CONFIRM))]
 
 
-def opening(owner, seqid, file, client=1, number=None, flags=4, state_seqid=1, status=Status.OK, access=READ):
-    """An OPEN, for reading if nothing else is said, and the state that it gives."""
-    words = u32(Opnum.OPEN, seqid, access, NONE, 1, client) + opaque(b"%d" % owner) + u32(0, 0) + opaque(b"f%d" % file)
+def opening(owner, seqid, file, client=1, number=None, flags=4, state_seqid=1, status=Status.OK, access=READ, **more):
+    """An OPEN, for reading if nothing else is said, and the state that it gives; and if its number is given, the
+    delegation for reading."""
+    share, given = (access, more.get("deny", NONE)), more.get("given")
+    words = u32(Opnum.OPEN, seqid, *share, 1, client) + opaque(b"%d" % owner) + u32(0, 0) + opaque(b"f%d" % file)
     rest = b""
     if status == Status.OK:
-        rest = u32(state_seqid, 1, client, number) + u32(1) + u64(0) + u64(0) + u32(flags, 0, 0)
+        rest = u32(state_seqid, 1, client, number) + u32(1) + u64(0) + u64(0) + u32(flags, 0)
+        rest += u32(0) if given is None else u32(1, 1, 1, client, given, 0, 0, 0, 0, 0)
     return [(u32(Opnum.PUTROOTFH), result(Opnum.PUTROOTFH)), (words, result(Opnum.OPEN, status, rest))]
 
 
@@ -94,6 +101,53 @@ def opens_at_their_limit(owners=STATES_LIMIT // (FILES - 1), limit=STATES_LIMIT)
     yield opening(1, following, files, status=Status.RESOURCE)
 
 
+def returning(number, file):
+    """A DELEGRETURN of the state."""
+    return [(u32(Opnum.PUTFH) + opaque(handle_of(file + 1)), result(Opnum.PUTFH)),
+            (u32(Opnum.DELEGRETURN, 1, 1, 1, number), result(Opnum.DELEGRETURN))]
+
+
+def delegations_at_their_limit(limit=STATES_LIMIT):
+    """Each owner opens all files but the last one. The first one is confirmed when it opens the second file, and so
+    brings the client's delegation of each but the first."""
+    files = FILES - 1
+    yield introduce(1, 1)
+    yield opening(0, 1, 0, number=1, flags=6) + confirming(2, 1)
+    for file in range(1, files):
+        yield opening(0, 2 + file, file, number=2 * file, given=2 * file + 1)
+    others = (limit - 2 * files) // files
+    for owner in range(1, others + 1):
+        first = 2 * files + (owner - 1) * files
+        yield opening(owner, 1, 0, number=first, flags=6) + confirming(2, first)
+        for file in range(1, files):
+            yield opening(owner, 2 + file, file, number=first + file)
+    # There is one place, and so none for an open and its delegation.
+    last, seqid = limit - 1, files + 2
+    yield opening(0, seqid, files, status=Status.RESOURCE)
+    # A delegation alone, by an OPEN that joins an open, has the place.
+    yield opening(0, seqid, 0, number=1, state_seqid=3, given=last + 1)
+    yield opening(0, seqid + 1, files, status=Status.RESOURCE)
+    yield opening(0, seqid + 1, files, status=Status.RESOURCE, deny=READ)
+    # What is given back leaves its place, and an OPEN that brings none needs none for it.
+    yield returning(3, 1)
+    yield opening(0, seqid + 1, files, status=Status.RESOURCE)
+    yield opening(0, seqid + 1, files, number=last + 2, deny=READ)
+    yield opening(0, seqid + 2, 1, status=Status.RESOURCE)
+    yield opening(0, seqid + 2, 2, number=4, state_seqid=2)
+    yield returning(5, 2)
+    yield opening(0, seqid + 3, 1, number=2, state_seqid=2, given=last + 3)
+    yield opening(0, seqid + 4, 2, status=Status.RESOURCE)
+    # By CLOSE, too; a delegation stays when its open goes.
+    yield closing(seqid + 4, 2, 4, 2)
+    yield opening(0, seqid + 5, 2, status=Status.RESOURCE)
+    yield closing(seqid + 5, 1, 6, 3)
+    yield opening(0, seqid + 6, 2, number=last + 4, given=last + 5)
+    yield opening(0, seqid + 7, 3, status=Status.RESOURCE)
+    # When a client has started again, its delegations are gone and their places are free.
+    yield introduce(2, 2)
+    yield opening(0, 1, files, client=2, number=last + 6, flags=6)
+
+
 def compounds(steps):
     """Steps together, as many as there may be in a COMPOUND; one that is refused ends it."""
     pairs = []
@@ -119,12 +173,12 @@ def reply(xid, pairs):
     return wire.record(wire.accepted(xid, wire.SUCCESS, head + b"".join(wanted for _, wanted in pairs)))
 
 
-def compare(program, name, steps):
+def compare(program, name, steps, document=TREE):
     """Whether the program answers these steps as wanted, and in how many seconds."""
     found = list(enumerate(compounds(steps), 1))
     sent, wanted = (b"".join(one(*pair) for pair in found) for one in (call, reply))
     with tempfile.NamedTemporaryFile("w", suffix=".toml") as tree:
-        tree.write(TREE)
+        tree.write(document)
         tree.flush()
         begun = time.monotonic()
         ran = subprocess.run([program, "once", "--tree", tree.name], input=sent, stdout=subprocess.PIPE, check=False)
@@ -137,8 +191,9 @@ def compare(program, name, steps):
 
 
 def main(program):
-    sides = (("owners", owners_at_their_limit()), ("opens", opens_at_their_limit()))
-    agree = [compare(program, name, steps)[0] for name, steps in sides]
+    sides = (("owners", owners_at_their_limit(), TREE), ("opens", opens_at_their_limit(), TREE),
+             ("opens and delegations", delegations_at_their_limit(), LENDING))
+    agree = [compare(program, *side)[0] for side in sides]
     return 0 if all(agree) else 1
 
 

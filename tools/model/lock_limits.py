@@ -9,9 +9,10 @@ import sys
 sys.dont_write_bytecode = True
 
 from limits import FILES, closing, compare, confirming, introduce, opening, result
-from model import BOTH, OWNERS_LIMIT, READ, STATES_LIMIT, handle_of
+from model import OWNERS_LIMIT, STATES_LIMIT
 from ranges import ALL_ONES, RUNS_LIMIT
-from wire import Opnum, READ_LT, Status, WRITE_LT, opaque, u32, u64
+from states import handle_of
+from wire import BOTH, Opnum, READ, READ_LT, Status, WRITE_LT, opaque, u32, u64
 
 OPENED = FILES - 1
 SECONDS_LIMIT = 10

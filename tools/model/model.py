@@ -4,17 +4,24 @@
 memory was refused: these are answered RESOURCE and change nothing but a lease. `Server.follows` judges a reply of a
 server that may have been refused memory. Sections are those of RFC 7530.
 
-Each operation renews the lease that it has to, and `Server.sweep` ends those that are over. There are no delegations
-yet, and no READ and WRITE.
+Each operation renews the lease that it has to, and `Server.sweep` ends those that are over. Who has a delegation is
+called back by a recall, which waits until `Server.take_recall` takes it; `Server.revoke` takes a delegation that isn't
+given back, and `Server.mark_path` says whether a client can be called. There are no READ and WRITE yet.
 """
 import copy
 from dataclasses import dataclass, field
 
 import wire
-from ranges import READ_MODE, RUNS_LIMIT, Ranges, WRITE_MODE, denial, length_of, range_of
+from delegations import Delegating
+from ranges import READ_MODE, Ranges, denial, length_of
+from states import (ClientRecord, DOWN, FULL, Kept, LockState, NOT_DUE, NOT_LIVE, OpenState, Owner, Refusal, Request,
+                    Result, UNKNOWN, UP, Unchanged, answer, closed_by, conflict, contains, expect_filehandle,
+                    expect_range, expect_runs, expect_seqid, expect_share, handle_of, is_first_lock,
+                    is_lawful_downgrade, is_special, mode_of, next_seqid, next_sequence_id, replay, sequence_id_of,
+                    stateid_of)
 from tree import Tree
-from wire import (Callback, CLAIM_DELEGATE_CUR, CLAIM_DELEGATE_PREV, CLAIM_PREVIOUS, CompoundCall, EXCLUSIVE4, GUARDED4,
-                  LockOwner, NewLocker, OPEN4_CREATE, OpenOwner, Opnum, READ_LT, READW_LT, Stateid, Status, u32, u64)
+from wire import (CLAIM_DELEGATE_CUR, CLAIM_DELEGATE_PREV, CLAIM_PREVIOUS, CompoundCall, EXCLUSIVE4, GUARDED4,
+                  NewLocker, OPEN4_CREATE, OPEN_DELEGATE_NONE, Opnum, READ, Status, WRITE, u32, u64)
 
 OPERATIONS_LIMIT = 64
 ANSWER_ROOM = 2048
@@ -26,10 +33,7 @@ OWNERS_LIMIT = 16384
 STATES_LIMIT = 65536
 JOURNAL_LIMIT = 1000000
 
-READ, WRITE, BOTH = 1, 2, 3
 CONFIRM, LOCKTYPE_POSIX = 2, 4
-HANDLE_HEAD = b"nfh1"
-LAST = 2**32 - 1
 
 # The answers to a new request that leave its owner's sequence id as it was (section 9.1.7).
 NOT_COUNTED = {Status.STALE_CLIENTID, Status.STALE_STATEID, Status.BAD_STATEID, Status.BAD_SEQID, Status.BADXDR,
@@ -37,141 +41,29 @@ NOT_COUNTED = {Status.STALE_CLIENTID, Status.STALE_STATEID, Status.BAD_STATEID, 
 
 # The operations that ask the state, and so make an entry of the journal.
 STATEFUL = {Opnum.GETATTR, Opnum.SETCLIENTID, Opnum.SETCLIENTID_CONFIRM, Opnum.OPEN, Opnum.OPEN_CONFIRM,
-            Opnum.OPEN_DOWNGRADE, Opnum.CLOSE, Opnum.LOCK, Opnum.LOCKT, Opnum.LOCKU, Opnum.RELEASE_LOCKOWNER}
+            Opnum.OPEN_DOWNGRADE, Opnum.CLOSE, Opnum.LOCK, Opnum.LOCKT, Opnum.LOCKU, Opnum.RELEASE_LOCKOWNER,
+            Opnum.DELEGRETURN}
 # The operations that renew the lease of the client which a clientid among their arguments names (section 9.5).
 # SETCLIENTID and its confirmation never do.
 RENEWING_BY_CLIENTID = {Opnum.OPEN, Opnum.LOCKT, Opnum.RELEASE_LOCKOWNER, Opnum.RENEW}
 # Those that renew the lease of the client which their stateid names.
-RENEWING_BY_STATEID = {Opnum.OPEN_CONFIRM, Opnum.OPEN_DOWNGRADE, Opnum.CLOSE, Opnum.LOCK, Opnum.LOCKU}
+RENEWING_BY_STATEID = {Opnum.OPEN_CONFIRM, Opnum.OPEN_DOWNGRADE, Opnum.CLOSE, Opnum.LOCK, Opnum.LOCKU,
+                       Opnum.DELEGRETURN}
 SEQUENCED = {Opnum.OPEN, Opnum.OPEN_CONFIRM, Opnum.OPEN_DOWNGRADE, Opnum.CLOSE, Opnum.LOCK, Opnum.LOCKU}
 
 # Operations of NFSv4.0 that get a rule later: rows that use them are not for this model yet.
-TO_COME = {wire.OTHER_OPERATIONS[name]: name for name in ("DELEGRETURN", "READ", "WRITE")}
-
-
-class Refusal(Exception):
-    """A rule's answer other than OK; what it brings after the status is `rest`."""
-
-    def __init__(self, status, rest=b""):
-        super().__init__(status)
-        self.status, self.rest = status, rest
-
-
-@dataclass(frozen=True)
-class Result:
-    """An answer: its status, and the bytes after it."""
-    status: Status
-    rest: bytes = b""
-
-
-@dataclass
-class ClientRecord:
-    """A client that has introduced itself (section 9.1.1)."""
-    id: bytes
-    principal: tuple
-    verifier: bytes
-    callback: Callback
-    confirm: int
-    number: int
-    is_confirmed: bool = False
-
-
-@dataclass(frozen=True)
-class Request:
-    """What is compared to tell a retransmission: the operation with its arguments, and the current filehandle."""
-    opnum: Opnum
-    arguments: tuple
-    filehandle: int
-
-
-@dataclass
-class Kept:
-    """The last request of an owner that counted, with its answer and its entry in the journal (section 9.1.8)."""
-    seqid: int
-    request: Request
-    answer: Result
-    entry: int
-
-
-@dataclass
-class Owner:
-    """An open owner or a lock owner that is known (section 9.1.5); only an open owner is confirmed (section 9.1.11)."""
-    name: OpenOwner | LockOwner
-    kept: Kept
-    is_confirmed: bool = False
-
-
-@dataclass
-class OpenState:
-    """An open of an owner on a file (sections 9.9 and 9.11)."""
-    owner: OpenOwner
-    file: int
-    number: int
-    pairs: list
-    seqid: int = 1
-
-    def share(self):
-        return union(self.pairs)
-
-
-@dataclass
-class LockState:
-    """What a lock owner has locked of a file, by an open of its client (section 9.1.4.1)."""
-    owner: LockOwner
-    open: OpenState
-    number: int
-    ranges: Ranges = field(default_factory=Ranges)
-    seqid: int = 0
-
-    @property
-    def file(self):
-        return self.open.file
-
-
-def union(pairs):
-    access = deny = 0
-    for pair in pairs:
-        access, deny = access | pair[0], deny | pair[1]
-    return access, deny
-
-
-def contains(outer, inner):
-    return inner[0] & ~outer[0] == 0 and inner[1] & ~outer[1] == 0
-
-
-def conflict(one, other):
-    """The access of one meets what the other denies (section 9.9)."""
-    return one[0] & other[1] != 0 or one[1] & other[0] != 0
-
-
-def is_lawful_downgrade(pairs, wanted):
-    """Some of the pairs, one at least, have just this union (section 16.19)."""
-    subsets = range(1, 2**len(pairs))
-    return any(union([pair for place, pair in enumerate(pairs) if subset >> place & 1]) == wanted for subset in subsets)
-
-
-def next_seqid(seqid):
-    """The seqid of a stateid after this one: 0 is left out (section 9.1.4.2)."""
-    return 1 if seqid == LAST else seqid + 1
-
-
-def next_sequence_id(seqid):
-    """The sequence id of an owner's request after this one (section 9.1.7)."""
-    return 0 if seqid == LAST else seqid + 1
-
-
-def is_special(stateid):
-    """Anonymous, or READ bypass (section 9.1.4.3)."""
-    return stateid in (Stateid(0, 0, 0, 0), Stateid(LAST, LAST, LAST, LAST))
+TO_COME = {wire.OTHER_OPERATIONS[name]: name for name in ("READ", "WRITE")}
 
 
 @dataclass(frozen=True)
 class Swept:
     """Of a sweep: how many clients it removed, how many have a lease that isn't over, and for how many others the
-    journal had no entry left."""
+    journal had no entry left; how many delegations it took, and whether others are left that are due."""
     expired: int = 0
     kept: int = 0
     refused: int = 0
+    revoked: int = 0
+    is_stopped: bool = False
 
 
 @dataclass
@@ -182,8 +74,8 @@ class Filehandles:
 
 
 @dataclass
-class Server:
-    """The files, and all that is kept of clients, owners, opens and locks."""
+class Server(Delegating):
+    """The files, and all that is kept of clients, owners, opens, locks and delegations."""
     tree: Tree = field(default_factory=Tree)
     lease: int = 90
     epoch: int = 1
@@ -195,6 +87,10 @@ class Server:
     lock_owners: dict = field(default_factory=dict)
     opens: list = field(default_factory=list)
     lock_states: list = field(default_factory=list)
+    delegations: list = field(default_factory=list)
+    # All recalls of the run, in the order in which the delegations were called back, and how many of them were taken.
+    recalls: list = field(default_factory=list)
+    taken: int = 0
     entries: int = 0
     last_client: int = 0
     last_state: int = 0
@@ -353,7 +249,7 @@ class Server:
             return Result(Status.RESOURCE)
         if opnum in SEQUENCED:
             result = self.sequenced(Request(opnum, arguments, filehandle))
-        elif opnum in (Opnum.GETATTR, Opnum.LOCKT):
+        elif opnum in (Opnum.GETATTR, Opnum.LOCKT, Opnum.DELEGRETURN):
             result = answer(lambda: self.rule_of(opnum)(arguments, filehandle))
         elif opnum == Opnum.RELEASE_LOCKOWNER:
             result = answer(lambda: self.release_lockowner(arguments))
@@ -389,7 +285,11 @@ class Server:
         return next((it for it in self.records if it.is_confirmed == is_confirmed and test(it)), None)
 
     def has_state(self, number):
-        return any(it.owner.client == number for it in self.opens)
+        """Whether the client has an open or a delegation; a lock state has an open of the same client."""
+        return any(it.client == number for it in self.states())
+
+    def states(self):
+        return self.opens + self.lock_states + self.delegations
 
     def is_live(self, number):
         return self.record_where(True, lambda it: it.number == number) is not None
@@ -439,17 +339,19 @@ class Server:
             self.remove_client(old.number)
         self.records = [it for it in self.records if it is not old]
         record.is_confirmed = True
+        record.path = UP if self.tree.policy.callbacks == "assume" else UNKNOWN
         # The lease of a client that was live before stays as it is.
         self.renewals.setdefault(record.number, self.moment)
 
     def remove_client(self, number):
-        """The client's records, owners, opens, lock states and lease are gone (section 9.1.2)."""
+        """The client's records, owners, opens, lock states, delegations and lease are gone (section 9.1.2)."""
         self.renewals.pop(number, None)
         self.records = [it for it in self.records if it.number != number]
         self.open_owners = {name: owner for name, owner in self.open_owners.items() if name.client != number}
         self.lock_owners = {name: owner for name, owner in self.lock_owners.items() if name.client != number}
-        self.opens = [it for it in self.opens if it.owner.client != number]
-        self.lock_states = [it for it in self.lock_states if it.owner.client != number]
+        self.opens = [it for it in self.opens if it.client != number]
+        self.lock_states = [it for it in self.lock_states if it.client != number]
+        self.delegations = [it for it in self.delegations if it.client != number]
 
     def expect_client(self, epoch, number):
         if epoch != self.epoch or not self.is_live(number):
@@ -480,20 +382,59 @@ class Server:
 
     def sweep(self, now):
         """Removes the clients whose leases are over, in the order of their numbers: more seconds than the lease have
-        passed since the last renewal. Each is an entry of the journal."""
+        passed since the last renewal. Then it takes the delegations that are due. Each is an entry of the journal."""
         due = sorted(number for number, moment in self.renewals.items() if moment + self.lease < now)
-        kept = len(self.renewals) - len(due)
-        expired = due[:max(0, self.journal_limit - self.entries)]
-        for number in expired:
-            self.remove_client(number)
-        self.entries += len(expired)
-        return Swept(len(expired), kept, len(due) - len(expired))
+        kept, expired, revoked = len(self.renewals) - len(due), 0, 0
+        try:
+            for number in due:
+                self.expire(number, self.renewals[number], now)
+                expired += 1
+        except Unchanged:
+            pass
+        try:
+            while self.revoke(now) is not None:
+                revoked += 1
+        except Unchanged:
+            return Swept(expired, kept, len(due) - expired, revoked, True)
+        return Swept(expired, kept, len(due) - expired, revoked)
+
+    # Changes that no call asks for: each is an entry of the journal, or Unchanged.
+
+    def expect_live(self, number):
+        if not self.is_live(number):
+            raise Unchanged(NOT_LIVE)
+
+    def expect_entry(self):
+        """The journal has room for one more."""
+        if self.entries >= self.journal_limit:
+            raise Unchanged(FULL)
+
+    def enter(self):
+        """Makes the entry of a change that was made: its number."""
+        self.entries += 1
+        return self.entries - 1
+
+    def expire(self, number, seen, now):
+        """Removes a client whose lease was renewed last at the moment that was seen."""
+        self.expect_live(number)
+        if seen + self.lease >= now:
+            raise Unchanged(NOT_DUE)
+        self.expect_entry()
+        self.remove_client(number)
+        return self.enter()
+
+    def mark_path(self, number, is_up):
+        """Says that a client can be called back, or that it can't."""
+        self.expect_live(number)
+        self.expect_entry()
+        self.record_where(True, lambda it: it.number == number).path = UP if is_up else DOWN
+        return self.enter()
 
     # Stateids (section 9.1.4).
 
     def looked_up(self, stateid):
-        """The open or lock state that the stateid's `other` names, or None where its client has no such state (section
-        9.1.4.4)."""
+        """The open, lock state or delegation that the stateid's `other` names, or None where its client has no such
+        state (section 9.1.4.4)."""
         if is_special(stateid):
             raise Refusal(Status.BAD_STATEID)
         if stateid.epoch != self.epoch:
@@ -502,8 +443,7 @@ class Server:
             raise Refusal(Status.BAD_STATEID)
         if not self.is_live(stateid.client):
             raise Refusal(Status.EXPIRED)
-        states = self.opens + self.lock_states
-        return next((it for it in states if (it.owner.client, it.number) == (stateid.client, stateid.number)), None)
+        return next((it for it in self.states() if (it.client, it.number) == (stateid.client, stateid.number)), None)
 
     def state_of(self, kind, stateid, file):
         """The state of this kind that the stateid names on the file, but for its seqid."""
@@ -526,18 +466,13 @@ class Server:
         expect_seqid(stateid, found)
         return found
 
-    def delegation_of(self, stateid):
-        """The verdict on a delegation's stateid: there is no delegation yet that could pass it."""
-        self.looked_up(stateid)
-        raise Refusal(Status.BAD_STATEID)
-
     def answer_stateid(self, found):
         """The stateid of a state after an operation on it: its seqid is one more."""
         found.seqid = next_seqid(found.seqid)
         return self.spelled(found)
 
     def spelled(self, found):
-        return u32(found.seqid, self.epoch, found.owner.client, found.number)
+        return u32(found.seqid, self.epoch, found.client, found.number)
 
     # Sequenced operations (sections 9.1.7 to 9.1.9).
 
@@ -593,6 +528,7 @@ class Server:
             return self.open_owners[found.owner]
         if isinstance(found, LockState):
             return self.lock_owners[found.owner]
+        # A delegation has no owner.
         for owner in self.open_owners.values():
             if closed_by(owner.kept, stateid):
                 return owner
@@ -630,14 +566,18 @@ class Server:
         expect_share(share)
         file = self.opened_file(arguments, directory)
         if arguments.claim.kind == CLAIM_DELEGATE_CUR:
-            self.delegation_of(arguments.claim.delegation)
+            self.expect_claimed(arguments.claim.delegation, owner.client, file)
         if any(it.file == file and it.owner != owner and conflict(it.share(), share) for it in self.opens):
             raise Refusal(Status.SHARE_DENIED)
+        self.expect_none_in_the_way(owner.client, file, share)
         is_confirmed = owner in self.open_owners
+        kind = self.kind_given(arguments, file) if is_confirmed else OPEN_DELEGATE_NONE
+        is_new = not any((it.owner, it.file) == (owner, file) for it in self.opens)
+        self.expect_room(is_new + (kind != OPEN_DELEGATE_NONE), not is_confirmed)
         found = self.join(owner, file, share)
         flags = LOCKTYPE_POSIX if is_confirmed else CONFIRM | LOCKTYPE_POSIX
-        change, attributes, delegation = u32(1) + u64(0) + u64(0), wire.bitmap([]), u32(0)
-        return self.spelled(found) + change + u32(flags) + attributes + delegation
+        change, attributes = u32(1) + u64(0) + u64(0), wire.bitmap([])
+        return self.spelled(found) + change + u32(flags) + attributes + self.delegate(owner.client, file, kind)
 
     def opened_file(self, arguments, directory):
         """The file that the OPEN names."""
@@ -657,16 +597,18 @@ class Server:
                 found.pairs.append(share)
             found.seqid = next_seqid(found.seqid)
             return found
-        number = self.new_state(is_new_owner=owner not in self.open_owners)
-        self.opens.append(OpenState(owner, file, number, [share]))
+        self.opens.append(OpenState(owner, file, self.next_number(), [share]))
         return self.opens[-1]
 
-    def new_state(self, is_new_owner):
-        """The number of a new state, where the limits have a place for it and for its owner."""
-        if len(self.opens) + len(self.lock_states) >= STATES_LIMIT:
+    def expect_room(self, states, is_new_owner):
+        """The limits have places for so many new states, and for their owner."""
+        if len(self.states()) + states > STATES_LIMIT:
             raise Refusal(Status.RESOURCE)
         if is_new_owner and len(self.open_owners) + len(self.lock_owners) >= OWNERS_LIMIT:
             raise Refusal(Status.RESOURCE)
+
+    def next_number(self):
+        """That of a new state."""
         self.last_state += 1
         return self.last_state
 
@@ -716,7 +658,8 @@ class Server:
         self.expect_no_conflict(file, owner, asked, mode)
         ranges = expect_runs((found.ranges if found else Ranges()).changed(*asked, mode))
         if found is None:
-            found = LockState(owner, opened, self.new_state(is_new_owner=owner not in self.lock_owners))
+            self.expect_room(1, owner not in self.lock_owners)
+            found = LockState(owner, opened, self.next_number())
             self.lock_states.append(found)
         found.ranges = ranges
         return self.answer_stateid(found)
@@ -766,86 +709,3 @@ class Server:
         self.lock_states = [it for it in self.lock_states if it.owner != owner]
         self.lock_owners.pop(owner, None)
         return b""
-
-
-def answer(rule):
-    """What the rule answers: OK and its bytes, or its refusal."""
-    try:
-        return Result(Status.OK, rule())
-    except Refusal as refusal:
-        return Result(refusal.status, refusal.rest)
-
-
-def is_first_lock(request):
-    """A LOCK that names an owner which is to have its first lock state on the file."""
-    return request.opnum == Opnum.LOCK and isinstance(request.arguments.locker, NewLocker)
-
-
-def stateid_of(opnum, arguments):
-    """The stateid that names the owner of a sequenced operation other than OPEN."""
-    if opnum != Opnum.LOCK:
-        return arguments.stateid
-    locker = arguments.locker
-    return locker.open_stateid if isinstance(locker, NewLocker) else locker.lock_stateid
-
-
-def sequence_id_of(request):
-    """The sequence id of the owner that the operation is judged by."""
-    if request.opnum != Opnum.LOCK:
-        return request.arguments.seqid
-    locker = request.arguments.locker
-    return locker.open_seqid if is_first_lock(request) else locker.lock_seqid
-
-
-def replay(kept, seqid, request):
-    """The kept answer to a retransmission of the kept request, or None (section 9.1.8)."""
-    return kept.answer if (kept.seqid, kept.request) == (seqid, request) else None
-
-
-def closed_by(kept, stateid):
-    """Whether the kept request closed the open that the stateid names."""
-    if kept.request.opnum != Opnum.CLOSE or kept.answer.status != Status.OK:
-        return False
-    return kept.request.arguments.stateid[1:] == stateid[1:]
-
-
-def expect_filehandle(filehandle):
-    if filehandle is None:
-        raise Refusal(Status.NOFILEHANDLE)
-
-
-def expect_seqid(stateid, found):
-    """The stateid's seqid is that of the state (section 9.1.4.2)."""
-    if stateid.seqid < found.seqid:
-        raise Refusal(Status.OLD_STATEID)
-    if stateid.seqid > found.seqid:
-        raise Refusal(Status.BAD_STATEID)
-
-
-def expect_range(arguments):
-    """The first and the last byte of the range that is named."""
-    found = range_of(arguments.offset, arguments.length)
-    if found is None:
-        raise Refusal(Status.INVAL)
-    return found
-
-
-def expect_runs(ranges):
-    if ranges.runs() > RUNS_LIMIT:
-        raise Refusal(Status.RESOURCE)
-    return ranges
-
-
-def mode_of(locktype):
-    """A lock that the client would wait for is as one that it wouldn't (section 9.6): no waiter is kept."""
-    return READ_MODE if locktype in (READ_LT, READW_LT) else WRITE_MODE
-
-
-def expect_share(share):
-    """An access of READ, WRITE or both, and a deny of no more than both (section 9.9)."""
-    if not (READ <= share[0] <= BOTH and share[1] <= BOTH):
-        raise Refusal(Status.INVAL)
-
-
-def handle_of(node):
-    return HANDLE_HEAD + u32(node)

@@ -1,17 +1,16 @@
 """Refusals, each with the reason that has to be given for it, for check_reasons.py. The reasons were worked out from
 docs/RULES.md: what stands in the way, since which entry, and under which heading that is."""
-from entries import Expire
 from journal import Recorder
 from journal_cases import CALLBACK, LAST, NO_CREATE, NOBODY, SOMEBODY
-from tree import Tree
-from wire import (Claim, Close, Getattr, KnownLocker, Lock, LockOwner, Lockt, Locku, NewLocker, Open, OpenConfirm,
-                  OpenDowngrade, OpenOwner, Openhow, Opnum, ReleaseLockowner, Setclientid, SetclientidConfirm,
-                  Stateid)
+from tree import DEFAULT, Tree
+from wire import (Claim, Close, Delegreturn, Getattr, KnownLocker, Lock, LockOwner, Lockt, Locku, NewLocker, Open,
+                  OpenConfirm, OpenDowngrade, OpenOwner, Openhow, Opnum, ReleaseLockowner, Setclientid,
+                  SetclientidConfirm, Stateid)
 
 ROOT, FILE, OTHER_FILE, DIRECTORY = 0, 1, 2, 3
 ALL = 2**64 - 1
-OWNERS, STATEIDS, CLIENT_IDS, RANGES = (
-    "Owners and sequenced operations", "Stateids", "Client ids", "Byte-range locks")
+OWNERS, STATEIDS, CLIENT_IDS, RANGES, DELEGATIONS = (
+    "Owners and sequenced operations", "Stateids", "Client ids", "Byte-range locks", "Delegations")
 OPEN_A = 'open of file "/a" by open owner "A" of client 1'
 LOCK_X = 'lock state of file "/a" by lock owner "x" of client 1'
 
@@ -19,8 +18,14 @@ LOCK_X = 'lock state of file "/a" by lock owner "x" of client 1'
 class Story:
     """Calls to a server, one after the other, and the reasons that are wanted of those that are refused."""
 
-    def __init__(self, name):
-        self.name, self.server, self.wanted = name, Recorder(Tree()), {}
+    def __init__(self, name, document=DEFAULT):
+        self.name, self.server, self.wanted = name, Recorder(Tree(document)), {}
+        # By the numbers of entries: the texts of what they do about delegations.
+        self.events = {}
+
+    def tell(self, *texts):
+        """What the next entry is to do about delegations."""
+        self.events[self.server.entries] = list(texts)
 
     def call(self, opnum, arguments, because=None, filehandle=FILE, principal=NOBODY):
         if because is not None:
@@ -57,10 +62,11 @@ class Story:
     def unlock(self, seqid, stateid, because=None, length=10):
         self.call(Opnum.LOCKU, Locku(2, seqid, stateid, 0, length), because)
 
-    def expire(self, client):
-        self.server.remove_client(client)
-        self.server.recorded.append(Expire(client, 0, 91))
-        self.server.entries += 1
+    def give_back(self, stateid, because=None, filehandle=FILE):
+        self.call(Opnum.DELEGRETURN, Delegreturn(stateid), because, filehandle)
+
+    def expire(self, client, now=91):
+        self.server.expire(client, 0, now)
 
 
 def begun(name):
@@ -199,15 +205,15 @@ def opens():
         ('directory "/" has no "e", and no file can be created', {"name": b"e", "how": Openhow(1, 0, ((), b""))}),
         ('the name is that of directory "/d"', {"name": b"d"}),
         ('file "/a" is there, and GUARDED4 creates a new one', {"how": Openhow(1, 1, ((), b""))}),
-        ('file "/a" is there, and EXCLUSIVE4 creates a new one', {"how": Openhow(1, 2, bytes(8))}),
-        ("the claim names a delegation, and there are none", {"claim": Claim(2, b"a", state(1))}))
+        ('file "/a" is there, and EXCLUSIVE4 creates a new one', {"how": Openhow(1, 2, bytes(8))}))
     seqid = 3
     for text, asked in refused:
         story.open(seqid, (text, "COMPOUND" if text.startswith("no filehandle") else "OPEN"), **asked)
         seqid += not text.startswith("no filehandle")
     other = "of the delegation's stateid: the stateid is of epoch 3, and this server's is 1"
-    # The last one, BAD_STATEID, didn't count.
-    story.open(seqid - 1, (other, STATEIDS), claim=Claim(2, b"a", state(1, epoch=3)))
+    story.open(seqid, (other, STATEIDS), claim=Claim(2, b"a", state(1, epoch=3)))
+    other = f"of the delegation's stateid: the stateid is that of state 1, an {OPEN_A}; a delegation is wanted here"
+    story.open(seqid, (other, STATEIDS), claim=Claim(2, b"a", state(1)))
     story.call(Opnum.GETATTR, Getattr((2,)), (refused[0][0], "COMPOUND"), None)
     return story
 
@@ -277,5 +283,147 @@ def locks():
     return story
 
 
+A_DELEGATION, TO_READ = 'a delegation of file "/a" for writing', 'a delegation of file "/b" for reading'
+
+
+def lent(name):
+    """Client 1 has state 1, its open of `a` by A, and state 2, a delegation for writing: entries 0 to 4. A's next
+    sequence id is 4. Client 2 is live: entries 5 and 6."""
+    story = Story(name, 'policy.callbacks = "assume"\n' + DEFAULT)
+    story.introduce()
+    story.confirm_client(1, 1)
+    story.open(1)
+    story.confirm(2, state(1))
+    story.tell(f"client 1 gets state 2, {A_DELEGATION}")
+    story.open(3)
+    story.introduce(b"c2")
+    story.confirm_client(2, 2)
+    return story
+
+
+def delays():
+    """OPENs that meet delegations of others, called back by them or before."""
+    story = lent("delays")
+    bars = f"state 2, {A_DELEGATION} to client 1 since entry 4 (OPEN), keeps out any open of another client, and "
+    story.open(1, (bars + "is called back now", DELEGATIONS), b"B", 1, client=2)
+    story.open(1, (bars + "was called back by entry 7 (OPEN)", DELEGATIONS), b"B", 2, client=2)
+    story.tell(f"client 1 gets state 4, {TO_READ}")
+    story.open(4, None, access=1, name=b"b")
+    story.open(1, owner=b"B", access=1, client=2, name=b"b")
+    story.confirm(2, state(5, client=2), filehandle=OTHER_FILE)
+    story.tell(f"client 2 gets state 6, {TO_READ}")
+    story.open(3, None, b"B", 1, client=2, name=b"b")
+    story.introduce(b"c3")
+    story.confirm_client(3, 3)
+    both = (f"state 4, {TO_READ} to client 1 since entry 9 (OPEN), keeps out opens of other clients that write or deny "
+            f"READ, and is called back now; state 6, {TO_READ} to client 2 since entry 12 (OPEN), keeps out opens of "
+            "other clients that write or deny READ, and is called back now")
+    story.open(1, (both, DELEGATIONS), b"C", 2, client=3, name=b"b")
+    return story
+
+
+def many_delays():
+    """Of many that are in the way some are named, in the order of their numbers."""
+    story, named = Story("many delays", 'policy.callbacks = "assume"\n' + DEFAULT), []
+    for client in range(1, 6):
+        story.introduce(b"c%d" % client)
+        story.confirm_client(client, client)
+        story.open(1, owner=b"A", access=1, client=client)
+        story.confirm(2, state(2 * client - 1, client=client))
+        story.tell(f'client {client} gets state {2 * client}, a delegation of file "/a" for reading')
+        named.append(f'state {2 * client}, a delegation of file "/a" for reading to client {client} since entry '
+                     f"{story.server.entries} (OPEN), keeps out opens of other clients that write or deny READ, and is "
+                     "called back now")
+        story.open(3, owner=b"A", access=1, client=client)
+    story.introduce(b"c6")
+    story.confirm_client(6, 6)
+    story.open(1, ("; ".join(named[:3]) + "; and 2 more", DELEGATIONS), b"B", 2, client=6)
+    return story
+
+
+def delegation_stateids():
+    """Of delegations, in the operations that work on them and in those that don't."""
+    story, other = lent("stateids of delegations"), "the stateid is that of state 2, "
+    story.close(4, state(2), (f"{other}{A_DELEGATION} to client 1, and a delegation has no owner", OWNERS))
+    wanted = f"the stateid is that of state 1, an {OPEN_A}; a delegation is wanted here"
+    story.give_back(state(1, 3), (wanted, STATEIDS))
+    place = f'{other}{A_DELEGATION} to client 1, and the current filehandle that of file "/b"'
+    story.give_back(state(2), (place, STATEIDS), OTHER_FILE)
+    stands = "state 2 has seqid 1 since entry 4 (OPEN), and the stateid has the "
+    story.give_back(state(2, 0), (stands + "earlier 0", STATEIDS))
+    story.give_back(state(2, 2), (stands + "later 2", STATEIDS))
+    missing = "no filehandle is current: no operation before it in its COMPOUND made one so"
+    story.give_back(state(2), (missing, "COMPOUND"), None)
+    strange = "the stateid is of epoch 2, and this server's is 1"
+    story.give_back(state(2, epoch=2), (strange, STATEIDS))
+    whose = "state 2 was given to client 1, and the stateid is one of client 2"
+    story.give_back(state(2, client=2), (whose, STATEIDS))
+    claim, of = Claim(2, b"a", state(2)), "of the delegation's stateid: "
+    # It isn't looked for what is in the way.
+    theirs = f"it is that of state 2, {A_DELEGATION} to client 1, and the OPEN is one of client 2"
+    story.open(1, (of + theirs, "OPEN"), b"B", 1, client=2, claim=claim)
+    story.open(4, (of + stands + "earlier 0", STATEIDS), claim=Claim(2, b"a", state(2, 0)))
+    story.open(5, (of + stands + "later 2", STATEIDS), claim=Claim(2, b"a", state(2, 2)))
+    story.open(5, (of + place.replace("the current filehandle that of", "the OPEN names"), STATEIDS), name=b"b",
+               claim=Claim(2, b"b", state(2)))
+    story.tell(f"client 1 gives back state 2, {A_DELEGATION}; it wasn't called back")
+    story.give_back(state(2))
+    ended = f"state 2, {A_DELEGATION} to client 1, was ended by entry 19 (DELEGRETURN)"
+    story.give_back(state(2), (ended, STATEIDS))
+    story.open(5, (of + ended, STATEIDS), claim=claim)
+    return story
+
+
+def ends_of_delegations():
+    """Returned after a recall, revoked, and gone with their clients."""
+    story = lent("ends of delegations")
+    bars = f"state 2, {A_DELEGATION} to client 1 since entry 4 (OPEN), keeps out any open of another client, and "
+    called = (bars + "is called back now", DELEGATIONS)
+    story.open(1, called, b"B", 1, client=2)
+    story.tell(f"client 1 gives back state 2, {A_DELEGATION}; it was called back by entry 7 (OPEN), at 0")
+    story.give_back(state(2))
+    story.tell(f"client 1 gets state 3, {A_DELEGATION}")
+    story.open(4)
+    # The same OPEN again gives nothing.
+    story.tell(f"client 1 is told again of state 3, {A_DELEGATION}, which entry 9 gave it")
+    story.open(4)
+    bars = f"state 3, {A_DELEGATION} to client 1 since entry 9 (OPEN), keeps out any open of another client, and "
+    story.server.moment = 10
+    story.open(1, (bars + "is called back now", DELEGATIONS), b"B", 1, client=2)
+    lost = f"client 1 loses state 3, {A_DELEGATION}, as it is revoked; it was called back by "
+    story.tell(lost + "entry 11 (OPEN), at 10")
+    story.server.revoke(101)
+    ended = f"state 3, {A_DELEGATION} to client 1, was ended by entry 12, as it wasn't given back in time"
+    story.give_back(state(3), (ended, STATEIDS))
+    story.tell("the path of client 1 was up since entry 1 (SETCLIENTID_CONFIRM)")
+    story.server.mark_path(1, False)
+    story.open(5)
+    story.tell("the path of client 1 was down since entry 14")
+    story.server.mark_path(1, True)
+    story.tell(f"client 1 gets state 4, {A_DELEGATION}")
+    story.open(6)
+    story.tell(f"client 1 loses state 4, {A_DELEGATION}, as the client is removed; it wasn't called back")
+    story.expire(1)
+    gone = "client 1 was removed by entry 18, as its lease was over"
+    story.give_back(state(4), (gone, STATEIDS))
+    return story
+
+
+def clients_with_delegations():
+    """A delegation is state of its client, and goes where another one takes its place."""
+    story = lent("clients with delegations")
+    story.close(4, state(1, 3))
+    used = (f'the id "c1" is that of client 1, by AUTH_NONE, which has state: state 2, {A_DELEGATION} to client 1, '
+            "since entry 4 (OPEN)")
+    story.introduce(verifier=2, because=(used, "SETCLIENTID"), principal=SOMEBODY)
+    story.introduce(verifier=2)
+    story.tell(f"client 1 loses state 2, {A_DELEGATION}, as the client is removed; it wasn't called back")
+    story.confirm_client(3, 3)
+    gone = "client 1 was removed by entry 10 (SETCLIENTID_CONFIRM), as client 3 took its place"
+    story.give_back(state(2), (gone, STATEIDS))
+    return story
+
+
 def stories():
-    return [stateids(), ends(), clients(), sequence_ids(), opens(), shares(), many_shares(), locks()]
+    return [stateids(), ends(), clients(), sequence_ids(), opens(), shares(), many_shares(), locks(), delays(),
+            many_delays(), delegation_stateids(), ends_of_delegations(), clients_with_delegations()]

@@ -6,38 +6,47 @@ call what it found. The first one is the reason. `check_reasons.py` sees that ea
 was answered, and that no other call has any."""
 from collections import namedtuple
 
-from entries import Call
+from delegations import bars
+from entries import Call, Expire, Revoke
+from events import Events
 from history import History
 from journal import states
-from model import (BOTH, JOURNAL_LIMIT, LockState, NAME_LIMIT, OpenState, READ, Request, SEQUENCED, WRITE, closed_by,
-                   conflict, is_lawful_downgrade, is_special, mode_of, next_sequence_id, replay, sequence_id_of,
-                   stateid_of)
+from model import JOURNAL_LIMIT, NAME_LIMIT, SEQUENCED
 from ranges import LAST_BYTE, READ_MODE, denial, range_of
-from wire import (CLAIM_DELEGATE_CUR, CLAIM_DELEGATE_PREV, CLAIM_PREVIOUS, EXCLUSIVE4, GUARDED4, NewLocker,
-                  OPEN4_CREATE, OpenOwner, Opnum, Status)
-from words import opaque_words, place_words, principal_words
+from states import (Delegation, LockState, OpenState, Request, closed_by, conflict, is_lawful_downgrade, is_special,
+                    mode_of, next_sequence_id, replay, sequence_id_of, stateid_of)
+from wire import (BOTH, CLAIM_DELEGATE_CUR, CLAIM_DELEGATE_PREV, CLAIM_PREVIOUS, EXCLUSIVE4, GUARDED4, NewLocker,
+                  OPEN4_CREATE, OPEN_DELEGATE_WRITE, OpenOwner, Opnum, READ, Status, WRITE)
+from words import opaque_words, place_words, principal_words, purpose_of
 
 # What is answered, what stood in the way, and the heading of the rules.
 Reason = namedtuple("Reason", "status text heading")
 
-OWNERS, STATEIDS, CLIENT_IDS, SHARE, RANGES = (
-    "Owners and sequenced operations", "Stateids", "Client ids", "Share reservations", "Byte-range locks")
+OWNERS, STATEIDS, CLIENT_IDS, SHARE, RANGES, DELEGATIONS = (
+    "Owners and sequenced operations", "Stateids", "Client ids", "Share reservations", "Byte-range locks",
+    "Delegations")
 
 MODES = {0: "nothing", READ: "READ", WRITE: "WRITE", BOTH: "READ and WRITE"}
-KINDS = {OpenState: "an open", LockState: "a lock state"}
+KINDS = {OpenState: "an open", LockState: "a lock state", Delegation: "a delegation"}
 # Of those that stand in the way together so many are named.
 NAMED = 3
 
 
+# An entry with its number; if it is a call the reason of its answer, or None; and texts of what it does about
+# delegations.
+Told = namedtuple("Told", "number entry reason events")
+
+
 def reasons(journal, limit=JOURNAL_LIMIT):
-    """Each entry's number, the entry, and if it is a call the reason of its answer, or None; or WrongAnswer, or
-    NoRule, at the first that can't follow."""
+    """What there is to say of each entry; or WrongAnswer at the first that can't follow."""
     following = states(journal, limit, History)
-    causes = Causes(next(following))
+    server = next(following)
+    causes, events = Causes(server), Events(server)
     for number, entry in enumerate(journal.entries):
         reason = causes.reason_of(entry) if isinstance(entry, Call) else None
+        events.begin(entry)
         next(following)
-        yield number, entry, reason
+        yield Told(number, entry, reason, list(events.texts(number, entry)))
 
 
 # Words.
@@ -81,7 +90,7 @@ class Causes:
     def of_call(self, call):
         if call.opnum in SEQUENCED:
             return self.of_sequenced(Request(call.opnum, call.arguments, call.filehandle))
-        if call.opnum in (Opnum.GETATTR, Opnum.LOCKT):
+        if call.opnum in (Opnum.GETATTR, Opnum.LOCKT, Opnum.DELEGRETURN):
             return self.rule_of(call.opnum)(call.arguments, call.filehandle)
         return self.rule_of(call.opnum)(call.arguments, call.principal)
 
@@ -91,20 +100,23 @@ class Causes:
     # Words that need the state.
 
     def entry_words(self, number):
-        """An entry by its number, and the operation that it is of."""
-        entry = self.server.recorded[number]
-        return f"entry {number} ({entry.opnum.name})" if isinstance(entry, Call) else f"entry {number}"
+        return self.server.entry_words(number)
 
     def end_words(self, number):
         """The entry by which a state ended, while its client stayed."""
-        is_anew = self.server.recorded[number].opnum == Opnum.OPEN
-        return self.entry_words(number) + (", which started its owner anew" if is_anew else "")
+        entry = self.server.recorded[number]
+        if isinstance(entry, Revoke):
+            return f"entry {number}, as it wasn't given back in time"
+        return self.entry_words(number) + (", which started its owner anew" if entry.opnum == Opnum.OPEN else "")
 
     def place_words(self, node):
         return place_words(node, self.server.tree)
 
     def state_words(self, state):
         place = self.place_words(state.file)
+        if isinstance(state, Delegation):
+            lent = f"a delegation of {place} for {purpose_of(state.kind)} to client {state.client}"
+            return f"state {state.number}, {lent}"
         return f"state {state.number}, {KINDS[type(state)]} of {place} by {owner_words(state.owner)}"
 
     # What several operations have in common.
@@ -134,7 +146,7 @@ class Causes:
         removed = server.removals.get(number)
         if removed is not None:
             entry = server.recorded[removed]
-            if not isinstance(entry, Call):
+            if isinstance(entry, Expire):
                 return f"client {number} was removed by entry {removed}, as its lease was over"
             other = entry.arguments.client
             return f"client {number} was removed by {self.entry_words(removed)}, as client {other} took its place"
@@ -166,28 +178,20 @@ class Causes:
 
     def missing_state(self, stateid):
         """A live client has no state with the number of its stateid."""
-        state = self.server.states.get(stateid.number)
+        state = self.server.given.get(stateid.number)
         if state is None:
             text = f"state {stateid.number} was never given"
-        elif state.owner.client != stateid.client:
-            text = (f"state {state.number} was given to client {state.owner.client}, and the stateid is one of "
-                    f"client {stateid.client}")
+        elif state.client != stateid.client:
+            text = (f"state {state.number} was given to client {state.client}, and the stateid is one of client "
+                    f"{stateid.client}")
         else:
             text = f"{self.state_words(state)}, was ended by {self.end_words(self.server.ended[state.number])}"
         return Reason(Status.BAD_STATEID, text, STATEIDS)
 
     def of_stateid(self, stateid, kind, file, of_unconfirmed=False):
         """What is wrong with a stateid that is to name a state of this kind on the file, from its number on."""
+        yield from self.of_state(stateid, kind, file)
         found, server = self.server.looked_up(stateid), self.server
-        if found is None:
-            yield self.missing_state(stateid)
-        if not isinstance(found, kind):
-            text = f"the stateid is that of {self.state_words(found)}; {KINDS[kind]} is wanted here"
-            yield Reason(Status.BAD_STATEID, text, STATEIDS)
-        if found.file != file:
-            text = (f"the stateid is that of {self.state_words(found)}, and the current filehandle that of "
-                    f"{self.place_words(file)}")
-            yield Reason(Status.BAD_STATEID, text, STATEIDS)
         if kind is OpenState and not of_unconfirmed and not server.open_owners[found.owner].is_confirmed:
             text = (f"{owner_words(found.owner)} isn't confirmed: it has opened the file in entry "
                     f"{server.begun[found.number]}, and no OPEN_CONFIRM has followed")
@@ -197,6 +201,18 @@ class Causes:
             yield Reason(Status.OLD_STATEID, f"{stands}, and the stateid has the earlier {stateid.seqid}", STATEIDS)
         if stateid.seqid > found.seqid:
             yield Reason(Status.BAD_STATEID, f"{stands}, and the stateid has the later {stateid.seqid}", STATEIDS)
+
+    def of_state(self, stateid, kind, file, naming="the current filehandle that of"):
+        """The same, but for its seqid."""
+        found = self.server.looked_up(stateid)
+        if found is None:
+            yield self.missing_state(stateid)
+        if not isinstance(found, kind):
+            text = f"the stateid is that of {self.state_words(found)}; {KINDS[kind]} is wanted here"
+            yield Reason(Status.BAD_STATEID, text, STATEIDS)
+        if found.file != file:
+            text = f"the stateid is that of {self.state_words(found)}, and {naming} {self.place_words(file)}"
+            yield Reason(Status.BAD_STATEID, text, STATEIDS)
 
     def of_range(self, arguments):
         if range_of(arguments.offset, arguments.length) is None:
@@ -240,9 +256,12 @@ class Causes:
     def of_named_owner(self, stateid):
         """What is wrong with a stateid that is to name an owner."""
         yield from self.of_stateid_client(stateid)
-        owners = self.server.open_owners.values()
-        if self.server.looked_up(stateid) is None and not any(closed_by(owner.kept, stateid) for owner in owners):
+        owners, found = self.server.open_owners.values(), self.server.looked_up(stateid)
+        if found is None and not any(closed_by(owner.kept, stateid) for owner in owners):
             yield self.missing_state(stateid)._replace(heading=OWNERS)
+        if isinstance(found, Delegation):
+            text = f"the stateid is that of {self.state_words(found)}, and a delegation has no owner"
+            yield Reason(Status.BAD_STATEID, text, OWNERS)
 
     def due_words(self, owner):
         kept = owner.kept
@@ -273,9 +292,11 @@ class Causes:
             yield Reason(Status.NOTSUPP, "CLAIM_DELEGATE_PREV isn't supported", "OPEN")
         yield from self.of_share(arguments, "OPEN")
         yield from self.of_file_name(arguments, directory)
+        file = self.server.tree.child(directory, claim.name)
         if claim.kind == CLAIM_DELEGATE_CUR:
-            yield from self.of_delegation(claim.delegation)
-        yield from self.of_other_opens(arguments, self.server.tree.child(directory, claim.name))
+            yield from self.of_claimed(claim.delegation, arguments.owner.client, file)
+        yield from self.of_other_opens(arguments, file)
+        yield from self.of_delegations(arguments, file)
 
     def of_file_name(self, arguments, directory):
         """What is wrong with the name that an OPEN has."""
@@ -299,10 +320,37 @@ class Causes:
             mode = "GUARDED4" if how.mode == GUARDED4 else "EXCLUSIVE4"
             yield Reason(Status.EXIST, f"{self.place_words(node)} is there, and {mode} creates a new one", "OPEN")
 
-    def of_delegation(self, stateid):
-        for reason in self.of_stateid_client(stateid):
+    def of_claimed(self, stateid, client, file):
+        """What is wrong with the delegation that CLAIM_DELEGATE_CUR names."""
+        for reason in self.of_claimed_stateid(stateid, client, file):
             yield reason._replace(text=f"of the delegation's stateid: {reason.text}")
-        yield Reason(Status.BAD_STATEID, "the claim names a delegation, and there are none", "OPEN")
+
+    def of_claimed_stateid(self, stateid, client, file):
+        yield from self.of_stateid_client(stateid)
+        yield from self.of_state(stateid, Delegation, file, "the OPEN names")
+        found = self.server.looked_up(stateid)
+        if found.client != client:
+            text = f"it is that of {self.state_words(found)}, and the OPEN is one of client {client}"
+            yield Reason(Status.BAD_STATEID, text, "OPEN")
+        yield from self.of_stateid(stateid, Delegation, file)
+
+    def of_delegations(self, arguments, file):
+        """Delegations of other clients that are in the way of the OPEN."""
+        share = arguments.access, arguments.deny
+        held = [it for it in self.server.delegations_of_others(arguments.owner.client, file) if bars(it.kind, share)]
+        if held:
+            texts = [self.barring_words(it) for it in sorted(held, key=lambda it: it.number)]
+            yield Reason(Status.DELAY, listed(texts), DELEGATIONS)
+
+    def barring_words(self, held):
+        """How a delegation is in the way, and since when it is called back."""
+        barred = "keeps out any open of another client"
+        if held.kind != OPEN_DELEGATE_WRITE:
+            barred = "keeps out opens of other clients that write or deny READ"
+        since = self.server.recalled.get(held.number)
+        called = "is called back now" if since is None else f"was called back by {self.entry_words(since)}"
+        begun = self.entry_words(self.server.begun[held.number])
+        return f"{self.state_words(held)} since {begun}, {barred}, and {called}"
 
     def of_other_opens(self, arguments, file):
         """Opens of other owners that deny what the OPEN asks, or have what it is to deny."""
@@ -407,6 +455,11 @@ class Causes:
             text = f"{owner_words(owner)} holds bytes of {listed(texts)}"
             yield Reason(Status.LOCKS_HELD, text, "RELEASE_LOCKOWNER")
 
+    def of_delegreturn(self, arguments, file):
+        yield from self.of_filehandle(file)
+        yield from self.of_stateid_client(arguments.stateid)
+        yield from self.of_stateid(arguments.stateid, Delegation, file)
+
     def of_getattr(self, _arguments, filehandle):
         return self.of_filehandle(filehandle)
 
@@ -419,7 +472,7 @@ class Causes:
         server = self.server
         if record is None or record.principal == principal or not server.has_state(record.number):
             return
-        state = next(it for it in server.opens if it.owner.client == record.number)
+        state = next(it for it in server.states() if it.client == record.number)
         client = f"client {record.number}, by {principal_words(record.principal)}"
         text = (f"the id {name_words(record.id)} is that of {client}, which has state: {self.state_words(state)}, "
                 f"since {self.entry_words(server.begun[state.number])}")

@@ -47,7 +47,11 @@ NO_XID = "a message has no xid, or a number that is none"
 NO_CREDENTIAL = "after the xid of a call only `credential FLAVOR WORDS` can follow"
 NO_END = "the line goes on after its message"
 NO_NUMBER = "a lease is 1 to 86,400 seconds, an epoch below 2^32, a moment below 2^40"
-NO_SWEEP = "no sweep: `sweep SECONDS expired COUNT kept COUNT`"
+NO_SWEEP = "no sweep: `sweep SECONDS expired COUNT kept COUNT`, and behind it maybe `revoked COUNT`"
+NO_MARK = "no mark of a path: `mark CLIENT up` or `mark CLIENT down`, and then `done` or `not live`"
+NO_REVOCATION = "no revocation: `revoke SECONDS none` or `revoke SECONDS state NUMBER`"
+NO_TAKE = "no recall that is taken: `take record` with its words, of which the first is its xid, or `take nothing`"
+NO_PENDING = "no number of recalls: `pending COUNT`"
 NO_FAULT = "no fault of a connection"
 NO_SECTIONS = "no sections: `sections RFC NUMBER, SECTION, SECTION`, and behind a semicolon those of another RFC"
 
@@ -82,15 +86,54 @@ def refusal(path, error):
 
 @dataclass(frozen=True)
 class Sweep:
-    """A look through the leases, and how many clients are to be removed by it, and how many kept."""
+    """A look through the leases, and how many clients are to be removed by it, how many kept, and how many delegations
+    are to be taken."""
     moment: int
     expired: int
     kept: int
+    revoked: int = 0
+
+
+@dataclass(frozen=True)
+class Mark:
+    """A client can be called back, or can't; and whether it is to be live."""
+    client: int
+    is_up: bool
+    is_live: bool = True
+
+
+@dataclass(frozen=True)
+class Revoke:
+    """A delegation is taken, if one is due; and the number of the state that it is to be, or None."""
+    moment: int
+    state: int = None
+
+
+@dataclass(frozen=True)
+class Take:
+    """The first recall that waits is taken; and the record that is to be sent for it, or nothing where none waits."""
+    record: bytes = b""
+
+    @property
+    def xid(self):
+        return int.from_bytes(self.record[4:8], "big")
+
+
+@dataclass(frozen=True)
+class Pending:
+    """How many recalls are to wait."""
+    count: int
+
+
+# What a server is told that no call asks for.
+ORDERS = (Sweep, Mark, Revoke, Take, Pending)
+# What is told a server that serves each connection alone, and not one whose state threads share.
+ALONE_ORDERS = (Revoke, Pending)
 
 
 @dataclass
 class Part:
-    """A connection, or what is sent on one at a moment and between sweeps: the bytes, what has to come, and how the
+    """A connection, or what is sent on one at a moment and between orders: the bytes, what has to come, and how the
     connection ends, if it isn't by the end of the input after a whole record."""
     moment: int = 0
     sent: bytes = b""
@@ -107,7 +150,7 @@ class Connection:
     sent: bytes
     wanted: bytes
     fault: str
-    # What happens after so many of the bytes are sent: a moment that the clock is set to, or a sweep.
+    # What happens after so many of the bytes are sent: a moment that the clock is set to, or an order.
     stops: list = field(default_factory=list)
 
     def go_on(self, part):
@@ -131,26 +174,32 @@ class Row:
     says_alone: bool = False
     # Whether it says what is wanted.
     is_whole: bool = False
-    # Parts and sweeps, one after another; the first is a part.
+    # Parts and orders, one after another; the first is a part.
     steps: list = field(default_factory=lambda: [Part()])
 
     @property
-    def is_sweeping(self):
-        return any(isinstance(step, Sweep) for step in self.steps)
+    def is_ordering(self):
+        """Whether the server is told something that no call asks for."""
+        return any(isinstance(step, ORDERS) for step in self.steps)
 
     @property
     def is_alone(self):
-        """Whether it needs a server that has just been started: with other options, or one whose leases somebody looks
-        through as the row says; or since it says so."""
+        """Whether it needs a server that has just been started: with other options, or one that is told something that
+        no call asks for; or since it says so."""
         is_other = self.document is not None or self.lease != LEASE or self.epoch != EPOCH
-        return self.says_alone or is_other or self.is_sweeping
+        return self.says_alone or is_other or self.is_ordering
+
+    @property
+    def is_unshared(self):
+        """Whether the server is told something that one isn't whose state threads share."""
+        return any(isinstance(step, ALONE_ORDERS) for step in self.steps)
 
     @property
     def connections(self):
-        """The parts that go on with one another as one connection, with the sweeps as its stops."""
+        """The parts that go on with one another as one connection, with the orders as its stops."""
         found = []
         for step in self.steps:
-            if isinstance(step, Sweep):
+            if isinstance(step, ORDERS):
                 found[-1].stops.append((len(found[-1].sent), step))
             elif step.goes_on:
                 found[-1].go_on(step)
@@ -247,7 +296,7 @@ def spelled(line):
 
 @dataclass
 class Message:
-    """Its direction, its form (bytes, record, compound), its head, and the words of its lines."""
+    """Its direction (send, want, take), its form (bytes, record, compound), its head, and the words of its lines."""
     direction: str
     form: str
     head: bytes = b""
@@ -264,6 +313,8 @@ class Message:
 def begin_message(direction, text):
     """The message that begins with what is written after `send` or `want`."""
     kind, rest = split_word(text)
+    if direction == "take" and kind != "record":
+        raise Wrong(NO_TAKE)
     if kind in ("bytes", "record"):
         expect_end(rest)
         return Message(direction, kind)
@@ -319,12 +370,13 @@ def reply(kind, text):
 # Lines.
 
 def sweep_of(text):
-    """The sweep that is written as SECONDS expired COUNT kept COUNT."""
+    """The sweep that is written as SECONDS expired COUNT kept COUNT, and maybe revoked COUNT."""
     seconds, rest = split_word(text)
     expired, rest = count_of("expired", rest)
     kept, rest = count_of("kept", rest)
+    revoked, rest = (0, rest) if next_word(rest) is None else count_of("revoked", rest)
     expect_end(rest)
-    return Sweep(decimal(seconds, MOMENT_LIMIT, NO_NUMBER), expired, kept)
+    return Sweep(decimal(seconds, MOMENT_LIMIT, NO_NUMBER), expired, kept, revoked)
 
 
 def count_of(keyword, text):
@@ -334,6 +386,54 @@ def count_of(keyword, text):
     if found != keyword:
         raise Wrong(NO_SWEEP)
     return decimal(digits, 2**32, NO_SWEEP), rest
+
+
+def mark_of(text):
+    """The mark that is written as CLIENT up or CLIENT down, and then done or not live."""
+    match [*words_of(text)]:
+        case [client, "up" | "down" as way, *answer] if answer in (["done"], ["not", "live"]):
+            return Mark(decimal(client, 2**32, NO_MARK), way == "up", answer == ["done"])
+    raise Wrong(NO_MARK)
+
+
+def revocation_of(text):
+    """The revocation that is written as SECONDS none or SECONDS state NUMBER."""
+    match [*words_of(text)]:
+        case [seconds, "none"]:
+            return Revoke(decimal(seconds, MOMENT_LIMIT, NO_NUMBER))
+        case [seconds, "state", state]:
+            return Revoke(decimal(seconds, MOMENT_LIMIT, NO_NUMBER), decimal(state, 2**32, NO_REVOCATION))
+    raise Wrong(NO_REVOCATION)
+
+
+def pending_of(text):
+    """The number of recalls that is written as COUNT."""
+    match [*words_of(text)]:
+        case [count]:
+            return Pending(decimal(count, 2**32, NO_PENDING))
+    raise Wrong(NO_PENDING)
+
+
+def order_lines(order):
+    """An order as the lines of a row."""
+    match order:
+        case Sweep(moment, expired, kept, revoked):
+            return [f"sweep {moment} expired {expired} kept {kept}" + (f" revoked {revoked}" if revoked else "")]
+        case Mark(client, is_up, is_live):
+            return [f"mark {client} {'up' if is_up else 'down'} {'done' if is_live else 'not live'}"]
+        case Revoke(moment, state):
+            return [f"revoke {moment} " + ("none" if state is None else f"state {state}")]
+        case Take(record):
+            return ["take record", f"  hex:{record[4:].hex()}"] if record else ["take nothing"]
+        case Pending(count):
+            return [f"pending {count}"]
+
+
+def order_line(order):
+    return " ".join(word for line in order_lines(order) for word in line.split())
+
+
+ORDER_LINES = {"sweep": sweep_of, "mark": mark_of, "revoke": revocation_of, "pending": pending_of}
 
 
 class File:
@@ -372,9 +472,9 @@ class File:
         elif keyword == "sections":
             self.end_message()
             self.set_sections(rest)
-        elif keyword in ("send", "want"):
+        elif keyword in ("send", "want", "take"):
             self.begin_message(keyword, rest)
-        elif keyword in ("rule", "tree", "lease", "epoch", "alone", "fault", "moment", "at", "sweep"):
+        elif keyword in ("rule", "tree", "lease", "epoch", "alone", "fault", "moment", "at", *ORDER_LINES):
             self.end_message()
             self.set(self.row(), keyword, rest)
         else:
@@ -389,7 +489,9 @@ class File:
     def begin_message(self, direction, text):
         self.end_message()
         self.row().is_whole |= direction == "want"
-        if (direction, text) != ("want", "nothing"):
+        if (direction, text) == ("take", "nothing"):
+            self.row().steps.append(Take())
+        elif (direction, text) != ("want", "nothing"):
             self.message = begin_message(direction, text)
 
     def add_words(self, words, is_line):
@@ -399,9 +501,14 @@ class File:
         self.message.body += spelled(words)
 
     def end_message(self):
-        """Adds the message that is read to what its part has of its direction."""
+        """Adds the message that is read to what its part has of its direction; or the recall that is taken."""
         message, self.message = self.message, None
         if message is None:
+            return
+        if message.direction == "take":
+            if len(message.body) < 4:
+                raise Wrong(NO_TAKE)
+            self.row().steps.append(Take(message.spelled()))
             return
         part = self.part()
         if message.direction == "send":
@@ -419,9 +526,9 @@ class File:
             self.sections = text
 
     def part(self):
-        """The part that is read: behind a sweep a new one, at the same moment."""
+        """The part that is read: behind an order a new one, at the same moment."""
         steps = self.row().steps
-        if isinstance(steps[-1], Sweep):
+        if isinstance(steps[-1], ORDERS):
             steps.append(Part(self.clock, goes_on=True))
         return steps[-1]
 
@@ -443,8 +550,8 @@ class File:
             self.part().fault = text
             if text not in FAULTS:
                 raise Wrong(NO_FAULT)
-        elif keyword == "sweep":
-            row.steps.append(sweep_of(text))
+        elif keyword in ORDER_LINES:
+            row.steps.append(ORDER_LINES[keyword](text))
         else:
             self.clock = decimal(text, MOMENT_LIMIT, NO_NUMBER)
             self.set_clock(row, keyword == "moment" and row.connections[-1].sent != b"")

@@ -23,6 +23,7 @@ class Status(IntEnum):
     NAMETOOLONG = 63
     BADHANDLE = 10001
     NOTSUPP = 10004
+    DELAY = 10008
     DENIED = 10010
     EXPIRED = 10011
     SHARE_DENIED = 10015
@@ -47,6 +48,7 @@ class Opnum(IntEnum):
     """nfs_opnum4 of RFC 7531: the operations that have a rule in the model, and ILLEGAL."""
     ACCESS = 3
     CLOSE = 4
+    DELEGRETURN = 8
     GETATTR = 9
     GETFH = 10
     LOCK = 12
@@ -70,18 +72,18 @@ class Opnum(IntEnum):
 
 # The other operations of RFC 7531, which have no rule in the model.
 OTHER_OPERATIONS = {
-    "COMMIT": 5, "CREATE": 6, "DELEGPURGE": 7, "DELEGRETURN": 8, "LINK": 11, "LOOKUPP": 16, "NVERIFY": 17,
-    "OPENATTR": 19, "PUTPUBFH": 23, "READ": 25, "READDIR": 26, "READLINK": 27, "REMOVE": 28, "RENAME": 29,
-    "SECINFO": 33, "VERIFY": 37, "WRITE": 38}
+    "COMMIT": 5, "CREATE": 6, "DELEGPURGE": 7, "LINK": 11, "LOOKUPP": 16, "NVERIFY": 17, "OPENATTR": 19,
+    "PUTPUBFH": 23, "READ": 25, "READDIR": 26, "READLINK": 27, "REMOVE": 28, "RENAME": 29, "SECINFO": 33, "VERIFY": 37,
+    "WRITE": 38}
 # Its other statuses, which this server doesn't give.
 OTHER_STATUSES = {
     "PERM": 1, "IO": 5, "NXIO": 6, "XDEV": 18, "FBIG": 27, "NOSPC": 28, "ROFS": 30, "MLINK": 31, "NOTEMPTY": 66,
     "DQUOT": 69, "STALE": 70, "BAD_COOKIE": 10003, "TOOSMALL": 10005, "SERVERFAULT": 10006, "BADTYPE": 10007,
-    "DELAY": 10008, "SAME": 10009, "LOCKED": 10012, "GRACE": 10013, "FHEXPIRED": 10014, "WRONGSEC": 10016,
-    "MOVED": 10019, "NOT_SAME": 10027, "LOCK_RANGE": 10028, "SYMLINK": 10029, "LEASE_MOVED": 10031,
-    "ATTRNOTSUPP": 10032, "RECLAIM_BAD": 10034, "RECLAIM_CONFLICT": 10035, "BADOWNER": 10039, "BADCHAR": 10040,
-    "BADNAME": 10041, "BAD_RANGE": 10042, "LOCK_NOTSUPP": 10043, "DEADLOCK": 10045, "FILE_OPEN": 10046,
-    "ADMIN_REVOKED": 10047, "CB_PATH_DOWN": 10048}
+    "SAME": 10009, "LOCKED": 10012, "GRACE": 10013, "FHEXPIRED": 10014, "WRONGSEC": 10016, "MOVED": 10019,
+    "NOT_SAME": 10027, "LOCK_RANGE": 10028, "SYMLINK": 10029, "LEASE_MOVED": 10031, "ATTRNOTSUPP": 10032,
+    "RECLAIM_BAD": 10034, "RECLAIM_CONFLICT": 10035, "BADOWNER": 10039, "BADCHAR": 10040, "BADNAME": 10041,
+    "BAD_RANGE": 10042, "LOCK_NOTSUPP": 10043, "DEADLOCK": 10045, "FILE_OPEN": 10046, "ADMIN_REVOKED": 10047,
+    "CB_PATH_DOWN": 10048}
 
 
 class Unreadable(Exception):
@@ -164,6 +166,9 @@ Openhow = namedtuple("Openhow", "create mode value")
 # Which file an OPEN names: the claim, the name, and the delegation's type or stateid, each where the claim has it.
 Claim = namedtuple("Claim", "kind name delegation")
 
+# What an open has access to, or denies; and what a delegation is for.
+READ, WRITE, BOTH = 1, 2, 3
+OPEN_DELEGATE_NONE, OPEN_DELEGATE_READ, OPEN_DELEGATE_WRITE = 0, 1, 2
 READ_LT, WRITE_LT, READW_LT, WRITEW_LT = 1, 2, 3, 4
 OPEN4_NOCREATE, OPEN4_CREATE = 0, 1
 UNCHECKED4, GUARDED4, EXCLUSIVE4 = 0, 1, 2
@@ -213,6 +218,7 @@ def read_claim(reader):
 
 Access = namedtuple("Access", "access")
 Close = namedtuple("Close", "seqid stateid")
+Delegreturn = namedtuple("Delegreturn", "stateid")
 Getattr = namedtuple("Getattr", "mask")
 Getfh = namedtuple("Getfh", "")
 Lock = namedtuple("Lock", "locktype reclaim offset length locker")
@@ -245,6 +251,7 @@ def read_setclientid(reader):
 ARGUMENTS = {
     Opnum.ACCESS: lambda r: Access(r.u32()),
     Opnum.CLOSE: lambda r: Close(r.u32(), read_stateid(r)),
+    Opnum.DELEGRETURN: lambda r: Delegreturn(read_stateid(r)),
     Opnum.GETATTR: lambda r: Getattr(r.bitmap()),
     Opnum.GETFH: lambda r: Getfh(),
     Opnum.LOCK: lambda r: Lock(read_lock_type(r), r.one_of(2), r.u64(), r.u64(), read_locker(r)),

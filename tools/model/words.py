@@ -1,8 +1,8 @@
 """Entries of a journal as text, with operations and answers in the words of rows (crates/rows/README.md)."""
 import rows
 import wire
-from entries import ARGUMENT_BYTES, Call, Expire, RESTS, Revoke
-from wire import Opnum, opaque
+from entries import ARGUMENT_BYTES, Call, Expire, RESTS, Revoke, delegation_given
+from wire import OPEN_DELEGATE_WRITE, Opnum, Status, opaque
 
 STATUS_NAMES = {number: name for name, number in rows.NAMES.items() if name.startswith(("NFS4_OK", "NFS4ERR_"))}
 FLAVOR_NAMES = {wire.AUTH_NONE: "AUTH_NONE", wire.AUTH_SYS: "AUTH_SYS"}
@@ -101,9 +101,27 @@ def line_of(entry, tree):
     """An entry as a line."""
     if isinstance(entry, Call):
         head = f"moment {entry.moment}, {principal_words(entry.principal)}, {place_words(entry.filehandle, tree)}"
-        return f"{head}: {operation_words(entry)} -> {answer_words(entry.answer)}"
+        return f"{head}: {operation_words(entry)} -> {answer_words(entry.answer)}{remark_on(entry)}"
     if isinstance(entry, Expire):
         return f"client {entry.client} expires, seen at {entry.seen}, now {entry.now}"
     if isinstance(entry, Revoke):
         return f"the delegation of state {entry.state} is revoked, now {entry.now}"
     return f"the path of client {entry.client} is marked {'up' if entry.is_up else 'down'}"
+
+
+def purpose_of(kind):
+    """What a delegation is for."""
+    return "writing" if kind == OPEN_DELEGATE_WRITE else "reading"
+
+
+def remark_on(call):
+    """What a call does about delegations that is easily overlooked in its words: a comment behind them, or nothing."""
+    given = delegation_given(call)
+    if given is not None:
+        kind, stateid = given
+        return f"  # gives client {stateid.client} state {stateid.number}, a delegation for {purpose_of(kind)}"
+    if (call.opnum, call.answer.status) == (Opnum.OPEN, Status.DELAY):
+        return "  # the delegations in its way are called back"
+    if (call.opnum, call.answer.status) == (Opnum.DELEGRETURN, Status.OK):
+        return f"  # client {call.arguments.stateid.client} gives state {call.arguments.stateid.number} back"
+    return ""

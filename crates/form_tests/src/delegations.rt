@@ -1,4 +1,4 @@
-//! Delegations in the result of OPEN, which brings none yet.
+//! Delegations in the result of OPEN.
 
 use crate::encoding::{is_encoded_as, is_unreadable};
 use nfs_forms::{ClientId, OpenDelegation, Stateid};

@@ -1,7 +1,7 @@
 -- What the rule of an operation may change in the clients' records: SETCLIENTID and SETCLIENTID_CONFIRM alone change them.
 use Rattle.std.proofs.Common.{◌≡◌, inl, inr, ℕ, Bool, true, false, Option, Some, None, Result, Ok, Err, refl, sym, ap, ◌∙◌, subst}
 use Rattle.std.specs.Prelude.{⊤, ◌&&◌, ◌==◌, is_some, not, IfSome, option_and_then, option_map, if◌then◌else◌}
-use Rattle.std.specs.List.{AllByRecursion}
+use Rattle.std.specs.List.{AllByRecursion, list_any}
 use Rattle.std.proofs.lemmas.Bool.{and_parts, cond-false, cond_both, eq-eqb, eqb-true, false_from_ne_true}
 use Rattle.nfs_core.proofs.SafeLists.{all_always, all_find, found_some}
 use Rattle.nfs_core.proofs.Sound.{equal_clients, same_client_self}
@@ -41,6 +41,7 @@ use Rattle.nfs_owners.specs.declared.clients.client_change.ClientChange.TheVaria
 use Rattle.nfs_ranges.specs.declared.range.Range.{Range}
 use Rattle.nfs_rules.specs.Refusing.{◌>>=◌}
 use Rattle.nfs_rules.specs.Sequences.{Answered, GoesOn, IsDecided, IsSequence, IsSequenced, IsUnder, Own, Requester, SequenceStep, before_own, decision_of, requester_of_open, requester_of_stateid}
+use Rattle.nfs_rules.specs.Lending.{lent}
 use Rattle.nfs_rules.specs.Newcomers.{newcomer_of}
 use Rattle.nfs_rules.specs.Stateids.{any_open, as_lock, as_open, confirmed_open, lock_state, verdict}
 use Rattle.nfs_rules.specs.declared.decision.Decision.{Decision}
@@ -49,6 +50,7 @@ use Rattle.nfs_rules.specs.declared.passage.Passage.{Passage}
 use Rattle.nfs_rules.specs.declared.ruling.Ruling.{Ruling}
 use Rattle.nfs_rules.specs.operations.{IsRuled}
 use Rattle.nfs_rules.specs.operations.Close as close
+use Rattle.nfs_rules.specs.operations.Delegreturn as delegreturn
 use Rattle.nfs_rules.specs.Locking.{lock_of_bytes, unlock_of_bytes}
 use Rattle.nfs_rules.specs.operations.Lock as lock
 use Rattle.nfs_rules.specs.operations.Lock.{Locking}
@@ -60,9 +62,11 @@ use Rattle.nfs_rules.specs.operations.OpenDowngrade as open_downgrade
 use Rattle.nfs_rules.specs.operations.ReleaseLockowner as release
 use Rattle.nfs_rules.specs.operations.Setclientid as setclientid
 use Rattle.nfs_rules.specs.operations.SetclientidConfirm as confirm
-use Rattle.nfs_share.specs.AllOpens.{OpenAt, opens_of}
+use Rattle.nfs_share.specs.AllOpens.{DelegationAt, OpenAt, delegations_of, opens_of}
+use Rattle.nfs_share.specs.Delegations.{conflicts}
 use Rattle.nfs_share.specs.Opens.{open_with_number}
 use Rattle.nfs_share.specs.Share.{share_of_numbers}
+use Rattle.nfs_share.specs.declared.delegation.FileUse.TheVariants as uses
 use Rattle.nfs_share.specs.declared.share.Share.{Share}
 use Rattle.nfs_state.specs.Owners.{is_confirmed}
 use Rattle.nfs_state.specs.Places.{has_owner_place, has_state_place}
@@ -77,6 +81,7 @@ use Rattle.nfs_xdr.specs.declared.op.Op.TheVariants as ops
 abbrev pub KeepsClients : Change → Type 0
 KeepsClients (changes.Clients change) = ⊥
 KeepsClients (changes.Expires client) = ⊥
+KeepsClients (changes.MarksPath client path) = ⊥
 KeepsClients change = ⊤
 
 -- SETCLIENTID confirms nobody, and a new client is one of this epoch.
@@ -107,11 +112,13 @@ IsClientsFor epoch registry op change = ⊥
 abbrev pub IsFor : ℕ → Registry → Op → Change → Type 0
 IsFor epoch registry op (changes.Clients change) = IsClientsFor epoch registry op change
 IsFor epoch registry op (changes.Expires client) = ⊥
+IsFor epoch registry op (changes.MarksPath client path) = ⊥
 IsFor epoch registry op change = ⊤
 
 keeps_for : (epoch : ℕ) (registry : Registry) (op : Op) (change : Change) → KeepsClients change → IsFor epoch registry op change
 keeps_for epoch registry op (changes.Clients change) keeps = absurd keeps
 keeps_for epoch registry op (changes.Expires client) keeps = absurd keeps
+keeps_for epoch registry op (changes.MarksPath client path) keeps = absurd keeps
 keeps_for epoch registry op change keeps = tt
 
 decided_for : (epoch : ℕ) (registry : Registry) (op : Op) (d e : Decision) → Some d ≡ Some e → IsFor epoch registry op e.effect.change → IsFor epoch registry op d.effect.change
@@ -166,10 +173,21 @@ found_keeps : (found : Result OpenAt Refusal) (args : OpenDowngrade) (ruling : R
 found_keeps (Err refusal) args ruling is = equal_keeps ruling _ is tt
 found_keeps (Ok at) args ruling is = downgrade_keeps at (share_of_numbers args.access args.deny) ruling is
 
-opening_keeps : (state : State) (passage : Passage) (args : Open) (found : Result Opening Refusal) (ruling : Ruling) → Some ruling ≡ opening.ruling_of state passage args.owner (opening.opening_or_ruling found) → KeepsClients ruling.change
-opening_keeps state passage args (Err refusal) ruling is = ruled_keeps ruling _ is tt
-opening_keeps state passage args (Ok o) ruling is =
-    equal_keeps ruling _ (placed (opening.has_owner_place passage state && opening.has_open_place state args.owner o.node) _ ruling is).1 tt
+-- an OPEN is granted, or what is in its way is called back
+
+granted_keeps : (journal : History) (state : State) (passage : Passage) (args : Open) (o : Opening) (ruling : Ruling) → Some ruling ≡ opening.ruling_of journal state passage args (Ok o) → KeepsClients ruling.change
+granted_keeps journal state passage args o ruling is =
+    let kind = lent journal state passage args o in
+    equal_keeps ruling _ (placed (opening.has_places state passage args.owner o.node kind) _ ruling is).1 tt
+
+opening_keeps : (journal : History) (state : State) (passage : Passage) (moment : ℕ) (args : Open) (found : Result Opening Refusal) (ruling : Ruling)
+    → Some ruling ≡ opening.ruling_of journal state passage args (opening.opening_or_ruling state moment args.owner.client found) → KeepsClients ruling.change
+opening_keeps journal state passage moment args (Err refusal) ruling is = ruled_keeps ruling _ is tt
+opening_keeps journal state passage moment args (Ok o) ruling is =
+    let client = args.owner.client in
+    let P : Result Opening Ruling → Type 0 = λ r. Some ruling ≡ opening.ruling_of journal state passage args r → KeepsClients ruling.change in
+    cond_both (list_any (conflicts client (uses.Open o.share)) (delegations_of o.node state.delegations)) (Err (opening.delayed moment client o)) (Ok o) P
+    (λ _ same. ruled_keeps ruling _ same tt) (λ _ same. granted_keeps journal state passage args o ruling same) is
 
 -- LOCK and LOCKU
 
@@ -205,7 +223,7 @@ unlock_keeps : (state : State) (args : Locku) (found : Result LockAt Refusal) (r
 unlock_keeps state args (Err refusal) ruling is = ruled_keeps ruling _ is tt
 unlock_keeps state args (Ok at) ruling is = unlocking_keeps state at is.0 ruling is.2
 
--- LOCKT and RELEASE_LOCKOWNER
+-- LOCKT, RELEASE_LOCKOWNER and DELEGRETURN
 
 testing_keeps : (state : State) (args : Lockt) (node : ℕ) (range : Option Range) (d : Decision) → lockt.IsOfRange state args node range (Some d) → KeepsClients d.effect.change
 testing_keeps state args node None d is = decided_keeps d _ is tt
@@ -220,6 +238,10 @@ release_keeps state args =
     let P : Decision → Type 0 = λ d. KeepsClients d.effect.change in
     cond_both (not (is_some (record_of args.owner.client state.clients))) (release.refusal_of refusals.StaleClientId) _ P (λ _. tt)
     (λ _. cond_both (holds args.owner state.locks) (release.refusal_of refusals.LocksHeld) _ P (λ _. tt) (λ _. tt))
+
+returning_keeps : (found : Result DelegationAt Refusal) → KeepsClients (delegreturn.returning found).effect.change
+returning_keeps (Err refusal) = tt
+returning_keeps (Ok at) = tt
 
 -- SETCLIENTID
 
@@ -314,7 +336,9 @@ ruled_for journal state (ops.SetclientidConfirm args) request d singles is =
 ruled_for journal state (ops.Open args) request d singles is =
     keeps_for journal.epoch state.clients (ops.Open args) d.effect.change
     (sequenced_keeps journal state (requester_of_open state args.owner args.seqid) request (opening.own journal state args)
-    (λ node passage ruling h. opening_keeps (before_own passage args.owner state) passage args (opening.opening journal (before_own passage args.owner state) node args) ruling h) d is)
+    (λ node passage ruling h.
+    let seen = before_own passage args.owner state in
+    opening_keeps journal seen passage request.moment args (opening.opening journal seen node args) ruling h) d is)
 ruled_for journal state (ops.OpenConfirm args) request d singles is =
     keeps_for journal.epoch state.clients (ops.OpenConfirm args) d.effect.change
     (sequenced_keeps journal state (requester_of_stateid journal state args.stateid args.seqid) request (open_confirm.own journal state args)
@@ -340,4 +364,7 @@ ruled_for journal state (ops.Locku args) request d singles is =
     (λ node passage ruling h. unlock_keeps state args (verdict (lock_state node) journal.epoch state args.stateid >>= as_lock) ruling h) d is)
 ruled_for journal state (ops.ReleaseLockowner args) request d singles is =
     keeps_for journal.epoch state.clients (ops.ReleaseLockowner args) d.effect.change (decided_keeps d _ is (release_keeps state args))
+ruled_for journal state (ops.Delegreturn args) request d singles is =
+    keeps_for journal.epoch state.clients (ops.Delegreturn args) d.effect.change
+    (decided_keeps d _ is (returning_keeps (delegreturn.delegation_at journal state request.filehandle args)))
 ruled_for journal state op request d singles is = absurd cc

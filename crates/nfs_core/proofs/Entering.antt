@@ -5,6 +5,7 @@ use Rattle.std.proofs.lemmas.Bool.{both_ways, cond_both, lt-ltb, ltb-true}
 use Rattle.nfs_core.proofs.Journals.{decides_something}
 use Rattle.nfs_core.proofs.SoundSequences.{some_equal}
 use Rattle.nfs_core.specs.Expiry.{IsNotEndedFor}
+use Rattle.nfs_core.specs.PathMarking.{IsNotMarkedFor}
 use Rattle.nfs_core.specs.Server.{Server}
 use Rattle.nfs_core.specs.declared.core_error.CoreError.{CoreError}
 use Rattle.nfs_core.specs.declared.core_error.CoreError.TheVariants as core_errors
@@ -14,7 +15,10 @@ use Rattle.nfs_core.specs.Step.{HasNoAnswer, HasNoStep, IsAnswered, Step}
 use Rattle.nfs_rules.specs.Deciding.{Decides}
 use Rattle.nfs_rules.specs.declared.decision.Decision.{Decision}
 use Rattle.nfs_rules.specs.entries.Expire.{IsExpiry}
+use Rattle.nfs_rules.specs.entries.Path.{IsPathMark}
+use Rattle.nfs_rules.specs.entries.Revoke.{IsRevocation}
 use Rattle.nfs_rules.specs.operations.{AtMostOneDecision, IsPlain, IsRuled, IsRuledBy}
+use Rattle.nfs_rules.specs.operations.Delegreturn as delegreturn
 use Rattle.nfs_rules.specs.operations.Lockt as lockt
 use Rattle.nfs_rules.specs.operations.ReleaseLockowner as release
 use Rattle.nfs_rules.specs.operations.Setclientid as setclientid
@@ -28,6 +32,7 @@ use Rattle.nfs_owners.specs.Registration as registrations
 use Rattle.nfs_owners.specs.Registry.{record_of}
 use Rattle.nfs_owners.specs.declared.clients.client_change.ClientChange.{ClientChange}
 use Rattle.nfs_ranges.specs.declared.range.Range.{Range}
+use Rattle.nfs_share.specs.AllOpens.{DelegationAt}
 use Rattle.nfs_state.specs.Kept.{CanBeKept, kept_with}
 use Rattle.nfs_state.specs.declared.owner_change.OwnerChange.TheVariants as owner_changes
 use Rattle.nfs_xdr.specs.Names as names
@@ -40,6 +45,8 @@ use Rattle.nfs_state.specs.State.{State, History}
 use Rattle.nfs_state.specs.Stored.{meaning}
 use Rattle.nfs_state.specs.declared.tables.Tables.{Tables}
 use Rattle.nfs_state.specs.declared.entry.Expire.{Expire}
+use Rattle.nfs_state.specs.declared.entry.Path.{Path}
+use Rattle.nfs_state.specs.declared.entry.Revoke.{Revoke}
 use Rattle.nfs_state.specs.declared.effect.Effect.{Effect}
 use Rattle.nfs_state.specs.declared.entry.Call.{Call}
 use Rattle.nfs_state.specs.declared.entry.Entry.{Entry}
@@ -123,7 +130,14 @@ releases old args =
     cond_both (not (is_some (record_of args.owner.client old.clients))) (release.refusal_of refusals.StaleClientId) _ P (λ _. refl)
     (λ _. cond_both (holds args.owner old.locks) (release.refusal_of refusals.LocksHeld) _ P (λ _. refl) (λ _. refl))
 
+returns : (found : Result DelegationAt Refusal) → (delegreturn.returning found).effect.owner ≡ owner_changes.Nothing
+returns (Err refusal) = refl
+returns (Ok at) = refl
+
 plain_owner : (op : Op) (journal : History) (old : State) (request : Request) (decision : Decision) → IsPlain op journal old request (Some decision) → decision.effect.owner ≡ owner_changes.Nothing
+plain_owner (ops.Delegreturn args) journal old request decision is =
+    let found = delegreturn.delegation_at journal old request.filehandle args in
+    ap (λ (d : Decision). d.effect.owner) (some_equal decision (delegreturn.returning found) is) ∙ returns found
 plain_owner (ops.Getattr mask) journal old request decision is = ap (λ (d : Decision). d.effect.owner) (some_equal decision _ is)
 plain_owner (ops.Setclientid args) journal old request decision is = registers decision _ is
 plain_owner (ops.SetclientidConfirm args) journal old request decision is = ap (λ (d : Decision). d.effect.owner) (some_equal decision _ is)
@@ -211,6 +225,8 @@ next_follows server (entries.Call call) effect next =
     let decision : Decision = record { answer = call.answer; effect = effect } in
     (answered_asked server.journal (meaning server.stored) call effect next.allowed, (next.below, (decision, next.allowed.rule)))
 next_follows server (entries.Expire expire) effect next = ((next.allowed.live, next.allowed.due), next.below)
+next_follows server (entries.Revoke revoke) effect next = ((effect, next.allowed), next.below)
+next_follows server (entries.Path path) effect next = (next.allowed.live, next.below)
 
 -- a client's end may come next
 pub expiry_next : (journal : History) (old : State) (expire : Expire) (effect : Effect) → length journal.entries < JOURNAL_LIMIT → IsExpiry journal old expire effect → IsNext journal old (entries.Expire expire) effect
@@ -237,4 +253,55 @@ expiry_memory journal old expire effect tables expiry = record {
   kept = refl;
   owner = subst (λ (e : Effect). HasOwnerRoom e.owner tables) (sym expiry.removal) tt;
   change = subst (λ (e : Effect). HasRoom e.change tables) (sym expiry.removal) tt;
+}
+
+-- a delegation's end may come next
+pub revocation_next : (journal : History) (old : State) (revoke : Revoke) (effect : Effect) → length journal.entries < JOURNAL_LIMIT → IsRevocation journal old revoke effect → IsNext journal old (entries.Revoke revoke) effect
+revocation_next journal old revoke effect below revocation = record {
+  below = below;
+  allowed = revocation;
+  fits = record {
+    kept = ap (λ (e : Effect). e.owner) revocation.removal;
+    numbers = subst (λ (e : Effect). IsWithinNumbers e.change old) (sym revocation.removal) tt;
+    place = subst (λ (e : Effect). HasOwnerPlace e.owner old) (sym revocation.removal) tt;
+  };
+}
+
+-- where a delegation isn't the next one to be taken away, its end may not come next
+pub no_revocation : (journal : History) (old : State) (revoke : Revoke) → ((effect : Effect) → IsRevocation journal old revoke effect → ⊥) → HasNoStep journal old (entries.Revoke revoke)
+no_revocation journal old revoke none new step = none step.effect step.allowed
+
+-- a delegation's end takes no memory beside its entry
+pub revocation_memory : (journal : History) (old : State) (revoke : Revoke) (effect : Effect) (tables : Tables) → IsRevocation journal old revoke effect → TakesNoMemory (entries.Revoke revoke) effect tables
+revocation_memory journal old revoke effect tables revocation = record {
+  kept = refl;
+  owner = subst (λ (e : Effect). HasOwnerRoom e.owner tables) (sym revocation.removal) tt;
+  change = subst (λ (e : Effect). HasRoom e.change tables) (sym revocation.removal) tt;
+}
+
+-- a mark of a client's path may come next
+pub path_next : (journal : History) (old : State) (path : Path) (effect : Effect) → length journal.entries < JOURNAL_LIMIT → IsPathMark journal old path effect → IsNext journal old (entries.Path path) effect
+path_next journal old path effect below mark = record {
+  below = below;
+  allowed = mark;
+  fits = record {
+    kept = ap (λ (e : Effect). e.owner) mark.mark;
+    numbers = subst (λ (e : Effect). IsWithinNumbers e.change old) (sym mark.mark) tt;
+    place = subst (λ (e : Effect). HasOwnerPlace e.owner old) (sym mark.mark) tt;
+  };
+}
+
+-- where a path isn't marked though there is memory, its mark may not come next
+pub no_path_mark : (server : Server) (path : Path) (error : CoreError) → error ≢ core_errors.Memory → IsNotMarkedFor server path error → HasNoStep server.journal (meaning server.stored) (entries.Path path)
+no_path_mark server path core_errors.NotLive other kept new step = absurd (cc (kept, step.allowed.live))
+no_path_mark server path core_errors.NotDue other kept new step = absurd kept.1
+no_path_mark server path core_errors.Full other kept new step = omega (arith, kept.1, step.below)
+no_path_mark server path core_errors.Memory other kept new step = absurd (other refl)
+
+-- a mark of a client's path takes no memory beside its entry
+pub path_memory : (journal : History) (old : State) (path : Path) (effect : Effect) (tables : Tables) → IsPathMark journal old path effect → TakesNoMemory (entries.Path path) effect tables
+path_memory journal old path effect tables mark = record {
+  kept = refl;
+  owner = subst (λ (e : Effect). HasOwnerRoom e.owner tables) (sym mark.mark) tt;
+  change = subst (λ (e : Effect). HasRoom e.change tables) (sym mark.mark) tt;
 }

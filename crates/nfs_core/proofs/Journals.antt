@@ -1,14 +1,16 @@
 -- Lawful journals: those whose entries the rules allow.
 use Rattle.std.proofs.Common.{◌≡◌, Bool, true, false, ℕ, ◌≤◌, Some, None, List, [], ◌∷◌, ◌++◌, length, map, refl, sym, ap, ◌∙◌, ◌+◌, ◌*◌, subst, append_assoc, append-nil, arith, Result, Ok, Err}
 use Rattle.nfs_state.specs.declared.effect.Effect.{Effect}
-use Rattle.std.specs.Prelude.{IfOk, OnErr, is_some}
+use Rattle.std.specs.Prelude.{IfOk, Option, OnErr, is_some}
 use Rattle.nfs_state.specs.declared.request.Request.{Request}
-use Rattle.nfs_share.specs.AllOpens.{opens_of}
+use Rattle.nfs_share.specs.AllOpens.{DelegationAt, opens_of}
 use Rattle.nfs_share.specs.Opens.{open_of}
+use Rattle.nfs_share.specs.declared.delegation.DelegationKind.{DelegationKind}
+use Rattle.nfs_forms.specs.declared.client_id.ClientId.{ClientId}
 use Rattle.nfs_rules.specs.operations.{AtMostOneDecision, IsRuled}
 use Rattle.nfs_state.specs.declared.owner_change.OwnerChange.{OwnerChange}
 use Rattle.nfs_state.specs.declared.owner_change.OwnerChange.TheVariants.{Nothing}
-use Rattle.nfs_state.specs.Changes.{after, with_owner_change, with_state_change, last_state_after}
+use Rattle.nfs_state.specs.Changes.{after, change_alone, with_grant, with_open, with_owner_change, with_state_change, last_state_after}
 use Rattle.nfs_owners.specs.Registry.{Registry}
 use Rattle.nfs_state.specs.Stored.{Stored, empty_store, meaning}
 use Rattle.nfs_core.proofs.SafeLists.{map_replicate}
@@ -78,6 +80,11 @@ Allows-once once journal old (entries.Call call) effect effect' a a' =
     let d' : Decision = record { answer = call.answer; effect = effect' } in
     ap (λ (x : Decision). x.effect) (some_equal d d' (once journal old call.request (Some d) (Some d') a.rule a'.rule))
 Allows-once once journal old (entries.Expire expire) effect effect' a a' = a.removal ∙ sym a'.removal
+Allows-once once journal old (entries.Revoke revoke) effect effect' a a' =
+    a.removal
+    ∙ ap (λ (at : DelegationAt). change_alone (changes.Returns at.node revoke.number)) (some_equal a.at a'.at (sym a.found ∙ a'.found))
+    ∙ sym a'.removal
+Allows-once once journal old (entries.Path path) effect effect' a a' = a.mark ∙ sym a'.mark
 
 -- an entry leads to at most one state
 pub Step-once : AtMostOneDecision → AtMostOneStateAfter
@@ -125,6 +132,8 @@ Agrees-same journal journal' stored stored' same_journal same_stored agrees = rw
 changed_confirm : (change : Change) (old : State) → (with_state_change change old).clients.last_confirm ≤ old.clients.last_confirm + 1
 changed_confirm changes.Nothing old = omega arith
 changed_confirm (changes.Clients client_changes.Nothing) old = omega arith
+changed_confirm (changes.Opens node owner share None) old = omega arith
+changed_confirm (changes.Opens node owner share (Some kind)) old = omega arith
 changed_confirm change old = omega arith
 
 owner_change_confirm : (change : OwnerChange) (number : ℕ) (old : State) → (with_owner_change change number old).clients ≡ old.clients
@@ -145,17 +154,23 @@ Leads-confirm journal old new (entry ∷ entries) leads =
 pub Lawful-confirm : (journal : History) (state : State) → Lawful journal state → state.clients.last_confirm ≤ length journal.entries
 Lawful-confirm journal state lawful = omega (arith, Leads-confirm (record journal { entries = [] }) (empty_server journal.nodes) state journal.entries lawful)
 
--- a change uses at most two numbers of states
-last_after : (has_open : Bool) (last : ℕ) → last_state_after has_open last ≤ last + 2
+-- a change uses at most two numbers of states: an OPEN one for its open, and one for a delegation
+
+last_after : (has_open : Bool) (last : ℕ) → last_state_after has_open last ≤ last + 1
 last_after true last = omega arith
 last_after false last = omega arith
+
+granted_state : (node : ℕ) (client : ClientId) (lent : Option DelegationKind) (old : State) → (with_grant node client lent old).last_state ≤ old.last_state + 1
+granted_state node client None old = omega arith
+granted_state node client (Some kind) old = omega arith
 
 changed_state : (change : Change) (old : State) → (with_state_change change old).last_state ≤ old.last_state + 2
 changed_state changes.Nothing old = omega arith
 changed_state (changes.Clients (client_changes.Replaces r client)) old = omega arith
 changed_state (changes.Clients change) old = omega arith
-changed_state (changes.Opens node owner share) old =
-    last_after (is_some (open_of owner (opens_of node old.opens))) old.last_state
+changed_state (changes.Opens node owner share lent) old =
+    let opened = with_open node owner share old in
+    omega (arith, granted_state node owner.client lent opened, last_after (is_some (open_of owner (opens_of node old.opens))) old.last_state)
 changed_state change old = omega arith
 
 owner_change_state : (change : OwnerChange) (number : ℕ) (old : State) → (with_owner_change change number old).last_state ≡ old.last_state

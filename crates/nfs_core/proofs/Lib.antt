@@ -1,4 +1,5 @@
 pub mod ClientChanges
+pub mod DueDelegations
 pub mod Entering
 pub mod Journals
 pub mod LiveClients
@@ -11,6 +12,7 @@ pub mod SafeSums
 pub mod Safety
 pub mod Sound
 pub mod SoundClients
+pub mod SoundDelegations
 pub mod SoundKept
 pub mod SoundLimits
 pub mod SoundLocking

@@ -9,7 +9,7 @@ use Rattle.nfs_core.proofs.ClientChanges.{IsClientsFor}
 use Rattle.nfs_core.proofs.LiveLists.{any_found_with, any_holds, any_kept, any_of_kept, any_put, any_split, any_weaken, bool_equal, found_any, none_any}
 use Rattle.nfs_core.proofs.SafeLists.{all_always, all_weaken, found_holds}
 use Rattle.nfs_core.proofs.Sound.{HasRecord, IsOnlyOf, equal_clients, is_live_in, is_record_of, same_client_self}
-use Rattle.nfs_core.proofs.SoundClients.{EachRecord, HasGivenNumber, HasSameId, HasSingles, each_confirmed, each_unconfirmed, singles_changed}
+use Rattle.nfs_core.proofs.SoundClients.{EachRecord, HasGivenNumber, HasSameId, HasSingles, each_confirmed, each_marked, each_unconfirmed, singles_changed}
 use Rattle.nfs_core.proofs.SoundSequences.{never}
 use Rattle.nfs_core.proofs.SoundSteps.{IsClientReady}
 use Rattle.nfs_core.specs.LiveClients.{CanCome, Fits, LiveFollows}
@@ -18,8 +18,10 @@ use Rattle.nfs_forms.specs.declared.client_id.ClientId.{ClientId}
 use Rattle.nfs_owners.specs.ClientChange.{with_change}
 use Rattle.nfs_owners.specs.LiveChange.{is_live_after, live_change}
 use Rattle.nfs_owners.specs.LiveClients.{can_become_live}
-use Rattle.nfs_owners.specs.Registry.{Registry, is_live, is_of, is_of_client, takes_number, was_given, without_client, without_id, without_number}
+use Rattle.nfs_owners.specs.Registry.{Registry, is_live, is_of, is_of_client, takes_number, was_given, with_mark, without_client, without_id, without_number}
+use Rattle.nfs_owners.specs.laws.Marks.{mark_keeps_can_become_live, mark_keeps_live, same_record}
 use Rattle.nfs_owners.specs.declared.client_record.ClientRecord.{ClientRecord}
+use Rattle.nfs_owners.specs.declared.client_record.PathMark.{PathMark}
 use Rattle.nfs_owners.specs.declared.client_record.TheConstants.{CLIENT_LIMIT}
 use Rattle.nfs_owners.specs.declared.clients.client_change.ClientChange.{ClientChange}
 use Rattle.nfs_owners.specs.declared.clients.client_change.ClientChange.TheVariants as client_changes
@@ -336,6 +338,16 @@ follows_changed change old singles below ready = record {
   once = λ c can. (can_changed change old singles ready c can, not_yet (with_change change old) (singles_changed change old ready singles) c can);
 }
 
+-- A mark of a path leaves who is live, and who can become so.
+pub follows_marked : (client : ℕ) (path : PathMark) (old : Registry) → HasSingles old → LiveFollows Same old (with_mark client path old)
+follows_marked client path old singles = record {
+  live = mark_keeps_live client path old;
+  fits = tt;
+  once = λ c can.
+      let could : can_become_live c old ≡ true = sym (mark_keeps_can_become_live client path old c) ∙ can in
+      (could, mark_keeps_live client path old c ∙ not_yet old singles c could);
+}
+
 -- A client ends.
 
 -- where the records of a client are removed, none of its own stays
@@ -404,6 +416,11 @@ epoch_changed epoch op (client_changes.Confirms r) old ready is h = each_confirm
 epoch_changed epoch op (client_changes.Refreshes r) old ready is h = each_confirmed (HasEpoch epoch) r old (epoch_of_record epoch r.state.client r.id old.confirmed ready.1 h.0) h
 epoch_changed epoch op (client_changes.Replaces r client) old ready is h = each_confirmed (HasEpoch epoch) r old (epoch_of_record epoch r.state.client r.id old.unconfirmed ready.2 h.1) h
 epoch_changed epoch op change old ready is h = absurd is
+
+pub epoch_marked : (epoch client : ℕ) (path : PathMark) (old : Registry) → HaveEpoch epoch old → HaveEpoch epoch (with_mark client path old)
+epoch_marked epoch client path old h =
+    each_marked client path (HasEpoch epoch) (HasEpoch epoch) (λ r k. k)
+    (λ r k. ap (λ (x : ClientId). x.epoch) (same_record client path r).1 ∙ k) old h
 
 -- a client that is live is so by its number
 pub live_number : (client : ClientId) (records : List ClientRecord) → is_live_in records client ≡ true → list_any (is_of_client client.number) records ≡ true

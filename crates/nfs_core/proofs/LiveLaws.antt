@@ -1,20 +1,21 @@
 -- Who is live along a lawful journal.
-use Rattle.std.proofs.Common.{◌≡◌, ℕ, Bool, true, false, Some, List, [], ◌∷◌, length, refl, sym, ap, ◌∙◌, subst, arith}
+use Rattle.std.proofs.Common.{◌≡◌, ℕ, Bool, true, false, Some, None, List, [], ◌∷◌, length, refl, sym, ap, ◌∙◌, subst, arith}
 use Rattle.std.proofs.lemmas.Grind.{common_steps}
 use Rattle.nfs_core.proofs.ClientChanges.{IsFor, ruled_for}
-use Rattle.nfs_core.proofs.LiveClients.{HasEpoch, HaveEpoch, epoch_changed, follows_changed, follows_ended, follows_same, live_number, numbered, told_by_number}
+use Rattle.nfs_core.proofs.LiveClients.{HasEpoch, HaveEpoch, epoch_changed, epoch_marked, follows_changed, follows_ended, follows_marked, follows_same, live_number, numbered, told_by_number}
 use Rattle.nfs_core.proofs.Safety.{Holds, Laws, allowed_ready, holds_empty, holds_leads, holds_step}
 use Rattle.nfs_core.proofs.SoundClients.{HasSingles, each_left, singles_owned}
 use Rattle.nfs_core.proofs.SoundLimits.{limits_owned}
 use Rattle.nfs_core.proofs.SoundSequences.{never}
 use Rattle.nfs_core.proofs.SoundSteps.{IsChangeReady, IsEffectReady}
 use Rattle.nfs_core.specs.Lawful.{Lawful, Leads}
-use Rattle.nfs_core.specs.LiveClients.{AreNumbered, AreOfOneRun, CallsFollow, EffectsFollow, EndsFollow, Fits, LiveFollows, confirmed_by, replaced_in}
+use Rattle.nfs_core.specs.LiveClients.{AreNumbered, AreOfOneRun, CallsFollow, EffectsFollow, EndsFollow, Fits, LiveFollows, PathsFollow, RevocationsFollow, confirmed_by, replaced_in}
 use Rattle.nfs_core.specs.Safe.{KeepsLimits}
 use Rattle.nfs_core.specs.Step.{IsAnswered, Step}
+use Rattle.nfs_owners.specs.ClientLaws.{HaveSameClients, MarksKeepClients}
 use Rattle.nfs_owners.specs.LiveChange.{is_live_after}
 use Rattle.nfs_owners.specs.LiveClients.{can_become_live}
-use Rattle.nfs_owners.specs.Registry.{Registry, is_live}
+use Rattle.nfs_owners.specs.Registry.{Registry, is_live, with_mark}
 use Rattle.nfs_owners.specs.declared.clients.client_change.ClientChange.TheVariants as client_changes
 use Rattle.nfs_owners.specs.declared.live_change.LiveChange.{LiveChange}
 use Rattle.nfs_owners.specs.declared.live_change.LiveChange.TheVariants.{Same, Comes, Replaces, Goes}
@@ -28,6 +29,9 @@ use Rattle.nfs_state.specs.declared.effect.Effect.{Effect}
 use Rattle.nfs_state.specs.declared.entry.Call.{Call}
 use Rattle.nfs_state.specs.declared.entry.Entry.{Entry}
 use Rattle.nfs_state.specs.declared.entry.Entry.TheVariants as entries
+use Rattle.nfs_state.specs.declared.entry.Path.{Path}
+use Rattle.nfs_state.specs.declared.entry.Revoke.{Revoke}
+use Rattle.nfs_rules.specs.entries.Path.{mark_of}
 use Rattle.nfs_state.specs.declared.owner_change.OwnerChange.{OwnerChange}
 use Rattle.nfs_state.specs.declared.owner_change.OwnerChange.TheVariants as owner_changes
 use Rattle.nfs_xdr.specs.declared.op.Op.{Op}
@@ -42,11 +46,17 @@ live_by_change : (change : Change) (old : State) → HasSingles old.clients → 
     → LiveFollows (live_change_of change) old.clients (with_state_change change old).clients
 live_by_change (changes.Clients change) old singles after within ready = follows_changed change old.clients singles within.clients ready
 live_by_change (changes.Expires client) old singles after within ready = follows_ended client.number old.clients after (live_number client old.clients.confirmed ready.0)
+live_by_change (changes.MarksPath client path) old singles after within ready = follows_marked client path old.clients singles
+live_by_change (changes.Opens node owner share None) old singles after within ready = follows_same old.clients singles
+live_by_change (changes.Opens node owner share (Some kind)) old singles after within ready = follows_same old.clients singles
 live_by_change change old singles after within ready = follows_same old.clients singles
 
 epoch_by_change : (epoch : ℕ) (op : Op) (change : Change) (old : State) → IsChangeReady change old → IsFor epoch old.clients op change → HaveEpoch epoch old.clients → HaveEpoch epoch (with_state_change change old).clients
 epoch_by_change epoch op (changes.Clients change) old ready is h = epoch_changed epoch op change old.clients ready is h
 epoch_by_change epoch op (changes.Expires client) old ready is h = absurd is
+epoch_by_change epoch op (changes.MarksPath client path) old ready is h = absurd is
+epoch_by_change epoch op (changes.Opens node owner share None) old ready is h = h
+epoch_by_change epoch op (changes.Opens node owner share (Some kind)) old ready is h = h
 epoch_by_change epoch op change old ready is h = h
 
 live_by_effect : (number : ℕ) (entry : Entry) (effect : Effect) (old : State) → Holds old → Holds (after number entry effect old) → IsEffectReady number old effect → LiveFollows (live_change_of effect.change) old.clients (after number entry effect old).clients
@@ -66,6 +76,18 @@ call_for : (journal : History) (old : State) (call : Call) (effect : Effect) →
 call_for journal old call effect holds allowed =
     ruled_for journal old call.request.op call.request (record { answer = call.answer; effect = effect }) holds.singles allowed.rule
 
+-- A revocation leaves the clients as they are, and a mark of a path all but the mark.
+
+revoked_clients : (journal : History) (old : State) (revoke : Revoke) (new : State) → Step journal old (entries.Revoke revoke) new → new.clients ≡ old.clients
+revoked_clients journal old revoke new step =
+    ap (λ (s : State). s.clients) step.state
+    ∙ ap (λ (e : Effect). (after (length journal.entries) (entries.Revoke revoke) e old).clients) step.allowed.removal
+
+marked_clients : (journal : History) (old : State) (path : Path) (new : State) → Step journal old (entries.Path path) new → new.clients ≡ with_mark path.client (mark_of path.up) old.clients
+marked_clients journal old path new step =
+    ap (λ (s : State). s.clients) step.state
+    ∙ ap (λ (e : Effect). (after (length journal.entries) (entries.Path path) e old).clients) step.allowed.mark
+
 -- All clientids are of the journal's epoch.
 
 epoch_allowed : (journal : History) (old : State) (entry : Entry) (new : State) → Step journal old entry new → Holds old → HaveEpoch journal.epoch old.clients → HaveEpoch journal.epoch new.clients
@@ -77,6 +99,10 @@ epoch_allowed journal old (entries.Expire expire) new step holds h =
     subst (λ (s : State). HaveEpoch journal.epoch s.clients) (sym step.state)
     (subst (λ (e : Effect). HaveEpoch journal.epoch (after (length journal.entries) (entries.Expire expire) e old).clients) (sym step.allowed.removal)
     (each_left (HasEpoch journal.epoch) expire.client old.clients h))
+epoch_allowed journal old (entries.Revoke revoke) new step holds h =
+    subst (HaveEpoch journal.epoch) (sym (revoked_clients journal old revoke new step)) h
+epoch_allowed journal old (entries.Path path) new step holds h =
+    subst (HaveEpoch journal.epoch) (sym (marked_clients journal old path new step)) (epoch_marked journal.epoch path.client (mark_of path.up) old.clients h)
 
 epoch_leads : Laws → (journal : History) (old new : State) (entries : List Entry) → Leads journal old entries new → Holds old → HaveEpoch journal.epoch old.clients → HaveEpoch journal.epoch new.clients
 epoch_leads laws journal old new [] leads holds h = subst (λ (s : State). HaveEpoch journal.epoch s.clients) (sym leads) h
@@ -193,3 +219,25 @@ Ends-follow laws journal old new expire lawful step =
     subst (λ (e : Effect). LiveFollows (live_change_of e.change) old.clients new.clients) step.allowed.removal
     (Effects-follow laws journal old new (entries.Expire expire) lawful step) in
     record { ends = follows.live; once = λ number can. (follows.once number can).0 }
+
+-- Revocations and marks leave the clients.
+
+same_clients : (registry : Registry) → HaveSameClients registry registry
+same_clients registry = record {
+  live = λ number. refl;
+  can_come = λ number. refl;
+  replaced = λ number. refl;
+  known = λ client. refl;
+  client = λ client. refl;
+  holder = λ id. refl;
+  last_given = refl;
+  last_value = refl;
+}
+
+pub Revocations-follow : RevocationsFollow
+Revocations-follow journal old new revoke lawful step =
+    subst (HaveSameClients old.clients) (sym (revoked_clients journal old revoke new step)) (same_clients old.clients)
+
+pub Paths-follow : MarksKeepClients → PathsFollow
+Paths-follow law journal old new path lawful step =
+    subst (HaveSameClients old.clients) (sym (marked_clients journal old path new step)) (law path.client (mark_of path.up) old.clients).same

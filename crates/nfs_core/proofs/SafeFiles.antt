@@ -1,38 +1,37 @@
--- The opens and the lock states of each file, where those of one file or of all change.
+-- The opens, the delegations and the lock states of each file, where those of one file or of all change.
 use Rattle.std.proofs.Common.{◌≡◌, ℕ, zero, suc, List, [], ◌∷◌, map, slice_set, refl, sym, ap}
 use Rattle.std.specs.List.{AllByRecursion}
 use Rattle.nfs_core.proofs.SafeLists.{all_set}
 use Rattle.nfs_locks.specs.AllLocks.{locks_of, with_locks}
 use Rattle.nfs_locks.specs.Locks.{ByteLocks}
-use Rattle.nfs_share.specs.AllOpens.{opens_of, with_opens}
-use Rattle.nfs_share.specs.declared.open_state.OpenState.{OpenState}
+use Rattle.nfs_share.specs.AllOpens.{list_at, with_list_at}
 
--- The opens.
+-- The opens, and the delegations.
 
--- what holds of the opens of each node
-pub opens_at : (P : List OpenState → Type 0) → P [] → (node : ℕ) (opens : List (List OpenState)) → AllByRecursion P opens → P (opens_of node opens)
-opens_at P none node [] h = none
-opens_at P none zero (xs ∷ opens) h = h.0
-opens_at P none (suc node) (xs ∷ opens) h = opens_at P none node opens h.1
+-- what holds of the list at each node
+pub lists_at : {X : Type 0} (P : List X → Type 0) → P [] → (node : ℕ) (lists : List (List X)) → AllByRecursion P lists → P (list_at node lists)
+lists_at P none node [] h = none
+lists_at P none zero (xs ∷ lists) h = h.0
+lists_at P none (suc node) (xs ∷ lists) h = lists_at P none node lists h.1
 
-pub set_opens : (P : List OpenState → Type 0) → P [] → (change : List OpenState → List OpenState) → ((xs : List OpenState) → P xs → P (change xs)) → (node : ℕ) (opens : List (List OpenState)) → AllByRecursion P opens → AllByRecursion P (with_opens node change opens)
-set_opens P none change step node opens h =
-    all_set P opens node (change (opens_of node opens)) h (step (opens_of node opens) (opens_at P none node opens h))
+pub set_lists : {X : Type 0} (P : List X → Type 0) → P [] → (change : List X → List X) → ((xs : List X) → P xs → P (change xs)) → (node : ℕ) (lists : List (List X)) → AllByRecursion P lists → AllByRecursion P (with_list_at node change lists)
+set_lists P none change step node lists h =
+    all_set P lists node (change (list_at node lists)) h (step (list_at node lists) (lists_at P none node lists h))
 
--- the opens of a node, where those of another or of this one are changed
-pub opens_where_set : (P : List OpenState → Type 0) (node changed : ℕ) (opens : List (List OpenState)) (new : List OpenState) → P (opens_of node opens) → (node ≡ changed → P new) → P (opens_of node (slice_set opens changed new))
-opens_where_set P node changed [] new before after = before
-opens_where_set P zero zero (xs ∷ opens) new before after = after refl
-opens_where_set P zero (suc changed) (xs ∷ opens) new before after = before
-opens_where_set P (suc node) zero (xs ∷ opens) new before after = before
-opens_where_set P (suc node) (suc changed) (xs ∷ opens) new before after =
-    opens_where_set P node changed opens new before (λ same. after (ap (λ n. suc n) same))
+-- the list at a node, where that at another or at this one is changed
+pub lists_where_set : {X : Type 0} (P : List X → Type 0) (node changed : ℕ) (lists : List (List X)) (new : List X) → P (list_at node lists) → (node ≡ changed → P new) → P (list_at node (slice_set lists changed new))
+lists_where_set P node changed [] new before after = before
+lists_where_set P zero zero (xs ∷ lists) new before after = after refl
+lists_where_set P zero (suc changed) (xs ∷ lists) new before after = before
+lists_where_set P (suc node) zero (xs ∷ lists) new before after = before
+lists_where_set P (suc node) (suc changed) (xs ∷ lists) new before after =
+    lists_where_set P node changed lists new before (λ same. after (ap (λ n. suc n) same))
 
--- the opens of a node, where those of all are changed
-pub opens_of_map : (change : List OpenState → List OpenState) → change [] ≡ [] → (node : ℕ) (opens : List (List OpenState)) → opens_of node (map change opens) ≡ change (opens_of node opens)
-opens_of_map change none node [] = sym none
-opens_of_map change none zero (xs ∷ opens) = refl
-opens_of_map change none (suc node) (xs ∷ opens) = opens_of_map change none node opens
+-- the list at a node, where all are changed
+pub lists_of_map : {X : Type 0} (change : List X → List X) → change [] ≡ [] → (node : ℕ) (lists : List (List X)) → list_at node (map change lists) ≡ change (list_at node lists)
+lists_of_map change none node [] = sym none
+lists_of_map change none zero (xs ∷ lists) = refl
+lists_of_map change none (suc node) (xs ∷ lists) = lists_of_map change none node lists
 
 -- The lock states.
 

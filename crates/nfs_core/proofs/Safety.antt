@@ -16,13 +16,14 @@ use Rattle.nfs_core.proofs.SafeFiles.{locks_at}
 use Rattle.nfs_core.proofs.SafeLists.{all_replicate, all_weaken, any_found}
 use Rattle.nfs_core.proofs.Sound.{AreNumbered, HasSoundLocks, IsKnownIn, IsLockerKnownIn, IsSound, StandsUnder, OpensStay}
 use Rattle.nfs_core.proofs.SoundClients.{HasSingles, alone, are_records, one_of_client, singles_after, singles_empty, singles_owned}
+use Rattle.nfs_core.proofs.SoundDelegations.{HasSoundDelegations, StayApart, StaySingle, delegations_changed, delegations_empty, delegations_owned}
 use Rattle.nfs_core.proofs.SoundLimits.{FirstRuns, limits_changed, limits_empty, limits_owned}
 use Rattle.nfs_core.proofs.SoundLocks.{LocksStay}
 use Rattle.nfs_core.proofs.SoundNumbers.{HasNumbers, numbered_after, numbered_empty, numbers_differ, numbers_given}
 use Rattle.nfs_core.proofs.SoundOwners.{HasOnes, ones_changed, ones_empty, ones_owned}
 use Rattle.nfs_core.proofs.SoundRules.{ruled_ready}
 use Rattle.nfs_core.proofs.SoundSequences.{live_owner}
-use Rattle.nfs_core.proofs.SoundSteps.{IsEffectReady, sound_after}
+use Rattle.nfs_core.proofs.SoundSteps.{IsEffectReady, sound_after, sound_owner}
 use Rattle.nfs_locks.specs.AllLocks.{locks_of}
 use Rattle.nfs_locks.specs.Laws.{AllLocksAreCompatible}
 use Rattle.nfs_locks.specs.Locks.{ByteLocks}
@@ -58,6 +59,10 @@ sound_empty journal =
 pub allowed_ready : (journal : History) (old : State) (entry : Entry) (effect : Effect) → IsSound old → HasSingles old.clients → Allows journal old entry effect → IsEffectReady (length journal.entries) old effect
 allowed_ready journal old (entries.Expire expire) effect sound singles allowed =
     subst (IsEffectReady (length journal.entries) old) (sym allowed.removal) (tt, (allowed.live, alone (client_of journal expire.client) old.clients allowed.live singles.same))
+allowed_ready journal old (entries.Revoke revoke) effect sound singles allowed =
+    subst (IsEffectReady (length journal.entries) old) (sym allowed.removal) (tt, tt)
+allowed_ready journal old (entries.Path path) effect sound singles allowed =
+    subst (IsEffectReady (length journal.entries) old) (sym allowed.mark) (tt, tt)
 allowed_ready journal old (entries.Call call) effect sound singles allowed =
     ruled_ready (length journal.entries) journal old call.request.op call.request (record { answer = call.answer; effect = effect }) refl sound allowed.rule
 
@@ -66,6 +71,7 @@ pub record Holds (state : State) : Type 0 where
   pub sound : IsSound state
   pub numbered : HasNumbers state
   pub ones : HasOnes state
+  pub delegations : HasSoundDelegations state
   pub singles : HasSingles state.clients
   pub within : KeepsLimits state
 
@@ -74,14 +80,18 @@ holds_empty journal = record {
   sound = sound_empty journal;
   numbered = numbered_empty journal.nodes;
   ones = ones_empty journal.nodes;
+  delegations = delegations_empty journal.nodes;
   singles = singles_empty;
   within = limits_empty journal.nodes;
 }
 
--- The laws of the crates below: of opens and of lock states that stay compatible, and of the runs of a first lock.
+-- The laws of the crates below: of opens and of lock states that stay compatible, of delegations that stay apart from opens
+-- and from one another, and single, and of the runs of a first lock.
 pub record Laws : Type 0 where
   pub opens : OpensStay
   pub locks : LocksStay
+  pub apart : StayApart
+  pub single : StaySingle
   pub runs : FirstRuns
 
 holds_after : Laws → (number : ℕ) (entry : Entry) (effect : Effect) (old : State) → IsEffectReady number old effect → Holds old → Holds (after number entry effect old)
@@ -89,6 +99,8 @@ holds_after laws number entry effect old ready holds = record {
   sound = sound_after laws.opens laws.locks number entry effect old ready holds.sound;
   numbered = numbered_after number entry effect old holds.numbered;
   ones = ones_changed effect.change (with_owner_change effect.owner number old) ready.1 (ones_owned effect.owner number old holds.ones);
+  delegations = delegations_changed laws.apart laws.single effect.change (with_owner_change effect.owner number old) ready.1
+      (sound_owner laws.opens effect.owner number old ready.0 holds.sound) (delegations_owned laws.apart effect.owner number old holds.delegations);
   singles = singles_after effect.change (with_owner_change effect.owner number old) ready.1 (singles_owned effect.owner number old holds.singles);
   within = limits_changed laws.runs effect.change (with_owner_change effect.owner number old) ready.1 (limits_owned effect.owner number old ready.0 holds.within);
 }
@@ -124,6 +136,9 @@ safe state holds =
       numbers_given = numbers_given state holds.numbered;
       one_open = holds.ones.opens;
       one_lock = holds.ones.locks;
+      apart = holds.delegations.apart;
+      one_delegation = holds.delegations.single;
+      holders_live = holds.delegations.live;
       records = are_records state.clients holds.singles;
       one_of_client = one_of_client state.clients holds.singles;
       within = holds.within;

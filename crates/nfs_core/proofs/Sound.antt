@@ -8,7 +8,7 @@ use Rattle.std.proofs.lemmas.Slice.Eq.{bytes_eq-Decides}
 use Rattle.nfs_state.specs.Owners.{KnownOwner, confirmed_if_known, has_name, is_confirmed}
 use Rattle.nfs_state.specs.State.{State}
 use Rattle.nfs_core.specs.Safe.{bears}
-use Rattle.nfs_core.proofs.SafeLists.{all_always, all_filter, all_map, all_push, all_weaken, find_filtered, find_mapped, find_more, found_filtered, found_kept, found_map, found_more, pairs_filter}
+use Rattle.nfs_core.proofs.SafeLists.{all_always, all_filter, all_map, all_push, all_weaken, find_filtered, find_mapped, find_more, found_filtered, found_kept, found_map, found_more, pairs_filter, pairs_map}
 use Rattle.nfs_forms.specs.ClientId.{is_same_client}
 use Rattle.nfs_forms.specs.LockOwner.{is_same_lock_owner}
 use Rattle.nfs_forms.specs.OpenOwner.{is_same_owner}
@@ -19,9 +19,11 @@ use Rattle.nfs_locks.specs.AllLocks.{locks_of}
 use Rattle.nfs_locks.specs.Laws.{AllLocksAreCompatible}
 use Rattle.nfs_locks.specs.Locks.{ByteLocks, is_lock_of}
 use Rattle.nfs_locks.specs.Locks as locks
-use Rattle.nfs_owners.specs.Registry.{is_of, is_of_client, without_id}
+use Rattle.nfs_owners.specs.Registry.{after_mark, is_of, is_of_client, without_id}
 use Rattle.nfs_owners.specs.StateOwner.{is_same_kind, is_same_state_owner, lock_owner, open_owner}
 use Rattle.nfs_owners.specs.declared.client_record.ClientRecord.{ClientRecord}
+use Rattle.nfs_owners.specs.declared.client_record.PathMark.{PathMark}
+use Rattle.nfs_owners.specs.laws.Marks.{same_record}
 use Rattle.nfs_owners.specs.declared.state_owner.OwnerKind.{OwnerKind}
 use Rattle.nfs_owners.specs.declared.state_owner.OwnerKind.TheVariants as kinds
 use Rattle.nfs_owners.specs.declared.state_owner.StateOwner.{StateOwner}
@@ -320,25 +322,36 @@ none_of client id records none =
     all_weaken (λ s. is_of id s ≡ false) (IsOnlyOf client id) (λ s other same. absurd (never (is_of id s) other same)) records none
 
 -- A record that is confirmed in place of those of its id, which are all of its client, leaves who is live.
+
+pub still_live : (r : ClientRecord) (records : List ClientRecord) (client : ClientId) → AllByRecursion (IsOnlyOf r.state.client r.id) records → is_live_in records client ≡ true → is_live_in (without_id r.id records ++ r ∷ []) client ≡ true
+still_live r records client only live =
+    found_kept (IsOnlyOf r.state.client r.id) (λ s. is_same_client s.state.client client) (λ s. not (is_of r.id s)) r
+    (λ s is_only passes. elim (cases_Bool (is_of r.id s)) [
+      | inl same ↦ inr (subst (λ c. is_same_client c client ≡ true) (equal_clients s.state.client r.state.client (is_only same)) passes)
+      | inr other ↦ inl (not_from_false (is_of r.id s) other)
+    ]) records only live
+
 pub live_confirmed : (r : ClientRecord) (records : List ClientRecord) (owners : List KnownOwner) → AllByRecursion (IsOnlyOf r.state.client r.id) records → AreLive records owners → AreLive (without_id r.id records ++ r ∷ []) owners
 live_confirmed r records owners only live =
     all_weaken (λ o. is_live_in records o.name.client ≡ true) (λ o. is_live_in (without_id r.id records ++ r ∷ []) o.name.client ≡ true)
-    (λ o h. found_kept (IsOnlyOf r.state.client r.id) (λ s. is_same_client s.state.client o.name.client) (λ s. not (is_of r.id s)) r
-    (λ s is_only passes. elim (cases_Bool (is_of r.id s)) [
-      | inl same ↦ inr (subst (λ c. is_same_client c o.name.client ≡ true) (equal_clients s.state.client r.state.client (is_only same)) passes)
-      | inr other ↦ inl (not_from_false (is_of r.id s) other)
-    ]) records only h) owners live
+    (λ o h. still_live r records o.name.client only h) owners live
 
 -- A record that is confirmed in place of those of its id, which are all of another client, leaves who else is live.
+
+pub others_live : (r : ClientRecord) (goes : ClientId) (records : List ClientRecord) (client : ClientId) → AllByRecursion (IsOnlyOf goes r.id) records → not (is_same_client client goes) ≡ true → is_live_in records client ≡ true
+    → is_live_in (without_id r.id records ++ r ∷ []) client ≡ true
+others_live r goes records client only others live =
+    found_kept (IsOnlyOf goes r.id) (λ s. is_same_client s.state.client client) (λ s. not (is_of r.id s)) r
+    (λ s is_only passes. elim (cases_Bool (is_of r.id s)) [
+      | inl same ↦ absurd (never (is_same_client client goes) (not-true (is_same_client client goes) others)
+          (subst (λ c. is_same_client c goes ≡ true) (equal_clients s.state.client client passes) (is_only same)))
+      | inr other ↦ inl (not_from_false (is_of r.id s) other)
+    ]) records only live
+
 pub live_replaced : (r : ClientRecord) (client : ClientId) (records : List ClientRecord) (owners : List KnownOwner) → AllByRecursion (IsOnlyOf client r.id) records → AreLive records owners → AreLive (without_id r.id records ++ r ∷ []) (filter (λ o. not (is_same_client o.name.client client)) owners)
 live_replaced r client records owners only live =
     all_filter (λ o. is_live_in records o.name.client ≡ true) (λ o. is_live_in (without_id r.id records ++ r ∷ []) o.name.client ≡ true) (λ o. not (is_same_client o.name.client client))
-    (λ o h others. found_kept (IsOnlyOf client r.id) (λ s. is_same_client s.state.client o.name.client) (λ s. not (is_of r.id s)) r
-    (λ s is_only passes. elim (cases_Bool (is_of r.id s)) [
-      | inl same ↦ absurd (never (is_same_client o.name.client client) (not-true (is_same_client o.name.client client) others)
-          (subst (λ c. is_same_client c client ≡ true) (equal_clients s.state.client o.name.client passes) (is_only same)))
-      | inr other ↦ inl (not_from_false (is_of r.id s) other)
-    ]) records only h) owners live
+    (λ o h others. others_live r client records o.name.client only others h) owners live
 
 -- A client expires.
 
@@ -351,17 +364,46 @@ pub single_left : (p : ClientRecord → Bool) (records : List ClientRecord) → 
 single_left p records single = pairs_filter HasSameClient (λ r. not (p r)) records single
 
 -- The records with the client's number, which are all its own, leave who else is live.
+
+pub live_without : (goes : ClientId) (records : List ClientRecord) (client : ClientId) → AllByRecursion (IsAloneOf goes) records → not (is_same_client client goes) ≡ true → is_live_in records client ≡ true
+    → is_live_in (filter (λ r. not (is_of_client goes.number r)) records) client ≡ true
+live_without goes records client alone others live =
+    let gone : ClientRecord → Bool = is_of_client goes.number in
+    found_filtered (IsAloneOf goes) (λ s. is_same_client s.state.client client) (λ r. not (gone r))
+    (λ s is_alone passes. elim (cases_Bool (gone s)) [
+      | inl same ↦
+          let is : s.state.client ≡ goes = is_alone (eqb-true s.state.client.number goes.number same) in
+          let of_client : is_same_client s.state.client goes ≡ true = subst (λ c. is_same_client c goes ≡ true) (sym is) (same_client_self goes) in
+          absurd (never (is_same_client client goes) (not-true (is_same_client client goes) others)
+          (subst (λ c. is_same_client c goes ≡ true) (equal_clients s.state.client client passes) of_client))
+      | inr other ↦ not_from_false (gone s) other
+    ]) records alone live
+
 pub live_expired : (client : ClientId) (records : List ClientRecord) (owners : List KnownOwner) → AllByRecursion (IsAloneOf client) records → AreLive records owners
     → AreLive (filter (λ r. not (is_of_client client.number r)) records) (filter (λ o. not (is_same_client o.name.client client)) owners)
 live_expired client records owners alone live =
-    let gone : ClientRecord → Bool = is_of_client client.number in
-    all_filter {X = KnownOwner} (λ o. is_live_in records o.name.client ≡ true) (λ o. is_live_in (filter (λ r. not (gone r)) records) o.name.client ≡ true) (λ o. not (is_same_client o.name.client client))
-    (λ o h others. found_filtered (IsAloneOf client) (λ s. is_same_client s.state.client o.name.client) (λ r. not (gone r))
-    (λ s is_alone passes. elim (cases_Bool (gone s)) [
-      | inl same ↦
-          let is : s.state.client ≡ client = is_alone (eqb-true s.state.client.number client.number same) in
-          let of_owner : is_same_client s.state.client client ≡ true = subst (λ c. is_same_client c client ≡ true) (sym is) (same_client_self client) in
-          absurd (never (is_same_client o.name.client client) (not-true (is_same_client o.name.client client) others)
-          (subst (λ c. is_same_client c client ≡ true) (equal_clients s.state.client o.name.client passes) of_owner))
-      | inr other ↦ not_from_false (gone s) other
-    ]) records alone h) owners live
+    all_filter (λ o. is_live_in records o.name.client ≡ true) (λ o. is_live_in (filter (λ r. not (is_of_client client.number r)) records) o.name.client ≡ true) (λ o. not (is_same_client o.name.client client))
+    (λ o h others. live_without client records o.name.client alone others h) owners live
+
+-- The path of a client is marked.
+
+pub marked_live : (number : ℕ) (path : PathMark) (client : ClientId) (records : List ClientRecord) → is_live_in records client ≡ true → is_live_in (map (after_mark number path) records) client ≡ true
+marked_live number path client records live =
+    found_map (λ r. is_same_client r.state.client client) (after_mark number path) (λ r same. ap (λ c. is_same_client c client) (same_record number path r).1 ∙ same) records live
+
+-- a mark leaves who is live
+pub live_marked : (number : ℕ) (path : PathMark) (records : List ClientRecord) (owners : List KnownOwner) → AreLive records owners → AreLive (map (after_mark number path) records) owners
+live_marked number path records owners live =
+    all_weaken (λ o. is_live_in records o.name.client ≡ true) (λ o. is_live_in (map (after_mark number path) records) o.name.client ≡ true)
+    (λ o h. marked_live number path o.name.client records h) owners live
+
+-- and of which client each id is
+pub single_marked : (number : ℕ) (path : PathMark) (records : List ClientRecord) → AreSingle records → AreSingle (map (after_mark number path) records)
+single_marked number path records single =
+    pairs_map HasSameClient (after_mark number path)
+    (λ r s same of.
+    let first = same_record number path r in
+    let second = same_record number path s in
+    let was : is_of r.id s ≡ true = subst (λ i. is_of i s ≡ true) first.0 (subst (λ i. bytes_eq i (after_mark number path r).id ≡ true) second.0 of) in
+    subst (λ c. is_same_client (after_mark number path s).state.client c ≡ true) (sym first.1)
+    (subst (λ c. is_same_client c r.state.client ≡ true) (sym second.1) (same was))) records single

@@ -1,7 +1,7 @@
 -- The clients' records: an id has one confirmed and one unconfirmed one at most, a clientid one confirmed one at most, and
 -- each client number was given, to one id.
 use Rattle.std.proofs.Common.{◌≡◌, ℕ, Bool, true, false, List, [], ◌∷◌, ◌++◌, filter, refl, sym, ap, ◌∙◌, subst, arith}
-use Rattle.std.specs.Prelude.{⊤, ◌+◌, ◌≤◌, nat_le, not}
+use Rattle.std.specs.Prelude.{⊤, ◌+◌, ◌≤◌, None, Some, nat_le, not}
 use Rattle.std.specs.List.{AllByRecursion, IsDistinct}
 use Rattle.std.specs.Str.{bytes_eq}
 use Rattle.std.proofs.lemmas.Bool.{and_from, and_parts, eqb-true, false_from_ne_true, le-leb, not-true}
@@ -16,8 +16,10 @@ use Rattle.nfs_core.proofs.SoundSteps.{IsChangeReady, IsClientReady}
 use Rattle.nfs_forms.specs.ClientId.{is_same_client}
 use Rattle.nfs_forms.specs.declared.client_id.ClientId.{ClientId}
 use Rattle.nfs_owners.specs.ClientChange.{with_change, with_confirmed, with_unconfirmed}
-use Rattle.nfs_owners.specs.Registry.{AreRecords, HasOwnNumber, Registry, have_same_id, is_of, is_of_client, no_clients, takes_number, without_client, without_id}
+use Rattle.nfs_owners.specs.Registry.{AreRecords, HasOwnNumber, Registry, after_mark, have_same_id, is_of, is_of_client, no_clients, takes_number, with_mark, without_client, without_id}
+use Rattle.nfs_owners.specs.laws.Marks.{all_mapped, distinct_mapped, same_record}
 use Rattle.nfs_owners.specs.declared.client_record.ClientRecord.{ClientRecord}
+use Rattle.nfs_owners.specs.declared.client_record.PathMark.{PathMark}
 use Rattle.nfs_owners.specs.declared.clients.client_change.ClientChange.{ClientChange}
 use Rattle.nfs_owners.specs.declared.clients.client_change.ClientChange.TheVariants as client_changes
 use Rattle.nfs_state.specs.Changes.{with_owner_change, with_state_change}
@@ -168,6 +170,52 @@ singles_changed (client_changes.Refreshes r) old ready h =
 singles_changed (client_changes.Replaces r client) old ready h =
     singles_confirmed r old (joins_of_record r old.unconfirmed old ready.2 h.same.1 h.given.1) h
 
+-- A mark of a client's path leaves each record its client and its id.
+
+pub each_marked : (number : ℕ) (path : PathMark) (P Q : ClientRecord → Type 0) → ((r : ClientRecord) → P r → Q r) → ((r : ClientRecord) → P r → Q (after_mark number path r)) → (old : Registry)
+    → EachRecord P old → EachRecord Q (with_mark number path old)
+each_marked number path P Q keeps marked old h = (all_mapped (after_mark number path) P Q marked old.confirmed h.0, all_weaken P Q keeps old.unconfirmed h.1)
+
+same_id_before : (number : ℕ) (path : PathMark) (r s : ClientRecord) → HasSameId r s → HasSameId r (after_mark number path s)
+same_id_before number path r s row is =
+    let same = same_record number path s in
+    let both = row (is ∙ ap (λ (c : ClientId). c.number) same.1) in
+    (both.0 ∙ sym same.1, both.1 ∙ sym same.0)
+
+same_id_of : (number : ℕ) (path : PathMark) (r s : ClientRecord) → HasSameId r s → HasSameId (after_mark number path r) s
+same_id_of number path r s row is =
+    let same = same_record number path r in
+    let both = row (sym (ap (λ (c : ClientId). c.number) same.1) ∙ is) in
+    (same.1 ∙ both.0, same.0 ∙ both.1)
+
+ids_marked : (number : ℕ) (path : PathMark) (r s : ClientRecord) → have_same_id (after_mark number path r) (after_mark number path s) ≡ have_same_id r s
+ids_marked number path r s =
+    ap (λ id. bytes_eq id (after_mark number path s).id) (same_record number path r).0 ∙ ap (bytes_eq r.id) (same_record number path s).0
+
+-- the records of one row stay alike, and so do those of each row
+row_marked : (number : ℕ) (path : PathMark) (r : ClientRecord) (old : Registry) → EachRecord (HasSameId r) old → EachRecord (HasSameId r) (with_mark number path old)
+row_marked number path r old row = each_marked number path (HasSameId r) (HasSameId r) (λ s h. h) (λ s h. same_id_before number path r s h) old row
+
+same_marked : (number : ℕ) (path : PathMark) (old : Registry) → HaveSameIds old → HaveSameIds (with_mark number path old)
+same_marked number path old same =
+    let new = with_mark number path old in
+    each_marked number path (λ r. EachRecord (HasSameId r) old) (λ r. EachRecord (HasSameId r) new)
+    (λ r row. row_marked number path r old row)
+    (λ r row.
+    let marked = after_mark number path r in
+    each_weaken (HasSameId r) (HasSameId marked) (λ s h. same_id_of number path r s h) new (row_marked number path r old row)) old same
+
+singles_marked : (number : ℕ) (path : PathMark) (old : Registry) → HasSingles old → HasSingles (with_mark number path old)
+singles_marked number path old h =
+    let given : ClientRecord → Type 0 = HasGivenNumber old.last_number in
+    record {
+      confirmed = distinct_mapped (after_mark number path) have_same_id (ids_marked number path) old.confirmed h.confirmed;
+      unconfirmed = h.unconfirmed;
+      same = same_marked number path old h.same;
+      given = each_marked number path given given (λ r k. k)
+          (λ r k. subst (λ (c : ClientId). WasGiven old.last_number c.number) (sym (same_record number path r).1) k) old h.given;
+    }
+
 pub singles_after : (change : Change) (old : State) → IsChangeReady change old → HasSingles old.clients → HasSingles (with_state_change change old).clients
 singles_after changes.Nothing old ready h = h
 singles_after (changes.Clients change) old ready h = singles_changed change old.clients ready h
@@ -182,6 +230,10 @@ singles_after (changes.Expires client) old ready h =
           (each_weaken (λ a. EachRecord (HasSameId a) registry) (λ a. EachRecord (HasSameId a) new) (λ a row. each_left (HasSameId a) client.number registry row) registry h.same);
       given = each_left (HasGivenNumber registry.last_number) client.number registry h.given;
     }
+singles_after (changes.MarksPath client path) old ready h = singles_marked client path old.clients h
+-- an OPEN leaves the clients as they are, be a delegation given or not
+singles_after (changes.Opens node owner share None) old ready h = h
+singles_after (changes.Opens node owner share (Some kind)) old ready h = h
 singles_after change old ready h = h
 
 pub singles_owned : (change : OwnerChange) (number : ℕ) (old : State) → HasSingles old.clients → HasSingles (with_owner_change change number old).clients

@@ -30,9 +30,11 @@ use Rattle.nfs_rules.specs.declared.passage.Passage.{Passage}
 use Rattle.nfs_rules.specs.declared.passage.Passage.TheVariants as passages
 use Rattle.nfs_rules.specs.declared.ruling.Ruling.{Ruling}
 use Rattle.nfs_rules.specs.operations.{IsPlain, IsRuledBy, own_of}
+use Rattle.nfs_rules.specs.operations.Delegreturn as delegreturn
 use Rattle.nfs_rules.specs.operations.Lockt as lockt
 use Rattle.nfs_rules.specs.operations.ReleaseLockowner as release
 use Rattle.nfs_rules.specs.operations.Setclientid as setclientid
+use Rattle.nfs_share.specs.AllOpens.{DelegationAt}
 use Rattle.nfs_state.specs.Changes.{with_owner_change, with_state_change}
 use Rattle.nfs_state.specs.Entries.{call_of, with_entry}
 use Rattle.nfs_state.specs.Owners.{KnownOwner, has_name, with_kept_entry, with_record, without_owner}
@@ -124,8 +126,14 @@ releases_none state args =
     cond_both (not (is_some (record_of args.owner.client state.clients))) (release.refusal_of refusals.StaleClientId) _ P (λ _. refl)
     (λ _. cond_both (holds args.owner state.locks) (release.refusal_of refusals.LocksHeld) _ P (λ _. refl) (λ _. refl))
 
+returns_none : (d : Decision) (found : Result DelegationAt Refusal) → Some d ≡ Some (delegreturn.returning found) → keeps d.effect.owner ≡ false
+returns_none d (Err refusal) is = not_kept d _ is refl
+returns_none d (Ok at) is = not_kept d _ is refl
+
 plain_none : (op : Op) (journal : History) (state : State) (request : Request) (d : Decision) → IsPlain op journal state request (Some d) → keeps d.effect.owner ≡ false
 plain_none (ops.Getattr mask) journal state request d is = not_kept d _ is refl
+plain_none (ops.Delegreturn args) journal state request d is =
+    returns_none d (delegreturn.delegation_at journal state request.filehandle args) is
 plain_none (ops.Setclientid args) journal state request d is =
     registers_none d (registrations.registration journal.epoch (record_has_state state (record_state (confirmed_of state.clients args.id))) state.clients request.principal args) is
 plain_none (ops.SetclientidConfirm args) journal state request d is = not_kept d _ is refl
@@ -173,6 +181,8 @@ keep_owned K (owner_changes.Drops name) number old new h = keep_left K (λ o. no
 
 keep_changed : (K : ℕ → Type 0) (change : Change) (old : State) → AllKeep K old.owners → AllKeep K (with_state_change change old).owners
 keep_changed K changes.Nothing old h = h
+keep_changed K (changes.Opens node owner share None) old h = h
+keep_changed K (changes.Opens node owner share (Some kind)) old h = h
 keep_changed K (changes.Clients (client_changes.Replaces r client)) old h = keep_left K (λ o. not (is_same_client o.name.client client)) old.owners h
 keep_changed K (changes.Clients change) old h = h
 keep_changed K (changes.Confirms node number owner) old h =
@@ -203,6 +213,10 @@ new_counted journal old (entries.Call call) effect allowed kept =
     (named_keeps (names_of call.request.op) call.request.op journal old call.request (record { answer = call.answer; effect = effect }) allowed.rule kept)
 new_counted journal old (entries.Expire expire) effect allowed kept =
     absurd (cc (ap (λ (e : Effect). keeps e.owner) allowed.removal, kept))
+new_counted journal old (entries.Revoke revoke) effect allowed kept =
+    absurd (cc (ap (λ (e : Effect). keeps e.owner) allowed.removal, kept))
+new_counted journal old (entries.Path path) effect allowed kept =
+    absurd (cc (ap (λ (e : Effect). keeps e.owner) allowed.mark, kept))
 
 keep_step : (journal : History) (old : State) (entry : Entry) (new : State) → Step journal old entry new → KeepRequests journal old → KeepRequests (with_entry entry journal) new
 keep_step journal old entry new step h =

@@ -1,15 +1,17 @@
 -- No limit is exceeded.
-use Rattle.std.proofs.Common.{◌≡◌, ℕ, Bool, true, false, cond, List, [], ◌∷◌, length, map, refl, arith}
-use Rattle.std.specs.Prelude.{◌+◌, ◌≤◌, ◌&&◌, ◌||◌, is_some, nat_lt, not, if◌then◌else◌}
+use Rattle.std.proofs.Common.{◌≡◌, ℕ, Bool, true, false, cond, Option, Some, None, List, [], ◌∷◌, length, map, refl, arith}
+use Rattle.std.specs.Prelude.{◌+◌, ◌≤◌, ◌<◌, ◌&&◌, ◌||◌, is_some, nat_lt, not, if◌then◌else◌}
 use Rattle.std.specs.List.{AllByRecursion, list_any}
 use Rattle.std.proofs.lemmas.Bool.{ltb-false, ltb-true}
 use Rattle.nfs_core.specs.Safe.{HasFewRuns, KeepsLimits}
 use Rattle.nfs_core.proofs.SafeFiles.{locks_at, set_locks}
 use Rattle.nfs_core.proofs.SafeLists.{all_both, all_filter, all_map, all_push, all_replicate, all_set}
 use Rattle.nfs_core.proofs.SafeSums.{as_many, fewer, one_more, still_within, sum_all_none, sum_of_all, sum_ones}
-use Rattle.nfs_core.proofs.SoundNumbers.{gives, of_lock, of_open, weight, weight_changed, weight_owned}
+use Rattle.nfs_core.proofs.SoundNumbers.{before_grant, gives, of_lent, of_lock, of_open, weight, weight_changed, weight_granted, weight_owned}
 use Rattle.nfs_core.proofs.SoundSteps.{IsChangeReady, IsClientReady, IsOwnerReady}
 use Rattle.nfs_forms.specs.ClientId.{is_same_client}
+use Rattle.nfs_forms.specs.declared.client_id.ClientId.{ClientId}
+use Rattle.nfs_forms.specs.declared.open_owner.OpenOwner.{OpenOwner}
 use Rattle.nfs_locks.specs.AllLocks.{is_full_for, lock_count, locks_of}
 use Rattle.nfs_locks.specs.Locks.{ByteLocks, after_change, first_state, is_lock_of, is_lock_of_client, is_numbered, is_under, with_first_lock, with_lock_change, would_be_full}
 use Rattle.nfs_locks.specs.Locks as locks
@@ -25,10 +27,15 @@ use Rattle.nfs_ranges.specs.Modes.{modes_of, with_change as with_mode_change}
 use Rattle.nfs_ranges.specs.Runs.{runs}
 use Rattle.nfs_ranges.specs.declared.limits.TheConstants.{RUN_LIMIT}
 use Rattle.nfs_ranges.specs.declared.piece.Piece.{Piece}
-use Rattle.nfs_share.specs.AllOpens.{open_count, opens_of}
+use Rattle.nfs_rules.specs.Lending.{has_lending_place, new_opens}
+use Rattle.nfs_rules.specs.operations.Open.{has_open}
+use Rattle.nfs_share.specs.AllOpens.{delegation_count, open_count, opens_of}
 use Rattle.nfs_share.specs.Opens.{open_of}
+use Rattle.nfs_share.specs.declared.delegation.Delegation.{Delegation}
+use Rattle.nfs_share.specs.declared.delegation.DelegationKind.{DelegationKind}
 use Rattle.nfs_share.specs.declared.open_state.OpenState.{OpenState}
-use Rattle.nfs_state.specs.Changes.{with_owner_change, with_state_change}
+use Rattle.nfs_share.specs.declared.share.Share.{Share}
+use Rattle.nfs_state.specs.Changes.{with_grant, with_open, with_owner_change, with_state_change}
 use Rattle.nfs_state.specs.Owners.{KnownOwner, has_name, with_kept_entry, with_record, without_owner}
 use Rattle.nfs_state.specs.Places.{has_state_place, state_count}
 use Rattle.nfs_state.specs.State.{State, empty_server}
@@ -44,7 +51,7 @@ use Rattle.nfs_tree.specs.declared.node.Node.{Node}
 abbrev pub FirstRuns : Type 0
 FirstRuns = (change : Piece) → runs (with_mode_change change (modes_of [])) ≤ 1
 
--- The opens and lock states: each counts as one.
+-- The opens, the lock states and the delegations: each counts as one.
 
 abbrev one : ℕ → ℕ
 one n = 1
@@ -57,8 +64,12 @@ lock_count_is : (locks : List (List ByteLocks)) → lock_count locks ≡ sum_of_
 lock_count_is [] = refl
 lock_count_is (xs ∷ locks) = omega (arith, sum_ones xs, lock_count_is locks)
 
+delegation_count_is : (all : List (List Delegation)) → delegation_count all ≡ sum_of_all (of_lent one) all
+delegation_count_is [] = refl
+delegation_count_is (xs ∷ all) = omega (arith, sum_ones xs, delegation_count_is all)
+
 state_count_is : (state : State) → state_count state ≡ weight one state
-state_count_is state = omega (arith, open_count_is state.opens, lock_count_is state.locks)
+state_count_is state = omega (arith, open_count_is state.opens, lock_count_is state.locks, delegation_count_is state.delegations)
 
 other : (b : Bool) (c : Bool) → not b ≡ true → (b || c) ≡ true → c ≡ true
 other true c unset either = absurd cc
@@ -66,16 +77,45 @@ other false c unset either = either
 
 -- where a change makes a state, there is a place
 has_place : (change : Change) (old : State) → IsChangeReady change old → gives change old ≡ true → has_state_place old ≡ true
-has_place (changes.Opens node owner share) old ready given = other (is_some (open_of owner (opens_of node old.opens))) (has_state_place old) given ready.2
+has_place (changes.Opens node owner share lent) old ready given = other (is_some (open_of owner (opens_of node old.opens))) (has_state_place old) given ready.1.1
 has_place (changes.Begins node first) old ready given = ready.4
 has_place change old ready given = absurd cc
 
-states_changed : (change : Change) (old : State) → IsChangeReady change old → state_count old ≤ STATE_LIMIT → state_count (with_state_change change old) ≤ STATE_LIMIT
-states_changed change old ready below =
-    let new = with_state_change change old in
+-- before a delegation is lent
+
+states_before : (change : Change) (old : State) → IsChangeReady change old → state_count old ≤ STATE_LIMIT → state_count (before_grant change old) ≤ STATE_LIMIT
+states_before change old ready below =
+    let new = before_grant change old in
     let grows = weight_changed one change old in
     still_within (gives change old) (state_count old) (state_count new) STATE_LIMIT (omega (arith, grows, state_count_is old, state_count_is new))
     (λ given. ltb-true (state_count old) STATE_LIMIT (has_place change old ready given)) below
+
+anew : (has_open : Bool) → cond (not has_open) 1 0 ≡ new_opens has_open
+anew true = refl
+anew false = refl
+
+-- where a delegation is lent, there is a place for it beside the open
+place_beside : (node : ℕ) (owner : OpenOwner) (share : Share) (lent : Option DelegationKind) (old : State) → has_lending_place old (has_open old owner node) lent ≡ true → is_some lent ≡ true
+    → state_count (with_open node owner share old) < STATE_LIMIT
+place_beside node owner share None old place lends = absurd cc
+place_beside node owner share (Some kind) old place lends =
+    let mid = with_open node owner share old in
+    let grows = weight_changed one (changes.Opens node owner share (Some kind)) old in
+    let has = has_open old owner node in
+    omega (arith, grows, state_count_is old, state_count_is mid, anew has, ltb-true (state_count old + new_opens has) STATE_LIMIT place)
+
+states_granted : (node : ℕ) (client : ClientId) (lent : Option DelegationKind) (old : State) → (is_some lent ≡ true → state_count old < STATE_LIMIT) → state_count old ≤ STATE_LIMIT
+    → state_count (with_grant node client lent old) ≤ STATE_LIMIT
+states_granted node client lent old place below =
+    let new = with_grant node client lent old in
+    let grows = weight_granted one node client lent old in
+    still_within (is_some lent) (state_count old) (state_count new) STATE_LIMIT (omega (arith, grows, state_count_is old, state_count_is new)) place below
+
+states_changed : (change : Change) (old : State) → IsChangeReady change old → state_count old ≤ STATE_LIMIT → state_count (with_state_change change old) ≤ STATE_LIMIT
+states_changed (changes.Opens node owner share lent) old ready below =
+    states_granted node owner.client lent (with_open node owner share old) (place_beside node owner share lent old ready.1.3)
+    (states_before (changes.Opens node owner share lent) old ready below)
+states_changed change old ready below = states_before change old ready below
 
 states_owned : (change : OwnerChange) (number : ℕ) (old : State) → state_count old ≤ STATE_LIMIT → state_count (with_owner_change change number old) ≤ STATE_LIMIT
 states_owned change number old below =
@@ -109,6 +149,8 @@ owners_owned (owner_changes.Drops name) number old ready below = omega (arith, l
 
 owners_changed : (change : Change) (old : State) → length old.owners ≤ OWNER_LIMIT → length (with_state_change change old).owners ≤ OWNER_LIMIT
 owners_changed changes.Nothing old below = below
+owners_changed (changes.Opens node owner share None) old below = below
+owners_changed (changes.Opens node owner share (Some kind)) old below = below
 owners_changed (changes.Clients (client_changes.Replaces r client)) old below =
     omega (arith, fewer (λ o. not (is_same_client o.name.client client)) old.owners, below)
 owners_changed (changes.Clients change) old below = below
@@ -128,6 +170,8 @@ numbers_changed change old ready below = below
 
 clients_changed : (change : Change) (old : State) → IsChangeReady change old → old.clients.last_number ≤ CLIENT_LIMIT → (with_state_change change old).clients.last_number ≤ CLIENT_LIMIT
 clients_changed changes.Nothing old ready below = below
+clients_changed (changes.Opens node owner share None) old ready below = below
+clients_changed (changes.Opens node owner share (Some kind)) old ready below = below
 clients_changed (changes.Clients change) old ready below = numbers_changed change old.clients ready below
 clients_changed change old ready below = below
 
@@ -178,6 +222,8 @@ runs_dropped test old h = all_map (AllByRecursion HasFewRuns) (AllByRecursion Ha
 
 runs_changed : FirstRuns → (change : Change) (old : State) → IsChangeReady change old → HaveFewRuns old.locks → HaveFewRuns (with_state_change change old).locks
 runs_changed first_runs changes.Nothing old ready h = h
+runs_changed first_runs (changes.Opens node owner share None) old ready h = h
+runs_changed first_runs (changes.Opens node owner share (Some kind)) old ready h = h
 runs_changed first_runs (changes.Clients (client_changes.Replaces r client)) old ready h = runs_dropped (is_lock_of_client client) old.locks h
 runs_changed first_runs (changes.Clients change) old ready h = h
 runs_changed first_runs (changes.Closes node number) old ready h =
@@ -221,8 +267,9 @@ limits_empty nodes =
     let count = node_count nodes in
     let no_opens = sum_all_none (of_open one) count in
     let no_locks = sum_all_none (of_lock one) count in
+    let no_delegations = sum_all_none (of_lent one) count in
     record {
-      states = omega (arith, state_count_is (empty_server nodes), no_opens, no_locks);
+      states = omega (arith, state_count_is (empty_server nodes), no_opens, no_locks, no_delegations);
       owners = omega arith;
       clients = omega arith;
       runs = all_replicate (AllByRecursion HasFewRuns) [] tt count;

@@ -3,7 +3,7 @@ use Rattle.std.proofs.Common.{◌≡◌, inl, inr, ℕ, Bool, true, false, List,
 use Rattle.std.specs.Prelude.{⊤, ◌+◌, ◌≤◌, ◌==◌, ◌&&◌, not, find, is_some, if◌then◌else◌}
 use Rattle.std.specs.List.{AllByRecursion}
 use Rattle.std.proofs.lemmas.Bool.{and_parts, and_from, cases_Bool, cond_both, eqb-true, not-true, not_from_false}
-use Rattle.nfs_core.proofs.SafeFiles.{locks_at, locks_of_map, locks_set, locks_where_set, opens_of_map, opens_where_set, set_locks}
+use Rattle.nfs_core.proofs.SafeFiles.{locks_at, locks_of_map, locks_set, locks_where_set, lists_of_map, lists_where_set, set_locks}
 use Rattle.nfs_core.proofs.SafeLists.{all_always, all_filter, all_map, all_push, all_set, all_weaken, found_by, found_filtered, found_holds, found_map, found_more, pairs_filter, pairs_map, pairs_push}
 use Rattle.nfs_core.proofs.Sound.{AreNumbered, HasOneOwner, HasSoundLocks, KeepsOwners, IsLockerKnownIn, StandsUnder, confirmed_left, equal_clients, equal_lock_owners, equal_owners, is_known_in, left, name_left, same_lock_owner_self}
 use Rattle.nfs_core.specs.Safe.{bears}
@@ -117,7 +117,7 @@ locks_without name owners opens last locks unset sound =
           (λ xs h. all_weaken (IsLockerKnownIn owners) (IsLockerKnownIn new)
           (λ l k. name_left (λ n. is_same_state_owner n (open_owner name)) owners (lock_owner l.owner) refl k) xs h) locks sound.known;
       compatible = sound.compatible;
-      under = λ node. subst (λ xs. AllByRecursion (StandsUnder new xs) (locks_of node locks)) (sym (opens_of_map remove refl node opens))
+      under = λ node. subst (λ xs. AllByRecursion (StandsUnder new xs) (locks_of node locks)) (sym (lists_of_map remove refl node opens))
           (all_weaken (StandsUnder owners (opens_of node opens)) (StandsUnder new (remove (opens_of node opens)))
           (λ l h. under_left owners new (λ o. is_same_owner o.owner name) l (dropped_stays name owners l unset) (opens_of node opens) h)
           (locks_of node locks) (sound.under node));
@@ -146,7 +146,7 @@ locks_without_client law client owners opens last locks sound =
           (λ l k out. name_left (λ n. is_same_client n.client client) owners (lock_owner l.owner) (not-true (is_lock_of_client client l) out) k) xs h) locks sound.known;
       compatible = all_map AllLocksAreCompatible AllLocksAreCompatible free (λ xs h. law.removal (is_lock_of_client client) xs h) locks sound.compatible;
       under = λ node.
-          subst (λ xs. AllByRecursion (StandsUnder new xs) (locks_of node (map free locks))) (sym (opens_of_map close refl node opens))
+          subst (λ xs. AllByRecursion (StandsUnder new xs) (locks_of node (map free locks))) (sym (lists_of_map close refl node opens))
           (subst (AllByRecursion (StandsUnder new (close (opens_of node opens)))) (sym (locks_of_map free refl node locks))
           (all_filter (StandsUnder owners (opens_of node opens)) (StandsUnder new (close (opens_of node opens))) (λ l. not (is_lock_of_client client l))
           (λ l h out. under_left owners new (is_open_of_client client) l
@@ -185,7 +185,7 @@ pub locks_reopened : (node : ℕ) (change : List OpenState → List OpenState) (
 locks_reopened node change owners opens last locks keep sound = record {
   known = sound.known;
   compatible = sound.compatible;
-  under = λ m. opens_where_set (λ xs. AllByRecursion (StandsUnder owners xs) (locks_of m locks)) m node opens (change (opens_of node opens)) (sound.under m)
+  under = λ m. lists_where_set (λ xs. AllByRecursion (StandsUnder owners xs) (locks_of m locks)) m node opens (change (opens_of node opens)) (sound.under m)
       (λ same. all_weaken (StandsUnder owners (opens_of node opens)) (StandsUnder owners (change (opens_of node opens)))
       (λ l h. keep l (opens_of node opens) h) (locks_of m locks)
       (subst (λ k. AllByRecursion (StandsUnder owners (opens_of k opens)) (locks_of m locks)) same (sound.under m)));
@@ -236,7 +236,7 @@ locks_closed law node number owners opens last locks sound =
       known = set_locks (AllByRecursion (IsLockerKnownIn owners)) tt free
           (λ xs h. all_filter (IsLockerKnownIn owners) (IsLockerKnownIn owners) (λ l. not (is_under number l)) (λ l k _. k) xs h) node locks sound.known;
       compatible = set_locks AllLocksAreCompatible (λ byte. tt) free (law.removal (is_under number)) node locks sound.compatible;
-      under = λ m. opens_where_set (λ xs. AllByRecursion (StandsUnder owners xs) (locks_of m new)) m node opens (close (opens_of node opens))
+      under = λ m. lists_where_set (λ xs. AllByRecursion (StandsUnder owners xs) (locks_of m new)) m node opens (close (opens_of node opens))
           (locks_where_set (AllByRecursion (StandsUnder owners (opens_of m opens))) m node locks (free (locks_of node locks)) (sound.under m)
           (λ same. all_filter (StandsUnder owners (opens_of m opens)) (StandsUnder owners (opens_of m opens)) (λ l. not (is_under number l)) (λ l k _. k) (locks_of node locks)
           (subst (λ k. AllByRecursion (StandsUnder owners (opens_of m opens)) (locks_of k locks)) same (sound.under m))))

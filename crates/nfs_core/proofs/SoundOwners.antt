@@ -5,11 +5,12 @@ use Rattle.std.specs.List.{AllByRecursion, IsDistinct}
 use Rattle.std.proofs.lemmas.Bool.{cond_both}
 use Rattle.nfs_core.specs.Safe.{have_same_lock_owner, have_same_owner}
 use Rattle.nfs_core.proofs.SafeDistinct.{distinct_filter, distinct_map, distinct_none, distinct_push}
-use Rattle.nfs_core.proofs.SafeFiles.{locks_at, set_locks, set_opens}
+use Rattle.nfs_core.proofs.SafeFiles.{locks_at, set_locks, set_lists}
 use Rattle.nfs_core.proofs.SafeLists.{all_map, all_none, all_replicate, all_set}
 use Rattle.nfs_core.proofs.SoundSteps.{IsChangeReady}
 use Rattle.nfs_forms.specs.LockOwner.{is_same_lock_owner}
 use Rattle.nfs_forms.specs.OpenOwner.{is_same_owner}
+use Rattle.nfs_forms.specs.declared.client_id.ClientId.{ClientId}
 use Rattle.nfs_forms.specs.declared.open_owner.OpenOwner.{OpenOwner}
 use Rattle.nfs_locks.specs.AllLocks.{locks_of}
 use Rattle.nfs_locks.specs.Locks.{ByteLocks, after_change, first_state, is_lock_of, is_lock_of_client, is_numbered as is_lock_numbered, is_under, lock_of, with_first_lock, with_lock_change}
@@ -20,9 +21,10 @@ use Rattle.nfs_ranges.specs.declared.piece.Piece.{Piece}
 use Rattle.nfs_share.specs.AllOpens.{with_opens}
 use Rattle.nfs_share.specs.Opens.{after_downgrade, after_open, first_open, is_numbered, is_of, is_of_client, open_of, with_each, with_next_seqid, with_opening}
 use Rattle.nfs_share.specs.Opens as opens
+use Rattle.nfs_share.specs.declared.delegation.DelegationKind.{DelegationKind}
 use Rattle.nfs_share.specs.declared.open_state.OpenState.{OpenState}
 use Rattle.nfs_share.specs.declared.share.Share.{Share}
-use Rattle.nfs_state.specs.Changes.{with_owner_change, with_state_change}
+use Rattle.nfs_state.specs.Changes.{with_grant, with_open, with_owner_change, with_state_change}
 use Rattle.nfs_state.specs.State.{State, empty_server}
 use Rattle.nfs_state.specs.declared.change.Change.{Change}
 use Rattle.nfs_state.specs.declared.change.Change.TheVariants as changes
@@ -93,7 +95,7 @@ locks_left test xs h = distinct_filter have_same_lock_owner (λ l. not (test l))
 
 opens_set : (change : List OpenState → List OpenState) → ((xs : List OpenState) → IsDistinct have_same_owner xs → IsDistinct have_same_owner (change xs)) → (node : ℕ) (old : State) → HasOnes old
     → HasOneOpens (with_opens node change old.opens)
-opens_set change keeps node old h = set_opens (IsDistinct have_same_owner) (distinct_none have_same_owner) change keeps node old.opens h.opens
+opens_set change keeps node old h = set_lists (IsDistinct have_same_owner) (distinct_none have_same_owner) change keeps node old.opens h.opens
 
 opens_dropped : (test : OpenState → Bool) (old : State) → HasOnes old → HasOneOpens (map (opens.without test) old.opens)
 opens_dropped test old h =
@@ -103,6 +105,18 @@ locks_dropped : (test : ByteLocks → Bool) (old : State) → HasOnes old → Ha
 locks_dropped test old h =
     all_map (IsDistinct have_same_lock_owner) (IsDistinct have_same_lock_owner) (locks.without test) (λ xs k. locks_left test xs k) old.locks h.locks
 
+-- An OPEN, and a delegation that is lent.
+
+ones_opened : (node : ℕ) (owner : OpenOwner) (share : Share) (old : State) → HasOnes old → HasOnes (with_open node owner share old)
+ones_opened node owner share old h = record {
+  opens = opens_set (with_opening owner share (old.last_state + 1)) (opening_one owner share (old.last_state + 1)) node old h;
+  locks = h.locks;
+}
+
+ones_granted : (node : ℕ) (client : ClientId) (lent : Option DelegationKind) (old : State) → HasOnes old → HasOnes (with_grant node client lent old)
+ones_granted node client None old h = h
+ones_granted node client (Some kind) old h = record { opens = h.opens; locks = h.locks }
+
 -- A change that is ready leaves one open and one lock state.
 pub ones_changed : (change : Change) (old : State) → IsChangeReady change old → HasOnes old → HasOnes (with_state_change change old)
 ones_changed changes.Nothing old ready h = h
@@ -111,10 +125,7 @@ ones_changed (changes.Clients (client_changes.Replaces r client)) old ready h = 
   locks = locks_dropped (is_lock_of_client client) old h;
 }
 ones_changed (changes.Clients change) old ready h = record { opens = h.opens; locks = h.locks }
-ones_changed (changes.Opens node owner share) old ready h = record {
-  opens = opens_set (with_opening owner share (old.last_state + 1)) (opening_one owner share (old.last_state + 1)) node old h;
-  locks = h.locks;
-}
+ones_changed (changes.Opens node owner share lent) old ready h = ones_granted node owner.client lent (with_open node owner share old) (ones_opened node owner share old h)
 ones_changed (changes.Confirms node number owner) old ready h = record {
   opens = opens_set (with_each (is_numbered number) with_next_seqid) (each_one (is_numbered number) with_next_seqid (λ o. refl)) node old h;
   locks = h.locks;
@@ -147,6 +158,7 @@ ones_changed (changes.Expires client) old ready h = record {
   opens = opens_dropped (is_of_client client) old h;
   locks = locks_dropped (is_lock_of_client client) old h;
 }
+ones_changed change old ready h = record { opens = h.opens; locks = h.locks }
 
 -- So does what an entry means for an owner.
 pub ones_owned : (change : OwnerChange) (number : ℕ) (old : State) → HasOnes old → HasOnes (with_owner_change change number old)

@@ -1,7 +1,7 @@
 -- What the rules of the operations decide is ready to keep the state sound.
-use Rattle.std.proofs.Common.{◌≡◌, inl, inr, ℕ, Bool, true, false, Option, Some, None, List, Result, Ok, Err, refl, sym, ap, ◌∙◌, subst}
+use Rattle.std.proofs.Common.{◌≡◌, inl, inr, ℕ, Bool, true, false, Option, Some, None, List, [], ◌∷◌, ◌++◌, Result, Ok, Err, refl, sym, ap, ◌∙◌, subst}
 use Rattle.std.specs.Prelude.{⊤, ◌&&◌, find, not, is_some, IfSome, option_map, if◌then◌else◌}
-use Rattle.std.specs.List.{AllByRecursion}
+use Rattle.std.specs.List.{AllByRecursion, list_all}
 use Rattle.std.specs.Str.{bytes_eq}
 use Rattle.std.proofs.lemmas.Bool.{and_from, cases_Bool, cond-false, cond-true, cond_both, and_parts}
 use Rattle.std.proofs.lemmas.Slice.Eq.{bytes_eq-Decides}
@@ -16,6 +16,8 @@ use Rattle.nfs_rules.specs.declared.ruling.Ruling.{Ruling}
 use Rattle.nfs_rules.specs.operations.{IsRuled}
 use Rattle.nfs_rules.specs.Newcomers.{Newcomer, Nobody, newcomer_of}
 use Rattle.nfs_rules.specs.operations.Close as close
+use Rattle.nfs_rules.specs.Lending.{goes_on, has_lending_place, has_path_up, if_all_hold, is_null, kind_for, lending_conditions, lent}
+use Rattle.nfs_rules.specs.operations.Delegreturn as delegreturn
 use Rattle.nfs_rules.specs.operations.Lock as lock
 use Rattle.nfs_rules.specs.operations.Lockt as lockt
 use Rattle.nfs_rules.specs.operations.Locku as locku
@@ -34,12 +36,11 @@ use Rattle.nfs_state.specs.State.{State, History, record_has_state}
 use Rattle.nfs_core.proofs.SafeLists.{all_always, all_find, all_none, all_weaken, found_last, found_some}
 use Rattle.nfs_core.proofs.Sound.{AreSingle, HasSameClient, HasRecord, IsOnlyOf, IsSound, is_live_in, is_record_of, same_client_self, same_name_self}
 use Rattle.nfs_core.proofs.SoundLocking.{lock_ready, lock_sequenced, locku_ready, stateid_of}
-use Rattle.nfs_core.proofs.SoundSequences.{IsFit, IsOf, IsOwnReady, as_decided, continues_ready, continuing, place_for_nobody, quiet_ready, sequenced_ready, some_equal}
-use Rattle.nfs_core.proofs.SoundSteps.{IsChangeReady, IsClientReady, IsOwnerReady, IsReady}
+use Rattle.nfs_core.proofs.SoundSequences.{IsFit, IsOf, IsOwnReady, as_decided, continues_ready, continuing, never, place_for_nobody, quiet_ready, sequenced_ready, some_equal}
+use Rattle.nfs_core.proofs.SoundSteps.{CanLend, IsChangeReady, IsClientReady, IsOwnerReady, IsReady, MayOpen}
 use Rattle.nfs_core.proofs.SoundTargets.{bound, ok_equal, unrefused}
 use Rattle.nfs_forms.specs.ClientId.{is_same_client}
 use Rattle.nfs_forms.specs.declared.client_id.ClientId.{ClientId}
-use Rattle.nfs_forms.specs.declared.answer.Answer.TheVariants as answers
 use Rattle.nfs_forms.specs.declared.answer.Answer.TheVariants.{Done}
 use Rattle.nfs_xdr.specs.declared.op_result.OpResult.TheVariants as results
 use Rattle.nfs_forms.specs.Principal.{is_same_principal}
@@ -68,7 +69,10 @@ use Rattle.nfs_forms.specs.declared.status.Refusal.{Refusal}
 use Rattle.nfs_forms.specs.declared.status.Refusal.TheVariants as refusals
 use Rattle.nfs_forms.specs.declared.status.Status.{Status}
 use Rattle.nfs_ranges.specs.declared.range.Range.{Range}
-use Rattle.nfs_share.specs.AllOpens.{OpenAt, opens_of}
+use Rattle.nfs_share.specs.AllOpens.{DelegationAt, OpenAt, delegations_of, opens_of}
+use Rattle.nfs_share.specs.Delegations.{can_delegate, has_conflict}
+use Rattle.nfs_share.specs.declared.delegation.DelegationKind.{DelegationKind}
+use Rattle.nfs_share.specs.declared.delegation.FileUse.TheVariants as uses
 use Rattle.nfs_share.specs.Opens.{is_refused}
 use Rattle.nfs_share.specs.Share.{share_of_numbers}
 use Rattle.nfs_share.specs.declared.share.Share.{Share}
@@ -222,7 +226,7 @@ opening_allowed journal state node args o is =
     bound P (opening.share_or_inval (share_of_numbers args.access args.deny)) _ o (λ share _.
     bound P (opening.found_by args.how (resolution journal.nodes node name)) _ o (λ found _.
     bound P (opening.file_at journal args.how found) _ o (λ file _.
-    bound P (opening.unless_delegated journal state args.claim file) _ o (λ at _. allowed state args.owner share at o))))) is
+    bound P (opening.claimed journal state args.owner.client args.claim file) _ o (λ at _. allowed state args.owner share at o))))) is
 
 -- The owner whose client is live may become known where there is a place, and one that isn't confirmed may be dropped.
 owner_ready : (journal : History) (state : State) (op : Op) (owner : OpenOwner) (passage : Passage) (status : Status) → IsSound state → is_live_in state.clients.confirmed owner.client ≡ true
@@ -237,58 +241,112 @@ owner_ready journal state op owner passages.Restarts status sound live fit nobod
     cond_both (is_ok_status status) (owner_changes.Restarts (as_open_owner (open_owner owner))) (owner_changes.Drops (as_open_owner (open_owner owner))) (λ c. IsOwnerReady c state)
     (λ ok. (live, fit.1, place ok)) (λ _. fit.1)
 
--- After what its entry means for the owner, the owner of an OPEN is known, and the opens are those that the OPEN saw.
-opens_ready : (number : ℕ) (state : State) (op : Op) (owner : OpenOwner) (passage : Passage) (newcomer : Newcomer) (status : Status) (node : ℕ) (share : Share) → is_ok_status status ≡ true → IsFit state op (open_owner owner) passage
-    → is_refused owner share (opens_of node (before_own passage owner state).opens) ≡ false
-    → opening.has_open_place (before_own passage owner state) owner node ≡ true
-    → IsChangeReady (changes.Opens node owner share) (with_owner_change (owner_change_of passage (open_owner owner) newcomer status) number state)
-opens_ready number state op owner passages.Continues newcomer status node share ok fit free place =
-    let goes = continuing number state (open_owner owner) newcomer status in
-    subst (IsChangeReady (changes.Opens node owner share)) (sym goes.state) (goes.keeps.known (open_owner owner) fit, free, place)
-opens_ready number state op owner passages.Begins newcomer status node share ok fit free place =
-    let name = open_owner owner in
-    let new : KnownOwner = record { name = name; confirmed = false; recording_entry = number; kept_entry = number } in
-    subst (λ c. IsChangeReady (changes.Opens node owner share) (with_owner_change c number state))
-    (sym (cond-true (is_ok_status status) (owner_changes.Records (as_open_owner name)) owner_changes.Nothing ok))
-    (found_last (has_name name) state.owners new (same_name_self name), free, place)
-opens_ready number state op owner passages.Restarts newcomer status node share ok fit free place =
-    let name = open_owner owner in
-    let new : KnownOwner = record { name = name; confirmed = false; recording_entry = number; kept_entry = number } in
-    subst (λ c. IsChangeReady (changes.Opens node owner share) (with_owner_change c number state))
-    (sym (cond-true (is_ok_status status) (owner_changes.Restarts (as_open_owner name)) (owner_changes.Drops (as_open_owner name)) ok))
-    (found_last (has_name name) (without_owner name state.owners) new (same_name_self name), free, place)
+-- the owners are nothing to what an OPEN may do
+may_still : (node : ℕ) (owner : OpenOwner) (share : Share) (lent : Option DelegationKind) (owners : List KnownOwner) (state : State) → MayOpen node owner share lent state → MayOpen node owner share lent (record state { owners = owners })
+may_still node owner share None owners state may = may
+may_still node owner share (Some kind) owners state may = may
 
--- the rule of OPEN, by what it opens or why it opens nothing
-ruling_ready : (number : ℕ) (journal : History) (state : State) (op : Op) (args : Open) (passage : Passage) (directory : ℕ) (ruling : Ruling) (result : Result Opening Refusal)
+-- After what its entry means for the owner, the owner of an OPEN is known, and the opens and the delegations are those that
+-- the OPEN saw.
+opens_ready : (number : ℕ) (state : State) (op : Op) (owner : OpenOwner) (passage : Passage) (newcomer : Newcomer) (status : Status) (node : ℕ) (share : Share) (lent : Option DelegationKind) → is_ok_status status ≡ true
+    → IsFit state op (open_owner owner) passage → MayOpen node owner share lent (before_own passage owner state)
+    → IsChangeReady (changes.Opens node owner share lent) (with_owner_change (owner_change_of passage (open_owner owner) newcomer status) number state)
+opens_ready number state op owner passages.Continues newcomer status node share lent ok fit may =
+    let goes = continuing number state (open_owner owner) newcomer status in
+    subst (IsChangeReady (changes.Opens node owner share lent)) (sym goes.state) (goes.keeps.known (open_owner owner) fit, may_still node owner share lent goes.owners state may)
+opens_ready number state op owner passages.Begins newcomer status node share lent ok fit may =
+    let name = open_owner owner in
+    let new : KnownOwner = record { name = name; confirmed = false; recording_entry = number; kept_entry = number } in
+    subst (λ c. IsChangeReady (changes.Opens node owner share lent) (with_owner_change c number state))
+    (sym (cond-true (is_ok_status status) (owner_changes.Records (as_open_owner name)) owner_changes.Nothing ok))
+    (found_last (has_name name) state.owners new (same_name_self name), may_still node owner share lent (state.owners ++ new ∷ []) state may)
+opens_ready number state op owner passages.Restarts newcomer status node share lent ok fit may =
+    let name = open_owner owner in
+    let new : KnownOwner = record { name = name; confirmed = false; recording_entry = number; kept_entry = number } in
+    subst (λ c. IsChangeReady (changes.Opens node owner share lent) (with_owner_change c number state))
+    (sym (cond-true (is_ok_status status) (owner_changes.Restarts (as_open_owner name)) (owner_changes.Drops (as_open_owner name)) ok)) (
+      found_last (has_name name) (without_owner name state.owners) new (same_name_self name),
+      may_still node owner share lent (without_owner name state.owners ++ new ∷ []) (before_own passages.Restarts owner state) may,
+    )
+
+-- a delegation that is lent may be
+may_lend : (state : State) (passage : Passage) (args : Open) (node : ℕ) (kind : Option DelegationKind) → CanLend node args.owner.client (if_all_hold (lending_conditions state passage args node) kind) state
+may_lend state passage args node None = tt
+may_lend state passage args node (Some kind) =
+    let goes = goes_on passage in
+    let null = is_null args.claim in
+    let up = has_path_up args.owner.client state.clients in
+    let can = can_delegate args.owner.client kind (opens_of node state.opens) (delegations_of node state.delegations) in
+    cond_both (list_all (λ holds. holds) (lending_conditions state passage args node kind)) (Some kind) None (λ lends. CanLend node args.owner.client lends state)
+    (λ all. (and_parts can true (and_parts up (can && true) (and_parts null (up && (can && true)) (and_parts goes (null && (up && (can && true))) all).1).1).1).0) (λ _. tt)
+
+-- an OPEN that is granted, if there are places for all that it makes
+grant_ready : (number : ℕ) (journal : History) (state : State) (op : Op) (args : Open) (passage : Passage) (o : Opening) (ruling : Ruling)
     → IsSound state → is_live_in state.clients.confirmed args.owner.client ≡ true → IsFit state op (open_owner args.owner) passage
     → newcomer_of journal state args.owner.client op ≡ Nobody
-    → opening.opening journal (before_own passage args.owner state) directory args ≡ result
-    → Some ruling ≡ opening.ruling_of (before_own passage args.owner state) passage args.owner (opening.opening_or_ruling result)
+    → is_refused args.owner o.share (opens_of o.node (before_own passage args.owner state).opens) ≡ false
+    → has_conflict args.owner.client (uses.Open o.share) (delegations_of o.node (before_own passage args.owner state).delegations) ≡ false
+    → Some ruling ≡ opening.ruling_of journal (before_own passage args.owner state) passage args (Ok o)
     → IsReady number state (decision_of passage (open_owner args.owner) (newcomer_of journal state args.owner.client op) ruling)
-ruling_ready number journal state op args passage directory ruling (Err refusal) sound live fit nobody is rules =
-    subst (λ r. IsReady number state (decision_of passage (open_owner args.owner) (newcomer_of journal state args.owner.client op) r)) (sym (some_equal ruling _ rules))
-    (owner_ready journal state op args.owner passage (status_of (results.Open (answers.Refused refusal))) sound live fit nobody (λ ok. absurd cc), tt)
-ruling_ready number journal state op args passage directory ruling (Ok o) sound live fit nobody is rules =
+grant_ready number journal state op args passage o ruling sound live fit nobody free apart rules =
     let seen = before_own passage args.owner state in
     let newcomer = newcomer_of journal state args.owner.client op in
+    let kind = lent journal seen passage args o in
     let owner_place = opening.has_owner_place passage seen in
     let open_place = opening.has_open_place seen args.owner o.node in
-    let places = owner_place && open_place in
-    let given : Ruling = record {
-      answer = results.Open (Done (opening.answer_of seen passage args.owner o.node));
-      change = changes.Opens o.node args.owner o.share;
-    } in
+    let lending_place = has_lending_place seen (opening.has_open seen args.owner o.node) kind in
+    let given = opening.granted seen passage args.owner o kind in
+    let places = opening.has_places seen passage args.owner o.node kind in
     elim (cases_Bool places) [
       | inl has ↦
-          let both = and_parts owner_place open_place has in
+          let both = and_parts (owner_place && open_place) lending_place has in
+          let first = and_parts owner_place open_place both.0 in
           subst (λ r. IsReady number state (decision_of passage (open_owner args.owner) newcomer r))
           (sym (some_equal ruling given (rules ∙ cond-true places (Some given) None has))) (
-            owner_ready journal state op args.owner passage (status_of given.answer) sound live fit nobody (λ _. both.0),
-            opens_ready number state op args.owner passage newcomer (status_of given.answer) o.node o.share refl fit (opening_allowed journal seen directory args o is) both.1,
+            owner_ready journal state op args.owner passage (status_of given.answer) sound live fit nobody (λ _. first.0),
+            opens_ready number state op args.owner passage newcomer (status_of given.answer) o.node o.share kind refl fit
+                (free, first.1, apart, both.1, may_lend seen passage args o.node (kind_for journal.policy.delegations o.share)),
           )
       | inr full ↦
           let none : Some ruling ≡ None = rules ∙ cond-false places (Some given) None full in
           absurd cc
+    ]
+
+-- an OPEN that makes nothing
+refusal_ready : (number : ℕ) (journal : History) (state : State) (op : Op) (args : Open) (passage : Passage) (u ruling : Ruling)
+    → IsSound state → is_live_in state.clients.confirmed args.owner.client ≡ true → IsFit state op (open_owner args.owner) passage
+    → newcomer_of journal state args.owner.client op ≡ Nobody
+    → is_ok_status (status_of u.answer) ≡ false → ((s : State) → IsChangeReady u.change s) → Some ruling ≡ Some u
+    → IsReady number state (decision_of passage (open_owner args.owner) (newcomer_of journal state args.owner.client op) ruling)
+refusal_ready number journal state op args passage u ruling sound live fit nobody fails quiet is =
+    let newcomer = newcomer_of journal state args.owner.client op in
+    let status = status_of u.answer in
+    subst (λ r. IsReady number state (decision_of passage (open_owner args.owner) newcomer r)) (sym (some_equal ruling u is)) (
+      owner_ready journal state op args.owner passage status sound live fit nobody (λ ok. absurd (never (is_ok_status status) fails ok)),
+      quiet (with_owner_change (owner_change_of passage (open_owner args.owner) newcomer status) number state),
+    )
+
+-- the rule of OPEN, by what it opens or why it opens nothing
+ruling_ready : (number : ℕ) (journal : History) (state : State) (op : Op) (args : Open) (passage : Passage) (directory moment : ℕ) (ruling : Ruling) (result : Result Opening Refusal)
+    → IsSound state → is_live_in state.clients.confirmed args.owner.client ≡ true → IsFit state op (open_owner args.owner) passage
+    → newcomer_of journal state args.owner.client op ≡ Nobody
+    → opening.opening journal (before_own passage args.owner state) directory args ≡ result
+    → Some ruling ≡ opening.ruling_of journal (before_own passage args.owner state) passage args (opening.opening_or_ruling (before_own passage args.owner state) moment args.owner.client result)
+    → IsReady number state (decision_of passage (open_owner args.owner) (newcomer_of journal state args.owner.client op) ruling)
+ruling_ready number journal state op args passage directory moment ruling (Err refusal) sound live fit nobody is rules =
+    refusal_ready number journal state op args passage (opening.refused refusal) ruling sound live fit nobody refl (λ s. tt) rules
+ruling_ready number journal state op args passage directory moment ruling (Ok o) sound live fit nobody is rules =
+    let seen = before_own passage args.owner state in
+    let client = args.owner.client in
+    let meets = has_conflict client (uses.Open o.share) (delegations_of o.node seen.delegations) in
+    let delay = opening.delayed moment client o in
+    elim (cases_Bool meets) [
+      | inl there ↦
+          refusal_ready number journal state op args passage delay ruling sound live fit nobody refl (λ s. tt)
+          (rules ∙ ap (opening.ruling_of journal seen passage args) (cond-true meets (Err delay) (Ok o) there))
+      | inr apart ↦
+          grant_ready number journal state op args passage o ruling sound live fit nobody (opening_allowed journal seen directory args o is) apart
+          (rules ∙ ap (opening.ruling_of journal seen passage args) (cond-false meets (Err delay) (Ok o) apart))
     ]
 
 -- the owner of an OPEN is the one in its arguments, whose client is live
@@ -311,7 +369,7 @@ open_ready number journal state op args request sound is node passage name rulin
     let fits : IsFit state op (open_owner args.owner) passage = subst (λ n. IsFit state op n passage) asked.0 fit in
     let nobody : newcomer_of journal state args.owner.client op ≡ Nobody = ap (newcomer_of journal state args.owner.client) is in
     subst (λ (n : StateOwner). IsReady number state (decision_of passage n (newcomer_of journal state n.client op) ruling)) (sym asked.0)
-    (ruling_ready number journal state op args passage node ruling (opening.opening journal (before_own passage args.owner state) node args) sound asked.1 fits nobody refl h)
+    (ruling_ready number journal state op args passage node request.moment ruling (opening.opening journal (before_own passage args.owner state) node args) sound asked.1 fits nobody refl h)
 
 -- LOCKT and RELEASE_LOCKOWNER
 
@@ -330,10 +388,18 @@ release_ready number state args =
     (if holds args.owner state.locks then release.refusal_of refusals.LocksHeld else forgets) (IsReady number state) (λ _. (tt, tt))
     (λ _. cond_both (holds args.owner state.locks) (release.refusal_of refusals.LocksHeld) forgets (IsReady number state) (λ _. (tt, tt)) (λ _. (tt, tt)))
 
+-- DELEGRETURN
+
+returns_ready : (number : ℕ) (state : State) (found : Result DelegationAt Refusal) (d : Decision) → Some d ≡ Some (delegreturn.returning found) → IsReady number state d
+returns_ready number state (Err refusal) d is = as_decided number state d _ is (tt, tt)
+returns_ready number state (Ok at) d is = as_decided number state d _ is (tt, tt)
+
 -- what a rule decides is ready to keep the state sound
 pub ruled_ready : (number : ℕ) (journal : History) (state : State) (op : Op) (request : Request) (d : Decision) → request.op ≡ op → IsSound state → IsRuled op journal state request (Some d) → IsReady number state d
 ruled_ready number journal state (ops.Getattr mask) request d same sound is =
     as_decided number state d _ is (tt, tt)
+ruled_ready number journal state (ops.Delegreturn args) request d same sound is =
+    returns_ready number state (delegreturn.delegation_at journal state request.filehandle args) d is
 ruled_ready number journal state (ops.Setclientid args) request d same sound is =
     let holder = record_state (confirmed_of state.clients args.id) in
     let has_state = record_has_state state holder in

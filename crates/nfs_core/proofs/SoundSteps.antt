@@ -1,5 +1,5 @@
 -- An entry's changes keep the state sound, given what its rule makes sure of.
-use Rattle.std.proofs.Common.{◌≡◌, ℕ, Bool, true, false, List, refl, arith}
+use Rattle.std.proofs.Common.{◌≡◌, ℕ, Bool, true, false, Option, Some, None, List, refl, arith}
 use Rattle.std.specs.Prelude.{⊤, ◌+◌, ◌≤◌, ◌&&◌, find, is_some, length, map, nat_lt, not, if◌then◌else◌}
 use Rattle.std.specs.List.{AllByRecursion}
 use Rattle.nfs_state.specs.declared.change.Change.{Change}
@@ -10,15 +10,16 @@ use Rattle.nfs_state.specs.declared.entry.Entry.{Entry}
 use Rattle.nfs_state.specs.declared.owner_change.OwnerChange.{OwnerChange}
 use Rattle.nfs_state.specs.declared.owner_change.OwnerChange.TheVariants as owner_changes
 use Rattle.nfs_state.specs.Owners.{KnownOwner, has_name, is_confirmed, with_confirmation, with_kept_entry, with_record, without_owner}
-use Rattle.nfs_state.specs.Changes.{after, last_state_after, with_owner_change, with_state_change}
+use Rattle.nfs_state.specs.Changes.{after, last_state_after, with_grant, with_open, with_owner_change, with_state_change}
 use Rattle.nfs_state.specs.Changes as state_changes
 use Rattle.nfs_state.specs.Places.{has_state_place}
 use Rattle.nfs_state.specs.State.{State}
-use Rattle.nfs_core.proofs.SafeFiles.{opens_at, set_opens}
+use Rattle.nfs_core.proofs.SafeFiles.{lists_at, set_lists}
 use Rattle.nfs_core.proofs.SafeLists.{all_filter, all_push, all_set}
-use Rattle.nfs_core.proofs.Sound.{AreLive, IsAloneOf, HasRecord, IsKnownIn, IsOnlyOf, IsSound, StandsUnder, KeepsOwner, KeepsOwners, OpensStay, dropped_compatible, dropped_known, dropped_live, each_known, is_known_in, is_live_in, keeps_mapped, keeps_recorded, keeps_tested, live_confirmed, live_expired, live_replaced, mapped_live, name_left, none_of, opening_known, renamed_known, single_confirmed, single_left}
+use Rattle.nfs_core.proofs.Sound.{AreLive, IsAloneOf, HasRecord, IsKnownIn, IsOnlyOf, IsSound, StandsUnder, KeepsOwner, KeepsOwners, OpensStay, dropped_compatible, dropped_known, dropped_live, each_known, is_known_in, is_live_in, keeps_mapped, keeps_recorded, keeps_tested, live_confirmed, live_expired, live_marked, live_replaced, mapped_live, name_left, none_of, opening_known, renamed_known, single_confirmed, single_left, single_marked}
 use Rattle.nfs_core.proofs.SoundLocks.{LocksStay, locks_begun, locks_changed, locks_closed, locks_numbered, locks_owned, locks_released, locks_reopened, locks_without, locks_without_client, under_each, under_opening}
 use Rattle.nfs_forms.specs.ClientId.{is_same_client}
+use Rattle.nfs_forms.specs.declared.client_id.ClientId.{ClientId}
 use Rattle.nfs_forms.specs.OpenOwner.{is_same_owner}
 use Rattle.nfs_forms.specs.declared.lock_owner.LockOwner.{LockOwner}
 use Rattle.nfs_forms.specs.declared.open_owner.OpenOwner.{OpenOwner}
@@ -33,8 +34,13 @@ use Rattle.nfs_owners.specs.declared.clients.client_change.ClientChange.{ClientC
 use Rattle.nfs_owners.specs.declared.clients.client_change.ClientChange.TheVariants as client_changes
 use Rattle.nfs_owners.specs.declared.owner.TheConstants.{OWNER_LIMIT}
 use Rattle.nfs_owners.specs.declared.state_owner.StateOwner.{StateOwner}
-use Rattle.nfs_rules.specs.operations.Open.{has_open_place}
-use Rattle.nfs_share.specs.AllOpens.{opens_of}
+use Rattle.nfs_rules.specs.Lending.{has_lending_place}
+use Rattle.nfs_rules.specs.operations.Open.{has_open, has_open_place}
+use Rattle.nfs_share.specs.AllOpens.{delegations_of, opens_of}
+use Rattle.nfs_share.specs.Delegations.{can_delegate, has_conflict}
+use Rattle.nfs_share.specs.declared.delegation.DelegationKind.{DelegationKind}
+use Rattle.nfs_share.specs.declared.delegation.FileUse.TheVariants as uses
+use Rattle.nfs_share.specs.declared.share.Share.{Share}
 use Rattle.nfs_share.specs.Laws.{AllAreCompatible}
 use Rattle.nfs_share.specs.Opens.{after_downgrade, is_numbered, is_refused, open_of, with_each, with_next_seqid, with_opening, without}
 
@@ -66,15 +72,30 @@ IsClientReady (client_changes.Replaces r client) registry =
     AllByRecursion (IsOnlyOf client r.id) registry.confirmed × HasRecord client r.id registry.confirmed
     × HasRecord r.state.client r.id registry.unconfirmed × (is_same_client client r.state.client ≡ false)
 
--- The owner of an open is known, its OPEN isn't refused, and there is a place for an open that it makes. The owner of a lock
--- state that begins is known, an open of the node is there for it, the bytes are free for it, it has no lock state of the
--- file, and there is a place for one; those of another change are free for the owner of a lock state with the number, and
--- leave its runs within the limit. A client that expires is live, and no other has its number.
+-- a delegation of this kind may be lent to the client, if one is lent
+abbrev pub CanLend : ℕ → ClientId → Option DelegationKind → State → Type 0
+CanLend node client None state = ⊤
+CanLend node client (Some kind) state =
+    can_delegate client kind (opens_of node state.opens) (delegations_of node state.delegations) ≡ true
+
+-- The owner's OPEN isn't refused, and there is a place for an open that it makes; no delegation is in its way, and there is a
+-- place for one that is lent, which may be lent.
+abbrev pub MayOpen : ℕ → OpenOwner → Share → Option DelegationKind → State → Type 0
+MayOpen node owner share lent state =
+    (is_refused owner share (opens_of node state.opens) ≡ false)
+    × (has_open_place state owner node ≡ true)
+    × (has_conflict owner.client (uses.Open share) (delegations_of node state.delegations) ≡ false)
+    × (has_lending_place state (has_open state owner node) lent ≡ true)
+    × CanLend node owner.client lent state
+
+-- The owner of an open is known, and its OPEN may come next. The owner of a lock state that begins is known, an open of the
+-- node is there for it, the bytes are free for it, it has no lock state of the file, and there is a place for one; those of
+-- another change are free for the owner of a lock state with the number, and leave its runs within the limit. A client that
+-- expires is live, and no other has its number.
 abbrev pub IsChangeReady : Change → State → Type 0
 IsChangeReady (changes.Clients change) state = IsClientReady change state.clients
-IsChangeReady (changes.Opens node owner share) state =
-    (is_known_in state.owners (open_owner owner) ≡ true) × (is_refused owner share (opens_of node state.opens) ≡ false)
-    × (has_open_place state owner node ≡ true)
+IsChangeReady (changes.Opens node owner share lent) state =
+    (is_known_in state.owners (open_owner owner) ≡ true) × MayOpen node owner share lent state
 IsChangeReady (changes.Begins node first) state =
     (is_known_in state.owners (lock_owner first.owner) ≡ true)
     × StandsUnder state.owners (opens_of node state.opens) (first_state first (state.last_state + 1))
@@ -145,7 +166,7 @@ sound_dropped law name old unset sound =
     }
 
 -- what an entry means for an owner keeps the state sound
-sound_owner : OpensStay → (change : OwnerChange) (number : ℕ) (old : State) → IsOwnerReady change old → IsSound old → IsSound (with_owner_change change number old)
+pub sound_owner : OpensStay → (change : OwnerChange) (number : ℕ) (old : State) → IsOwnerReady change old → IsSound old → IsSound (with_owner_change change number old)
 sound_owner law owner_changes.Nothing number old ready sound = sound
 sound_owner law (owner_changes.Keeps name) number old ready sound = sound_kept number name old sound
 sound_owner law (owner_changes.KeepsBoth name newcomer) number old ready sound =
@@ -209,49 +230,64 @@ rises : (has_open : Bool) (last : ℕ) → last ≤ last_state_after has_open la
 rises true last = omega arith
 rises false last = omega arith
 
-sound_changed : OpensStay → LocksStay → (change : Change) (old : State) → IsChangeReady change old → IsSound old → IsSound (with_state_change change old)
-sound_changed law lock_law changes.Nothing old ready sound = sound
-sound_changed law lock_law (changes.Clients change) old ready sound = sound_clients law lock_law change old ready sound
-sound_changed law lock_law (changes.Opens node owner share) old ready sound =
+sound_opened : OpensStay → (node : ℕ) (owner : OpenOwner) (share : Share) (old : State) → is_known_in old.owners (open_owner owner) ≡ true → is_refused owner share (opens_of node old.opens) ≡ false
+    → IsSound old → IsSound (with_open node owner share old)
+sound_opened law node owner share old known free sound =
     let here = opens_of node old.opens in
     let change = with_opening owner share (old.last_state + 1) in
     let last = last_state_after (is_some (open_of owner here)) old.last_state in
     record {
       live = sound.live;
-      known = set_opens (AllByRecursion (IsKnownIn old.owners)) tt change (opening_known old.owners owner share (old.last_state + 1) ready.0) node old.opens sound.known;
+      known = set_lists (AllByRecursion (IsKnownIn old.owners)) tt change (opening_known old.owners owner share (old.last_state + 1) known) node old.opens sound.known;
       compatible = all_set AllAreCompatible old.opens node (change here) sound.compatible
-          (law.try_open owner share (old.last_state + 1) here (opens_at AllAreCompatible tt node old.opens sound.compatible) ready.1);
+          (law.try_open owner share (old.last_state + 1) here (lists_at AllAreCompatible tt node old.opens sound.compatible) free);
       single = sound.single;
       locks = locks_reopened node change old.owners old.opens last old.locks (under_opening old.owners owner share (old.last_state + 1))
           (locks_numbered old.owners old.opens old.last_state last old.locks (rises (is_some (open_of owner here)) old.last_state) sound.locks);
     }
+
+sound_granted : (node : ℕ) (client : ClientId) (lent : Option DelegationKind) (old : State) → IsSound old → IsSound (with_grant node client lent old)
+sound_granted node client None old sound = sound
+sound_granted node client (Some kind) old sound = record {
+  live = sound.live;
+  known = sound.known;
+  compatible = sound.compatible;
+  single = sound.single;
+  locks = locks_numbered old.owners old.opens old.last_state (old.last_state + 1) old.locks (omega arith) sound.locks;
+}
+
+sound_changed : OpensStay → LocksStay → (change : Change) (old : State) → IsChangeReady change old → IsSound old → IsSound (with_state_change change old)
+sound_changed law lock_law changes.Nothing old ready sound = sound
+sound_changed law lock_law (changes.Clients change) old ready sound = sound_clients law lock_law change old ready sound
+sound_changed law lock_law (changes.Opens node owner share lent) old ready sound =
+    sound_granted node owner.client lent (with_open node owner share old) (sound_opened law node owner share old ready.0 ready.1.0 sound)
 sound_changed law lock_law (changes.Confirms node number owner) old ready sound =
     let f : KnownOwner → KnownOwner = λ o. if has_name (open_owner owner) o then record o { confirmed = true } else o in
     let confirmed = sound_mapped f (keeps_confirmed (open_owner owner)) old sound in
     let owners = with_confirmation (open_owner owner) old.owners in
     record {
       live = confirmed.live;
-      known = set_opens (AllByRecursion (IsKnownIn owners)) tt (with_each (is_numbered number) with_next_seqid)
+      known = set_lists (AllByRecursion (IsKnownIn owners)) tt (with_each (is_numbered number) with_next_seqid)
           (each_known owners (is_numbered number) with_next_seqid (λ o. refl)) node old.opens confirmed.known;
-      compatible = set_opens AllAreCompatible tt (with_each (is_numbered number) with_next_seqid) (law.advance (is_numbered number)) node old.opens sound.compatible;
+      compatible = set_lists AllAreCompatible tt (with_each (is_numbered number) with_next_seqid) (law.advance (is_numbered number)) node old.opens sound.compatible;
       single = sound.single;
       locks = locks_reopened node (with_each (is_numbered number) with_next_seqid) owners old.opens old.last_state old.locks
           (under_each owners (is_numbered number) with_next_seqid (λ l o h. h)) confirmed.locks;
     }
 sound_changed law lock_law (changes.Downgrades node number share) old ready sound = record {
   live = sound.live;
-  known = set_opens (AllByRecursion (IsKnownIn old.owners)) tt (with_each (is_numbered number) (after_downgrade share))
+  known = set_lists (AllByRecursion (IsKnownIn old.owners)) tt (with_each (is_numbered number) (after_downgrade share))
       (each_known old.owners (is_numbered number) (after_downgrade share) (λ o. refl)) node old.opens sound.known;
-  compatible = set_opens AllAreCompatible tt (with_each (is_numbered number) (after_downgrade share)) (law.downgrade (is_numbered number) share) node old.opens sound.compatible;
+  compatible = set_lists AllAreCompatible tt (with_each (is_numbered number) (after_downgrade share)) (law.downgrade (is_numbered number) share) node old.opens sound.compatible;
   single = sound.single;
   locks = locks_reopened node (with_each (is_numbered number) (after_downgrade share)) old.owners old.opens old.last_state old.locks
       (under_each old.owners (is_numbered number) (after_downgrade share) (λ l o h. h)) sound.locks;
 }
 sound_changed law lock_law (changes.Closes node number) old ready sound = record {
   live = sound.live;
-  known = set_opens (AllByRecursion (IsKnownIn old.owners)) tt (without (is_numbered number))
+  known = set_lists (AllByRecursion (IsKnownIn old.owners)) tt (without (is_numbered number))
       (λ xs h. all_filter (IsKnownIn old.owners) (IsKnownIn old.owners) (λ o. not (is_numbered number o)) (λ o known _. known) xs h) node old.opens sound.known;
-  compatible = set_opens AllAreCompatible tt (without (is_numbered number)) (law.removal (is_numbered number)) node old.opens sound.compatible;
+  compatible = set_lists AllAreCompatible tt (without (is_numbered number)) (law.removal (is_numbered number)) node old.opens sound.compatible;
   single = sound.single;
   locks = locks_closed lock_law node number old.owners old.opens old.last_state old.locks sound.locks;
 }
@@ -283,6 +319,27 @@ sound_changed law lock_law (changes.Expires client) old ready sound = record {
   compatible = dropped_compatible law (λ o. is_same_client o.owner.client client) old.opens sound.compatible;
   single = single_left (is_of_client client.number) old.clients.confirmed sound.single;
   locks = locks_without_client lock_law client old.owners old.opens old.last_state old.locks sound.locks;
+}
+sound_changed law lock_law (changes.Recalls node client share moment) old ready sound = record {
+  live = sound.live;
+  known = sound.known;
+  compatible = sound.compatible;
+  single = sound.single;
+  locks = sound.locks;
+}
+sound_changed law lock_law (changes.Returns node number) old ready sound = record {
+  live = sound.live;
+  known = sound.known;
+  compatible = sound.compatible;
+  single = sound.single;
+  locks = sound.locks;
+}
+sound_changed law lock_law (changes.MarksPath client path) old ready sound = record {
+  live = live_marked client path old.clients.confirmed old.owners sound.live;
+  known = sound.known;
+  compatible = sound.compatible;
+  single = single_marked client path old.clients.confirmed sound.single;
+  locks = sound.locks;
 }
 
 -- an entry keeps the state sound

@@ -1,4 +1,4 @@
--- The open and the lock state that a stateid names.
+-- The open, the lock state and the delegation that a stateid names.
 use Rattle.std.proofs.Common.{◌≡◌, inl, inr, ℕ, Bool, true, false, Option, Some, None, List, [], ◌∷◌, Result, Ok, Err, refl, sym, ap, ◌∙◌, subst}
 use Rattle.std.specs.Prelude.{⊤, ◌||◌, not, position, if◌then◌else◌}
 use Rattle.std.specs.List.{list_any}
@@ -11,9 +11,9 @@ use Rattle.nfs_locks.specs.AllLocks as all_locks
 use Rattle.nfs_locks.specs.Locks.{ByteLocks, lock_named_by, is_stateid_of as is_stateid_of_lock}
 use Rattle.nfs_owners.specs.StateOwner.{open_owner}
 use Rattle.nfs_rules.specs.Refusing.{◌>>=◌, first_refusal, refused_if}
-use Rattle.nfs_rules.specs.Stateids.{ALock, AnOpen, Found, as_lock, as_open, before_state, found_in, has_confirmed_owner, judged, of_state, open_or_lock, target_of}
+use Rattle.nfs_rules.specs.Stateids.{ADelegation, ALock, AnOpen, Found, as_lock, as_open, before_state, delegation_or, found_in, has_confirmed_owner, is_of_kinds, judged, of_state, open_or_lock, target_of}
 use Rattle.nfs_rules.specs.declared.demand.Demand.{Demand}
-use Rattle.nfs_share.specs.AllOpens.{OpenAt, named_in, opens_of}
+use Rattle.nfs_share.specs.AllOpens.{DelegationAt, OpenAt, delegation_named_in, named_in, opens_of}
 use Rattle.nfs_share.specs.AllOpens as all_opens
 use Rattle.nfs_share.specs.Opens.{is_stateid_of, open_named_by}
 use Rattle.nfs_share.specs.declared.open_state.OpenState.{OpenState}
@@ -65,8 +65,15 @@ passed ((false, refusal) ∷ more) a o is =
 -- What a stateid names.
 
 -- what isn't refused is the state that the stateid names
-found_named : (epoch : ℕ) (state : State) (id : Stateid) (found : Found) → target_of epoch state id ≡ Ok (Some found) → open_or_lock (named_in id state.opens) (lock_named_in id state.locks) ≡ Some found
+found_named : (epoch : ℕ) (state : State) (id : Stateid) (found : Found) → target_of epoch state id ≡ Ok (Some found) → found_in state id ≡ Some found
 found_named epoch state id found is = (passed (before_state epoch state id) (found_in state id) (Some found) is).1
+
+-- what is no delegation is found beside them
+beside_delegations : (d : Option DelegationAt) (other : Option Found) (found : Found) → is_of_kinds (record { opens = true; locks = true; delegations = false }) found ≡ true → delegation_or d other ≡ Some found → other ≡ Some found
+beside_delegations None other found is_other is = is
+beside_delegations (Some at) other (AnOpen o) is_other is = absurd cc
+beside_delegations (Some at) other (ALock l) is_other is = absurd cc
+beside_delegations (Some at) other (ADelegation d) is_other is = absurd cc
 
 open_in_found : (o : Option OpenAt) (l : Option LockAt) (at : OpenAt) → open_or_lock o l ≡ Some (AnOpen at) → o ≡ Some at
 open_in_found None None at is = absurd cc
@@ -100,7 +107,8 @@ open_of_node id opens (Some node) at is =
 pub named_open : (epoch : ℕ) (state : State) (id : Stateid) (at : OpenAt) → target_of epoch state id ≡ Ok (Some (AnOpen at)) → open_named_by id (opens_of at.node state.opens) ≡ Some at.state
 named_open epoch state id at is =
     open_of_node id state.opens (position (list_any (is_stateid_of id)) state.opens) at
-    (open_in_found (named_in id state.opens) (lock_named_in id state.locks) at (found_named epoch state id (AnOpen at) is))
+    (open_in_found (named_in id state.opens) (lock_named_in id state.locks) at
+    (beside_delegations (delegation_named_in id state.delegations) _ (AnOpen at) refl (found_named epoch state id (AnOpen at) is)))
 
 -- A stateid's lock state is one of its node's.
 
@@ -120,17 +128,20 @@ lock_of_node id locks (Some node) at is =
 pub named_lock : (epoch : ℕ) (state : State) (id : Stateid) (at : LockAt) → target_of epoch state id ≡ Ok (Some (ALock at)) → lock_named_by id (locks_of at.node state.locks) ≡ Some at.state
 named_lock epoch state id at is =
     lock_of_node id state.locks (position (list_any (is_stateid_of_lock id)) state.locks) at
-    (lock_in_found (named_in id state.opens) (lock_named_in id state.locks) at (found_named epoch state id (ALock at) is))
+    (lock_in_found (named_in id state.opens) (lock_named_in id state.locks) at
+    (beside_delegations (delegation_named_in id state.delegations) _ (ALock at) refl (found_named epoch state id (ALock at) is)))
 
 -- The verdicts.
 
 opened : (found : Found) (at : OpenAt) → as_open found ≡ Ok at → found ≡ AnOpen at
 opened (AnOpen other) at is = ap AnOpen (ok_equal other at is)
 opened (ALock other) at is = absurd cc
+opened (ADelegation other) at is = absurd cc
 
 locked : (found : Found) (at : LockAt) → as_lock found ≡ Ok at → found ≡ ALock at
 locked (AnOpen other) at is = absurd cc
 locked (ALock other) at is = ap ALock (ok_equal other at is)
+locked (ADelegation other) at is = absurd cc
 
 -- the stateid names an open, and its owner is confirmed unless the operation accepts others
 pub open_found : (demand : Demand) (state : State) (id : Stateid) (target : Result (Option Found) Refusal) (at : OpenAt) → (target >>= judged demand state id >>= as_open) ≡ Ok at
@@ -143,7 +154,7 @@ open_found demand state id (Ok (Some found)) at is =
     let all = passed (of_state demand state id found) found x is_x in
     let here : found ≡ AnOpen at = all.1 ∙ opened x at opens in
     let accepted : Found → Bool = λ f. demand.also_unconfirmed || has_confirmed_owner state f in
-    (ap (λ f. ok (Some f)) here, not-false (accepted (AnOpen at)) (subst (λ f. not (accepted f) ≡ false) here all.0.1.1.0))) is
+    (ap (λ f. ok (Some f)) here, not-false (accepted (AnOpen at)) (subst (λ f. not (accepted f) ≡ false) here all.0.1.1.1.0))) is
 
 -- the stateid names a lock state
 pub lock_found : (demand : Demand) (state : State) (id : Stateid) (target : Result (Option Found) Refusal) (at : LockAt) → (target >>= judged demand state id >>= as_lock) ≡ Ok at → target ≡ Ok (Some (ALock at))

@@ -25,6 +25,8 @@ number_of errors.Memory = 3
 abbrev pub is_entry : ℕ → Entry → Bool
 is_entry nodes (entries.Call call) = can_be_asked nodes call.request
 is_entry nodes (entries.Expire expire) = true
+is_entry nodes (entries.Revoke revoke) = true
+is_entry nodes (entries.Path path) = true
 
 -- The lease is within its limits, some document gives the nodes, and each entry is one that the journal can have.
 abbrev pub is_journal : History → Bool

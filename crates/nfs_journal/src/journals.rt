@@ -77,6 +77,6 @@ fn is_entry(nodes: u32, entry: &Entry) -> bool
 {
     match entry {
         Entry::Call(call) => call.request.can_be_asked(nodes),
-        Entry::Expire(_) => true,
+        Entry::Expire(_) | Entry::Revoke(_) | Entry::Path(_) => true,
     }
 }

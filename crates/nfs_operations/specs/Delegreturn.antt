@@ -1,4 +1,4 @@
--- DELEGRETURN (RFC 7530, section 16.8): its argument is a delegation, and its result a status.
+-- DELEGRETURN (RFC 7530, section 16.6): its argument is a delegation, and its result a status.
 use Rattle.std.proofs.Common.{refl}
 use Rattle.nfs_operations.specs.declared.delegreturn.Delegreturn.{Delegreturn}
 use Rattle.nfs_forms.specs.Answer.{PlainAnswer, plain_answer}

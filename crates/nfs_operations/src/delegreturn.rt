@@ -5,7 +5,7 @@ use nfs_forms::{Answer, Stateid};
 use std::alloc::Global;
 use xdr::{Wire, WireError};
 
-/// A delegation that is given back (RFC 7530, section 16.8).
+/// A delegation that is given back (RFC 7530, section 16.6).
 pub type Arguments = Delegreturn;
 
 /// The arguments of DELEGRETURN.

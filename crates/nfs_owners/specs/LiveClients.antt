@@ -1,4 +1,5 @@
--- Which clients are live, which come next, and which one a confirmation ends (RFC 7530, sections 9.1.1 and 16.34.5).
+-- Which clients are live, which come next, of all or of those whose path isn't known yet, and which one a confirmation
+-- ends (RFC 7530, sections 9.1.1, 10.2 and 16.34.5).
 use Rattle.std.specs.Prelude.{◌≡◌, ℕ, ◌<◌, ◌≤◌, nat_lt, Bool, true, false, ◌&&◌, ◌||◌, ◌==◌, not, IsTrue, List, filter, find, Option, Some, None, option_and_then, if◌then◌else◌}
 use Rattle.std.specs.List.{list_any}
 use Rattle.nfs_owners.specs.Registry.{Registry, confirmed_of, is_live, is_of_client, record_of, record_state, was_given}

@@ -34,9 +34,9 @@ pub struct ClientState {
 pub enum PathMark {
     /// Nothing is known yet.
     Unknown,
-    /// A callback was answered, or is assumed to have been.
+    /// A callback was accepted, or is assumed to have been.
     Up,
-    /// A callback was not answered, or the client gave no valid address.
+    /// A callback was not accepted, or the client gave no valid address.
     Down,
 }
 

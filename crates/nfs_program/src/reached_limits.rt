@@ -128,7 +128,7 @@ fn gives_last_client(entry: &Entry) -> bool
 {
     match entry {
         Entry::Call(call) => has_last_client(&call.answer),
-        Entry::Expire(_) => false,
+        Entry::Expire(_) | Entry::Revoke(_) | Entry::Path(_) => false,
     }
 }
 

@@ -22,7 +22,7 @@ use Rattle.nfs_rpc.specs.RpcCall.{Body, CallHeader, CallsFor, First, HasAnotherP
 use Rattle.nfs_rpc.specs.ReadingCalls.{call_of, compound_or_garbage, header_call, header_of, procedure_call, read_or, some_or, start_call}
 
 -- what the bytes encode is read
-reads_there : {A : Type 0} (form : Form A) (bytes : List ℕ) (value : A) (rest : List ℕ) → Begins (form.layout value) bytes rest → form.at bytes ≡ Ok (value, rest)
+pub reads_there : {A : Type 0} (form : Form A) (bytes : List ℕ) (value : A) (rest : List ℕ) → Begins (form.layout value) bytes rest → form.at bytes ≡ Ok (value, rest)
 reads_there form bytes value rest found = ap form.at found.1 ∙ form.reads.complete value found.0 rest found.2
 
 -- Credentials: a principal that is read from a credential is its principal.

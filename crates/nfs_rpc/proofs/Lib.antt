@@ -6,3 +6,5 @@ pub mod Splitting
 pub mod Limits
 pub mod Groups
 pub mod Calls
+pub mod CallbackReplies
+pub mod Addresses

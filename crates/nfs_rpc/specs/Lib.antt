@@ -6,3 +6,8 @@ pub mod Reply
 pub mod RpcCall
 pub mod ReadingCalls
 pub mod RecordError
+pub mod CallbackCall
+pub mod CallbackReply
+pub mod ReadingCallbackReplies
+pub mod UniversalAddress
+pub mod ReadingAddresses

@@ -1,6 +1,7 @@
 ghost use Rattle.std.specs.Prelude.{◌≡◌, ◌^◌};
 
 use crate::auth_sys::{GID_LIMIT, MACHINE_NAME_LIMIT};
+use crate::callback_call::{CALLBACK_VERSION, CB_COMPOUND, CB_NULL, OP_CB_RECALL};
 use crate::credential::{AUTH_NONE, AUTH_SYS, BODY_LIMIT};
 use crate::records::{HEADER_LEN, LAST_FRAGMENT, RECORD_LIMIT};
 use crate::reply::{
@@ -26,5 +27,7 @@ pub fn numbers_of_messages()
     ensures lengths { (ACCEPTED_LEN ≡ 24) × (SHORT_REPLY_LEN ≡ 32) }
     ensures replies { (MESSAGE_REPLY ≡ 1) × (REPLY_ACCEPTED ≡ 0) × (REPLY_DENIED ≡ 1) }
     ensures denied { (DENIED_RPC_MISMATCH ≡ 0) × (DENIED_AUTH_ERROR ≡ 1) × (AUTH_BADCRED ≡ 1) }
+    ensures callbacks { (CALLBACK_VERSION ≡ 1) × (CB_NULL ≡ 0) × (CB_COMPOUND ≡ 1)
+        × (OP_CB_RECALL ≡ 4) }
     ensures records { (HEADER_LEN ≡ 4) × (LAST_FRAGMENT ≡ 2 ^ 31) × (RECORD_LIMIT ≡ 262144) }
 {}

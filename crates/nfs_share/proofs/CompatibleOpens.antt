@@ -1,7 +1,7 @@
 -- Opens that are compatible stay so.
 use Rattle.std.proofs.Common.{inl, inr, ◌≡◌, ℕ, ◌⊎◌, Bool, true, false, ◌&&◌, not, cond, List, [], ◌∷◌, ◌++◌, map, refl, sym, ◌∙◌, ap}
 use Rattle.std.specs.Prelude.{◌==◌, ⊤, is_some}
-use Rattle.std.specs.List.{AllByRecursion, list_any}
+use Rattle.std.specs.List.{AllByRecursion}
 use Rattle.std.specs.Str.{bytes_eq}
 use Rattle.std.proofs.lemmas.Bool.{and_parts, cases_Bool, cond_both, cond-false, or_from, eqb-true, not-true, not_from_false, or_cases, or_left, or_right, or_parts}
 use Rattle.std.proofs.lemmas.Slice.Eq.{bytes_eq-Decides}

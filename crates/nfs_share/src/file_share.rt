@@ -164,7 +164,7 @@ impl FileShare {
         Ok(self.grant(owner, share, number))
     }
 
-    // Whether no delegation of another client is in the way of this use by the client.
+    // Is `Ok` where no delegation of another client is in the way of this use by the client.
     fn check_free(&self, client: ClientId, file_use: FileUse) -> Result<(), ShareError>
         ensures ok { OnOk result (IsFalse (has_conflict client file_use self.now.delegations)) }
         ensures why { IfErr result (λ e.
@@ -445,7 +445,8 @@ impl FileShare {
             ≡ self.old.delegations ++ first_delegation client kind number ∷ []) }
         ensures stateid { IfOk result (λ stateid.
             stateid ≡ delegation_stateid (first_delegation client kind number)) }
-        ensures denied { IsErrOf result ShareError.Denied ↔ IsTrue (bars client kind self.old.opens) }
+        ensures denied { IsErrOf result ShareError.Denied
+            ↔ IsTrue (bars client kind self.old.opens) }
         ensures allowed { OnOk result (
             IsTrue (can_delegate client kind self.old.opens self.old.delegations)) }
         ensures why { IfErr result (IsWhyNotLent client kind self.old) }
@@ -498,7 +499,7 @@ impl FileShare {
         recall_each(&mut self.delegations, client, file_use, moment);
     }
 
-    /// DELEGRETURN (RFC 7530, section 16.8): removes the delegation with this number, if there is one.
+    /// DELEGRETURN (RFC 7530, section 16.6): removes the delegation with this number, if there is one.
     pub fn give_back(&mut self, number: u32)
         ensures delegations { self.new.delegations
             ≡ without_lent (is_delegation_numbered number) self.old.delegations }

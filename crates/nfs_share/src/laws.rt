@@ -26,9 +26,9 @@ pub fn opens_stay_compatible()
         AllAreCompatible opens → AllAreCompatible (without test opens) }
 {}
 
-/// If no delegation of a file is in the way of an open or a delegation of another client, this stays so: when an OPEN is
-/// added that no delegation is in the way of, when opens advance, are downgraded or are removed, when delegations are
-/// called back or removed, and when a delegation is lent that may be.
+/// If no delegation of a file is in the way of an open or a delegation of another client, this stays so: when an OPEN
+/// is added that no delegation is in the way of, when opens advance, are downgraded or are removed, when delegations
+/// are called back or removed, and when a delegation is lent that may be.
 pub fn delegations_stay_apart()
     ensures try_open { (owner : OpenOwner) (share : Share) (number : ℕ)
         (opens : List OpenState) (lent : List Delegation) → AreApart opens lent →

@@ -319,7 +319,7 @@ impl Opens {
         next
     }
 
-    /// How many delegations less than this limit there are.
+    /// How many places of this limit the delegations leave.
     pub fn delegation_places_left(&self, limit: usize) -> usize
         ensures { result ≡ limit - delegation_count (delegations_in self.now) }
     {

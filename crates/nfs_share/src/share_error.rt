@@ -9,9 +9,9 @@ use thiserror::Error;
 /// Why the opens and the delegations of a file weren't changed.
 #[derive(Debug, Drop, Error)]
 pub enum ShareError {
-    /// Another owner's open denies the access, or has access that would be denied; or another client's open is in the
-    /// way of a delegation.
-    #[error("an open of another owner is in the way (1)")]
+    /// Another owner's open denies the access, or has access that would be denied; or a delegation would be in the way of
+    /// another client's open.
+    #[error("an open of another owner stands against it (1)")]
     Denied,
     /// There is no such open, or its shares have no such union; or the client has a delegation of the file already.
     #[error("there is no such change of the file's opens and delegations (2)")]

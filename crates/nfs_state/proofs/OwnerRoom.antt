@@ -1,5 +1,5 @@
 -- What an entry means for an owner: its room among the stored owners, and the limits of the change after it.
-use Rattle.std.proofs.Common.{◌≡◌, ◌<◌, ℕ, suc, Bool, true, false, Option, None, Some, List, [], ◌∷◌, filter, length, map, refl, sym, ap, ◌∙◌, subst, arith}
+use Rattle.std.proofs.Common.{◌≡◌, ◌<◌, ◌≤◌, ℕ, suc, Bool, true, false, Option, None, Some, List, [], ◌∷◌, filter, length, map, refl, sym, ap, ◌∙◌, subst, arith}
 use Rattle.std.specs.Prelude.{◌||◌, ◌+◌, is_some, not, nat_lt, if◌then◌else◌}
 use Rattle.std.proofs.lemmas.Bool.{cond-true, cond_both}
 use Rattle.std.proofs.lemmas.List.{length-map}
@@ -17,7 +17,9 @@ use Rattle.nfs_forms.specs.OpenOwner.{is_same_owner}
 use Rattle.nfs_forms.specs.declared.open_owner.OpenOwner.{OpenOwner}
 use Rattle.nfs_locks.specs.AllLocks.{is_full_for, locks_of}
 use Rattle.nfs_state.specs.Room.{IsWithinLimits, HasGivenNumbers, HasOwnerPlace, HasOwnerRoom, CanKeep, HasUpdateRoom, IsNewcomer, is_known as is_known_in, state_of}
-use Rattle.nfs_share.specs.AllOpens.{IsAboveAll}
+use Rattle.nfs_share.specs.AllOpens.{IsAboveAll, IsAboveAllLent}
+use Rattle.nfs_share.specs.Delegations.{IsAboveLent}
+use Rattle.nfs_share.specs.declared.delegation.Delegation.{Delegation}
 use Rattle.nfs_share.specs.Opens.{IsAbove}
 use Rattle.nfs_share.specs.declared.open_state.OpenState.{OpenState}
 use Rattle.nfs_state.specs.Changes.{with_owner_change, without}
@@ -157,3 +159,12 @@ can_keep_beside name other number kept old new is room known can =
     let same : is_known other new.owners ≡ is_known other old.owners = ap (is_known other) changed ∙ known_after_change change name other old.owners in
     let many : length new.owners ≡ length old.owners = ap length changed ∙ length-map old.owners (λ o. if has_name name o then record o { state = change o.state } else o) in
     ((λ i. same i || nat_lt (many i) OWNER_LIMIT) ∙ can.0, λ unknown. omega (arith, room known, can.1 (sym same ∙ unknown)))
+
+-- delegations whose numbers are below a number are below a higher one
+lent_below : (number more : ℕ) (lent : List Delegation) → number ≤ more → IsAboveLent number lent → IsAboveLent more lent
+lent_below number more [] rises above = tt
+lent_below number more (d ∷ lent) rises above = (omega (arith, above.0, rises), lent_below number more lent rises above.1)
+
+pub all_lent_below : (number more : ℕ) (all : List (List Delegation)) → number ≤ more → IsAboveAllLent number all → IsAboveAllLent more all
+all_lent_below number more [] rises above = tt
+all_lent_below number more (here ∷ all) rises above = (lent_below number more here rises above.0, all_lent_below number more all rises above.1)

@@ -2,7 +2,6 @@
 use Rattle.std.proofs.Common.{◌≡◌, ℕ, ◌<◌, Bool, true, false, List, [], ◌∷◌, length, map, ◌⊎◌, inl, inr, refl, sym, ap, subst, ◌∙◌, arith}
 use Rattle.std.specs.Prelude.{filter, is_some, not, if◌then◌else◌}
 use Rattle.std.proofs.lemmas.List.{length-map, map-append}
-use Rattle.nfs_locks.specs.AllLocks.{with_locks}
 use Rattle.nfs_locks.specs.Locks as locks
 use Rattle.nfs_locks.specs.StoredLocks.{StoredLock, byte_locks}
 use Rattle.nfs_state.specs.Kept.{Agrees, IsKeptIn, kept_by, update_of}

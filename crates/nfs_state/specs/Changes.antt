@@ -54,8 +54,8 @@ with_owner_change (Restarts name) number old =
     record fresh { owners = with_record number (open_owner name) fresh.owners }
 with_owner_change (Drops name) number old = without name old
 
--- The state without the owners, the opens, the lock states and the delegations of a client that a confirmation replaces,
--- or that expires (section 9.6).
+-- The state without the owners, the opens, the lock states and the delegations of a client that a confirmation
+-- replaces, or that expires (RFC 7530, section 9.6).
 abbrev pub without_client : ClientId → State → State
 without_client client old = record old {
   owners = filter (λ o. not (is_same_client o.name.client client)) old.owners;
@@ -123,7 +123,7 @@ with_state_change (changes.Releases owner) old = record old {
 with_state_change (changes.Expires client) old =
     let left = without_client client old in
     record left { clients = registry.without_client client.number old.clients }
--- what is in the way of an open is called back (section 10.4.4)
+-- what is in the way of an open is called back (RFC 7530, section 10.4.4)
 with_state_change (changes.Recalls node client share moment) old = record old {
   delegations = with_delegations node (with_recalls client (uses.Open share) moment) old.delegations;
 }
@@ -137,7 +137,8 @@ with_state_change (changes.MarksPath client path) old =
 abbrev pub change_alone : Change → Effect
 change_alone change = record { owner = Nothing; change = change }
 
--- The state after what the entry itself tells of its change, beyond what the change has: no entry tells any of that yet.
+-- The state after what the entry itself tells of its change, beyond what the change has: no change needs any of that
+-- yet.
 abbrev pub with_entry_told : Entry → Change → State → State
 with_entry_told entry change old = old
 

@@ -43,7 +43,7 @@ impl Tables {
     ghost use Rattle.nfs_locks.specs.AllLocks.{HasLockRoomAt};
     ghost use Rattle.nfs_state.specs.Places.{has_state_place, has_state_place_beside};
     ghost use Rattle.nfs_owners.specs.Owners.{has_place, without_owner};
-    ghost use Rattle.nfs_share.specs.AllOpens.{HasLendingRoomAt, HasRoomAt, delegation_count, opens_in};
+    ghost use Rattle.nfs_share.specs.AllOpens.{HasLendingRoomAt, HasRoomAt, IsAboveAllLent, delegation_count, delegations_in, opens_in};
     ghost use Rattle.nfs_locks.specs.AllLocks.{lock_count};
     ghost use Rattle.nfs_share.specs.Opens.{is_of, without};
     ghost use Rattle.nfs_state.specs.declared.change.Change.TheVariants as changes;
@@ -324,8 +324,8 @@ impl Tables {
         ensures owners { self.new.owners ≡ self.old.owners }
         ensures room { HasLendingRoomAt node self.old.opens
             → HasLendingRoomAt node self.new.opens }
-        ensures numbers { self.new.numbers ≤ self.old.numbers + 1 }
-        ensures given { HasGivenNumbers (state_of self.new) }
+        ensures numbers { (self.old.numbers ≤ self.new.numbers)
+            × (self.new.numbers ≤ self.old.numbers + 1) }
     {
         let number = self.numbers.upcoming();
         if self.opens.open_of(node, &owner).is_none() {
@@ -338,7 +338,7 @@ impl Tables {
     fn commit_grant(&mut self, node: u32, client: ClientId, kind: DelegationKind)
         requires room { HasLendingRoomAt node self.old.opens }
         requires numbers { self.old.numbers < 2 ^ 32 - 1 }
-        requires given { HasGivenNumbers (state_of self.old) }
+        requires newest { IsAboveAllLent (self.old.numbers + 1) (delegations_in self.old.opens) }
         ensures state { state_of self.new ≡ with_grant node client (Some kind) (state_of self.old) }
         ensures owners { self.new.owners ≡ self.old.owners }
     {

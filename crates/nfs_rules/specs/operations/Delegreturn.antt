@@ -1,4 +1,4 @@
--- DELEGRETURN (RFC 7530, section 16.8): gives a delegation back.
+-- DELEGRETURN (RFC 7530, section 16.6): gives a delegation back.
 use Rattle.std.specs.Prelude.{ℕ, Option, Some, Result, Ok, Err}
 use Rattle.nfs_forms.specs.declared.answer.Answer.TheVariants.{Done, Refused}
 use Rattle.nfs_forms.specs.declared.status.Refusal.{Refusal}

@@ -1,7 +1,6 @@
 use Rattle.std.proofs.Common.{List, ap, ◌∙◌, subst, sym, arith}
 use Rattle.nfs_share.specs.AllOpens.{HasLendingRoomAt, HasRoomAt, delegations_in, opens_in, with_delegations}
 use Rattle.nfs_share.specs.Delegations.{is_delegation_numbered, without_lent}
-use Rattle.nfs_share.specs.Opens.{FileOpens}
 use Rattle.nfs_share.specs.declared.delegation.Delegation.{Delegation}
 use Rattle.nfs_share.proofs.OneFile.{changed_at, rooms_grow, same_at}
 use Rattle.nfs_share.proofs.opens.Opens.give_back.Goals as goal

@@ -1,7 +1,6 @@
 use Rattle.std.proofs.Common.{List, ◌∷◌, [], ◌++◌, ap, ◌∙◌, subst, sym, arith}
 use Rattle.nfs_share.specs.AllOpens.{HasLendingRoomAt, HasRoomAt, IsAboveAllLent, delegations_in, opens_in, with_delegations}
 use Rattle.nfs_share.specs.Delegations.{first_delegation}
-use Rattle.nfs_share.specs.Opens.{FileOpens}
 use Rattle.nfs_share.specs.declared.delegation.Delegation.{Delegation}
 use Rattle.nfs_share.proofs.OneFile.{changed_at, newest_lent_at, room_of, rooms_grow, same_at}
 use Rattle.nfs_share.proofs.opens.Opens.lend.Goals as goal

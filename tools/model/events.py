@@ -1,0 +1,54 @@
+"""What entries of a journal do about delegations: which they give, and which of them end; and the marks of clients'
+paths, by which clients get any. What stands in the way of an OPEN is told as its reason, by `reasons.py`."""
+from entries import Call, Path, Revoke, delegation_given
+from words import place_words, purpose_of
+
+
+class Events:
+    """What an entry does to the state of a server that follows a journal. `begin` is called before it does, and `texts`
+    afterwards."""
+
+    def __init__(self, server):
+        self.server = server
+        self.held, self.path = [], None
+
+    def begin(self, entry):
+        self.held = list(self.server.delegations)
+        if isinstance(entry, Path):
+            self.path = self.server.record_where(True, lambda it: it.number == entry.client)
+            self.path = self.path and (self.path.path, self.server.path_marks[entry.client])
+
+    def texts(self, number, entry):
+        """Of the entry of this number."""
+        given = delegation_given(entry)
+        if given is not None:
+            yield self.gift_words(number, given[1].number)
+        for found in self.held:
+            if not any(it is found for it in self.server.delegations):
+                yield self.end_words(found, entry)
+        if isinstance(entry, Path):
+            was, since = self.path
+            yield f"the path of client {entry.client} was {was} since {self.server.entry_words(since)}"
+
+    def delegation_words(self, found):
+        place = place_words(found.file, self.server.tree)
+        return f"state {found.number}, a delegation of {place} for {purpose_of(found.kind)}"
+
+    def gift_words(self, number, state):
+        found, begun = self.server.given[state], self.server.begun[state]
+        if begun == number:
+            return f"client {found.client} gets {self.delegation_words(found)}"
+        return f"client {found.client} is told again of {self.delegation_words(found)}, which entry {begun} gave it"
+
+    def end_words(self, found, entry):
+        """How a delegation ends by the entry."""
+        client = found.client
+        ended = f"client {client} gives back {self.delegation_words(found)}"
+        if isinstance(entry, Revoke):
+            ended = f"client {client} loses {self.delegation_words(found)}, as it is revoked"
+        elif not self.server.is_live(client):
+            ended = f"client {client} loses {self.delegation_words(found)}, as the client is removed"
+        since = self.server.recalled.get(found.number)
+        if since is None:
+            return f"{ended}; it wasn't called back"
+        return f"{ended}; it was called back by {self.server.entry_words(since)}, at {found.recalled}"

@@ -1,0 +1,179 @@
+#!/usr/bin/env python3
+"""The model in place of the program `rows`: orders from standard input, and what came of each to standard output, by
+the layouts of crates/rows/README.md. So rows can be run, and the tools that give orders be tried, without a built
+program:
+
+    tools/rows --program tools/model/ordered.py FILE.rows
+
+It takes the orders of connections one after the other, also where a state is to be shared, and never is out of memory;
+it doesn't look at pieces and rooms. Where the input isn't as it should be it ends with status 2 and
+`rows: invalid input`."""
+import os
+import sys
+
+sys.dont_write_bytecode = True
+
+import wire
+from callbacks import recall_call
+from entries import MOMENT_LIMIT
+from journal import LEASE_LIMIT, Recorder, journal_bytes
+from states import Unchanged
+from tree import Refused, Tree
+from wire import u32
+
+ALONE, SHARED = 0, 1
+# The errors of a connection, by the faults that end it.
+ERRORS = {"record too long": 3}
+
+
+class Invalid(Exception):
+    """What was read is no order, or ends within one."""
+
+
+class Input(wire.Reader):
+    """Standard input, of which no more is read than is taken."""
+
+    def __init__(self):
+        super().__init__(b"")
+
+    def fixed(self, count):
+        found = b""
+        while len(found) < count:
+            more = os.read(0, count - len(found))
+            if not more:
+                raise Invalid
+            found += more
+        return found
+
+    def part(self):
+        return self.fixed(self.u32())
+
+    def moment(self):
+        return limited(self.u64(), MOMENT_LIMIT)
+
+    def next_order(self):
+        """The number of the next order, or None at the end of the input."""
+        first = os.read(0, 1)
+        return int.from_bytes(first + self.fixed(3), "big") if first else None
+
+
+def limited(number, limit):
+    """The number, which has to be from 0 on and below the limit."""
+    if not 0 <= number < limit:
+        raise Invalid
+    return number
+
+
+def answer(*numbers):
+    send(u32(*numbers))
+
+
+def send(data):
+    while data:
+        data = data[os.write(1, data):]
+
+
+class Session:
+    """A server, and what it is told."""
+
+    def __init__(self, given):
+        self.input, self.way = given, limited(given.u32(), 2)
+        lease, epoch, self.seats = limited(given.u32() - 1, LEASE_LIMIT) + 1, given.u32(), given.u32()
+        document = given.part()
+        try:
+            self.server = Recorder(Tree(document.decode()), lease, epoch)
+        except UnicodeDecodeError:
+            raise Invalid from None
+
+    def run(self):
+        orders = [self.serve, self.sweep, self.mark, self.revoke, self.take, self.pending]
+        while (number := self.input.next_order()) is not None:
+            orders[limited(number - 1, len(orders))]()
+        data = journal_bytes(self.server.journal())
+        send(u32(len(data)) + data)
+
+    def serve(self):
+        moment, given = self.input.moment(), self.input
+        pace, _, is_swept, count = given.u32(), given.u32(), limited(given.u32(), 2), given.u32()
+        sent = [(given.u32(), given.part()) for _ in range(count)]
+        if is_swept and self.way == ALONE or self.way == SHARED and count > self.seats:
+            raise Invalid
+        self.seats -= count * self.way
+        calls = 0
+        for _, data in sent:
+            calls = self.serve_one(data, moment, pace, calls)
+        ends = [self.server.sweep(self.server.moment) for _ in range(is_swept)]
+        answer(len(ends), sum(swept.expired for swept in ends))
+
+    def serve_one(self, data, moment, pace, calls):
+        """Serves a connection, behind so many calls of its order."""
+        before, replies = len(self.server.recorded), b""
+        records, fault = wire.split_records(data)
+        for record in records:
+            self.server.moment = moment + (calls // pace if pace else 0)
+            reply = self.server.reply(record)
+            replies += b"" if reply is None else wire.record(reply)
+            calls += isinstance(wire.read_call(record), wire.CompoundCall)
+        answer(ERRORS.get(fault, 0), rest_of(data, fault))
+        receipts = range(before, len(self.server.recorded)) if self.way == SHARED else ()
+        send(u32(len(replies)) + replies + u32(len(receipts), *receipts))
+        return calls
+
+    def sweep(self):
+        swept = self.server.sweep(self.input.moment())
+        answer(swept.expired, swept.kept, 0, swept.refused, swept.revoked, swept.is_stopped)
+
+    def mark(self):
+        client, is_up = self.input.u32(), limited(self.input.u32(), 2)
+        answer(error_of(lambda: self.server.mark_path(client, is_up))[0])
+
+    def revoke(self):
+        moment = self.input.moment()
+        self.expect_alone()
+        error, entry = error_of(lambda: self.server.revoke(moment))
+        answer(error, entry is not None, entry or 0)
+
+    def take(self):
+        xid, recall = self.input.u32(), self.server.take_recall()
+        record = b"" if recall is None else recall_call(xid, recall)
+        send(u32(len(record)) + record)
+
+    def pending(self):
+        self.expect_alone()
+        answer(len(self.server.pending()))
+
+    def expect_alone(self):
+        if self.way != ALONE:
+            raise Invalid
+
+
+def error_of(change):
+    """The number of an error, or 0, and then what came of the change."""
+    try:
+        return 0, change()
+    except Unchanged as why:
+        return why.args[0], None
+
+
+def rest_of(data, fault):
+    """How many bytes are left behind the last whole record."""
+    if fault != "input ends inside a record":
+        return 0
+    return next(count for count in range(1, len(data) + 1) if wire.split_records(data[:len(data) - count])[1] is None)
+
+
+def main():
+    try:
+        session = Session(Input())
+    except Refused as refused:
+        return answer(refused.args[0])
+    answer(0)
+    session.run()
+
+
+if __name__ == "__main__":
+    try:
+        main()
+    except Invalid:
+        print("rows: invalid input", file=sys.stderr)
+        sys.exit(2)

@@ -1,0 +1,247 @@
+"""What the server keeps of clients, owners, opens, locks and delegations; and what several rules ask of these, of
+stateids and of sequence ids. Sections are those of RFC 7530."""
+from collections import namedtuple
+from dataclasses import dataclass, field
+
+from ranges import READ_MODE, RUNS_LIMIT, Ranges, WRITE_MODE, range_of
+from wire import (BOTH, Callback, LockOwner, NewLocker, OpenOwner, Opnum, READ, READ_LT, READW_LT, Stateid, Status, u32)
+
+HANDLE_HEAD = b"nfh1"
+LAST = 2**32 - 1
+
+
+# Why a change that no call asks for isn't made: its client isn't live, its lease isn't over, or the journal is full.
+NOT_LIVE, NOT_DUE, FULL = 1, 2, 3
+
+
+class Unchanged(Exception):
+    """A change that isn't made; the argument is the number of the reason."""
+
+
+class Refusal(Exception):
+    """A rule's answer other than OK; what it brings after the status is `rest`."""
+
+    def __init__(self, status, rest=b""):
+        super().__init__(status)
+        self.status, self.rest = status, rest
+
+
+@dataclass(frozen=True)
+class Result:
+    """An answer: its status, and the bytes after it."""
+    status: Status
+    rest: bytes = b""
+
+
+@dataclass
+class ClientRecord:
+    """A client that has introduced itself (section 9.1.1)."""
+    id: bytes
+    principal: tuple
+    verifier: bytes
+    callback: Callback
+    confirm: int
+    number: int
+    is_confirmed: bool = False
+    # Whether the client can be called back, once it is confirmed: UNKNOWN, UP or DOWN.
+    path: str = None
+
+
+@dataclass(frozen=True)
+class Request:
+    """What is compared to tell a retransmission: the operation with its arguments, and the current filehandle."""
+    opnum: Opnum
+    arguments: tuple
+    filehandle: int
+
+
+@dataclass
+class Kept:
+    """The last request of an owner that counted, with its answer and its entry in the journal (section 9.1.8)."""
+    seqid: int
+    request: Request
+    answer: Result
+    entry: int
+
+
+@dataclass
+class Owner:
+    """An open owner or a lock owner that is known (section 9.1.5); only an open owner is confirmed (section 9.1.11)."""
+    name: OpenOwner | LockOwner
+    kept: Kept
+    is_confirmed: bool = False
+
+
+@dataclass
+class OpenState:
+    """An open of an owner on a file (sections 9.9 and 9.11)."""
+    owner: OpenOwner
+    file: int
+    number: int
+    pairs: list
+    seqid: int = 1
+
+    def share(self):
+        return union(self.pairs)
+
+    @property
+    def client(self):
+        return self.owner.client
+
+
+@dataclass
+class LockState:
+    """What a lock owner has locked of a file, by an open of its client (section 9.1.4.1)."""
+    owner: LockOwner
+    open: OpenState
+    number: int
+    ranges: Ranges = field(default_factory=Ranges)
+    seqid: int = 0
+
+    @property
+    def file(self):
+        return self.open.file
+
+    @property
+    def client(self):
+        return self.owner.client
+
+
+@dataclass
+class Delegation:
+    """A file that is lent to a client, for reading or for writing (section 10.4). Its seqid is one for good."""
+    client: int
+    file: int
+    kind: int
+    number: int
+    # When it was called back first, or None.
+    recalled: int = None
+    seqid = 1
+
+
+# What a client's path for callbacks is known to be.
+UNKNOWN, UP, DOWN = "unknown", "up", "down"
+
+# A delegation that is called back: its stateid and the node of its file; and who has it, and where that client was to
+# be called, when that was decided.
+Recall = namedtuple("Recall", "stateid file principal callback")
+
+
+def union(pairs):
+    access = deny = 0
+    for pair in pairs:
+        access, deny = access | pair[0], deny | pair[1]
+    return access, deny
+
+
+def contains(outer, inner):
+    return inner[0] & ~outer[0] == 0 and inner[1] & ~outer[1] == 0
+
+
+def conflict(one, other):
+    """The access of one meets what the other denies (section 9.9)."""
+    return one[0] & other[1] != 0 or one[1] & other[0] != 0
+
+
+def is_lawful_downgrade(pairs, wanted):
+    """Some of the pairs, one at least, have just this union (section 16.19)."""
+    subsets = range(1, 2**len(pairs))
+    return any(union([pair for place, pair in enumerate(pairs) if subset >> place & 1]) == wanted for subset in subsets)
+
+
+def next_seqid(seqid):
+    """The seqid of a stateid after this one: 0 is left out (section 9.1.4.2)."""
+    return 1 if seqid == LAST else seqid + 1
+
+
+def next_sequence_id(seqid):
+    """The sequence id of an owner's request after this one (section 9.1.7)."""
+    return 0 if seqid == LAST else seqid + 1
+
+
+def is_special(stateid):
+    """Anonymous, or READ bypass (section 9.1.4.3)."""
+    return stateid in (Stateid(0, 0, 0, 0), Stateid(LAST, LAST, LAST, LAST))
+
+
+def answer(rule):
+    """What the rule answers: OK and its bytes, or its refusal."""
+    try:
+        return Result(Status.OK, rule())
+    except Refusal as refusal:
+        return Result(refusal.status, refusal.rest)
+
+
+def is_first_lock(request):
+    """A LOCK that names an owner which is to have its first lock state on the file."""
+    return request.opnum == Opnum.LOCK and isinstance(request.arguments.locker, NewLocker)
+
+
+def stateid_of(opnum, arguments):
+    """The stateid that names the owner of a sequenced operation other than OPEN."""
+    if opnum != Opnum.LOCK:
+        return arguments.stateid
+    locker = arguments.locker
+    return locker.open_stateid if isinstance(locker, NewLocker) else locker.lock_stateid
+
+
+def sequence_id_of(request):
+    """The sequence id of the owner that the operation is judged by."""
+    if request.opnum != Opnum.LOCK:
+        return request.arguments.seqid
+    locker = request.arguments.locker
+    return locker.open_seqid if is_first_lock(request) else locker.lock_seqid
+
+
+def replay(kept, seqid, request):
+    """The kept answer to a retransmission of the kept request, or None (section 9.1.8)."""
+    return kept.answer if (kept.seqid, kept.request) == (seqid, request) else None
+
+
+def closed_by(kept, stateid):
+    """Whether the kept request closed the open that the stateid names."""
+    if kept.request.opnum != Opnum.CLOSE or kept.answer.status != Status.OK:
+        return False
+    return kept.request.arguments.stateid[1:] == stateid[1:]
+
+
+def expect_filehandle(filehandle):
+    if filehandle is None:
+        raise Refusal(Status.NOFILEHANDLE)
+
+
+def expect_seqid(stateid, found):
+    """The stateid's seqid is that of the state (section 9.1.4.2)."""
+    if stateid.seqid < found.seqid:
+        raise Refusal(Status.OLD_STATEID)
+    if stateid.seqid > found.seqid:
+        raise Refusal(Status.BAD_STATEID)
+
+
+def expect_range(arguments):
+    """The first and the last byte of the range that is named."""
+    found = range_of(arguments.offset, arguments.length)
+    if found is None:
+        raise Refusal(Status.INVAL)
+    return found
+
+
+def expect_runs(ranges):
+    if ranges.runs() > RUNS_LIMIT:
+        raise Refusal(Status.RESOURCE)
+    return ranges
+
+
+def mode_of(locktype):
+    """A lock that the client would wait for is as one that it wouldn't (section 9.6): no waiter is kept."""
+    return READ_MODE if locktype in (READ_LT, READW_LT) else WRITE_MODE
+
+
+def expect_share(share):
+    """An access of READ, WRITE or both, and a deny of no more than both (section 9.9)."""
+    if not (READ <= share[0] <= BOTH and share[1] <= BOTH):
+        raise Refusal(Status.INVAL)
+
+
+def handle_of(node):
+    return HANDLE_HEAD + u32(node)
