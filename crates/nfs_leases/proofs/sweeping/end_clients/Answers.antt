@@ -69,7 +69,7 @@ loop-next-preserved g c =
     {x = with_case c.loop-next.swept t.case} (sym c.and-swept.ensures) further in
     (t.client, i.1 ++ t ∷ [], counted, agrees, c.lawful_is_safe.ensures.run _ _ lawful, lawful)
 
-pub returns-clause-ends : goal.returns-clause-sweeps
+pub returns-clause-ends : goal.returns-clause-ends
 returns-clause-ends g c =
     let i = c.loop-next.invariant in
     let at =
