@@ -3,7 +3,7 @@ ghost use Rattle.std.specs.Prelude.{◌≡◌};
 use crate::entry::JOURNAL_LIMIT;
 use crate::journal::{LEASE_MAX, LEASE_MIN};
 
-/// How many opens and lock states there can be at a time.
+/// How many opens, lock states and delegations there can be at a time, together.
 pub const STATE_LIMIT: usize = 65_536;
 
 /// The limits in the rules: on the entries of a journal, the seconds of a lease, and the opens and lock states.
