@@ -5,7 +5,7 @@ use Rattle.nfs_leases.specs.Visit.{Visit, events_of, expiries, with_case}
 use Rattle.nfs_leases.specs.declared.swept.Swept.{Swept}
 use Rattle.nfs_leases.proofs.Comes.{AreLaws, Comes, Stays, book_further, comes_first, comes_further, comes_last, is_gone, next_live, stays, total_before}
 use Rattle.nfs_leases.proofs.Lists.{lawful_more}
-use Rattle.nfs_leases.proofs.sweeping.sweep_core.Goals as goal
+use Rattle.nfs_leases.proofs.sweeping.end_clients.Goals as goal
 
 pub loop-next-init : goal.loop-next-init
 loop-next-init g c =
@@ -69,8 +69,8 @@ loop-next-preserved g c =
     {x = with_case c.loop-next.swept t.case} (sym c.and-swept.ensures) further in
     (t.client, i.1 ++ t ∷ [], counted, agrees, c.lawful_is_safe.ensures.run _ _ lawful, lawful)
 
-pub returns-clause-sweeps : goal.returns-clause-sweeps
-returns-clause-sweeps g c =
+pub returns-clause-ends : goal.returns-clause-ends
+returns-clause-ends g c =
     let i = c.loop-next.invariant in
     let at =
     subst
@@ -78,4 +78,4 @@ returns-clause-sweeps g c =
     Comes g.B.LeaseBook.happens c.args.now i.0 c.args.core.now c.args.book.now c.loop-next.swept i.1
     c.loop-next.core c.loop-next.book next)
     c.in_default.is i.2 in
-    comes_last _ _ _ _ _ _ _ _ _ at
+    (i.1, at.counts, comes_last _ _ _ _ _ _ _ _ _ at)
