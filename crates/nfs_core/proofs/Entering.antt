@@ -5,6 +5,7 @@ use Rattle.std.proofs.lemmas.Bool.{both_ways, cond_both, lt-ltb, ltb-true}
 use Rattle.nfs_core.proofs.Journals.{decides_something}
 use Rattle.nfs_core.proofs.SoundSequences.{some_equal}
 use Rattle.nfs_core.specs.Expiry.{IsNotEndedFor}
+use Rattle.nfs_core.specs.PathMarking.{IsNotMarkedFor}
 use Rattle.nfs_core.specs.Server.{Server}
 use Rattle.nfs_core.specs.declared.core_error.CoreError.{CoreError}
 use Rattle.nfs_core.specs.declared.core_error.CoreError.TheVariants as core_errors
@@ -14,6 +15,8 @@ use Rattle.nfs_core.specs.Step.{HasNoAnswer, HasNoStep, IsAnswered, Step}
 use Rattle.nfs_rules.specs.Deciding.{Decides}
 use Rattle.nfs_rules.specs.declared.decision.Decision.{Decision}
 use Rattle.nfs_rules.specs.entries.Expire.{IsExpiry}
+use Rattle.nfs_rules.specs.entries.Path.{IsPathMark}
+use Rattle.nfs_rules.specs.entries.Revoke.{IsRevocation}
 use Rattle.nfs_rules.specs.operations.{AtMostOneDecision, IsPlain, IsRuled, IsRuledBy}
 use Rattle.nfs_rules.specs.operations.Delegreturn as delegreturn
 use Rattle.nfs_rules.specs.operations.Lockt as lockt
@@ -42,6 +45,8 @@ use Rattle.nfs_state.specs.State.{State, History}
 use Rattle.nfs_state.specs.Stored.{meaning}
 use Rattle.nfs_state.specs.declared.tables.Tables.{Tables}
 use Rattle.nfs_state.specs.declared.entry.Expire.{Expire}
+use Rattle.nfs_state.specs.declared.entry.Path.{Path}
+use Rattle.nfs_state.specs.declared.entry.Revoke.{Revoke}
 use Rattle.nfs_state.specs.declared.effect.Effect.{Effect}
 use Rattle.nfs_state.specs.declared.entry.Call.{Call}
 use Rattle.nfs_state.specs.declared.entry.Entry.{Entry}
@@ -248,4 +253,55 @@ expiry_memory journal old expire effect tables expiry = record {
   kept = refl;
   owner = subst (λ (e : Effect). HasOwnerRoom e.owner tables) (sym expiry.removal) tt;
   change = subst (λ (e : Effect). HasRoom e.change tables) (sym expiry.removal) tt;
+}
+
+-- a delegation's end may come next
+pub revocation_next : (journal : History) (old : State) (revoke : Revoke) (effect : Effect) → length journal.entries < JOURNAL_LIMIT → IsRevocation journal old revoke effect → IsNext journal old (entries.Revoke revoke) effect
+revocation_next journal old revoke effect below revocation = record {
+  below = below;
+  allowed = revocation;
+  fits = record {
+    kept = ap (λ (e : Effect). e.owner) revocation.removal;
+    numbers = subst (λ (e : Effect). IsWithinNumbers e.change old) (sym revocation.removal) tt;
+    place = subst (λ (e : Effect). HasOwnerPlace e.owner old) (sym revocation.removal) tt;
+  };
+}
+
+-- where a delegation isn't the next one to be taken away, its end may not come next
+pub no_revocation : (journal : History) (old : State) (revoke : Revoke) → ((effect : Effect) → IsRevocation journal old revoke effect → ⊥) → HasNoStep journal old (entries.Revoke revoke)
+no_revocation journal old revoke none new step = none step.effect step.allowed
+
+-- a delegation's end takes no memory beside its entry
+pub revocation_memory : (journal : History) (old : State) (revoke : Revoke) (effect : Effect) (tables : Tables) → IsRevocation journal old revoke effect → TakesNoMemory (entries.Revoke revoke) effect tables
+revocation_memory journal old revoke effect tables revocation = record {
+  kept = refl;
+  owner = subst (λ (e : Effect). HasOwnerRoom e.owner tables) (sym revocation.removal) tt;
+  change = subst (λ (e : Effect). HasRoom e.change tables) (sym revocation.removal) tt;
+}
+
+-- a mark of a client's path may come next
+pub path_next : (journal : History) (old : State) (path : Path) (effect : Effect) → length journal.entries < JOURNAL_LIMIT → IsPathMark journal old path effect → IsNext journal old (entries.Path path) effect
+path_next journal old path effect below mark = record {
+  below = below;
+  allowed = mark;
+  fits = record {
+    kept = ap (λ (e : Effect). e.owner) mark.mark;
+    numbers = subst (λ (e : Effect). IsWithinNumbers e.change old) (sym mark.mark) tt;
+    place = subst (λ (e : Effect). HasOwnerPlace e.owner old) (sym mark.mark) tt;
+  };
+}
+
+-- where a path isn't marked though there is memory, its mark may not come next
+pub no_path_mark : (server : Server) (path : Path) (error : CoreError) → error ≢ core_errors.Memory → IsNotMarkedFor server path error → HasNoStep server.journal (meaning server.stored) (entries.Path path)
+no_path_mark server path core_errors.NotLive other kept new step = absurd (cc (kept, step.allowed.live))
+no_path_mark server path core_errors.NotDue other kept new step = absurd kept.1
+no_path_mark server path core_errors.Full other kept new step = omega (arith, kept.1, step.below)
+no_path_mark server path core_errors.Memory other kept new step = absurd (other refl)
+
+-- a mark of a client's path takes no memory beside its entry
+pub path_memory : (journal : History) (old : State) (path : Path) (effect : Effect) (tables : Tables) → IsPathMark journal old path effect → TakesNoMemory (entries.Path path) effect tables
+path_memory journal old path effect tables mark = record {
+  kept = refl;
+  owner = subst (λ (e : Effect). HasOwnerRoom e.owner tables) (sym mark.mark) tt;
+  change = subst (λ (e : Effect). HasRoom e.change tables) (sym mark.mark) tt;
 }

@@ -1,4 +1,5 @@
 pub mod ClientChanges
+pub mod DueDelegations
 pub mod Entering
 pub mod Journals
 pub mod LiveClients

@@ -7,3 +7,5 @@ pub mod CoreError
 pub mod Following
 pub mod Expiry
 pub mod LiveClients
+pub mod Revoking
+pub mod PathMarking

@@ -1,12 +1,15 @@
-ghost use Rattle.std.specs.Prelude.{◌≡◌, ◌≤◌, ◌<◌, [], IfErr, IfNone, IfOk, OnErr, OnOk, IsErrOf, IsTrue, length};
+ghost use Rattle.std.specs.Prelude.{◌≡◌, ◌↔◌, ◌≤◌, ◌<◌, [], None, Ok, IfErr, IfNone, IfOk, OnErr, OnOk, IsErrOf, IsTrue, length};
+ghost use Rattle.std.specs.Option.{option_copied};
 ghost use Rattle.nfs_core.specs.Entered.{Answers};
 ghost use Rattle.nfs_core.specs.Expiry.{IsNotEndedFor, IsWithoutRoom, expire_of};
 ghost use Rattle.nfs_core.specs.Following.{MayFollow};
 ghost use Rattle.nfs_core.specs.LiveClients.{AreNumbered, AreOfOneRun};
+ghost use Rattle.nfs_core.specs.PathMarking.{IsNotMarkedFor, path_of};
+ghost use Rattle.nfs_core.specs.Revoking.{IsNotRevokedFor, IsRevoked, NoneIsDue};
 ghost use Rattle.nfs_core.specs.Safe.{IsSafe, KeepRequests};
 ghost use Rattle.nfs_core.specs.Server.{Applies, AreAlike, Enters, IsLawful};
 ghost use Rattle.nfs_core.specs.Step.{HasNoStep};
-ghost use Rattle.nfs_owners.specs.LiveClients.{IsNextLive, replaced_by};
+ghost use Rattle.nfs_owners.specs.LiveClients.{IsNextLive, IsNextUnknown, replaced_by};
 ghost use Rattle.nfs_owners.specs.Registry.{is_live};
 ghost use Rattle.nfs_state.specs.Entries.{IsFilehandle, request_of};
 ghost use Rattle.nfs_state.specs.Kept.{Agrees};
@@ -20,9 +23,13 @@ use crate::answering::enter;
 use crate::expiry::enter_expiry;
 use crate::following::follow;
 use crate::laws::lawful_is_safe;
+use crate::path_marking::enter_path_mark;
+use crate::revoking::enter_revocation;
 use crate::{CoreError, Entered, FollowError};
+use nfs_owners::ClientState;
 use nfs_state::{
-    Entry, Expire, JOURNAL_LIMIT, Journal, LEASE_MAX, LEASE_MIN, Moment, Request, Store, Tables,
+    Entry, Expire, JOURNAL_LIMIT, Journal, LEASE_MAX, LEASE_MIN, Moment, Path, Request, Store,
+    Tables,
 };
 use nfs_tree::{Policy, Tree};
 use nfs_xdr::{Op, OpResult, Principal, Refusal};
@@ -167,6 +174,38 @@ impl Core {
         enter_expiry(self.alloc, store, Expire { client, seen, now })
     }
 
+    /// Takes away the delegation with the least number of those that are due at `now`: called back more than a lease
+    /// before, and not given back. Enters that in the journal, and returns the delegation's number; `None` where none is
+    /// due. Fails only where one is due, with Full before Memory, and so changes nothing but room, of which there isn't
+    /// less.
+    pub fn revoke(&mut self, now: Moment) -> Result<Option<u32>, CoreError>
+        ensures revoked { IfOk result (IsRevoked self.old self.new now) }
+        ensures none { result ≡ Ok None ↔ NoneIsDue self.old now }
+        ensures error { IfErr result (IsNotRevokedFor self.old now) }
+        ensures same { OnErr result (AreAlike self.old self.new) }
+        ensures room { OnErr result (self.old.room ≤ self.new.room) }
+        ensures lawful { IsLawful self.new }
+    {
+        lawful_is_safe();
+        let store = &mut self.store;
+        enter_revocation(self.alloc, store, now)
+    }
+
+    /// Marks whether callbacks reach the live client with this number, and enters that in the journal. Returns the
+    /// entry's number. Of several errors the first one comes: NotLive, Full, Memory. What fails changes nothing but
+    /// room, of which there isn't less.
+    pub fn mark_path(&mut self, client: u32, up: bool) -> Result<u32, CoreError>
+        ensures marks { IfOk result (Enters self.old self.new (entries.Path (path_of client up))) }
+        ensures error { IfErr result (IsNotMarkedFor self.old (path_of client up)) }
+        ensures same { OnErr result (AreAlike self.old self.new) }
+        ensures room { OnErr result (self.old.room ≤ self.new.room) }
+        ensures lawful { IsLawful self.new }
+    {
+        lawful_is_safe();
+        let store = &mut self.store;
+        enter_path_mark(self.alloc, store, Path { client, up })
+    }
+
     /// Enters an entry that is handed in, such as one of another server's journal, if it may come next: it is judged as
     /// `apply` and `expire` would make it. Returns the entry's number. Fails with NotNext only if the entry may not come
     /// next, and with Memory only if it may as far as it is judged without a call's answer. What fails changes nothing
@@ -201,6 +240,14 @@ impl Core {
     {
         lawful_is_safe();
         self.store.tables.clients.next_live(after)
+    }
+
+    /// What the record of a live client has of whose path to its callbacks nothing is known: of the client with the
+    /// least number above this one, if there is one.
+    pub fn probe(&self, after: u32) -> Option<&ClientState>
+        ensures { IsNextUnknown after self.now.stored.clients (option_copied result) }
+    {
+        self.store.tables.clients.next_unknown(after)
     }
 
     /// The number of the live client that the client with this number replaces once it is confirmed.

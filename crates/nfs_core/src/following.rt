@@ -10,8 +10,12 @@ ghost use Rattle.nfs_state.specs.Store.{AreAlike, OwnersAgree, server_of};
 ghost use Rattle.nfs_state.specs.declared.entry.Entry.TheVariants as entries;
 
 use crate::expiry::decide_expiry;
+use crate::path_marking::decide_path_mark;
+use crate::revoking::decide_revocation;
 use nfs_rules::{Decision, at_most_one_decision, decide};
-use nfs_state::{Call, Effect, Entry, Expire, Request, Shortage, Store, commit_entry};
+use nfs_state::{
+    Call, Effect, Entry, Expire, Path, Request, Revoke, Shortage, Store, commit_entry,
+};
 use std::alloc::Global;
 
 /// Why an entry that was handed in wasn't entered.
@@ -69,6 +73,8 @@ fn effect_of(alloc: Global, store: &Store, entry: &Entry) -> Result<Effect, Foll
     match entry {
         Entry::Call(call) => effect_of_call(alloc, store, call),
         Entry::Expire(expire) => effect_of_expire(store, expire),
+        Entry::Revoke(revoke) => effect_of_revoke(store, revoke),
+        Entry::Path(path) => effect_of_path(store, path),
     }
 }
 
@@ -104,6 +110,36 @@ fn effect_of_expire(store: &Store, expire: &Expire) -> Result<Effect, FollowErro
     ensures memory { result ≢ Err FollowError.Memory }
 {
     match decide_expiry(store, expire) {
+        Ok(effect) => Ok(effect),
+        Err(_) => Err(FollowError::NotNext),
+    }
+}
+
+// The effect of the delegation's end, if it may come next.
+fn effect_of_revoke(store: &Store, revoke: &Revoke) -> Result<Effect, FollowError>
+    ensures next { IfOk result (λ effect. IsNext store.now.journal.history
+        (state_of store.now.tables) (entries.Revoke revoke.entry.now) effect) }
+    ensures not_next { IsErrOf result FollowError.NotNext
+        → HasNoStep store.now.journal.history (state_of store.now.tables)
+        (entries.Revoke revoke.entry.now) }
+    ensures memory { result ≢ Err FollowError.Memory }
+{
+    match decide_revocation(store, revoke) {
+        Some(effect) => Ok(effect),
+        None => Err(FollowError::NotNext),
+    }
+}
+
+// The effect of the mark of a client's path, if it may come next.
+fn effect_of_path(store: &Store, path: &Path) -> Result<Effect, FollowError>
+    ensures next { IfOk result (λ effect. IsNext store.now.journal.history
+        (state_of store.now.tables) (entries.Path path.now) effect) }
+    ensures not_next { IsErrOf result FollowError.NotNext
+        → HasNoStep store.now.journal.history (state_of store.now.tables)
+        (entries.Path path.now) }
+    ensures memory { result ≢ Err FollowError.Memory }
+{
+    match decide_path_mark(store, path) {
         Ok(effect) => Ok(effect),
         Err(_) => Err(FollowError::NotNext),
     }

@@ -1,13 +1,14 @@
 ghost use Rattle.nfs_core.specs.Lawful.{AtMostOneState, Lawful};
-ghost use Rattle.nfs_core.specs.LiveClients.{AreNumbered, AreOfOneRun, CallsFollow, EffectsFollow, EndsFollow};
+ghost use Rattle.nfs_core.specs.LiveClients.{AreNumbered, AreOfOneRun, CallsFollow, EffectsFollow, EndsFollow, PathsFollow, RevocationsFollow};
 ghost use Rattle.nfs_core.specs.Safe.{IsSafe, KeepRequests};
 ghost use Rattle.nfs_core.specs.Step.{AtMostOneStateAfter, AtMostOneStep};
 ghost use Rattle.nfs_state.specs.State.{State, History};
 
 use nfs_locks::locks_stay_compatible;
+use nfs_owners::marks_keep_clients;
 use nfs_ranges::first_change_has_place;
 use nfs_rules::at_most_one_decision;
-use nfs_share::opens_stay_compatible;
+use nfs_share::{delegations_stay_apart, delegations_stay_single, opens_stay_compatible};
 
 /// The law that a request has at most one answer in a state, and that an entry of any kind leads to at most one state.
 pub fn at_most_one_step()
@@ -37,17 +38,25 @@ pub fn lawful_is_safe()
 {
     opens_stay_compatible();
     locks_stay_compatible();
+    delegations_stay_apart();
+    delegations_stay_single();
     first_change_has_place();
 }
 
 /// The law of how entries change which clients are live: as their effects say. One becomes so by its confirmation, and once
-/// at most; one that is live stays so until a confirmation replaces it or it ends.
+/// at most; one that is live stays so until a confirmation replaces it or it ends. The end of a delegation and a mark of a
+/// path leave all clients as they are.
 pub fn live_clients_follow()
     ensures effects { EffectsFollow }
     ensures calls { CallsFollow }
     ensures ends { EndsFollow }
+    ensures revocations { RevocationsFollow }
+    ensures paths { PathsFollow }
 {
     opens_stay_compatible();
     locks_stay_compatible();
+    delegations_stay_apart();
+    delegations_stay_single();
     first_change_has_place();
+    marks_keep_clients();
 }

@@ -8,6 +8,8 @@ mod entered;
 mod expiry;
 mod following;
 mod laws;
+mod path_marking;
+mod revoking;
 
 pub use core_error::CoreError;
 pub use core_state::Core;
