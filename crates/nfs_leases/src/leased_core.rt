@@ -80,7 +80,7 @@ impl<B: LeaseBook> LeasedCore<B> {
     /// or None where none is due. Fails where there is no room for an entry; then nothing changes but room, of which
     /// there isn't less. The leases stay as they are.
     pub fn revoke(&mut self, now: Moment) -> Result<Option<u32>, CoreError>
-        ensures revokes { IfOk result (IsRevoked self.old.core self.new.core now) }
+        ensures revoked { IfOk result (IsRevoked self.old.core self.new.core now) }
         ensures none { (result ≡ Ok None) ↔ NoneIsDue self.old.core now }
         ensures error { IfErr result (IsNotRevokedFor self.old.core now) }
         ensures same { OnErr result (AreAlike self.old.core self.new.core) }
