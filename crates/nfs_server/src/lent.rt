@@ -45,6 +45,13 @@ impl Lent {
         })
     }
 
+    /// The core, to be looked at.
+    pub fn core(&self) -> &Core
+        ensures { result.now ≡ self.now.core }
+    {
+        &self.leased.core
+    }
+
     /// Returns the core.
     pub fn into_core(self) -> Core
         ensures { result ≡ self.core }
