@@ -30,8 +30,8 @@ use Rattle.nfs_tree.specs.declared.policy.Delegations.TheVariants as policies
 abbrev pub read_kind : Share → Option DelegationKind
 read_kind share = if share.deny.read || share.deny.write then None else Some kinds.Read
 
--- The kind of delegation that goes with an OPEN for this share: one for writing if it may write, otherwise one for reading,
--- as far as the policy gives these.
+-- The kind of delegation that goes with an OPEN for this share: one for writing if it may write, otherwise one for
+-- reading, as far as the policy gives these.
 abbrev pub kind_for : Delegations → Share → Option DelegationKind
 kind_for policies.None share = None
 kind_for policies.Read share = if share.access.write then None else read_kind share
@@ -58,9 +58,9 @@ is_reached (Some r) = is_up r.state.path
 abbrev pub has_path_up : ClientId → Registry → Bool
 has_path_up client registry = is_reached (record_of client registry)
 
--- What has to hold for an OPEN to be given a delegation of this kind: its owner was confirmed before, it opens the file by
--- its name alone, callbacks reach the client, no other client's open or delegation is in the way, and the client has no
--- delegation of the file.
+-- What has to hold for an OPEN to be given a delegation of this kind: its owner was confirmed before, it opens the file
+-- by its name alone, callbacks reach the client, it would be in the way of no other client's open, no other client's
+-- delegation is in its way, and the client has none of the file.
 abbrev pub lending_conditions : State → Passage → Open → ℕ → DelegationKind → List Bool
 lending_conditions state passage args node kind =
     goes_on passage
