@@ -1,0 +1,13 @@
+-- The lent core is the one inside.
+use Rattle.std.proofs.Common.{◌≡◌, None, Ok, subst}
+use Rattle.nfs_core.specs.Revoking.{NoneIsDue}
+use Rattle.nfs_server.specs.Leases.{LentCore}
+use Rattle.nfs_server.proofs.lent.Lent.revoke.Goals as goal
+
+pub returns-clause-none : goal.returns-clause-none
+returns-clause-none c =
+    subst
+    (λ (l : LentCore).
+    (c.revoke.result ≡ Ok None → NoneIsDue l.core c.args.now)
+    × (NoneIsDue l.core c.args.now → c.revoke.result ≡ Ok None))
+    c.self.view_is c.revoke.ensures.none
