@@ -143,7 +143,7 @@ impl Core {
         }
     }
 
-    /// Makes room for one more entry, so that `expire` takes no memory where it comes next.
+    /// Makes room for one more entry, so that `expire`, `revoke` or `mark_path` takes no memory where it comes next.
     pub fn prepare(&mut self) -> Result<(), CoreError>
         ensures same { AreAlike self.old self.new }
         ensures room { OnOk result ((0 < self.new.room)
@@ -207,9 +207,9 @@ impl Core {
     }
 
     /// Enters an entry that is handed in, such as one of another server's journal, if it may come next: it is judged as
-    /// `apply` and `expire` would make it. Returns the entry's number. Fails with NotNext only if the entry may not come
-    /// next, and with Memory only if it may as far as it is judged without a call's answer. What fails changes nothing
-    /// but room, of which there isn't less.
+    /// `apply`, `expire`, `revoke` and `mark_path` would make it. Returns the entry's number. Fails with NotNext only if
+    /// the entry may not come next, and with Memory only if it may as far as it is judged without a call's answer. What
+    /// fails changes nothing but room, of which there isn't less.
     pub fn follow(&mut self, entry: Entry) -> Result<u32, FollowError>
         ensures entered { IfOk result (Enters self.old self.new entry) }
         ensures not_next { IsErrOf result FollowError.NotNext
