@@ -1,8 +1,8 @@
 -- Of the delegations that are due, the one with the least number may be taken away.
-use Rattle.std.proofs.Common.{◌≡◌, ℕ, zero, suc, Bool, true, false, Option, Some, None, List, [], ◌∷◌, ◌++◌, length, map, refl, sym, ap, ◌∙◌, subst, arith, ◌<◌, ◌≤◌}
+use Rattle.std.proofs.Common.{◌≡◌, inl, inr, ℕ, zero, suc, Bool, true, false, Option, Some, None, List, [], ◌∷◌, ◌++◌, length, map, refl, sym, ap, ◌∙◌, subst, arith, ◌<◌, ◌≤◌}
 use Rattle.std.specs.Prelude.{◌==◌, find, flat_map, is_some, nat_le, nat_lt, position, slice_index_or}
 use Rattle.std.specs.List.{AllByRecursion, Contains, IsDistinct, list_any, position_or_len}
-use Rattle.std.proofs.lemmas.Bool.{and_from, and_parts, cond-true, eq-eqb, eqb-true, false_from_ne_true, le-leb, lt-ltb, or_left, or_right}
+use Rattle.std.proofs.lemmas.Bool.{and_from, and_parts, cases_Bool, cond-true, eq-eqb, eqb-true, le-leb, leb-false, leb-true, lt-ltb, or_left, or_right}
 use Rattle.std.proofs.lemmas.List.Elements.{All-contains, All-from_recursion}
 use Rattle.std.proofs.lemmas.List.Folds.{list_any_at}
 use Rattle.std.proofs.lemmas.List.Quantifiers.{position-Some}
@@ -14,18 +14,21 @@ use Rattle.nfs_core.proofs.SoundSequences.{never, some_equal}
 use Rattle.nfs_core.specs.Revoking.{NoneIsDue, revoke_of}
 use Rattle.nfs_core.specs.Safe.{numbers_of}
 use Rattle.nfs_core.specs.Server.{Server}
+use Rattle.nfs_core.specs.Step.{HasNoStep}
 use Rattle.nfs_locks.specs.Locks.{ByteLocks}
 use Rattle.nfs_rules.specs.entries.Revoke.{IsNoneBefore, IsRevocation}
 use Rattle.nfs_share.specs.AllOpens.{DelegationAt, IsNextDue, delegations_of, lent_at, lent_found, lent_in, list_at, list_or_none}
 use Rattle.nfs_share.specs.Delegations.{is_delegation_numbered, is_due, is_due_from}
 use Rattle.nfs_share.specs.declared.delegation.Delegation.{Delegation}
 use Rattle.nfs_share.specs.declared.open_state.OpenState.{OpenState}
-use Rattle.nfs_state.specs.Changes.{change_alone}
+use Rattle.nfs_state.specs.Changes.{after, change_alone}
 use Rattle.nfs_state.specs.State.{History, State}
 use Rattle.nfs_state.specs.Stored.{meaning}
 use Rattle.nfs_state.specs.declared.change.Change.TheVariants as changes
 use Rattle.nfs_state.specs.declared.effect.Effect.{Effect}
+use Rattle.nfs_state.specs.declared.entry.Entry.TheVariants as entries
 use Rattle.nfs_state.specs.declared.entry.Revoke.{Revoke}
+use Rattle.nfs_state.specs.declared.entry.TheConstants.{JOURNAL_LIMIT}
 
 -- What holds of each element, and what holds of each two: of two lists one after the other.
 
@@ -201,18 +204,12 @@ due_from lease now d due = and_from (nat_le 0 d.number) (is_due lease now d) (le
 due_of : (lease now : ℕ) (d : Delegation) → is_due_from 0 lease now d ≡ true → is_due lease now d ≡ true
 due_of lease now d due = (and_parts (nat_le 0 d.number) (is_due lease now d) due).1
 
--- none is, where there is no next one
-pub none_due : (lease now : ℕ) (all : List (List Delegation)) → IsNextDue 0 lease now all None → AllByRecursion (AllByRecursion (λ d. is_due lease now d ≡ false)) all
-none_due lease now all none =
-    all_weaken (AllByRecursion (λ d. is_due_from 0 lease now d ≡ false)) (AllByRecursion (λ d. is_due lease now d ≡ false))
-    (λ ds undue. all_weaken (λ d. is_due_from 0 lease now d ≡ false) (λ d. is_due lease now d ≡ false)
-    (λ d k. false_from_ne_true (is_due lease now d) (λ due. never (is_due_from 0 lease now d) k (due_from lease now d due))) ds undue) all none
-
 -- The next one may be taken away.
-pub next_may : (journal : History) (state : State) (now : ℕ) (next : DelegationAt) → IsDistinct (λ a b. a == b) (numbers_of state)
-    → IsNextDue 0 journal.lease now state.delegations (Some next) → (effect : Effect) × IsRevocation journal state (revoke_of next.state.number now) effect
-next_may journal state now next distinct is =
+pub next_may : (journal : History) (state : State) (lease now : ℕ) (next : DelegationAt) → lease ≡ journal.lease → IsDistinct (λ a b. a == b) (numbers_of state)
+    → IsNextDue 0 lease now state.delegations (Some next) → (effect : Effect) × IsRevocation journal state (revoke_of next.state.number now) effect
+next_may journal state lease now next same distinct next_is =
     let d = next.state in
+    let is : IsNextDue 0 journal.lease now state.delegations (Some next) = subst (λ l. IsNextDue 0 l now state.delegations (Some next)) same next_is in
     let all = state.delegations in
     let opens = flat_map (map (λ (o : OpenState). o.number)) state.opens in
     let locks = flat_map (map (λ (l : ByteLocks). l.number)) state.locks in
@@ -233,9 +230,23 @@ next_may journal state now next distinct is =
       },
     )
 
--- where none is due, none may be
-pub none_may : (server : Server) (revoke : Revoke) (effect : Effect) → NoneIsDue server revoke.now → IsRevocation server.journal (meaning server.stored) revoke effect → ⊥
-none_may server revoke effect none may =
-    let undue : Delegation → Type 0 = λ d. is_due server.journal.lease revoke.now d ≡ false in
-    never (is_due server.journal.lease revoke.now may.at.state)
-    (found_holds undue (is_delegation_numbered revoke.number) server.stored.delegations may.at none may.found) may.due
+-- where one may be taken away, one is due
+pub one_due : (server : Server) (now : ℕ) (revoke : Revoke) → (revoke.now ≡ now) × ((effect : Effect) × IsRevocation server.journal (meaning server.stored) revoke effect) → NoneIsDue server now → ⊥
+one_due server now revoke may none =
+    let lease = server.journal.lease in
+    let revocation = may.1.1 in
+    never (is_due lease now revocation.at.state)
+    (found_holds (λ d. is_due lease now d ≡ false) (is_delegation_numbered revoke.number) server.stored.delegations revocation.at none revocation.found)
+    (subst (λ n. is_due lease n revocation.at.state ≡ true) may.0 revocation.due)
+
+-- and if it isn't, the journal is full
+pub full_alone : (journal : History) (old : State) (revoke : Revoke) → (effect : Effect) × IsRevocation journal old revoke effect → HasNoStep journal old (entries.Revoke revoke) → JOURNAL_LIMIT ≤ length journal.entries
+full_alone journal old revoke may none = elim (cases_Bool (nat_le JOURNAL_LIMIT (length journal.entries))) [
+  | inl full ↦ leb-true JOURNAL_LIMIT (length journal.entries) full
+  | inr below ↦ absurd (none (after (length journal.entries) (entries.Revoke revoke) may.0 old) (record {
+    below = leb-false JOURNAL_LIMIT (length journal.entries) below;
+    effect = may.0;
+    allowed = may.1;
+    state = refl;
+  }))
+]

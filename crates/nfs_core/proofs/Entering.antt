@@ -1,6 +1,6 @@
 -- Which entries may come next, and which may not, by what is decided.
 use Rattle.std.proofs.Common.{◌≡◌, ◌≢◌, ◌<◌, ◌≤◌, Option, Some, None, Result, Ok, Err, ℕ, length, refl, ap, ◌∙◌, arith, subst, sym}
-use Rattle.std.specs.Prelude.{Bool, true, false, ◌&&◌, IfOk, IfSome, IsErrOf, IsFalse, IsTrue, is_some, not, option_map}
+use Rattle.std.specs.Prelude.{Bool, true, false, ◌&&◌, IfNone, IfOk, IfSome, IsErrOf, IsFalse, IsTrue, is_some, not, option_map}
 use Rattle.std.proofs.lemmas.Bool.{both_ways, cond_both, lt-ltb, ltb-true}
 use Rattle.nfs_core.proofs.Journals.{decides_something}
 use Rattle.nfs_core.proofs.SoundSequences.{some_equal}
@@ -268,8 +268,9 @@ revocation_next journal old revoke effect below revocation = record {
 }
 
 -- where a delegation isn't the next one to be taken away, its end may not come next
-pub no_revocation : (journal : History) (old : State) (revoke : Revoke) → ((effect : Effect) → IsRevocation journal old revoke effect → ⊥) → HasNoStep journal old (entries.Revoke revoke)
-no_revocation journal old revoke none new step = none step.effect step.allowed
+pub no_revocation : (journal : History) (old : State) (revoke : Revoke) (result : Option Effect) → IfNone result ((effect : Effect) → IsRevocation journal old revoke effect → ⊥) → IfNone result (HasNoStep journal old (entries.Revoke revoke))
+no_revocation journal old revoke None none = λ new step. none step.effect step.allowed
+no_revocation journal old revoke (Some effect) none = tt
 
 -- a delegation's end takes no memory beside its entry
 pub revocation_memory : (journal : History) (old : State) (revoke : Revoke) (effect : Effect) (tables : Tables) → IsRevocation journal old revoke effect → TakesNoMemory (entries.Revoke revoke) effect tables

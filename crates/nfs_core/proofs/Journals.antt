@@ -33,7 +33,8 @@ use Rattle.nfs_state.specs.Kept.{Agrees}
 use Rattle.nfs_state.specs.Room.{state_of, stored_of}
 use Rattle.nfs_state.specs.Store.{AreAlike, server_of}
 use Rattle.nfs_state.specs.declared.store.Store.{Store}
-use Rattle.nfs_core.specs.Server.{Enters}
+use Rattle.nfs_core.specs.Revoking.{IsRevoked, revoke_of}
+use Rattle.nfs_core.specs.Server.{Enters, Server}
 
 -- entries that lead to a state, and one more entry that leads on from there
 Leads-append : (journal : History) (old mid new : State) (entries : List Entry) (entry : Entry) → Leads journal old entries mid → Step (record journal { entries = journal.entries ++ entries }) mid entry new → Leads journal old (entries ++ entry ∷ []) new
@@ -123,6 +124,18 @@ Lawful-tried old new entry (Ok number) lawful entered same =
     Lawful-entered old.journal.history new.journal.history (state_of old.tables) (state_of new.tables) entry lawful entered.1 entered.2
 Lawful-tried old new entry (Err error) lawful entered same =
     Lawful-same old.journal.history new.journal.history (stored_of old.tables) (stored_of new.tables) same.0 same.1 lawful
+
+-- a core that took away the next delegation that is due, if one was
+pub Lawful-revoked : {E : Type 0} (old new : Store) (now : ℕ) (result : Result (Option ℕ) E) → Lawful old.journal.history (state_of old.tables)
+    → IfOk result (IsRevoked (server_of old) (server_of new) now) → OnErr result (AreAlike (server_of old) (server_of new))
+    → Lawful new.journal.history (state_of new.tables)
+Lawful-revoked old new now (Ok None) lawful same alike =
+    Lawful-same old.journal.history new.journal.history (stored_of old.tables) (stored_of new.tables)
+    (ap (λ (s : Server). s.journal) same) (ap (λ (s : Server). s.stored) same) lawful
+Lawful-revoked old new now (Ok (Some number)) lawful entered alike =
+    Lawful-entered old.journal.history new.journal.history (state_of old.tables) (state_of new.tables) (entries.Revoke (revoke_of number now)) lawful entered.1 entered.2
+Lawful-revoked old new now (Err error) lawful entered alike =
+    Lawful-same old.journal.history new.journal.history (stored_of old.tables) (stored_of new.tables) alike.0 alike.1 lawful
 
 -- and what it stores agrees with its journal as before
 pub Agrees-same : (journal journal' : History) (stored stored' : Stored) → journal' ≡ journal → stored' ≡ stored → Agrees journal stored.owners → Agrees journal' stored'.owners

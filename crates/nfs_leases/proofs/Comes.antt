@@ -11,12 +11,12 @@ use Rattle.nfs_owners.specs.LiveClients.{IsNextLive, can_become_live}
 use Rattle.nfs_owners.specs.Registry.{Registry, is_live}
 use Rattle.nfs_leases.specs.BookEvent.{BookEvent, IsNextOpen, AllHappen, is_open_after, was_opened_after}
 use Rattle.nfs_leases.specs.BookOf.{IsBookOf}
-use Rattle.nfs_leases.specs.Sweeps.{AreVisits, IsVisit, Sweeps, events_of_all, is_of, leased_server, none_swept, tally}
+use Rattle.nfs_leases.specs.Sweeps.{AreVisits, EndsClients, IsVisit, events_of_all, is_of, leased_server, none_swept, tally}
 use Rattle.nfs_leases.specs.Visit.{Gains, Visit, events_by, events_of, expiries, total, with_case}
 use Rattle.nfs_leases.specs.declared.visit_case.VisitCase.{VisitCase}
 use Rattle.nfs_leases.specs.declared.visit_case.VisitCase.TheVariants as cases
 use Rattle.nfs_leases.specs.declared.swept.Swept.{Swept}
-use Rattle.nfs_leases.proofs.Lists.{Reaches, ascend_from_reaches, events_more, gains_of_all, happen_more, none_revoked, reaches_length, reaches_more, right_more, tally_more, total_tally, visits_more}
+use Rattle.nfs_leases.proofs.Lists.{Reaches, ascend_from_reaches, events_more, gains_of_all, happen_more, reaches_length, reaches_more, right_more, tally_more, total_tally, visits_more}
 use Rattle.nfs_state.specs.State.{History, State}
 use Rattle.nfs_state.specs.Stored.{meaning}
 use Rattle.nfs_state.specs.declared.entry.Entry.TheVariants as entries
@@ -153,22 +153,16 @@ comes_further happens now upto server book swept visits server' book' t server''
 pub comes_last : {Book : Type 0} (happens : Book → BookEvent → Book → Type 0) (now upto : ℕ) (server : Server)
     (book : Book) (swept : Swept) (visits : List Visit) (server' : Server) (book' : Book)
     → Comes happens now upto server book swept visits server' book' None
-    → Sweeps happens now (leased_server server book) swept (leased_server server' book')
+    → EndsClients happens now visits (leased_server server book) (leased_server server' book')
 comes_last happens now upto server book swept visits server' book' h = record {
-  visits = visits;
-  ends = record {
-    each = λ client.
-        h.each client
-        ∙ each_last upto client (is_live client server.stored.clients) (is_live client server'.stored.clients)
-        (h.later client) (h.is_next client);
-    once = ascend_from_reaches 0 visits upto h.reaches;
-    right = h.right;
-    events = h.events;
-    entries = gains_of_all now visits server server' h.right;
-  };
-  counts = h.counts;
-  revoked = ap (λ (s : Swept). s.revoked) h.counts ∙ (none_revoked none_swept visits).0;
-  stopped = ap (λ (s : Swept). s.stopped) h.counts ∙ (none_revoked none_swept visits).1;
+  each = λ client.
+      h.each client
+      ∙ each_last upto client (is_live client server.stored.clients) (is_live client server'.stored.clients)
+      (h.later client) (h.is_next client);
+  once = ascend_from_reaches 0 visits upto h.reaches;
+  right = h.right;
+  events = h.events;
+  entries = gains_of_all now visits server server' h.right;
 }
 
 -- there are no more visits than client numbers

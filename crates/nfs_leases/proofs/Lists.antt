@@ -6,6 +6,7 @@ use Rattle.nfs_core.specs.Lawful as lawful
 use Rattle.nfs_core.specs.Server.{IsLawful, Server}
 use Rattle.nfs_leases.specs.BookEvent.{BookEvent, AllHappen}
 use Rattle.nfs_leases.specs.laws.Counting.{expiries_more}
+use Rattle.nfs_leases.specs.laws.Gaining.{append-nil, gains_more, gains_none, states_more}
 use Rattle.nfs_leases.specs.Sweeps.{is_of, Ascend, AreVisits, IsVisit, events_of_all, tally}
 use Rattle.nfs_leases.specs.Visit.{Gains, Visit, events_of, expiries, total, with_case, with_entries}
 use Rattle.nfs_leases.specs.declared.visit_case.VisitCase.{VisitCase}
@@ -15,10 +16,6 @@ use Rattle.nfs_state.specs.State.{History, State, empty_server}
 use Rattle.nfs_state.specs.Stored.{meaning}
 use Rattle.nfs_state.specs.declared.entry.Entry.{Entry}
 use Rattle.nfs_state.specs.declared.entry.Entry.TheVariants as entries
-
-pub append-nil : {A : Type 0} (xs : List A) → xs ++ [] ≡ xs
-append-nil [] = refl
-append-nil (x ∷ xs) = ap (λ ys. x ∷ ys) (append-nil xs)
 
 -- calls that lead to a book, and more that lead on from it
 pub happen_more : {Book : Type 0} (happens : Book → BookEvent → Book → Type 0) (old mid new : Book)
@@ -51,22 +48,6 @@ total_tally swept [] = omega arith
 total_tally swept (u ∷ visits) =
     omega (arith, total_tally (with_case swept u.case) visits, one_counted swept u.case)
 
--- no visit revokes, and none stops the sweep
-revoked_case : (swept : Swept) (case : VisitCase)
-    → ((with_case swept case).revoked ≡ swept.revoked) × ((with_case swept case).stopped ≡ swept.stopped)
-revoked_case swept cases.Expired = (refl, refl)
-revoked_case swept cases.Kept = (refl, refl)
-revoked_case swept cases.Changed = (refl, refl)
-revoked_case swept cases.Refused = (refl, refl)
-
-pub none_revoked : (swept : Swept) (visits : List Visit)
-    → ((tally swept visits).revoked ≡ swept.revoked) × ((tally swept visits).stopped ≡ swept.stopped)
-none_revoked swept [] = (refl, refl)
-none_revoked swept (u ∷ visits) =
-    let rest = none_revoked (with_case swept u.case) visits in
-    let first = revoked_case swept u.case in
-    (rest.0 ∙ first.0, rest.1 ∙ first.1)
-
 -- the visits go up, from above the first number to at most the second one
 abbrev pub Reaches : ℕ → List Visit → ℕ → Type 0
 Reaches after [] upto = after ≤ upto
@@ -92,48 +73,12 @@ pub visits_more : (visits : List Visit) (t : Visit) (client : ℕ)
 visits_more [] t client = grind (arith, common_steps)
 visits_more (u ∷ visits) t client = grind (arith, common_steps, visits_more visits t client)
 
--- a journal that gains entries, and then others
-entries_more : (more others : List Entry) (journal : History)
-    → with_entries others (with_entries more journal) ≡ with_entries (more ++ others) journal
-entries_more more others journal =
-    ap (λ (es : List Entry). record journal { entries = es }) (append_assoc journal.entries more others)
-
-entries_none : (journal : History) → with_entries [] journal ≡ journal
-entries_none journal = ap (λ (es : List Entry). record journal { entries = es }) (append-nil journal.entries)
-
--- entries that lead to a state, and others that lead on from it
-states_more : (journal : History) (old mid new : State) (more others : List Entry)
-    → lawful.Leads journal old more mid → lawful.Leads (with_entries more journal) mid others new
-    → lawful.Leads journal old (more ++ others) new
-states_more journal old mid new [] others h k =
-    subst (λ (s : State). lawful.Leads journal s others new) h
-    (subst (λ (j : History). lawful.Leads j mid others new) (entries_none journal) k)
-states_more journal old mid new (e ∷ more) others h k = (
-  h.0,
-  h.1,
-  states_more (with_entries (e ∷ []) journal) h.0 mid new more others h.2
-      (subst (λ (j : History). lawful.Leads j mid others new) (sym (entries_more (e ∷ []) more journal)) k),
-)
-
 -- the journal of a server that gained entries leads to its state, if it did before
 pub lawful_more : (more : List Entry) (old new : Server) → IsLawful old → Gains more old new → IsLawful new
 lawful_more more old new h gains =
     subst (λ (j : History). lawful.Lawful j (meaning new.stored)) (sym gains.journal)
     (states_more (record old.journal { entries = [] }) (empty_server old.journal.nodes) (meaning old.stored)
     (meaning new.stored) old.journal.entries more h gains.leads)
-
-pub gains_more : (more others : List Entry) (old mid new : Server)
-    → Gains more old mid → Gains others mid new → Gains (more ++ others) old new
-gains_more more others old mid new h k = record {
-  journal =
-      k.journal ∙ ap (λ (j : History). with_entries others j) h.journal ∙ entries_more more others old.journal;
-  leads =
-      states_more old.journal (meaning old.stored) (meaning mid.stored) (meaning new.stored) more others h.leads
-      (subst (λ (j : History). lawful.Leads j (meaning mid.stored) others (meaning new.stored)) h.journal k.leads);
-}
-
-pub gains_none : (server : Server) → Gains [] server server
-gains_none server = record { journal = sym (entries_none server.journal); leads = refl }
 
 pub right_more : (now : ℕ) (visits : List Visit) (t : Visit) (old mid new : Server)
     → AreVisits now visits old mid → IsVisit now t mid new → AreVisits now (visits ++ t ∷ []) old new

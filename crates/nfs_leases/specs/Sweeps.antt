@@ -1,11 +1,16 @@
 -- What a sweep does.
-use Rattle.std.specs.Prelude.{◌≡◌, ℕ, ◌<◌, Bool, false, ◌==◌, List, [], ◌∷◌, ◌++◌, ⊤}
+use Rattle.std.specs.Prelude.{◌≡◌, ℕ, ◌<◌, Bool, false, true, ◌==◌, List, [], ◌∷◌, ◌++◌, length, map, Option, Some, ⊤}
 use Rattle.std.specs.List.{list_any}
-use Rattle.nfs_core.specs.Server.{Server}
+use Rattle.nfs_core.specs.Expiry.{IsWithoutRoom}
+use Rattle.nfs_core.specs.Revoking.{IsRevoked, NoneIsDue, revoke_of}
+use Rattle.nfs_core.specs.Server.{AreAlike, Server}
+use Rattle.nfs_core.specs.declared.core_error.CoreError.{CoreError}
 use Rattle.nfs_owners.specs.Registry.{is_live}
 use Rattle.nfs_leases.specs.BookEvent.{BookEvent, AllHappen}
 use Rattle.nfs_leases.specs.Visit.{Gains, IsRightBy, Visit, events_of, expiries, with_case}
 use Rattle.nfs_leases.specs.declared.swept.Swept.{Swept}
+use Rattle.nfs_state.specs.declared.entry.Entry.{Entry}
+use Rattle.nfs_state.specs.declared.entry.Entry.TheVariants as entries
 
 -- the visit is the client's
 abbrev pub is_of : ℕ → Visit → Bool
@@ -68,11 +73,48 @@ pub record EndsClients {Book : Type 0} (happens : Book → BookEvent → Book �
   pub events : AllHappen happens old.book (events_of_all now visits) new.book
   pub entries : Gains (expiries (events_of_all now visits)) old.core new.core
 
--- A sweep, in its parts, and how it was counted. Clients end; nothing is revoked, as nothing is delegated yet.
+-- the entries of the ends of the delegations with these numbers
+abbrev pub revocations : ℕ → List ℕ → List Entry
+revocations now numbers = map (λ number. entries.Revoke (revoke_of number now)) numbers
+
+-- the delegations with these numbers are revoked, one after another
+abbrev pub AreRevoked : ℕ → List ℕ → Server → Server → Type 0
+AreRevoked now [] old new = new ≡ old
+AreRevoked now (number ∷ numbers) old new =
+    (mid : Server) × IsRevoked old mid now (Some number) × AreRevoked now numbers mid new
+
+-- What came of the last attempt to revoke, on the server that it found. Where the sweep doesn't stop, no delegation is
+-- due any more. Where it stops, one is due still, but there was no room for an entry.
+abbrev pub IsLastAttempt : Bool → ℕ → Server → Server → Type 0
+IsLastAttempt false now found new = NoneIsDue new now × (new ≡ found)
+IsLastAttempt true now found new = (NoneIsDue new now → ⊥)
+    × AreAlike found new
+    × ((error : CoreError) × IsWithoutRoom found error)
+
+-- The part of a sweep in which delegations are revoked, those with these numbers. It stops, or goes on until none is due.
+pub record RevokesDue (now : ℕ) (numbers : List ℕ) (stopped : Bool) (old new : Server) : Type 0 where
+  pub found : Server
+  -- each was right where it came: it was due, and of those that were due it had the least number
+  pub right : AreRevoked now numbers old found
+  pub last : IsLastAttempt stopped now found new
+  -- the journal gained just their entries
+  pub entries : Gains (revocations now numbers) old new
+
+-- the entries of a sweep: the ends of clients in these visits, and then those of the delegations with these numbers
+abbrev pub entries_of_sweep : ℕ → List Visit → List ℕ → List Entry
+entries_of_sweep now visits numbers =
+    expiries (events_of_all now visits) ++ revocations now numbers
+
+-- A sweep, in its parts, and how it was counted. First clients end, and then delegations are revoked, at which the book
+-- stays as it is.
 pub record Sweeps {Book : Type 0} (happens : Book → BookEvent → Book → Type 0) (now : ℕ)
     (old : LeasedServer Book) (swept : Swept) (new : LeasedServer Book) : Type 0 where
   pub visits : List Visit
-  pub ends : EndsClients happens now visits old new
-  pub counts : swept ≡ tally none_swept visits
-  pub revoked : swept.revoked ≡ 0
-  pub stopped : swept.stopped ≡ false
+  pub numbers : List ℕ
+  pub mid : Server
+  pub ends : EndsClients happens now visits old (leased_server mid new.book)
+  pub revokes : RevokesDue now numbers swept.stopped mid new.core
+  pub counts : swept ≡ record (tally none_swept visits) {
+    revoked = length numbers;
+    stopped = swept.stopped;
+  }

@@ -1,3 +1,4 @@
 pub mod Agreeing
 pub mod Counting
 pub mod Following
+pub mod Gaining

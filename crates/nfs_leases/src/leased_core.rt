@@ -1,11 +1,14 @@
-ghost use Rattle.std.specs.Prelude.{◌≡◌, ◌≤◌, IsTrue, length};
+ghost use Rattle.std.specs.Prelude.{◌≡◌, ◌≤◌, ◌↔◌, IfErr, IfOk, IsTrue, None, Ok, OnErr, length};
 ghost use Rattle.nfs_core.specs.Entered.{Answers};
-ghost use Rattle.nfs_core.specs.Server.{IsLawful};
+ghost use Rattle.nfs_core.specs.PathMarking.{IsNotMarkedFor, path_of};
+ghost use Rattle.nfs_core.specs.Revoking.{IsNotRevokedFor, IsRevoked, NoneIsDue};
+ghost use Rattle.nfs_core.specs.Server.{AreAlike, Enters, IsLawful};
 ghost use Rattle.nfs_leases.specs.BookEvent.{AllHappen};
 ghost use Rattle.nfs_leases.specs.BookOf.{IsBookOf, events_entered};
 ghost use Rattle.nfs_leases.specs.PlainBook.{has_open_lease, with_renewal};
 ghost use Rattle.nfs_leases.specs.Sweeps.{Sweeps, leased_server};
 ghost use Rattle.nfs_state.specs.Entries.{IsFilehandle};
+ghost use Rattle.nfs_state.specs.declared.entry.Entry.TheVariants as entries;
 ghost use Rattle.nfs_xdr.specs.Op.{has_entry, opnum_of};
 ghost use Rattle.nfs_xdr.specs.OpResult.{op_result};
 ghost use Rattle.nfs_xdr.specs.Opnum.{answer_limit};
@@ -14,7 +17,7 @@ use crate::following::follow;
 use crate::renewing::renew_lease;
 use crate::sweeping::sweep_core;
 use crate::{LeaseBook, PlainLeases, Swept};
-use nfs_core::{Core, Entered, lawful_is_safe, live_clients_follow};
+use nfs_core::{Core, CoreError, Entered, lawful_is_safe, live_clients_follow};
 use nfs_state::{Moment, Request};
 use nfs_xdr::OpResult;
 
@@ -64,13 +67,47 @@ impl<B: LeaseBook> LeasedCore<B> {
     }
 
     /// Goes through the live clients, by rising numbers, and removes each whose lease is over at `now`, from the book
-    /// and from the core.
+    /// and from the core. Then it revokes the delegations that are due, until none is, or there is no room for an entry.
     pub fn sweep(&mut self, now: Moment) -> Swept
         ensures sweeps { Sweeps B.happens now (leased_server self.old.core self.old.book) result
             (leased_server self.new.core self.new.book) }
         ensures lawful { IsLawful self.new.core }
     {
         sweep_core(&mut self.core, &mut self.book, now)
+    }
+
+    /// Revokes the delegation that is due at `now`, and of those that are due has the least number. Returns its number,
+    /// or None where none is due. Fails where there is no room for an entry; then nothing changes but room, of which
+    /// there isn't less. The leases stay as they are.
+    pub fn revoke(&mut self, now: Moment) -> Result<Option<u32>, CoreError>
+        ensures revoked { IfOk result (IsRevoked self.old.core self.new.core now) }
+        ensures none { (result ≡ Ok None) ↔ NoneIsDue self.old.core now }
+        ensures error { IfErr result (IsNotRevokedFor self.old.core now) }
+        ensures same { OnErr result (AreAlike self.old.core self.new.core) }
+        ensures room { OnErr result (self.old.core.room ≤ self.new.core.room) }
+        ensures book { self.new.book ≡ self.old.book }
+        ensures lawful { IsLawful self.new.core }
+    {
+        live_clients_follow();
+        cores_are_lawful(&self.core);
+        self.core.revoke(now)
+    }
+
+    /// Marks whether callbacks reach the client with this number. Returns the entry's number. Fails if the client isn't
+    /// live, or there is no room for an entry; then nothing changes but room, of which there isn't less. The leases stay
+    /// as they are.
+    pub fn mark_path(&mut self, client: u32, up: bool) -> Result<u32, CoreError>
+        ensures marks { IfOk result (Enters self.old.core self.new.core
+            (entries.Path (path_of client up))) }
+        ensures error { IfErr result (IsNotMarkedFor self.old.core (path_of client up)) }
+        ensures same { OnErr result (AreAlike self.old.core self.new.core) }
+        ensures room { OnErr result (self.old.core.room ≤ self.new.core.room) }
+        ensures book { self.new.book ≡ self.old.book }
+        ensures lawful { IsLawful self.new.core }
+    {
+        live_clients_follow();
+        cores_are_lawful(&self.core);
+        self.core.mark_path(client, up)
     }
 }
 

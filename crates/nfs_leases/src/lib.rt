@@ -1,5 +1,5 @@
 //! The leases of clients: what a book of them promises, a book that is a plain list, and a core with the book of its
-//! clients' leases, whose sweep removes the clients whose leases are over.
+//! clients' leases, whose sweep removes the clients whose leases are over, and revokes the delegations that are due.
 #![tactic(auto)]
 
 mod closing;
@@ -11,6 +11,8 @@ mod leased_core;
 mod plain_leases;
 mod renewal;
 mod renewing;
+mod revocations;
+mod revoking;
 mod sweeping;
 mod swept;
 mod visit_case;

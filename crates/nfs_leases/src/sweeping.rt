@@ -1,17 +1,18 @@
-//! The sweep through the leases of all live clients.
+//! The sweep through the leases of all live clients, and then the delegations that are due.
 
-ghost use Rattle.std.specs.Prelude.{◌≡◌, ◌<◌, ◌∷◌, [], ℕ, IsTrue, length};
+ghost use Rattle.std.specs.Prelude.{◌≡◌, ◌<◌, ◌∷◌, [], List, ℕ, IsTrue, length};
 ghost use Rattle.nfs_core.specs.LiveClients.{AreOfOneRun};
 ghost use Rattle.nfs_core.specs.Server.{IsLawful};
 ghost use Rattle.nfs_owners.specs.Registry.{IsClientNumber, is_live};
 ghost use Rattle.nfs_leases.specs.BookEvent.{Close, AllHappen};
 ghost use Rattle.nfs_leases.specs.BookOf.{IsBookOf};
-ghost use Rattle.nfs_leases.specs.Sweeps.{Sweeps, leased_server};
-ghost use Rattle.nfs_leases.specs.Visit.{Gains, IsRightBy, events_by, expiries};
+ghost use Rattle.nfs_leases.specs.Sweeps.{EndsClients, Sweeps, leased_server, none_swept, tally};
+ghost use Rattle.nfs_leases.specs.Visit.{Gains, IsRightBy, Visit, events_by, expiries};
 ghost use Rattle.nfs_state.specs.Lease.{is_over};
 ghost use Rattle.nfs_state.specs.Stored.{meaning};
 ghost use Rattle.nfs_state.specs.declared.entry.TheConstants.{JOURNAL_LIMIT};
 
+use crate::revoking::revoke_due;
 use crate::visit_case::VisitCase;
 use crate::{Closing, LeaseBook, LeaseState, Swept};
 use nfs_core::{Core, lawful_is_safe, live_clients_follow};
@@ -19,11 +20,33 @@ use nfs_state::{Moment, is_over};
 
 /// Goes through the live clients, by rising numbers, and removes each whose lease is over at `now`: from the book, where
 /// the lease is still as it was seen, and then from the core. A client whose lease isn't over stays, and so does one
-/// whose lease was renewed meanwhile, or for whose entry there is no room.
+/// whose lease was renewed meanwhile, or for whose entry there is no room. Then it revokes the delegations that are due,
+/// until none is, or there is no room for an entry.
 pub fn sweep_core<B: LeaseBook>(core: &mut Core, book: &mut B, now: Moment) -> Swept
     requires agrees { IsBookOf (B.is_open book.old) (B.was_opened book.old) (B.lease book.old)
         core.old }
     ensures sweeps { Sweeps B.happens now (leased_server core.old book.old) result
+        (leased_server core.new book.new) }
+    ensures agrees { IsBookOf (B.is_open book.new) (B.was_opened book.new) (B.lease book.new)
+        core.new }
+    ensures lawful { IsLawful core.new }
+{
+    let swept = end_clients(core, book, now);
+    let revocations = revoke_due(core, now);
+    Swept {
+        revoked: revocations.count,
+        stopped: revocations.stopped,
+        ..swept
+    }
+}
+
+// Goes through the live clients, and removes each whose lease is over.
+fn end_clients<B: LeaseBook>(core: &mut Core, book: &mut B, now: Moment) -> Swept
+    requires agrees { IsBookOf (B.is_open book.old) (B.was_opened book.old) (B.lease book.old)
+        core.old }
+    ensures ends { (visits : List Visit)
+        × (result ≡ tally none_swept visits)
+        × EndsClients B.happens now visits (leased_server core.old book.old)
         (leased_server core.new book.new) }
     ensures agrees { IsBookOf (B.is_open book.new) (B.was_opened book.new) (B.lease book.new)
         core.new }

@@ -3,7 +3,7 @@ ghost use Rattle.nfs_leases.specs.Visit.{total, with_case};
 
 use crate::visit_case::VisitCase;
 
-/// How many clients a sweep treated in which way.
+/// How many clients a sweep treated in which way, and how many delegations it revoked.
 #[derive(Clone, Copy, Debug, PartialEq, Eq)]
 pub struct Swept {
     /// Those whose leases were closed, and that were removed.
@@ -14,9 +14,9 @@ pub struct Swept {
     pub changed: u32,
     /// Those that stay because the journal had no room for an entry.
     pub refused: u32,
-    /// How many delegations were revoked: none, as nothing is delegated yet.
+    /// How many delegations were revoked.
     pub revoked: u32,
-    /// Whether the sweep stopped before it had come to each delegation: it didn't, as nothing is delegated yet.
+    /// Whether the sweep stopped at a delegation that is due, because the journal had no room for an entry.
     pub stopped: bool,
 }
 

@@ -4,3 +4,4 @@ pub mod Sequencing
 pub mod OpeningLaws
 pub mod Uniqueness
 pub mod Judging
+pub mod FoundDelegations

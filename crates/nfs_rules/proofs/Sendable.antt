@@ -4,12 +4,15 @@ use Rattle.std.specs.Prelude.{⊤, not, is_some}
 use Rattle.nfs_owners.specs.Registry.{record_of}
 use Rattle.nfs_state.specs.Entries.{IsSendable}
 use Rattle.nfs_state.specs.declared.change.Change.TheVariants.{Nothing}
-use Rattle.nfs_rules.specs.Deciding.{ByOwnRule, IsOther}
+use Rattle.nfs_rules.specs.Deciding.{ByOwnRule, Decides, IsOther}
+use Rattle.nfs_rules.specs.declared.decision.Decision.{Decision}
 use Rattle.nfs_rules.specs.declared.demand.Demand.{Demand}
 use Rattle.nfs_rules.specs.declared.ruling.Ruling.{Ruling}
 use Rattle.nfs_state.specs.State.{State, History}
 use Rattle.nfs_rules.specs.Refusing.{◌>>=◌, first_refusal, refused_if}
-use Rattle.nfs_rules.specs.Stateids.{ALock, AnOpen, Found, as_lock, as_open, before_state, confirmed_open, found_in, judged, lock_state, of_state, target_of, verdict}
+use Rattle.nfs_rules.specs.Stateids.{ADelegation, ALock, AnOpen, Found, as_delegation, as_lock, as_open, before_state, confirmed_open, delegation, found_in, judged, lock_state, of_state, target_of, verdict}
+use Rattle.nfs_rules.specs.operations.Delegreturn as delegreturn
+use Rattle.nfs_rules.specs.operations.Delegreturn.{delegation_at, returning}
 use Rattle.nfs_rules.specs.operations.Lock.{introduction, locking_of}
 use Rattle.nfs_rules.specs.operations.Lockt.{lockt_file, place_of}
 use Rattle.nfs_rules.proofs.Sequencing.{refusal_sendable}
@@ -20,9 +23,10 @@ use Rattle.nfs_forms.specs.declared.locker.Locker.TheVariants as lockers
 use Rattle.nfs_forms.specs.declared.locker.NewLocker.{NewLocker}
 use Rattle.nfs_locks.specs.AllLocks.{LockAt, locks_of}
 use Rattle.nfs_locks.specs.Locks.{lock_of}
+use Rattle.nfs_operations.specs.declared.delegreturn.Delegreturn.{Delegreturn}
 use Rattle.nfs_operations.specs.declared.lock.Lock.{Lock}
 use Rattle.nfs_operations.specs.declared.lockt.Lockt.{Lockt}
-use Rattle.nfs_share.specs.AllOpens.{OpenAt}
+use Rattle.nfs_share.specs.AllOpens.{DelegationAt, OpenAt}
 use Rattle.nfs_forms.specs.declared.answer.Answer.TheVariants as answers
 use Rattle.nfs_forms.specs.declared.stateid.Stateid.{Stateid}
 use Rattle.nfs_forms.specs.declared.status.Refusal.{Refusal}
@@ -60,25 +64,35 @@ target_other epoch state id =
 judged_other : (demand : Demand) (state : State) (id : Stateid) (found : Option Found) → IsOther (judged demand state id found)
 judged_other demand state id None = λ e. cc
 judged_other demand state id (Some found) =
-    first_other (of_state demand state id found) found ((λ e. cc), ((λ e. cc), ((λ e. cc), ((λ e. cc), ((λ e. cc), tt)))))
+    first_other (of_state demand state id found) found ((λ e. cc), ((λ e. cc), ((λ e. cc), ((λ e. cc), ((λ e. cc), ((λ e. cc), tt))))))
 
-verdict_other : (demand : Demand) (epoch : ℕ) (state : State) (id : Stateid) → IsOther (verdict demand epoch state id)
+pub verdict_other : (demand : Demand) (epoch : ℕ) (state : State) (id : Stateid) → IsOther (verdict demand epoch state id)
 verdict_other demand epoch state id =
     then_other (target_of epoch state id) (judged demand state id) (target_other epoch state id) (judged_other demand state id)
 
 as_open_other : (found : Found) → IsOther (as_open found)
 as_open_other (AnOpen at) = tt
 as_open_other (ALock at) = λ e. cc
+as_open_other (ADelegation at) = λ e. cc
 
 as_lock_other : (found : Found) → IsOther (as_lock found)
 as_lock_other (AnOpen at) = λ e. cc
 as_lock_other (ALock at) = tt
+as_lock_other (ADelegation at) = λ e. cc
+
+as_delegation_other : (found : Found) → IsOther (as_delegation found)
+as_delegation_other (AnOpen at) = λ e. cc
+as_delegation_other (ALock at) = λ e. cc
+as_delegation_other (ADelegation at) = tt
 
 open_other : (demand : Demand) (epoch : ℕ) (state : State) (id : Stateid) → IsOther (verdict demand epoch state id >>= as_open)
 open_other demand epoch state id = then_other (verdict demand epoch state id) as_open (verdict_other demand epoch state id) as_open_other
 
 lock_other : (demand : Demand) (epoch : ℕ) (state : State) (id : Stateid) → IsOther (verdict demand epoch state id >>= as_lock)
 lock_other demand epoch state id = then_other (verdict demand epoch state id) as_lock (verdict_other demand epoch state id) as_lock_other
+
+delegation_other : (demand : Demand) (epoch : ℕ) (state : State) (id : Stateid) → IsOther (verdict demand epoch state id >>= as_delegation)
+delegation_other demand epoch state id = then_other (verdict demand epoch state id) as_delegation (verdict_other demand epoch state id) as_delegation_other
 
 -- the verdict on a stateid is never NFS4ERR_RESOURCE
 pub open_refusal : (demand : Demand) (epoch : ℕ) (state : State) (id : Stateid) (refusal : Refusal) → Err refusal ≡ (verdict demand epoch state id >>= as_open) → refusal ≢ refusals.Resource
@@ -128,10 +142,26 @@ locking_other journal state node args (lockers.Known locker) =
 pub locking_refusal : (journal : History) (state : State) (node : ℕ) (args : Lock) (refusal : Refusal) → Err refusal ≡ locking_of journal state node args args.locker → refusal ≢ refusals.Resource
 locking_refusal journal state node args refusal same = subst IsOther (sym same) (locking_other journal state node args args.locker)
 
--- nor is a refusal of the file that a LOCKT asks about
+-- nor is a refusal of the delegation that a DELEGRETURN gives back, or of the file that a LOCKT asks about
 file_place_other : (filehandle : Option ℕ) → IsOther (place_of filehandle)
 file_place_other None = λ e. cc
 file_place_other (Some node) = tt
+
+returned_other : (journal : History) (state : State) (filehandle : Option ℕ) (args : Delegreturn) → IsOther (delegation_at journal state filehandle args)
+returned_other journal state filehandle args =
+    then_other (place_of filehandle) _ (file_place_other filehandle) λ node.
+    delegation_other (delegation node) journal.epoch state args.stateid
+
+returned_sendable : (args : Delegreturn) (state : State) (found : Result DelegationAt Refusal) → IsOther found → Decides (λ d. d ≡ Some (returning found)) state (ops.Delegreturn args) (Ok (returning found))
+returned_sendable args state (Err refusal) other = (refl, refusal_sendable (ops.Delegreturn args) refusal _ other refl, tt, tt)
+returned_sendable args state (Ok at) other = (refl, record { not_resource = λ same. absurd cc; opnum = refl; short = tt }, tt, tt)
+
+-- what is decided of a DELEGRETURN
+pub returned_decides : (journal : History) (state : State) (filehandle : Option ℕ) (args : Delegreturn) (decision : Decision) → decision ≡ returning (delegation_at journal state filehandle args)
+    → Decides (λ d. d ≡ delegreturn.rule journal state filehandle args) state (ops.Delegreturn args) (Ok decision)
+returned_decides journal state filehandle args decision is =
+    let P : Decision → Type 0 = λ d. Decides (λ d. d ≡ delegreturn.rule journal state filehandle args) state (ops.Delegreturn args) (Ok d) in
+    subst P (sym is) (returned_sendable args state (delegation_at journal state filehandle args) (returned_other journal state filehandle args))
 
 pub asked_refusal : (journal : History) (state : State) (filehandle : Option ℕ) (args : Lockt) (refusal : Refusal) → Err refusal ≡ lockt_file journal state filehandle args → refusal ≢ refusals.Resource
 asked_refusal journal state filehandle args refusal same =

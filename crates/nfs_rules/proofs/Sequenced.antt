@@ -1,5 +1,6 @@
 -- What is decided for a sequenced operation, from whether it is answered without its own rule, and from that rule.
 use Rattle.std.proofs.Common.{inl, inr, ◌≡◌, ℕ, ◌<◌, Bool, true, false, nat_lt, Option, Some, None, Result, Ok, Err, length, refl, sym, ap, ◌∙◌, subst, arith}
+use Rattle.std.specs.List.{list_any}
 use Rattle.std.specs.Result.{IsErr, IsErrAnd}
 use Rattle.std.specs.Prelude.{⊤, ◌⊎◌, IsTrue, IsFalse, is_some, not, ◌&&◌, ◌||◌, if◌then◌else◌}
 use Rattle.std.proofs.lemmas.Bool.{and_parts, ltb-true}
@@ -12,13 +13,16 @@ use Rattle.nfs_locks.specs.AllLocks.{locks_of}
 use Rattle.nfs_locks.specs.Locks.{lock_of}
 use Rattle.nfs_locks.specs.Report.{Report}
 use Rattle.nfs_operations.specs.declared.lock.Lock.{Lock}
+use Rattle.nfs_operations.specs.declared.«open».Open.{Open}
 use Rattle.nfs_ranges.specs.declared.range.Range.{Range}
 use Rattle.nfs_rules.specs.Newcomers.{Newcomer, Nobody, Known, Unknown, has_turn, is_next, newcomer_by, newcomer_if, newcomer_in, newcomer_of}
 use Rattle.nfs_rules.specs.Refusing.{◌>>=◌, refused_if}
 use Rattle.nfs_rules.specs.Stateids.{as_open, confirmed_open, verdict}
 use Rattle.nfs_rules.specs.operations.Lock as lock
 use Rattle.nfs_rules.specs.operations.Lock.{IsAllowed, IsLock, Locking, allows, grant, introduction, locking_of, unless_denied}
-use Rattle.nfs_share.specs.AllOpens.{OpenAt, opens_of}
+use Rattle.nfs_share.specs.AllOpens.{OpenAt, delegations_of, opens_of}
+use Rattle.nfs_share.specs.Delegations.{conflicts}
+use Rattle.nfs_share.specs.declared.delegation.FileUse.TheVariants as uses
 use Rattle.nfs_share.specs.Opens.{open_with_number}
 use Rattle.nfs_state.specs.Places.{has_owner_place, has_state_place}
 use Rattle.nfs_state.specs.declared.owner_change.OwnerChange.{OwnerChange}
@@ -35,14 +39,14 @@ use Rattle.nfs_state.specs.declared.shortage.Shortage.TheVariants.{Limit, Memory
 use Rattle.nfs_rules.specs.Deciding.{ByOwnRule, Decides, HasAnswer, HasPassage, IsPassage, IsRequesterOf, IsSendableSequence}
 use Rattle.nfs_state.specs.Entries.{IsSendable}
 use Rattle.nfs_rules.specs.operations.{own_of}
-use Rattle.nfs_rules.specs.operations.Open.{has_open_place, opening, opening_or_ruling, ruling_of}
+use Rattle.nfs_rules.specs.operations.Open.{delayed, has_open, has_open_place, opening, opening_or_ruling, ruling_of}
+use Rattle.nfs_rules.specs.Lending.{has_lending_place, lent}
 use Rattle.nfs_state.specs.Owners.{KnownOwner, owner_of}
 use Rattle.nfs_state.specs.Room.{HasOwnerPlace, IsNewcomer, is_known}
 use Rattle.nfs_rules.specs.Sequences.{Answered, GoesOn, IsJudged, IsOfKnown, IsOfOwner, IsSequence, Own, Owner, Refused, Requester, SequenceStep, counts, decision_of, is_ok_status, is_open, kept_with, only, owner_change_of}
 use Rattle.nfs_state.specs.Kept.{kept_for}
 use Rattle.nfs_state.specs.State.{State, History}
 use Rattle.nfs_forms.specs.declared.client_id.ClientId.{ClientId}
-use Rattle.nfs_forms.specs.declared.open_owner.OpenOwner.{OpenOwner}
 use Rattle.nfs_owners.specs.StateOwner.{as_open_owner, lock_owner, open_owner}
 use Rattle.nfs_owners.specs.declared.state_owner.StateOwner.{StateOwner}
 use Rattle.nfs_forms.specs.declared.status.Refusal.{Refusal}
@@ -99,23 +103,29 @@ begins_open : (journal : History) (state : State) (requester : Requester) (reque
 begins_open journal state (Refused refusal) request owner is = absurd cc
 begins_open journal state (Owner name seqid) request owner is = owner_begins journal (owner_of name state.owners) name owner seqid request is
 
-place_by : (owners limit : ℕ) (place more : Bool) (r : Option Ruling) (ruling : Ruling) → nat_lt owners limit ≡ place → Some ruling ≡ (if place && more then r else None) → owners < limit
-place_by owners limit true more r ruling is same = search (arith, is)
-place_by owners limit false more r ruling is same = absurd cc
+place_by : (owners limit : ℕ) (place more again : Bool) (r : Option Ruling) (ruling : Ruling) → nat_lt owners limit ≡ place → Some ruling ≡ (if place && more && again then r else None) → owners < limit
+place_by owners limit true more again r ruling is same = search (arith, is)
+place_by owners limit false more again r ruling is same = absurd cc
 
 -- the ruling's answer is NFS4_OK
 abbrev is_done : Option Ruling → Bool
 is_done None = false
 is_done (Some ruling) = is_ok_status (status_of ruling.answer)
 
-ruling_place : (state : State) (owner : OpenOwner) (found : Result Opening Refusal) (ruling : Ruling) → Some ruling ≡ ruling_of state passages.Begins owner (opening_or_ruling found) → is_ok_status (status_of ruling.answer) ≡ true → length state.owners < OWNER_LIMIT
-ruling_place state owner (Err refusal) ruling same ok = let never : false ≡ true = sym (ap is_done same) ∙ ok in absurd cc
-ruling_place state owner (Ok o) ruling same ok =
-    place_by (length state.owners) OWNER_LIMIT (nat_lt (length state.owners) OWNER_LIMIT) (has_open_place state owner o.node) _ ruling refl same
+ruling_place : (journal : History) (state : State) (moment : ℕ) (args : Open) (found : Result Opening Refusal) (ruling : Ruling) → Some ruling ≡ ruling_of journal state passages.Begins args (opening_or_ruling state moment args.owner.client found) → is_ok_status (status_of ruling.answer) ≡ true → length state.owners < OWNER_LIMIT
+ruling_place journal state moment args (Err refusal) ruling same ok = let never : false ≡ true = sym (ap is_done same) ∙ ok in absurd cc
+ruling_place journal state moment args (Ok o) ruling same ok =
+    by (list_any (conflicts args.owner.client (uses.Open o.share)) (delegations_of o.node state.delegations)) same
+  where
+    by : (b : Bool) → Some ruling ≡ ruling_of journal state passages.Begins args (if b then Err (delayed moment args.owner.client o) else Ok o) → length state.owners < OWNER_LIMIT
+    by true same = let never : false ≡ true = sym (ap is_done same) ∙ ok in absurd cc
+    by false same =
+        let kind = lent journal state passages.Begins args o in
+        place_by (length state.owners) OWNER_LIMIT (nat_lt (length state.owners) OWNER_LIMIT) (has_open_place state args.owner o.node) (has_lending_place state (has_open state args.owner o.node) kind) _ ruling refl same
 
 -- an OPEN that is granted to an owner that isn't known has a place for it
 place_of : (op : Op) (journal : History) (state : State) (request : Request) (node : ℕ) (ruling : Ruling) → is_open op ≡ true → own_of op journal state request node passages.Begins (Some ruling) → is_ok_status (status_of ruling.answer) ≡ true → length state.owners < OWNER_LIMIT
-place_of (ops.Open args) journal state request node ruling is own ok = ruling_place state args.owner (opening journal state node args) ruling own ok
+place_of (ops.Open args) journal state request node ruling is own ok = ruling_place journal state request.moment args (opening journal state node args) ruling own ok
 place_of (ops.Access v) journal state request node ruling is own ok = absurd cc
 place_of op journal state request node ruling is own ok = absurd cc
 

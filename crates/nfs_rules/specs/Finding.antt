@@ -6,14 +6,14 @@ use Rattle.nfs_locks.specs.AllLocks.{LockAt}
 use Rattle.nfs_locks.specs.LockFound.{lock_found_seen}
 use Rattle.nfs_locks.specs.StoredLocks.{lock_seen}
 use Rattle.nfs_locks.specs.declared.locks.LockFound.{LockFound}
-use Rattle.nfs_share.specs.declared.opens.DelegationFound.{DelegationFound}
 use Rattle.nfs_share.specs.declared.opens.OpenFound.{OpenFound}
-use Rattle.nfs_share.specs.OpenFound.{delegation_seen, open_seen}
+use Rattle.nfs_share.specs.OpenFound.{open_seen}
 use Rattle.nfs_rules.specs.declared.newcomer.Newcomer.{Newcomer}
 use Rattle.nfs_rules.specs.declared.newcomer.Newcomer.TheVariants as found_newcomers
 use Rattle.nfs_rules.specs.declared.operations.lock.Locking.{Locking}
 use Rattle.nfs_rules.specs.declared.stateids.Found.{Found}
 use Rattle.nfs_rules.specs.declared.stateids.Found.TheVariants as found_states
+use Rattle.nfs_rules.specs.declared.stateids.FoundDelegation.{FoundDelegation}
 use Rattle.nfs_rules.specs.declared.sequence.Requester.{Requester}
 use Rattle.nfs_rules.specs.declared.sequence.Requester.TheVariants as requesters
 use Rattle.nfs_rules.specs.declared.sequence.SequenceStep.{SequenceStep}
@@ -33,10 +33,13 @@ use Rattle.nfs_forms.specs.declared.status.Refusal.TheVariants as refusals
 use Rattle.nfs_owners.specs.StateOwner.{owner_seen}
 use Rattle.nfs_owners.specs.declared.state_owner.StateOwner.{StateOwner}
 
+abbrev pub found_delegation_seen : FoundDelegation → DelegationAt
+found_delegation_seen found = record { node = found.node; state = found.state.now }
+
 abbrev pub found_seen : Found → stateids.Found
 found_seen (found_states.AnOpen found) = stateids.AnOpen (open_seen found)
 found_seen (found_states.ALock found) = stateids.ALock (lock_found_seen found)
-found_seen (found_states.ADelegation found) = stateids.ADelegation (delegation_seen found)
+found_seen (found_states.ADelegation found) = stateids.ADelegation (found_delegation_seen found)
 
 abbrev pub target_seen : Result (Option Found) Refusal → Result (Option stateids.Found) Refusal
 target_seen (Ok found) = Ok (option_map found_seen found)
@@ -67,8 +70,8 @@ abbrev pub lock_or_refusal_seen : Result LockFound Refusal → Result LockAt Ref
 lock_or_refusal_seen (Ok found) = Ok (lock_found_seen found)
 lock_or_refusal_seen (Err refusal) = Err refusal
 
-abbrev pub delegation_or_refusal_seen : Result DelegationFound Refusal → Result DelegationAt Refusal
-delegation_or_refusal_seen (Ok found) = Ok (delegation_seen found)
+abbrev pub delegation_or_refusal_seen : Result FoundDelegation Refusal → Result DelegationAt Refusal
+delegation_or_refusal_seen (Ok found) = Ok (found_delegation_seen found)
 delegation_or_refusal_seen (Err refusal) = Err refusal
 
 abbrev pub newcomer_seen : Newcomer → newcomers.Newcomer

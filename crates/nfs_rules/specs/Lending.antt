@@ -1,12 +1,11 @@
 -- Which delegation an OPEN is given (RFC 7530, section 10.4).
-use Rattle.std.specs.Prelude.{ℕ, ◌+◌, Bool, true, false, ◌||◌, List, [], ◌∷◌, Option, Some, None, is_some, if◌then◌else◌}
+use Rattle.std.specs.Prelude.{ℕ, ◌+◌, Bool, true, false, ◌||◌, List, [], ◌∷◌, Option, Some, None, if◌then◌else◌}
 use Rattle.std.specs.List.{list_all}
 use Rattle.nfs_forms.specs.declared.claim.Claim.{Claim}
 use Rattle.nfs_forms.specs.declared.claim.Claim.TheVariants as claims
 use Rattle.nfs_forms.specs.declared.client_id.ClientId.{ClientId}
 use Rattle.nfs_forms.specs.declared.open_delegation.OpenDelegation.{OpenDelegation}
 use Rattle.nfs_forms.specs.declared.open_delegation.OpenDelegation.TheVariants as delegations
-use Rattle.nfs_forms.specs.declared.open_owner.OpenOwner.{OpenOwner}
 use Rattle.nfs_forms.specs.declared.stateid.Stateid.{Stateid}
 use Rattle.nfs_operations.specs.declared.«open».Open.{Open}
 use Rattle.nfs_owners.specs.Registry.{Registry, record_of}
@@ -18,7 +17,6 @@ use Rattle.nfs_rules.specs.declared.passage.Passage.{Passage}
 use Rattle.nfs_rules.specs.declared.passage.Passage.TheVariants as passages
 use Rattle.nfs_share.specs.AllOpens.{delegations_of, opens_of}
 use Rattle.nfs_share.specs.Delegations.{can_delegate}
-use Rattle.nfs_share.specs.Opens.{open_of}
 use Rattle.nfs_share.specs.declared.delegation.DelegationKind.{DelegationKind}
 use Rattle.nfs_share.specs.declared.delegation.DelegationKind.TheVariants as kinds
 use Rattle.nfs_share.specs.declared.share.Share.{Share}
@@ -32,8 +30,8 @@ use Rattle.nfs_tree.specs.declared.policy.Delegations.TheVariants as policies
 abbrev pub read_kind : Share → Option DelegationKind
 read_kind share = if share.deny.read || share.deny.write then None else Some kinds.Read
 
--- The kind of delegation that goes with an OPEN for this share: one for writing if it may write, otherwise one for reading,
--- as far as the policy gives these.
+-- The kind of delegation that goes with an OPEN for this share: one for writing if it may write, otherwise one for
+-- reading, as far as the policy gives these.
 abbrev pub kind_for : Delegations → Share → Option DelegationKind
 kind_for policies.None share = None
 kind_for policies.Read share = if share.access.write then None else read_kind share
@@ -60,9 +58,9 @@ is_reached (Some r) = is_up r.state.path
 abbrev pub has_path_up : ClientId → Registry → Bool
 has_path_up client registry = is_reached (record_of client registry)
 
--- What has to hold for an OPEN to be given a delegation of this kind: its owner was confirmed before, it opens the file by
--- its name alone, callbacks reach the client, no other client's open or delegation is in the way, and the client has no
--- delegation of the file.
+-- What has to hold for an OPEN to be given a delegation of this kind: its owner was confirmed before, it opens the file
+-- by its name alone, callbacks reach the client, it would be in the way of no other client's open, no other client's
+-- delegation is in its way, and the client has none of the file.
 abbrev pub lending_conditions : State → Passage → Open → ℕ → DelegationKind → List Bool
 lending_conditions state passage args node kind =
     goes_on passage

@@ -81,8 +81,9 @@ abbrev pub is_of_demanded : Option ClientId → Stateid → Bool
 is_of_demanded None id = true
 is_of_demanded (Some client) id = is_same_client id.client client
 
--- Why an operation can't work on the state that its stateid names: the state is of another kind; it is of another file, or
--- of another client; its owner is unconfirmed, where only confirmed ones are accepted; the stateid's seqid is below the state's, or above.
+-- Why an operation can't work on the state that its stateid names: the state is of another kind; it is of another file;
+-- it is of another client than is demanded; its owner is unconfirmed, where only confirmed ones are accepted; the
+-- stateid's seqid is below the state's, or above.
 abbrev pub of_state : Demand → State → Stateid → Found → List (Bool × Refusal)
 of_state demand state id found =
     (not (is_of_kinds demand.kinds found), refusals.BadStateId)

@@ -31,13 +31,7 @@ pub(crate) fn delegation_for(
 }
 
 // Whether all holds that has to hold for the OPEN to be given a delegation of this kind.
-fn may_lend(
-    tables: &Tables,
-    passage: Passage,
-    args: &Open,
-    node: u32,
-    kind: DelegationKind,
-) -> bool
+fn may_lend(tables: &Tables, passage: Passage, args: &Open, node: u32, kind: DelegationKind) -> bool
     ensures { result ≡ list_all (λ holds. holds) (lending_conditions
         (before_own passage args.now.owner (state_of tables.now)) passage args.now node kind) }
 {

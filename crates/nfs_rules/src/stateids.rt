@@ -1,7 +1,10 @@
 ghost use Rattle.std.specs.Prelude.{◌≡◌, option_map};
+ghost use Rattle.std.specs.Option.{option_copied};
 ghost use Rattle.nfs_owners.specs.StateOwner.{open_owner};
-ghost use Rattle.nfs_rules.specs.Finding.{delegation_by, delegation_or_refusal_seen, found_or_refusal_seen, found_seen, lock_by, lock_or_refusal_seen, open_by, open_or_refusal_seen, target_seen};
+ghost use Rattle.nfs_rules.specs.Finding.{delegation_by, delegation_or_refusal_seen, found_delegation_seen, found_or_refusal_seen, found_seen, lock_by, lock_or_refusal_seen, open_by, open_or_refusal_seen, target_seen};
 ghost use Rattle.nfs_rules.specs.Refusing.{first_refusal};
+ghost use Rattle.nfs_share.specs.AllOpens.{delegation_named_in};
+ghost use Rattle.nfs_share.specs.Delegations.{delegation_named_by};
 ghost use Rattle.nfs_state.specs.Owners.{is_confirmed};
 ghost use Rattle.nfs_state.specs.Room.{state_of};
 ghost use Rattle.nfs_rules.specs.Stateids as stateids;
@@ -10,7 +13,7 @@ ghost use Rattle.nfs_rules.specs.Stateids.{found_in, has_confirmed_owner, is_of_
 use crate::demand::{Demand, Kinds};
 use nfs_locks::LockFound;
 use nfs_owners::{OwnerRef, OwnerStanding};
-use nfs_share::{DelegationFound, OpenFound};
+use nfs_share::{Delegation, OpenFound};
 use nfs_state::Tables;
 use nfs_xdr::{ClientId, OpenOwner, Refusal, Stateid};
 
@@ -19,7 +22,14 @@ use nfs_xdr::{ClientId, OpenOwner, Refusal, Stateid};
 pub(crate) enum Found<'a> {
     AnOpen(OpenFound<'a>),
     ALock(LockFound<'a>),
-    ADelegation(DelegationFound),
+    ADelegation(FoundDelegation<'a>),
+}
+
+/// A delegation, and the node of its file.
+#[derive(Clone, Copy, Debug)]
+pub(crate) struct FoundDelegation<'a> {
+    pub node: u32,
+    pub state: &'a Delegation,
 }
 
 /// What the stateid names, in the server's run `epoch`, or why it can't name a state.
@@ -49,7 +59,7 @@ pub(crate) fn target_of(
 fn found_in(tables: &Tables, stateid: Stateid) -> Option<Found<'_>>
     ensures { option_map found_seen result ≡ found_in (state_of tables.now) stateid }
 {
-    if let Some(found) = tables.opens.find_delegation(stateid) {
+    if let Some(found) = find_delegation(tables, stateid) {
         return Some(Found::ADelegation(found));
     }
     if let Some(found) = tables.opens.find(stateid) {
@@ -59,6 +69,23 @@ fn found_in(tables: &Tables, stateid: Stateid) -> Option<Found<'_>>
         Some(found) => Some(Found::ALock(found)),
         None => None,
     }
+}
+
+// The delegation that the stateid names.
+fn find_delegation(tables: &Tables, stateid: Stateid) -> Option<FoundDelegation<'_>>
+    ensures { option_map found_delegation_seen result
+        ≡ delegation_named_in stateid (state_of tables.now).delegations }
+{
+    let node = tables.opens.find_delegation(stateid)?.node;
+    let state = named_among(tables.opens.delegations_of(node), stateid)?;
+    Some(FoundDelegation { node, state })
+}
+
+// The one of these delegations that the stateid names.
+fn named_among(delegations: &[Delegation], stateid: Stateid) -> Option<&Delegation>
+    ensures { option_copied result ≡ delegation_named_by stateid delegations.now }
+{
+    delegations.iter().find(|d| d.is_named_by(stateid))
 }
 
 /// Whether the owner is known and confirmed.
@@ -206,12 +233,12 @@ pub(crate) fn lock_verdict<'a>(
 }
 
 /// The verdict of an operation that works on delegations alone.
-pub(crate) fn delegation_verdict(
+pub(crate) fn delegation_verdict<'a>(
     tables: &Tables,
     demand: Demand,
     stateid: Stateid,
-    target: Result<Option<Found<'_>>, Refusal>,
-) -> Result<DelegationFound, Refusal>
+    target: Result<Option<Found<'a>>, Refusal>,
+) -> Result<FoundDelegation<'a>, Refusal>
     ensures { delegation_or_refusal_seen result
         ≡ delegation_by demand (state_of tables.now) stateid (target_seen target.entry) }
 {

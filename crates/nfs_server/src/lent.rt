@@ -1,12 +1,15 @@
-ghost use Rattle.std.specs.Prelude.{◌≡◌, ◌^◌, IfOk, IsFalse, ℕ, refl};
-ghost use Rattle.nfs_core.specs.Server.{AreAlike};
+ghost use Rattle.std.specs.Prelude.{◌≡◌, ◌≤◌, ◌↔◌, ◌^◌, IfErr, IfOk, IsFalse, None, Ok, OnErr, ℕ, refl};
+ghost use Rattle.nfs_core.specs.PathMarking.{IsNotMarkedFor, path_of};
+ghost use Rattle.nfs_core.specs.Revoking.{IsNotRevokedFor, IsRevoked, NoneIsDue};
+ghost use Rattle.nfs_core.specs.Server.{AreAlike, Enters};
 ghost use Rattle.nfs_owners.specs.Registry.{is_live};
 ghost use Rattle.nfs_server.specs.Leases.{IsLent};
 ghost use Rattle.nfs_leases.specs.PlainBook.{Happens};
 ghost use Rattle.nfs_leases.specs.Sweeps.{Sweeps, leased_server};
+ghost use Rattle.nfs_state.specs.declared.entry.Entry.TheVariants as entries;
 
 use crate::Service;
-use nfs_core::{Core, Moment};
+use nfs_core::{Core, CoreError, Moment};
 use nfs_leases::{LeasedCore, PlainLeases, Swept, renewal_answer, renewed_client};
 use nfs_state::Request;
 use nfs_xdr::{ClientId, OpResult};
@@ -42,6 +45,13 @@ impl Lent {
         })
     }
 
+    /// The core, to be looked at.
+    pub fn core(&self) -> &Core
+        ensures { result.now ≡ self.now.core }
+    {
+        &self.leased.core
+    }
+
     /// Returns the core.
     pub fn into_core(self) -> Core
         ensures { result ≡ self.core }
@@ -50,12 +60,40 @@ impl Lent {
         leased.into_core()
     }
 
-    /// Removes each client whose lease is over at this moment, with all that it has.
+    /// Removes each client whose lease is over at this moment, with all that it has. Then it revokes the delegations that
+    /// are due, until none is, or there is no room for an entry.
     pub fn sweep(&mut self, now: Moment) -> Swept
         ensures sweeps { Sweeps Happens now (leased_server self.old.core self.old.book) result
             (leased_server self.new.core self.new.book) }
     {
         self.leased.sweep(now)
+    }
+
+    /// Revokes the delegation that is due at `now`, and of those that are due has the least number. Returns its number,
+    /// or None where none is due. Fails where there is no room for an entry; then nothing changes but room, of which
+    /// there isn't less.
+    pub fn revoke(&mut self, now: Moment) -> Result<Option<u32>, CoreError>
+        ensures revoked { IfOk result (IsRevoked self.old.core self.new.core now) }
+        ensures none { (result ≡ Ok None) ↔ NoneIsDue self.old.core now }
+        ensures error { IfErr result (IsNotRevokedFor self.old.core now) }
+        ensures same { OnErr result (AreAlike self.old.core self.new.core) }
+        ensures room { OnErr result (self.old.core.room ≤ self.new.core.room) }
+        ensures book { self.new.book ≡ self.old.book }
+    {
+        self.leased.revoke(now)
+    }
+
+    /// Marks whether callbacks reach the client with this number. Returns the entry's number. Fails if the client isn't
+    /// live, or there is no room for an entry; then nothing changes but room, of which there isn't less.
+    pub fn mark_path(&mut self, client: u32, up: bool) -> Result<u32, CoreError>
+        ensures marks { IfOk result (Enters self.old.core self.new.core
+            (entries.Path (path_of client up))) }
+        ensures error { IfErr result (IsNotMarkedFor self.old.core (path_of client up)) }
+        ensures same { OnErr result (AreAlike self.old.core self.new.core) }
+        ensures room { OnErr result (self.old.core.room ≤ self.new.core.room) }
+        ensures book { self.new.book ≡ self.old.book }
+    {
+        self.leased.mark_path(client, up)
     }
 }
 

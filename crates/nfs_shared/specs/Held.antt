@@ -33,9 +33,12 @@ pub record IsHeld (held : HeldView) : Type 0 where
   -- "the state is what the rules give for its own stored journal from an empty server": the journal that is stored leads
   -- to the state, entry by entry
   pub lawful : IsLawful held.server
-  -- The rest of the sentence, and more: no open may do what another owner's open denies; no byte is held by two lock
-  -- owners, unless both hold it for reading; each open and each lock state, which is what stateids name, is of a known
-  -- owner of a live client. Nothing is delegated yet.
+  -- The rest of the sentence, and more: no open may do what another owner's open denies (`compatible`); no byte is held
+  -- by two lock owners, unless both hold it for reading (`locks_compatible`); no write delegation stands beside another
+  -- client's open or delegation, and no read delegation beside another client's open that may write or denies reading
+  -- (`apart`), where a client has at most one delegation of a file (`one_delegation`); each open and each lock state is
+  -- of a known owner of a live client (`known`, `live`, `lockers_known`, `lockers_live`), and each delegation is of a
+  -- live client (`holders_live`): these three are what stateids name.
   pub safe : IsSafe (meaning held.server.stored)
   -- the leases that are open are those of the live clients
   pub agrees :
@@ -43,6 +46,11 @@ pub record IsHeld (held : HeldView) : Type 0 where
   -- the receipts are for the calls of the journal, each with its number and the place of its seat
   pub places : length held.places ≡ calls_in held.server.journal.entries
   pub receipts : held.receipts ≡ receipts_of 0 held.server.journal.entries held.places
+
+-- the lock may guard this value, in a run with this start: it is one as the lock guards
+pub record CanBeHeld (origin : History) (value : HeldView) : Type 0 where
+  pub held : IsHeld value
+  pub start : start_of value.server.journal ≡ origin
 
 -- As far as the seat can tell, the lock may have guarded this value since the seat's last receipt, in a run with this
 -- start: it is one as the lock guards, and the receipts that the seat knows of begin those that were given.

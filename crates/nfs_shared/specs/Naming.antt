@@ -14,7 +14,7 @@ pub record OpenedView : Type 0 where
   -- the name of the ledger of receipts, and how many workers there are, each of which has a part of it
   pub receipt_ledger : ℕ
   pub workers : ℕ
-  -- the name of the ledger of the entries that sweeps make
+  -- the name of the ledger of the entries that are no calls
   pub sweep_ledger : ℕ
 
 -- what the server was started with: the journal without its entries

@@ -10,7 +10,7 @@ use Rattle.nfs_state.specs.declared.entry.Entry.{Entry}
 abbrev pub calls_in : List Entry → ℕ
 calls_in entries = length (filter_map call_of entries)
 
--- how many of the entries are no calls: so far sweeps alone make such
+-- how many of the entries are no calls: sweeps and marks of paths make such, and nothing else
 abbrev pub others_in : List Entry → ℕ
 others_in entries = length (filter (λ e. is_none (call_of e)) entries)
 

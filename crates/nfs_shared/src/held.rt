@@ -1,16 +1,19 @@
 //! The value that the lock guards, and what is done to it.
-ghost use Rattle.std.specs.Prelude.{◌≡◌, ◌+◌, ◌<◌, ◌≤◌, ◌++◌, ◌∷◌, [], IfNone, IfSome, IsTrue, Option, Some, length, slice_get, vec_capacity, vec_len};
+ghost use Rattle.std.specs.Prelude.{◌≡◌, ◌+◌, ◌<◌, ◌≤◌, ◌++◌, ◌∷◌, [], IfErr, IfNone, IfOk, IfSome, IsTrue, OnErr, OnOk, Option, Some, length, slice_get, vec_capacity, vec_len};
+ghost use Rattle.std.specs.Option.{option_copied};
 ghost use Rattle.nfs_core.specs.Entered.{Answers, number_entered};
-ghost use Rattle.nfs_core.specs.Server.{Applies, IsLawful};
+ghost use Rattle.nfs_core.specs.PathMarking.{IsNotMarkedFor, path_of};
+ghost use Rattle.nfs_core.specs.Server.{Applies, AreAlike, Enters, IsLawful};
 ghost use Rattle.nfs_core.specs.declared.entered.Entered.{Entered};
 ghost use Rattle.nfs_forms.specs.ClientId.{number_in};
 ghost use Rattle.nfs_leases.specs.BookEvent.{AllHappen};
 ghost use Rattle.nfs_leases.specs.BookOf.{events_entered};
-ghost use Rattle.nfs_shared.specs.Held.{MayBeHeld};
+ghost use Rattle.nfs_shared.specs.Held.{CanBeHeld, MayBeHeld};
 ghost use Rattle.nfs_leases.specs.PlainBook.{Happens, has_open_lease, with_renewal};
 ghost use Rattle.nfs_leases.specs.Renewals.{renewed_by};
 ghost use Rattle.nfs_shared.specs.Seats.{Gives, KnowsTheSame, number_given};
 ghost use Rattle.nfs_leases.specs.Sweeps.{Sweeps, leased_server};
+ghost use Rattle.nfs_owners.specs.LiveClients.{IsNextUnknown};
 ghost use Rattle.nfs_state.specs.Entries.{IsFilehandle};
 ghost use Rattle.nfs_state.specs.declared.entry.Call.{Call};
 ghost use Rattle.nfs_state.specs.declared.entry.Entry.TheVariants as entries;
@@ -24,15 +27,16 @@ use crate::register::{Register, give};
 use crate::roll::meet;
 use crate::seat::Seat;
 use crate::sweeper::Sweeper;
-use nfs_core::{Core, Entered, Entry, Moment, lawful_is_safe};
+use nfs_core::{Core, CoreError, Entered, Entry, Moment, lawful_is_safe};
 use nfs_leases::{LeasedCore, PlainLeases, Swept, renewed_client};
+use nfs_owners::ClientState;
 use nfs_state::{Request, SeenCall};
 use nfs_xdr::{ClientId, Op, OpResult, Refusal};
 use std::marker::Model;
 use std::sync::ledger::Book;
 
 /// The core with its journal and the leases of its clients, the register of the receipts for its entries, and the number
-/// of the entries that sweeps made.
+/// of the entries that are no calls.
 #[derive(Drop)]
 pub struct Held<N: Naming> {
     pub(crate) leased: LeasedCore<PlainLeases>,
@@ -46,6 +50,15 @@ impl<N: Naming> Held<N> {
         ensures { result.now ≡ self.now.server }
     {
         &self.leased.core
+    }
+
+    /// What the record of a live client has of whose path to its callbacks nothing is known: of the client with the
+    /// least number above this one, if there is one.
+    pub(crate) fn probe(&self, after: u32) -> Option<&ClientState>
+        ensures next { IsNextUnknown after self.now.server.stored.clients (option_copied result) }
+        ensures known { CanBeHeld N.start self.now }
+    {
+        self.leased.core.probe(after)
     }
 }
 
@@ -158,20 +171,48 @@ fn call_at(core: &Core, number: u32) -> SeenCall
     SeenCall::of(call)
 }
 
-/// Goes through the live clients, and removes each whose lease is over at `now`. No receipt is made: the entries are the
-/// sweeper's.
+/// Goes through the live clients, and removes each whose lease is over at `now`; then takes away each delegation that is
+/// due. No receipt is made: the entries are the sweeper's.
 pub fn sweep_held<N: Naming>(held: &mut Held<N>, sweeper: &mut Sweeper<N>, now: Moment) -> Swept
     ensures sweeps { Sweeps Happens now (leased_server held.old.server held.old.leases) result
         (leased_server held.new.server held.new.leases) }
-    ensures count { sweeper.new.count ≡ sweeper.old.count + result.expired }
+    ensures count { sweeper.new.count ≡ sweeper.old.count + result.expired + result.revoked }
     ensures places { held.new.places ≡ held.old.places }
     ensures receipts { held.new.receipts ≡ held.old.receipts }
 {
     lawful_is_safe();
     let swept = held.leased.sweep(now);
-    held.sweep_count
-        .add(&mut sweeper.share, swept.expired as u64);
+    let entries = swept.expired as u64 + swept.revoked as u64;
+    held.sweep_count.add(&mut sweeper.share, entries);
     swept
+}
+
+/// Marks whether callbacks reach this client, and returns the number of the entry. No receipt is made: the entry is the
+/// sweeper's. What fails changes nothing but room.
+pub fn mark_path_held<N: Naming>(
+    held: &mut Held<N>,
+    sweeper: &mut Sweeper<N>,
+    client: u32,
+    up: bool,
+) -> Result<u32, CoreError>
+    ensures marks { IfOk result
+        (Enters held.old.server held.new.server (entries.Path (path_of client up))) }
+    ensures error { IfErr result (IsNotMarkedFor held.old.server (path_of client up)) }
+    ensures alike { OnErr result (AreAlike held.old.server held.new.server) }
+    ensures count { OnOk result (sweeper.new.count ≡ sweeper.old.count + 1) }
+    ensures same { OnErr result (sweeper.new ≡ sweeper.old) }
+    ensures leases { held.new.leases ≡ held.old.leases }
+    ensures places { held.new.places ≡ held.old.places }
+    ensures receipts { held.new.receipts ≡ held.old.receipts }
+{
+    lawful_is_safe();
+    match held.leased.mark_path(client, up) {
+        Ok(number) => {
+            held.sweep_count.add(&mut sweeper.share, 1);
+            Ok(number)
+        }
+        Err(error) => Err(error),
+    }
 }
 
 /// Renews the lease of this client, if it is open, and returns whether it is. The seat's receipts begin those that were

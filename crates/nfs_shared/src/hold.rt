@@ -1,28 +1,33 @@
 //! A hold of the lock of the shared state, as a value.
-ghost use Rattle.std.specs.Prelude.{◌≡◌, ◌+◌, ◌≤◌, ◌++◌, ◌∷◌, ◌↔◌, [], IfNone, IfSome, IsNone, IsTrue, Option, length};
+ghost use Rattle.std.specs.Prelude.{◌≡◌, ◌+◌, ◌≤◌, ◌++◌, ◌∷◌, ◌↔◌, [], IfErr, IfNone, IfOk, IfSome, IsNone, IsTrue, OnErr, OnOk, Option, length};
+ghost use Rattle.std.specs.Option.{option_copied};
 ghost use Rattle.nfs_core.specs.Entered.{Answers, number_entered};
-ghost use Rattle.nfs_core.specs.Server.{Applies};
+ghost use Rattle.nfs_core.specs.PathMarking.{IsNotMarkedFor, path_of};
+ghost use Rattle.nfs_core.specs.Server.{Applies, AreAlike, Enters};
 ghost use Rattle.nfs_core.specs.declared.entered.Entered.{Entered};
 ghost use Rattle.nfs_forms.specs.ClientId.{number_in};
 ghost use Rattle.nfs_leases.specs.BookEvent.{AllHappen};
 ghost use Rattle.nfs_leases.specs.BookOf.{events_entered};
-ghost use Rattle.nfs_shared.specs.Held.{MayBeHeld};
+ghost use Rattle.nfs_shared.specs.Held.{CanBeHeld, MayBeHeld};
 ghost use Rattle.nfs_leases.specs.PlainBook.{Happens, has_open_lease, with_renewal};
 ghost use Rattle.nfs_leases.specs.Renewals.{renewed_by};
 ghost use Rattle.nfs_shared.specs.Seats.{Gives, KnowsTheSame, number_given};
 ghost use Rattle.nfs_leases.specs.Sweeps.{Sweeps, leased_server};
+ghost use Rattle.nfs_owners.specs.LiveClients.{IsNextUnknown};
 ghost use Rattle.nfs_state.specs.Entries.{IsFilehandle, resource};
+ghost use Rattle.nfs_state.specs.declared.entry.Entry.TheVariants as entries;
 ghost use Rattle.nfs_xdr.specs.Op.{has_entry, opnum_of};
 ghost use Rattle.nfs_xdr.specs.OpResult.{op_result};
 ghost use Rattle.nfs_xdr.specs.Opnum.{answer_limit};
 
-use crate::held::{Held, call_held, renew_held, renew_named, sweep_held};
+use crate::held::{Held, call_held, mark_path_held, renew_held, renew_named, sweep_held};
 use crate::naming::Naming;
 use crate::receipt::Receipt;
 use crate::seat::Seat;
 use crate::sweeper::Sweeper;
-use nfs_core::{Core, Moment};
+use nfs_core::{Core, CoreError, Moment};
 use nfs_leases::Swept;
+use nfs_owners::ClientState;
 use nfs_state::Request;
 use nfs_xdr::{ClientId, Op, OpResult};
 use std::marker::Model;
@@ -48,6 +53,15 @@ impl<'a, N: Naming> Hold<'a, N> {
         ensures { result.now ≡ self.now.server }
     {
         self.guard.core()
+    }
+
+    /// What the record of a live client has of whose path to its callbacks nothing is known: of the client with the
+    /// least number above this one, if there is one.
+    pub fn probe(&self, after: u32) -> Option<&ClientState>
+        ensures next { IsNextUnknown after self.now.server.stored.clients (option_copied result) }
+        ensures known { CanBeHeld N.start self.now }
+    {
+        self.guard.probe(after)
     }
 
     /// Has the core answer a request, as `call_held` does.
@@ -98,14 +112,36 @@ impl<'a, N: Naming> Hold<'a, N> {
         renew_held(&mut *self.guard, seat, moment, client)
     }
 
-    /// Goes through the live clients, and removes each whose lease is over at `now`. The entries are the sweeper's.
+    /// Goes through the live clients, and removes each whose lease is over at `now`; then takes away each delegation that
+    /// is due. The entries are the sweeper's.
     pub fn sweep(&mut self, sweeper: &mut Sweeper<N>, now: Moment) -> Swept
         ensures sweeps { Sweeps Happens now (leased_server self.old.server self.old.leases) result
             (leased_server self.new.server self.new.leases) }
-        ensures count { sweeper.new.count ≡ sweeper.old.count + result.expired }
+        ensures count { sweeper.new.count ≡ sweeper.old.count + result.expired + result.revoked }
         ensures places { self.new.places ≡ self.old.places }
         ensures receipts { self.new.receipts ≡ self.old.receipts }
     {
         sweep_held(&mut *self.guard, sweeper, now)
+    }
+
+    /// Marks whether callbacks reach this client, and returns the number of the entry, which is the sweeper's. What fails
+    /// changes nothing but room.
+    pub fn mark_path(
+        &mut self,
+        sweeper: &mut Sweeper<N>,
+        client: u32,
+        up: bool,
+    ) -> Result<u32, CoreError>
+        ensures marks { IfOk result
+            (Enters self.old.server self.new.server (entries.Path (path_of client up))) }
+        ensures error { IfErr result (IsNotMarkedFor self.old.server (path_of client up)) }
+        ensures alike { OnErr result (AreAlike self.old.server self.new.server) }
+        ensures count { OnOk result (sweeper.new.count ≡ sweeper.old.count + 1) }
+        ensures same { OnErr result (sweeper.new ≡ sweeper.old) }
+        ensures leases { self.new.leases ≡ self.old.leases }
+        ensures places { self.new.places ≡ self.old.places }
+        ensures receipts { self.new.receipts ≡ self.old.receipts }
+    {
+        mark_path_held(&mut *self.guard, sweeper, client, up)
     }
 }

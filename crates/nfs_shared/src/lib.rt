@@ -13,7 +13,7 @@ mod seat;
 mod shared;
 mod sweeper;
 
-pub use held::{Held, call_held, sweep_held};
+pub use held::{Held, call_held, mark_path_held, sweep_held};
 pub use hold::Hold;
 pub use naming::Naming;
 pub use opened::Opened;

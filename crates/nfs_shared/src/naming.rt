@@ -31,7 +31,7 @@ impl<N: Naming> Ledger for ReceiptLedger<N> {
     ghost parts = { N.run.workers };
 }
 
-/// The ledger of the entries that sweeps make in a run, in one part.
+/// The ledger of the entries of a run that are no calls, in one part.
 pub struct SweepLedger<N> {
     run: PhantomData<N>,
 }

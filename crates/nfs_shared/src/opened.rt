@@ -6,7 +6,7 @@ use std::marker::Model;
 use std::sync::ledger::Blank;
 
 /// What a run needs before it has a name: the table of receipts with the writer's token, and two ledgers. That of
-/// receipts is cut into a part for each worker; that of the entries which sweeps make is in one part.
+/// receipts is cut into a part for each worker; that of the entries which are no calls is in one part.
 #[derive(Drop)]
 pub struct Opened {
     pub(crate) roll: Roll,

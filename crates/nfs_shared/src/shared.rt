@@ -1,15 +1,17 @@
 //! The state that threads share, behind one lock.
-ghost use Rattle.std.specs.Prelude.{◌≡◌, ◌+◌, ◌<◌, ◌≤◌, ◌↔◌, [], false, IfOk, IfErr, IfSome, IfNone, IsNone, IsTrue, length, map};
+ghost use Rattle.std.specs.Prelude.{◌≡◌, ◌+◌, ◌<◌, ◌≤◌, ◌↔◌, [], IfOk, IfErr, IfSome, IfNone, IsNone, IsTrue, OnErr, OnOk, length, map};
+ghost use Rattle.nfs_core.specs.PathMarking.{IsNotMarkedFor, path_of};
 ghost use Rattle.nfs_core.specs.Safe.{IsSafe};
 ghost use Rattle.nfs_core.specs.Server.{IsLawful};
 ghost use Rattle.nfs_forms.specs.ClientId.{number_in};
 ghost use Rattle.nfs_shared.specs.Ends.{AreFresh, AreKept, AllStand, AllApart, AllBegin, receipts_in, given_in};
-ghost use Rattle.nfs_shared.specs.Held.{HeldView, MayBeHeld};
+ghost use Rattle.nfs_shared.specs.Held.{CanBeHeld, HeldView, MayBeHeld};
 ghost use Rattle.nfs_shared.specs.Naming.{CanBegin, start_of};
 ghost use Rattle.nfs_leases.specs.PlainBook.{has_open_lease};
 ghost use Rattle.nfs_shared.specs.Receipts.{calls_in, others_in};
 ghost use Rattle.nfs_shared.specs.Roll.{IsOf, IsWriter, list_of, writer_of};
 ghost use Rattle.nfs_shared.specs.Seats.{Gives, KnowsTheSame, fresh};
+ghost use Rattle.nfs_owners.specs.LiveClients.{IsNextUnknown};
 ghost use Rattle.nfs_state.specs.Entries.{IsFilehandle, request_of, resource};
 ghost use Rattle.nfs_state.specs.Stored.{meaning};
 ghost use Rattle.nfs_xdr.specs.Op.{has_entry, opnum_of};
@@ -25,8 +27,9 @@ use crate::register::Register;
 use crate::roll::{Copied, Roll, Token, meet};
 use crate::seat::Seat;
 use crate::sweeper::Sweeper;
-use nfs_core::{Core, Moment};
+use nfs_core::{Core, CoreError, Moment};
 use nfs_leases::{LeasedCore, PlainLeases, Swept};
+use nfs_owners::ClientState;
 use nfs_state::Request;
 use nfs_xdr::{ClientId, Op, OpResult, Principal, Refusal};
 use std::alloc::{AllocError, Global};
@@ -138,13 +141,43 @@ impl<N: Naming> Shared<N> {
         self.hold(rt).renew(seat, moment, client)
     }
 
-    /// Removes each client whose lease is over at this moment, with all that it has, in one hold of the lock.
+    /// Removes each client whose lease is over at this moment, with all that it has, and takes away each delegation that
+    /// is due then, in one hold of the lock.
     pub fn sweep<R: Wait>(&self, rt: &R, sweeper: &mut Sweeper<N>, now: Moment) -> Swept
-        ensures count { sweeper.new.count ≡ sweeper.old.count + result.expired }
-        ensures revoked { result.revoked ≡ 0 }
-        ensures stopped { result.stopped ≡ false }
+        ensures { sweeper.new.count ≡ sweeper.old.count + result.expired + result.revoked }
     {
         self.hold(rt).sweep(sweeper, now)
+    }
+
+    /// Marks whether callbacks reach this client, in one hold of the lock, and returns the number of the entry. It fails,
+    /// and enters nothing, if the client isn't live, the journal is full, or memory ran out. No clause says that the lock
+    /// guarded the value that the failure is of, but that it may have.
+    pub fn mark_path<R: Wait>(
+        &self,
+        rt: &R,
+        sweeper: &mut Sweeper<N>,
+        client: u32,
+        up: bool,
+    ) -> Result<u32, CoreError>
+        ensures count { OnOk result (sweeper.new.count ≡ sweeper.old.count + 1) }
+        ensures same { OnErr result (sweeper.new ≡ sweeper.old) }
+        ensures error { IfErr result (λ e. (held : HeldView) × CanBeHeld N.start held
+            × IsNotMarkedFor held.server (path_of client up) e) }
+    {
+        self.hold(rt).mark_path(sweeper, client, up)
+    }
+
+    /// A copy of what the record of a live client has of whose path to its callbacks nothing is known: of the client with
+    /// the least number above this one, if there is one. It fails only where memory is refused for the copy. No clause
+    /// says that the lock guarded the value that answers, but that it may have.
+    pub fn probe<R: Wait>(&self, rt: &R, after: u32) -> Result<Option<ClientState>, AllocError>
+        ensures { IfOk result (λ found. (held : HeldView) × CanBeHeld N.start held
+            × IsNextUnknown after held.server.stored.clients found) }
+    {
+        match self.hold(rt).probe(after) {
+            Some(client) => Ok(Some(client.clone()?)),
+            None => Ok(None),
+        }
     }
 
     /// The core, once the workers and the sweeper have ended. `receipts` has for each seat those that it was given, in

@@ -2,8 +2,8 @@ use crate::naming::{Naming, SweepLedger};
 use std::marker::Model;
 use std::sync::ledger::Share;
 
-/// Who sweeps. There is one in a run, and besides calls nothing else makes an entry of the journal. Contracts see how
-/// many entries came by it.
+/// Who sweeps, and who marks paths. There is one in a run, and besides calls nothing else makes an entry of the journal.
+/// Contracts see how many entries came by it.
 #[derive(Drop)]
 pub struct Sweeper<N: Naming> {
     pub(crate) share: Share<SweepLedger<N>>,

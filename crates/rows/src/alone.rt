@@ -12,7 +12,7 @@ use crate::order::Order;
 use crate::outcome::{BatchOutcome, ConnectionOutcome};
 use crate::session::Session;
 use crate::sweeping::Sweeps;
-use nfs_core::Core;
+use nfs_core::{Core, CoreError, Moment};
 use nfs_server::{Lent, serve_duplex};
 use nfs_tree::Tree;
 use std::alloc::Global;
@@ -56,8 +56,16 @@ impl Alone<'_> {
         match order {
             Order::Serve(batch) => self.serve(batch)?.put(answer)?,
             Order::Sweep(now) => answer.put_swept(self.lent.sweep(now))?,
+            Order::Mark(mark) => answer.put_marked(self.lent.mark_path(mark.client, mark.is_up))?,
+            Order::Revoke(now) => answer.put_revoked(self.revoke(now))?,
         }
         Ok(())
+    }
+
+    // The number of the entry, if a delegation was due.
+    fn revoke(&mut self, now: Moment) -> Result<Option<usize>, CoreError> {
+        let entry = self.lent.core().journal().entries().len();
+        Ok(self.lent.revoke(now)?.map(|_| entry))
     }
 
     fn serve(&mut self, batch: Batch) -> Result<BatchOutcome, Failure> {

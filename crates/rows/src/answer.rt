@@ -1,5 +1,5 @@
 use crate::failure::Failure;
-use nfs_core::Journal;
+use nfs_core::{CoreError, Journal};
 use nfs_journal::write_journal;
 use nfs_leases::Swept;
 use std::alloc::{AllocError, Global};
@@ -47,7 +47,7 @@ impl Answer {
         Ok(())
     }
 
-    /// How many clients a sweep treated in which way.
+    /// How many clients a sweep treated in which way, and how many delegations it revoked.
     pub(crate) fn put_swept(&mut self, swept: Swept) -> Result<(), AllocError> {
         self.put_word(swept.expired)?;
         self.put_word(swept.kept)?;
@@ -55,6 +55,29 @@ impl Answer {
         self.put_word(swept.refused)?;
         self.put_word(swept.revoked)?;
         self.put_word(swept.stopped as u32)
+    }
+
+    /// Why a path wasn't marked, or 0.
+    pub(crate) fn put_marked(&mut self, marked: Result<u32, CoreError>) -> Result<(), AllocError> {
+        match marked {
+            Ok(_) => self.put_word(0),
+            Err(error) => self.put_word(error.number()),
+        }
+    }
+
+    /// Why a delegation that is due wasn't revoked, or 0; how many were; and the number of the entry, or 0.
+    pub(crate) fn put_revoked(
+        &mut self,
+        revoked: Result<Option<usize>, CoreError>,
+    ) -> Result<(), AllocError> {
+        let (error, count, entry) = match revoked {
+            Ok(Some(entry)) => (0, 1, entry),
+            Ok(None) => (0, 0, 0),
+            Err(error) => (error.number(), 0, 0),
+        };
+        self.put_word(error)?;
+        self.put_word(count)?;
+        self.put_count(entry)
     }
 
     /// The file of the journal, behind its length.

@@ -27,11 +27,7 @@ impl Batch {
         let start = input.moment()?;
         let pace = input.word()?;
         let piece = input.word()?;
-        let is_swept = match input.word()? {
-            0 => false,
-            1 => true,
-            _ => return Err(Failure::Input),
-        };
+        let is_swept = input.flag()?;
         let count = input.word()?;
         let mut connections = Vec::new(alloc);
         for _ in 0..count {

@@ -36,6 +36,15 @@ impl<R: Read + Drop> Input<R> {
         Ok(u32::from_be_bytes(bytes))
     }
 
+    /// A word that says yes, by 1, or no, by 0.
+    pub(crate) fn flag(&mut self) -> Result<bool, Failure> {
+        match self.word()? {
+            0 => Ok(false),
+            1 => Ok(true),
+            _ => Err(Failure::Input),
+        }
+    }
+
     /// Bytes behind their length.
     pub(crate) fn part(&mut self) -> Result<Vec<u8>, Failure> {
         let len = self.word()?;

@@ -10,8 +10,19 @@ use std::io::Read;
 pub(crate) enum Order {
     /// To serve these connections.
     Serve(Batch),
-    /// To look through the leases, as at this moment.
+    /// To look through the leases and the delegations, as at this moment.
     Sweep(Moment),
+    /// To say of a client whether callbacks reach it.
+    Mark(Mark),
+    /// To revoke a delegation that is due, as at this moment.
+    Revoke(Moment),
+}
+
+/// Whether callbacks reach the client with this number.
+#[derive(Clone, Copy, Debug)]
+pub(crate) struct Mark {
+    pub(crate) client: u32,
+    pub(crate) is_up: bool,
 }
 
 impl Order {
@@ -24,7 +35,17 @@ impl Order {
             None => Ok(None),
             Some(1) => Ok(Some(Order::Serve(Batch::read(alloc, input)?))),
             Some(2) => Ok(Some(Order::Sweep(input.moment()?))),
+            Some(3) => Ok(Some(Order::Mark(Mark::read(input)?))),
+            Some(4) => Ok(Some(Order::Revoke(input.moment()?))),
             Some(_) => Err(Failure::Input),
         }
+    }
+}
+
+impl Mark {
+    fn read<R: Read + Drop>(input: &mut Input<R>) -> Result<Mark, Failure> {
+        let client = input.word()?;
+        let is_up = input.flag()?;
+        Ok(Mark { client, is_up })
     }
 }

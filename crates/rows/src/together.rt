@@ -14,7 +14,7 @@ use crate::calls::Calls;
 use crate::connection::Connection;
 use crate::failure::Failure;
 use crate::memory_link::MemoryLink;
-use crate::order::Order;
+use crate::order::{Mark, Order};
 use crate::outcome::{BatchOutcome, ConnectionOutcome};
 use crate::rising::Rising;
 use crate::seats_back::SeatsBack;
@@ -22,7 +22,7 @@ use crate::session::Session;
 use crate::sweeping::Sweeps;
 use crate::workers::Workers;
 use crate::yielding::Yielding;
-use nfs_core::{Core, Moment};
+use nfs_core::{Core, CoreError, Moment};
 use nfs_leases::Swept;
 use nfs_server::ServeError;
 use nfs_shared::{Naming, Opened, Receipt, Seat, Shared, Sweeper};
@@ -165,6 +165,13 @@ impl<'a, N: Naming + Send + Sync, R: Threads + Wait + Sync> Together<'a, N, R> {
                 answer.put_swept(server.sweep(now))?;
                 Ok(server)
             }
+            Order::Mark(mark) => {
+                let mut server = self;
+                answer.put_marked(server.mark(mark))?;
+                Ok(server)
+            }
+            // No call of the shared state revokes alone: its sweeps do.
+            Order::Revoke(_) => Err(Failure::Input),
         }
     }
 
@@ -201,6 +208,13 @@ impl<'a, N: Naming + Send + Sync, R: Threads + Wait + Sync> Together<'a, N, R> {
         self.workers
             .shared
             .sweep(self.workers.rt, &mut self.sweeper, now)
+    }
+
+    fn mark(&mut self, mark: Mark) -> Result<u32, CoreError> {
+        let Mark { client, is_up } = mark;
+        self.workers
+            .shared
+            .mark_path(self.workers.rt, &mut self.sweeper, client, is_up)
     }
 }
 

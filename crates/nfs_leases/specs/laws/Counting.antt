@@ -1,8 +1,9 @@
--- How many clients a sweep ends, and how many entries it makes.
+-- How many clients a sweep ends, how many delegations it revokes, and how many entries it makes.
 use Rattle.std.proofs.Common.{◌≡◌, ℕ, ◌+◌, List, [], ◌∷◌, ◌++◌, length, refl, ap, arith, length-append}
+use Rattle.std.proofs.lemmas.List.{length-map}
 use Rattle.nfs_core.specs.Expiry.{expire_of}
 use Rattle.nfs_leases.specs.BookEvent.{BookEvent, Look, Renew, Close, Open, Retire}
-use Rattle.nfs_leases.specs.Sweeps.{events_of_all, tally}
+use Rattle.nfs_leases.specs.Sweeps.{entries_of_sweep, events_of_all, none_swept, revocations, tally}
 use Rattle.nfs_leases.specs.Visit.{Visit, events_by, events_of, expiries, with_case}
 use Rattle.nfs_leases.specs.declared.visit_case.VisitCase.{VisitCase}
 use Rattle.nfs_leases.specs.declared.visit_case.VisitCase.TheVariants as cases
@@ -39,3 +40,24 @@ expired_tally now swept (t ∷ visits) =
     let rest = expired_tally now (with_case swept t.case) visits in
     let both = ap (λ (es : List Entry). length es) (expiries_more (events_of now t) (events_of_all now visits)) in
     omega (arith, here, rest, both, length-append (expiries (events_of now t)) (expiries (events_of_all now visits)))
+
+-- each delegation that is revoked has its entry
+pub revoked_entries : (now : ℕ) (numbers : List ℕ) → length (revocations now numbers) ≡ length numbers
+revoked_entries now numbers = length-map numbers _
+
+-- A sweep that is counted so makes as many entries as clients ended and delegations were revoked.
+pub sweep_tally : (now : ℕ) (visits : List Visit) (numbers : List ℕ) (swept : Swept)
+    → swept ≡ record (tally none_swept visits) {
+      revoked = length numbers;
+      stopped = swept.stopped;
+    }
+    → swept.expired + swept.revoked ≡ length (entries_of_sweep now visits numbers)
+sweep_tally now visits numbers swept counts =
+    omega (
+      arith,
+      ap (λ (s : Swept). s.expired) counts,
+      ap (λ (s : Swept). s.revoked) counts,
+      expired_tally now none_swept visits,
+      revoked_entries now numbers,
+      length-append (expiries (events_of_all now visits)) (revocations now numbers),
+    )

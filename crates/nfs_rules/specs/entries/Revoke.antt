@@ -14,8 +14,8 @@ use Rattle.nfs_state.specs.declared.entry.Revoke.{Revoke}
 abbrev pub IsNoneBefore : History → Revoke → Delegation → Type 0
 IsNoneBefore journal revoke d = IsTrue (is_due journal.lease revoke.now d) → revoke.number ≤ d.number
 
--- In this state, after this journal, the delegation may be taken away, with this effect: it is due, and of those that are
--- due it has the least number.
+-- In this state, after this journal, the delegation may be taken away, with this effect: it is due, and of those that
+-- are due it has the least number.
 pub record IsRevocation (journal : History) (state : State) (revoke : Revoke)
     (effect : Effect) : Type 0 where
   pub at : DelegationAt

@@ -81,7 +81,8 @@ unless_denied state owner share node =
     if is_refused owner share (opens_of node state.opens) then Err refusals.ShareDenied
     else Ok (record { node = node; share = share })
 
--- What an OPEN under this current filehandle opens, or the first of its refusals.
+-- What an OPEN under this current filehandle opens, or the first of its refusals, before delegations and limits are
+-- looked at.
 abbrev pub opening : History → State → ℕ → Open → Result Opening Refusal
 opening journal state directory args =
     name_of args.claim >>= λ name.
@@ -91,7 +92,7 @@ opening journal state directory args =
     claimed journal state args.owner.client args.claim file >>= λ node.
     unless_denied state args.owner share node
 
--- an OPEN that is refused changes nothing
+-- an OPEN with one of these refusals changes nothing
 abbrev pub refused : Refusal → Ruling
 refused refusal = record { answer = results.Open (Refused refusal); change = Nothing }
 
@@ -102,7 +103,7 @@ delayed moment client o = record {
   change = Recalls o.node client o.share moment;
 }
 
--- what an OPEN of the client opens, unless a delegation of another client is in the way (section 10.4.4)
+-- what an OPEN of the client opens, unless a delegation of another client is in the way (RFC 7530, section 10.4.4)
 abbrev pub unless_lent : State → ℕ → ClientId → Opening → Result Opening Ruling
 unless_lent state moment client o =
     if list_any (conflicts client (uses.Open o.share)) (delegations_of o.node state.delegations)

@@ -1,7 +1,7 @@
 -- How an OPEN without a refusal is granted; used only in the contracts of this crate's own functions.
 use Rattle.std.specs.Prelude.{ℕ, true, ◌&&◌, [], Option, Some, None, if◌then◌else◌}
 use Rattle.nfs_state.specs.Places.{has_state_place}
-use Rattle.nfs_rules.specs.Lending.{delegation_with, has_lending_place, lending_number}
+use Rattle.nfs_rules.specs.Lending.{delegation_with, lending_number}
 use Rattle.nfs_rules.specs.declared.passage.Passage.{Passage}
 use Rattle.nfs_rules.specs.operations.Open.{has_open, has_open_place, has_owner_place, has_places, rflags_of, stateid_after}
 use Rattle.nfs_state.specs.State.{State}
@@ -33,8 +33,10 @@ abbrev pub opened : Passage → State → OpenOwner → ℕ → Option Delegatio
     → Option (Stateid × OpenDelegation)
 opened passage state owner node kind =
     if has_places state passage owner node kind
-    then Some (stateid_after state owner (open_of owner (opens_of node state.opens)),
-    delegation_with (lending_number state (has_open state owner node)) owner.client kind)
+    then Some (
+      stateid_after state owner (open_of owner (opens_of node state.opens)),
+      delegation_with (lending_number state (has_open state owner node)) owner.client kind,
+    )
     else None
 
 -- the answer to an OPEN that is granted with this stateid and this delegation

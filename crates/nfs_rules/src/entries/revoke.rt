@@ -10,15 +10,21 @@ use nfs_state::{Change, Effect, Revoke, Store};
 /// The effect of a delegation's end, if it is the next one to be taken away; `None` otherwise.
 pub fn revoke(store: &Store, revoke: &Revoke) -> Option<Effect>
     ensures revocation { IfSome result (λ effect.
-        IsRevocation store.now.journal.history (state_of store.now.tables) revoke.now effect) }
+        IsRevocation store.now.journal.history (state_of store.now.tables) revoke.entry.now effect) }
     ensures none { IfNone result ((effect : Effect)
-        → IsRevocation store.now.journal.history (state_of store.now.tables) revoke.now effect → ⊥) }
+        → IsRevocation store.now.journal.history (state_of store.now.tables) revoke.entry.now effect → ⊥) }
 {
+    let lease = store.journal.lease();
+    let next = store.tables.opens.next_due(0, lease, revoke.now)?;
+    if next.state.number != revoke.number {
+        return None;
+    }
     let found = store.tables.opens.delegation_numbered(revoke.number)?;
-    let next = store.tables.opens.next_due(0, store.journal.lease(), revoke.now)?;
-    (next.state.number == revoke.number && found.state.is_due(store.journal.lease(), revoke.now))
-        .then(|| Effect::change_alone(Change::Returns {
-            node: found.node,
-            number: revoke.number,
-        }))
+    if !found.state.is_due(lease, revoke.now) {
+        return None;
+    }
+    Some(Effect::change_alone(Change::Returns {
+        node: found.node,
+        number: revoke.number,
+    }))
 }

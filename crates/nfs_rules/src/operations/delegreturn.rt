@@ -1,14 +1,13 @@
 ghost use Rattle.std.specs.Prelude.{◌≡◌};
 ghost use Rattle.nfs_rules.specs.Deciding.{Decides};
 ghost use Rattle.nfs_rules.specs.Finding.{delegation_or_refusal_seen};
-ghost use Rattle.nfs_rules.specs.operations.Delegreturn.{delegation_at, rule};
+ghost use Rattle.nfs_rules.specs.operations.Delegreturn.{delegation_at, returning, rule};
 ghost use Rattle.nfs_state.specs.Room.{state_of};
 
 use crate::decision::Decision;
 use crate::demand::Demand;
-use crate::stateids::{delegation_verdict, target_of};
+use crate::stateids::{FoundDelegation, delegation_verdict, target_of};
 use nfs_operations::delegreturn::Delegreturn;
-use nfs_share::DelegationFound;
 use nfs_state::{Change, Effect, Shortage, Store};
 use nfs_xdr::{Answer, Op, OpResult, Refusal};
 
@@ -21,7 +20,14 @@ pub(super) fn decide(
     ensures { Decides (λ d. d ≡ rule store.now.journal.history (state_of store.now.tables)
         filehandle args.now) (state_of store.now.tables) (Op.Delegreturn args.now) result }
 {
-    Ok(match delegation_at(store, filehandle, args) {
+    Ok(returning(delegation_at(store, filehandle, args)))
+}
+
+// The delegation that is given back goes.
+fn returning(found: Result<FoundDelegation<'_>, Refusal>) -> Decision
+    ensures { result ≡ returning (delegation_or_refusal_seen found.entry) }
+{
+    match found {
         Err(refusal) => Decision {
             answer: OpResult::Delegreturn(Answer::Refused(refusal)),
             effect: Effect::change_alone(Change::Nothing),
@@ -33,19 +39,24 @@ pub(super) fn decide(
                 number: found.state.number,
             }),
         },
-    })
+    }
 }
 
 // The delegation that is given back, or the first refusal.
-fn delegation_at(
-    store: &Store,
+fn delegation_at<'a>(
+    store: &'a Store,
     filehandle: Option<u32>,
     args: &Delegreturn,
-) -> Result<DelegationFound, Refusal>
+) -> Result<FoundDelegation<'a>, Refusal>
     ensures { delegation_or_refusal_seen result ≡ delegation_at store.now.journal.history
         (state_of store.now.tables) filehandle args.now }
 {
     let node = filehandle.ok_or(Refusal::NoFileHandle)?;
     let target = target_of(&store.tables, store.journal.epoch(), args.stateid);
-    delegation_verdict(&store.tables, Demand::delegation(node), args.stateid, target)
+    delegation_verdict(
+        &store.tables,
+        Demand::delegation(node),
+        args.stateid,
+        target,
+    )
 }

@@ -77,7 +77,10 @@ fn unless_lent(
 ) -> Result<Opening, Ruling>
     ensures { result ≡ unless_lent (state_of tables.now) moment client opening }
 {
-    if tables.opens.conflicts(opening.node, client, FileUse::Open(opening.share)) {
+    if tables
+        .opens
+        .conflicts(opening.node, client, FileUse::Open(opening.share))
+    {
         return Err(delayed(moment, client, opening));
     }
     Ok(opening)
@@ -209,11 +212,12 @@ fn grant(
     let Some((stateid, delegation)) = opened else {
         return Err(Shortage::Limit);
     };
+    let owner = args.owner.clone()?;
     Ok(Ruling {
         answer: ok_answer(alloc, passage, stateid, delegation),
         change: Change::Opens {
             node: opening.node,
-            owner: args.owner.clone()?,
+            owner,
             share: opening.share,
             delegation: kind,
         },

@@ -20,3 +20,13 @@ pub returns-in-Expire-clause-not_next : goal.returns-in-Expire-clause-not_next
 returns-in-Expire-clause-not_next c is new step =
     let before : Entry → Type 0 = λ e. Step c.args.store.now.journal.history (state_of c.args.store.now.tables) e new in
     c.effect_of_expire.ensures.not_next is new (subst before (search rules) step)
+
+pub returns-in-Revoke-clause-not_next : goal.returns-in-Revoke-clause-not_next
+returns-in-Revoke-clause-not_next c is new step =
+    let before : Entry → Type 0 = λ e. Step c.args.store.now.journal.history (state_of c.args.store.now.tables) e new in
+    c.effect_of_revoke.ensures.not_next is new (subst before (search rules) step)
+
+pub returns-in-Path-clause-not_next : goal.returns-in-Path-clause-not_next
+returns-in-Path-clause-not_next c is new step =
+    let before : Entry → Type 0 = λ e. Step c.args.store.now.journal.history (state_of c.args.store.now.tables) e new in
+    c.effect_of_path.ensures.not_next is new (subst before (search rules) step)

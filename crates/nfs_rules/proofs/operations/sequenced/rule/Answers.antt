@@ -1,4 +1,4 @@
-use Rattle.std.proofs.Common.{Ok, subst}
+use Rattle.std.proofs.Common.{Ok, refl, subst}
 use Rattle.nfs_rules.specs.Deciding.{IsTargetOf}
 use Rattle.nfs_rules.specs.Finding.{target_seen}
 use Rattle.nfs_rules.proofs.Sequenced.{rules_of}
@@ -14,7 +14,7 @@ returns-in-Open c =
     let state = state_of c.args.store.now.tables in
     let request = c.args.request.now in
     let turn = c.args.turn in
-    rules_of request.op (ops.Open c.in-Open.args) journal state request turn.node turn.passage c.rule.result c.in-Open.is (c.rule.ensures.rules request)
+    rules_of request.op (ops.Open c.in-Open.args) journal state request turn.node turn.passage c.rule.result c.in-Open.is (c.rule.ensures.rules request refl)
 
 pub returns-in-OpenConfirm : goal.returns-in-OpenConfirm
 returns-in-OpenConfirm c =

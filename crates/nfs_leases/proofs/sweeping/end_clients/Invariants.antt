@@ -4,7 +4,7 @@ use Rattle.nfs_core.specs.Server.{IsLawful}
 use Rattle.nfs_leases.specs.BookOf.{IsBookOf}
 use Rattle.nfs_leases.specs.Visit.{Visit}
 use Rattle.nfs_leases.proofs.Comes.{Comes}
-use Rattle.nfs_leases.proofs.sweeping.sweep_core.Given as goal
+use Rattle.nfs_leases.proofs.sweeping.end_clients.Given as goal
 use Rattle.nfs_state.specs.Stored.{meaning}
 
 -- how far the next client is from the last number that there may be

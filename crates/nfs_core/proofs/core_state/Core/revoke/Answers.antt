@@ -1,0 +1,23 @@
+use Rattle.std.proofs.Common.{◌≡◌, ◌↔◌, ℕ, None, Ok, Option, Result, subst}
+use Rattle.nfs_core.proofs.Journals.{Lawful-revoked}
+use Rattle.nfs_core.proofs.Storing.{store_agrees}
+use Rattle.nfs_core.proofs.core_state.Core.revoke.Goals as goal
+use Rattle.nfs_core.specs.Revoking.{NoneIsDue}
+use Rattle.nfs_core.specs.Server.{Server}
+use Rattle.nfs_core.specs.declared.core_error.CoreError.{CoreError}
+
+pub enter_revocation-requires-clause-stored : goal.enter_revocation-requires-clause-stored
+enter_revocation-requires-clause-stored c =
+    store_agrees c.lawful_is_safe.ensures.safe c.self.inside.store c.self.invariant.0 c.self.invariant.1
+
+pub invariant_of-self : goal.invariant_of-self
+invariant_of-self c =
+    (Lawful-revoked c.self.inside.store c.enter_revocation.new.store c.args.now c.enter_revocation.result c.self.invariant.0 c.enter_revocation.ensures.revoked c.enter_revocation.ensures.same, c.enter_revocation.ensures.kept)
+
+pub returns-clause-lawful : goal.returns-clause-lawful
+returns-clause-lawful c = (invariant_of-self c).0
+
+pub returns-clause-none : goal.returns-clause-none
+returns-clause-none c =
+    let none : Result (Option ℕ) CoreError = Ok None in
+    subst (λ (s : Server). (c.enter_revocation.result ≡ none) ↔ NoneIsDue s c.args.now) c.self.view_is c.enter_revocation.ensures.none
