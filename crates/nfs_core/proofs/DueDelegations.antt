@@ -244,9 +244,9 @@ pub full_alone : (journal : History) (old : State) (revoke : Revoke) → (effect
 full_alone journal old revoke may none = elim (cases_Bool (nat_le JOURNAL_LIMIT (length journal.entries))) [
   | inl full ↦ leb-true JOURNAL_LIMIT (length journal.entries) full
   | inr below ↦ absurd (none (after (length journal.entries) (entries.Revoke revoke) may.0 old) (record {
-      below = leb-false JOURNAL_LIMIT (length journal.entries) below;
-      effect = may.0;
-      allowed = may.1;
-      state = refl;
-    }))
+    below = leb-false JOURNAL_LIMIT (length journal.entries) below;
+    effect = may.0;
+    allowed = may.1;
+    state = refl;
+  }))
 ]

@@ -143,7 +143,7 @@ impl Core {
         }
     }
 
-    /// Makes room for one more entry, so that `expire` takes no memory where it comes next.
+    /// Makes room for one more entry, so that `expire`, `revoke` or `mark_path` takes no memory where it comes next.
     pub fn prepare(&mut self) -> Result<(), CoreError>
         ensures same { AreAlike self.old self.new }
         ensures room { OnOk result ((0 < self.new.room)
@@ -175,9 +175,9 @@ impl Core {
     }
 
     /// Takes away the delegation with the least number of those that are due at `now`: called back more than a lease
-    /// before, and not given back. Enters that in the journal, and returns the delegation's number; `None` where none is
-    /// due. Fails only where one is due, with Full before Memory, and so changes nothing but room, of which there isn't
-    /// less.
+    /// before, and not given back. Enters that in the journal, and returns the delegation's number; `None` where none
+    /// is due. Fails only where one is due, with Full before Memory, and so changes nothing but room, of which there
+    /// isn't less.
     pub fn revoke(&mut self, now: Moment) -> Result<Option<u32>, CoreError>
         ensures revoked { IfOk result (IsRevoked self.old self.new now) }
         ensures none { result ≡ Ok None ↔ NoneIsDue self.old now }
@@ -207,9 +207,9 @@ impl Core {
     }
 
     /// Enters an entry that is handed in, such as one of another server's journal, if it may come next: it is judged as
-    /// `apply` and `expire` would make it. Returns the entry's number. Fails with NotNext only if the entry may not come
-    /// next, and with Memory only if it may as far as it is judged without a call's answer. What fails changes nothing
-    /// but room, of which there isn't less.
+    /// `apply`, `expire`, `revoke` and `mark_path` would make it. Returns the entry's number. Fails with NotNext only
+    /// if the entry may not come next, and with Memory only if it may as far as it is judged without a call's answer.
+    /// What fails changes nothing but room, of which there isn't less.
     pub fn follow(&mut self, entry: Entry) -> Result<u32, FollowError>
         ensures entered { IfOk result (Enters self.old self.new entry) }
         ensures not_next { IsErrOf result FollowError.NotNext

@@ -44,8 +44,8 @@ pub fn lawful_is_safe()
 }
 
 /// The law of how entries change which clients are live: as their effects say. One becomes so by its confirmation, and once
-/// at most; one that is live stays so until a confirmation replaces it or it ends. The end of a delegation and a mark of a
-/// path leave all clients as they are.
+/// at most; one that is live stays so until a confirmation replaces it or it ends. The end of a delegation and a mark
+/// of a path leave all clients as they are.
 pub fn live_clients_follow()
     ensures effects { EffectsFollow }
     ensures calls { CallsFollow }

@@ -15,9 +15,9 @@ use crate::CoreError;
 use nfs_state::{Effect, Entry, Moment, Revoke, Store, commit_entry};
 use std::alloc::Global;
 
-/// Takes away the delegation with the least number of those that are due at this moment, enters that in the journal, and
-/// returns the delegation's number; `None` where none is due. What fails changes nothing but room, of which there isn't
-/// less.
+/// Takes away the delegation with the least number of those that are due at this moment, enters that in the journal,
+/// and returns the delegation's number; `None` where none is due. What fails changes nothing but room, of which there
+/// isn't less.
 pub(crate) fn enter_revocation(
     alloc: Global,
     store: &mut Store,
@@ -45,8 +45,8 @@ pub(crate) fn enter_revocation(
     }
 }
 
-// The end of the delegation with the least number of those that are due at this moment, if one is. It may come next unless
-// the journal is full.
+// The end of the delegation with the least number of those that are due at this moment, if one is. It may come next
+// unless the journal is full.
 fn next_revocation(store: &Store, now: Moment) -> Option<Revoke>
     requires { IsSafe (state_of store.now.tables) }
     ensures next { IfSome result (λ revoke. (revoke.now ≡ now) × ((effect : Effect)

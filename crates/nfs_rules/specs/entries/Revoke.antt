@@ -12,7 +12,8 @@ use Rattle.nfs_state.specs.declared.entry.Revoke.{Revoke}
 
 -- the delegation isn't due, or has no lesser number than the one that is revoked
 abbrev pub IsNoneBefore : History → Revoke → Delegation → Type 0
-IsNoneBefore journal revoke d = IsTrue (is_due journal.lease revoke.now d) → revoke.number ≤ d.number
+IsNoneBefore journal revoke d =
+    IsTrue (is_due journal.lease revoke.now d) → revoke.number ≤ d.number
 
 -- In this state, after this journal, the delegation may be taken away, with this effect: it is due, and of those that
 -- are due it has the least number.

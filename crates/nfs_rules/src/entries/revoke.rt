@@ -7,12 +7,14 @@ ghost use Rattle.nfs_state.specs.declared.effect.Effect.{Effect};
 
 use nfs_state::{Change, Effect, Revoke, Store};
 
-/// The effect of a delegation's end, if it is the next one to be taken away; `None` otherwise.
+/// The effect of a delegation's end, if it is due and of those that are due the one with the least number.
 pub fn revoke(store: &Store, revoke: &Revoke) -> Option<Effect>
     ensures revocation { IfSome result (λ effect.
-        IsRevocation store.now.journal.history (state_of store.now.tables) revoke.entry.now effect) }
+        IsRevocation store.now.journal.history (state_of store.now.tables) revoke.entry.now
+        effect) }
     ensures none { IfNone result ((effect : Effect)
-        → IsRevocation store.now.journal.history (state_of store.now.tables) revoke.entry.now effect → ⊥) }
+        → IsRevocation store.now.journal.history (state_of store.now.tables) revoke.entry.now
+        effect → ⊥) }
 {
     let lease = store.journal.lease();
     let next = store.tables.opens.next_due(0, lease, revoke.now)?;

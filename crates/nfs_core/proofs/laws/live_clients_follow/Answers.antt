@@ -1,11 +1,13 @@
 use Rattle.nfs_core.proofs.laws.live_clients_follow.Goals as goal
-use Rattle.nfs_core.proofs.LiveLaws.{Calls-follow, Effects-follow, Ends-follow}
+use Rattle.nfs_core.proofs.LiveLaws.{Calls-follow, Effects-follow, Ends-follow, Paths-follow, Revocations-follow}
 use Rattle.nfs_core.proofs.Safety.{Laws}
 
 pub returns : goal.returns
 returns c =
     let opens = c.opens_stay_compatible.ensures in
     let locks = c.locks_stay_compatible.ensures in
+    let apart = c.delegations_stay_apart.ensures in
+    let single = c.delegations_stay_single.ensures in
     let laws : Laws = record {
       opens = record {
         try_open = opens.try_open;
@@ -14,6 +16,22 @@ returns c =
         removal = opens.removal;
       };
       locks = record { begin = locks.begin; change = locks.change; removal = locks.removal };
+      apart = record {
+        try_open = apart.try_open;
+        advance = apart.advance;
+        downgrade = apart.downgrade;
+        removal = apart.removal;
+        recall = apart.recall;
+        give_back = apart.give_back;
+        lend = apart.lend;
+      };
+      single = record { recall = single.recall; give_back = single.give_back; lend = single.lend };
       runs = c.first_change_has_place.ensures;
     } in
-    record { effects = Effects-follow laws; calls = Calls-follow laws; ends = Ends-follow laws }
+    record {
+      effects = Effects-follow laws;
+      calls = Calls-follow laws;
+      ends = Ends-follow laws;
+      revocations = Revocations-follow;
+      paths = Paths-follow c.marks_keep_clients.ensures;
+    }
