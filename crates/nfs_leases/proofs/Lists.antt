@@ -8,14 +8,13 @@ use Rattle.nfs_leases.specs.BookEvent.{BookEvent, AllHappen}
 use Rattle.nfs_leases.specs.laws.Counting.{expiries_more}
 use Rattle.nfs_leases.specs.laws.Gaining.{append-nil, gains_more, gains_none, states_more}
 use Rattle.nfs_leases.specs.Sweeps.{is_of, Ascend, AreVisits, IsVisit, events_of_all, tally}
-use Rattle.nfs_leases.specs.Visit.{Gains, Visit, events_of, expiries, total, with_case, with_entries}
+use Rattle.nfs_leases.specs.Visit.{Gains, Visit, events_of, expiries, total, with_case}
 use Rattle.nfs_leases.specs.declared.visit_case.VisitCase.{VisitCase}
 use Rattle.nfs_leases.specs.declared.visit_case.VisitCase.TheVariants as cases
 use Rattle.nfs_leases.specs.declared.swept.Swept.{Swept}
-use Rattle.nfs_state.specs.State.{History, State, empty_server}
+use Rattle.nfs_state.specs.State.{History, empty_server}
 use Rattle.nfs_state.specs.Stored.{meaning}
 use Rattle.nfs_state.specs.declared.entry.Entry.{Entry}
-use Rattle.nfs_state.specs.declared.entry.Entry.TheVariants as entries
 
 -- calls that lead to a book, and more that lead on from it
 pub happen_more : {Book : Type 0} (happens : Book → BookEvent → Book → Type 0) (old mid new : Book)

@@ -1,19 +1,18 @@
 -- Delegations that are revoked, one after another.
-use Rattle.std.proofs.Common.{◌≡◌, ℕ, ◌+◌, ◌-◌, ◌<◌, List, [], ◌∷◌, ◌++◌, length, Bool, true, false, None, Some, refl, sym, ap, subst, ◌∙◌, arith, length-append}
+use Rattle.std.proofs.Common.{◌≡◌, ℕ, ◌-◌, ◌<◌, List, [], ◌∷◌, ◌++◌, length, true, false, None, Some, refl, sym, ap, subst, ◌∙◌, arith, length-append}
 use Rattle.std.proofs.lemmas.List.{map-append}
-use Rattle.nfs_core.specs.Expiry.{IsWithoutRoom}
 use Rattle.nfs_core.specs.Lawful as lawful
 use Rattle.nfs_core.specs.LiveClients.{RevocationsFollow}
 use Rattle.nfs_core.specs.Revoking.{IsNotRevokedFor, IsRevoked, NoneIsDue, revoke_of}
 use Rattle.nfs_core.specs.Server.{AreAlike, IsLawful, Server}
 use Rattle.nfs_core.specs.declared.core_error.CoreError.{CoreError}
 use Rattle.nfs_leases.specs.Sweeps.{AreRevoked, RevokesDue, revocations}
-use Rattle.nfs_leases.specs.Visit.{Gains, with_entries}
+use Rattle.nfs_leases.specs.Visit.{Gains}
 use Rattle.nfs_leases.specs.laws.Counting.{revoked_entries}
 use Rattle.nfs_leases.specs.laws.Gaining.{gains_more, gains_none}
 use Rattle.nfs_owners.specs.ClientLaws.{HaveSameClients}
 use Rattle.nfs_owners.specs.Registry.{Registry}
-use Rattle.nfs_state.specs.State.{History, State}
+use Rattle.nfs_state.specs.State.{History}
 use Rattle.nfs_state.specs.Stored.{Stored, meaning}
 use Rattle.nfs_state.specs.declared.entry.Entry.{Entry}
 use Rattle.nfs_state.specs.declared.entry.Entry.TheVariants as entries

@@ -1,5 +1,5 @@
 -- What a sweep does.
-use Rattle.std.specs.Prelude.{◌≡◌, ℕ, ◌<◌, Bool, false, true, ◌==◌, List, [], ◌∷◌, ◌++◌, length, map, Option, Some, ⊤}
+use Rattle.std.specs.Prelude.{◌≡◌, ℕ, ◌<◌, Bool, false, true, ◌==◌, List, [], ◌∷◌, ◌++◌, length, map, Some, ⊤}
 use Rattle.std.specs.List.{list_any}
 use Rattle.nfs_core.specs.Expiry.{IsWithoutRoom}
 use Rattle.nfs_core.specs.Revoking.{IsRevoked, NoneIsDue, revoke_of}
