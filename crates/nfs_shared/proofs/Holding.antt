@@ -1,5 +1,5 @@
 -- What the lock guards, after a call and after entries that are no calls.
-use Rattle.std.proofs.Common.{◌≡◌, ℕ, suc, List, [], ◌∷◌, ◌++◌, length, sym, ap, ◌∙◌, arith, length-append}
+use Rattle.std.proofs.Common.{◌≡◌, ℕ, suc, refl, List, [], ◌∷◌, ◌++◌, length, sym, ap, ◌∙◌, arith, length-append}
 use Rattle.nfs_core.specs.Safe.{IsSafe}
 use Rattle.nfs_core.specs.Server.{Enters, IsLawful, Server}
 use Rattle.nfs_leases.specs.BookOf.{IsBookOf}
@@ -40,6 +40,13 @@ held_call old new number call receipt h enters keeps number_is call_is places_is
       places = omega (arith, ap length places_is, length-append old.places (receipt.place ∷ []), h.places, more);
       receipts = receipts_is ∙ ap (λ xs. xs ++ receipt ∷ []) h.receipts ∙ ap (λ r. receipts_of 0 es old.places ++ r ∷ []) here ∙ sym grown ∙ (λ i. receipts_of 0 (sym journal i) (sym places_is i));
     }
+
+-- one entry, as the journal gained it
+pub gains_one : (old new : Server) (entry : Entry) (number : ℕ) → Enters old new entry number → Gains (entry ∷ []) old new
+gains_one old new entry number enters = record {
+  journal = enters.1;
+  leads = (meaning new.stored, enters.2, refl);
+}
 
 -- entries that are no calls, as the journal gained them
 pub held_more : (old new : HeldView) (more : List Entry)

@@ -6,7 +6,8 @@ use Rattle.std.proofs.lemmas.Option.{slice_get_within}
 use Rattle.std.specs.List.{cons_option, filter_map, zip}
 use Rattle.nfs_leases.specs.BookEvent.{BookEvent, Close}
 use Rattle.nfs_shared.specs.Receipts.{calls_in, numbered_calls, receipt_of, receipts_of, others_in}
-use Rattle.nfs_leases.specs.Visit.{expiries}
+use Rattle.nfs_leases.specs.Sweeps.{entries_of_sweep, events_of_all, revocations}
+use Rattle.nfs_leases.specs.Visit.{Visit, expiries}
 use Rattle.nfs_leases.specs.declared.closing.Closing.TheVariants as closing
 use Rattle.nfs_shared.specs.declared.receipt.Receipt.{Receipt}
 use Rattle.nfs_state.specs.Entries.{call_of}
@@ -55,6 +56,16 @@ expiries_no_calls [] = refl
 expiries_no_calls (Close client seen now closing.Closed ∷ events) = expiries_no_calls events
 expiries_no_calls (event ∷ events) = expiries_no_calls events
 
+-- nor are those of delegations
+pub revocations_no_calls : (now : ℕ) (numbers : List ℕ) → calls_in (revocations now numbers) ≡ 0
+revocations_no_calls now [] = refl
+revocations_no_calls now (number ∷ numbers) = revocations_no_calls now numbers
+
+pub sweep_no_calls : (now : ℕ) (visits : List Visit) (numbers : List ℕ) → calls_in (entries_of_sweep now visits numbers) ≡ 0
+sweep_no_calls now visits numbers =
+    let events = events_of_all now visits in
+    omega (arith, calls_in_append (expiries events) (revocations now numbers), expiries_no_calls events, revocations_no_calls now numbers)
+
 -- how many entries are no calls
 others_in_append : (es more : List Entry) → others_in (es ++ more) ≡ others_in es + others_in more
 others_in_append es more =
@@ -64,13 +75,16 @@ others_in_append es more =
 pub others_in_call : (es : List Entry) (call : Call) → others_in (es ++ entries.Call call ∷ []) ≡ others_in es
 others_in_call es call = omega (arith, others_in_append es (entries.Call call ∷ []))
 
-expiries_are_others : (events : List BookEvent) → others_in (expiries events) ≡ length (expiries events)
-expiries_are_others [] = refl
-expiries_are_others (Close client seen now closing.Closed ∷ events) = ap suc (expiries_are_others events)
-expiries_are_others (event ∷ events) = expiries_are_others events
+-- each entry is a call, or none
+calls_and_others : (es : List Entry) → calls_in es + others_in es ≡ length es
+calls_and_others [] = refl
+calls_and_others (entries.Call call ∷ es) = omega (arith, calls_and_others es)
+calls_and_others (entries.Expire expire ∷ es) = omega (arith, calls_and_others es)
+calls_and_others (entries.Revoke revoke ∷ es) = omega (arith, calls_and_others es)
+calls_and_others (entries.Path path ∷ es) = omega (arith, calls_and_others es)
 
-pub others_in_more : (es : List Entry) (events : List BookEvent) → others_in (es ++ expiries events) ≡ others_in es + length (expiries events)
-others_in_more es events = omega (arith, others_in_append es (expiries events), expiries_are_others events)
+pub others_in_more : (es more : List Entry) → calls_in more ≡ 0 → others_in (es ++ more) ≡ others_in es + length more
+others_in_more es more none = omega (arith, none, others_in_append es more, calls_and_others more)
 
 -- calls with their numbers
 numbered_append : (n : ℕ) (es more : List Entry)

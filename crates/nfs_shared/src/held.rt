@@ -171,8 +171,8 @@ fn call_at(core: &Core, number: u32) -> SeenCall
     SeenCall::of(call)
 }
 
-/// Goes through the live clients, and removes each whose lease is over at `now`; then takes away each delegation that is
-/// due. No receipt is made: the entries are the sweeper's.
+/// Goes through the live clients, and removes each whose lease is over at `now`. Then it revokes the delegations that are
+/// due, until none is, or there is no room for an entry. No receipt is made: the entries are the sweeper's.
 pub fn sweep_held<N: Naming>(held: &mut Held<N>, sweeper: &mut Sweeper<N>, now: Moment) -> Swept
     ensures sweeps { Sweeps Happens now (leased_server held.old.server held.old.leases) result
         (leased_server held.new.server held.new.leases) }
@@ -188,7 +188,7 @@ pub fn sweep_held<N: Naming>(held: &mut Held<N>, sweeper: &mut Sweeper<N>, now: 
 }
 
 /// Marks whether callbacks reach this client, and returns the number of the entry. No receipt is made: the entry is the
-/// sweeper's. What fails changes nothing but room.
+/// sweeper's. What fails changes nothing but room, of which there isn't less.
 pub fn mark_path_held<N: Naming>(
     held: &mut Held<N>,
     sweeper: &mut Sweeper<N>,
@@ -198,9 +198,11 @@ pub fn mark_path_held<N: Naming>(
     ensures marks { IfOk result
         (Enters held.old.server held.new.server (entries.Path (path_of client up))) }
     ensures error { IfErr result (IsNotMarkedFor held.old.server (path_of client up)) }
-    ensures alike { OnErr result (AreAlike held.old.server held.new.server) }
+    ensures known { CanBeHeld N.start held.old }
+    ensures same { OnErr result (AreAlike held.old.server held.new.server) }
+    ensures room { OnErr result (held.old.server.room ≤ held.new.server.room) }
     ensures count { OnOk result (sweeper.new.count ≡ sweeper.old.count + 1) }
-    ensures same { OnErr result (sweeper.new ≡ sweeper.old) }
+    ensures uncounted { OnErr result (sweeper.new ≡ sweeper.old) }
     ensures leases { held.new.leases ≡ held.old.leases }
     ensures places { held.new.places ≡ held.old.places }
     ensures receipts { held.new.receipts ≡ held.old.receipts }

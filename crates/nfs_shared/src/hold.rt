@@ -112,8 +112,8 @@ impl<'a, N: Naming> Hold<'a, N> {
         renew_held(&mut *self.guard, seat, moment, client)
     }
 
-    /// Goes through the live clients, and removes each whose lease is over at `now`; then takes away each delegation that
-    /// is due. The entries are the sweeper's.
+    /// Goes through the live clients, and removes each whose lease is over at `now`. Then it revokes the delegations that
+    /// are due, until none is, or there is no room for an entry. The entries are the sweeper's.
     pub fn sweep(&mut self, sweeper: &mut Sweeper<N>, now: Moment) -> Swept
         ensures sweeps { Sweeps Happens now (leased_server self.old.server self.old.leases) result
             (leased_server self.new.server self.new.leases) }
@@ -125,7 +125,7 @@ impl<'a, N: Naming> Hold<'a, N> {
     }
 
     /// Marks whether callbacks reach this client, and returns the number of the entry, which is the sweeper's. What fails
-    /// changes nothing but room.
+    /// changes nothing but room, of which there isn't less.
     pub fn mark_path(
         &mut self,
         sweeper: &mut Sweeper<N>,
@@ -135,9 +135,11 @@ impl<'a, N: Naming> Hold<'a, N> {
         ensures marks { IfOk result
             (Enters self.old.server self.new.server (entries.Path (path_of client up))) }
         ensures error { IfErr result (IsNotMarkedFor self.old.server (path_of client up)) }
-        ensures alike { OnErr result (AreAlike self.old.server self.new.server) }
+        ensures known { CanBeHeld N.start self.old }
+        ensures same { OnErr result (AreAlike self.old.server self.new.server) }
+        ensures room { OnErr result (self.old.server.room ≤ self.new.server.room) }
         ensures count { OnOk result (sweeper.new.count ≡ sweeper.old.count + 1) }
-        ensures same { OnErr result (sweeper.new ≡ sweeper.old) }
+        ensures uncounted { OnErr result (sweeper.new ≡ sweeper.old) }
         ensures leases { self.new.leases ≡ self.old.leases }
         ensures places { self.new.places ≡ self.old.places }
         ensures receipts { self.new.receipts ≡ self.old.receipts }

@@ -141,8 +141,8 @@ impl<N: Naming> Shared<N> {
         self.hold(rt).renew(seat, moment, client)
     }
 
-    /// Removes each client whose lease is over at this moment, with all that it has, and takes away each delegation that
-    /// is due then, in one hold of the lock.
+    /// Removes each client whose lease is over at this moment, with all that it has. Then it revokes the delegations that
+    /// are due, until none is, or there is no room for an entry. All is done in one hold of the lock.
     pub fn sweep<R: Wait>(&self, rt: &R, sweeper: &mut Sweeper<N>, now: Moment) -> Swept
         ensures { sweeper.new.count ≡ sweeper.old.count + result.expired + result.revoked }
     {
@@ -160,7 +160,7 @@ impl<N: Naming> Shared<N> {
         up: bool,
     ) -> Result<u32, CoreError>
         ensures count { OnOk result (sweeper.new.count ≡ sweeper.old.count + 1) }
-        ensures same { OnErr result (sweeper.new ≡ sweeper.old) }
+        ensures uncounted { OnErr result (sweeper.new ≡ sweeper.old) }
         ensures error { IfErr result (λ e. (held : HeldView) × CanBeHeld N.start held
             × IsNotMarkedFor held.server (path_of client up) e) }
     {

@@ -1,16 +1,16 @@
--- A sweep enters no call.
+-- A sweep enters no call: the ends of clients, and then those of delegations.
 use Rattle.std.proofs.Common.{◌∙◌, ap, refl, arith}
 use Rattle.nfs_shared.proofs.Holding.{KeepsRules, held_more}
-use Rattle.nfs_leases.specs.laws.Counting.{expired_tally}
-use Rattle.nfs_shared.proofs.Receipts.{expiries_no_calls, others_in_more}
+use Rattle.nfs_shared.proofs.Receipts.{others_in_more, sweep_no_calls}
 use Rattle.nfs_shared.proofs.held.sweep_held.Goals as goal
 use Rattle.nfs_shared.specs.Held.{HeldView}
 use Rattle.nfs_shared.specs.Naming.{start_of}
 use Rattle.nfs_shared.specs.Roll.{list_of}
 use Rattle.nfs_shared.specs.Receipts.{others_in}
-use Rattle.nfs_leases.specs.Sweeps.{events_of_all, none_swept}
-use Rattle.nfs_leases.specs.Visit.{expiries}
-use Rattle.nfs_leases.specs.declared.swept.Swept.{Swept}
+use Rattle.nfs_leases.specs.PlainBook.{Happens}
+use Rattle.nfs_leases.specs.Sweeps.{entries_of_sweep, leased_server}
+use Rattle.nfs_leases.specs.laws.Counting.{sweep_tally}
+use Rattle.nfs_leases.specs.laws.Gaining.{gains_of_sweep}
 use Rattle.nfs_state.specs.State.{History}
 
 pub invariant_of-held : goal.invariant_of-held
@@ -34,11 +34,12 @@ invariant_of-held g c =
       safe = c.lawful_is_safe.ensures.safe _ _ swept.ensures.lawful;
       agrees = swept.new.self.agrees;
     } in
+    let now = c.args.now in
     let sweeps = swept.ensures.sweeps in
-    let events = events_of_all c.args.now sweeps.visits in
-    let gains = sweeps.ends.entries in
-    let es = held.leased.core.journal.entries in (
-      held_more old new (expiries events) c.held.invariant.0 gains (expiries_no_calls events) keeps refl refl,
+    let gains = gains_of_sweep Happens now (leased_server old.server old.leases) swept.result (leased_server new.server new.leases) sweeps in
+    let more = entries_of_sweep now sweeps.visits sweeps.numbers in
+    let none = sweep_no_calls now sweeps.visits sweeps.numbers in (
+      held_more old new more c.held.invariant.0 gains none keeps refl refl,
       c.held.invariant.1,
       ap start_of gains.journal ∙ c.held.invariant.2,
       c.held.invariant.3,
@@ -48,8 +49,7 @@ invariant_of-held g c =
         c.add.ensures.total,
         c.held.invariant.5,
         ap (λ (j : History). others_in j.entries) gains.journal,
-        others_in_more es events,
-        ap (λ (s : Swept). s.expired) sweeps.counts,
-        expired_tally c.args.now none_swept sweeps.visits,
+        others_in_more old.server.journal.entries more none,
+        sweep_tally now sweeps.visits sweeps.numbers swept.result sweeps.counts,
       ),
     )

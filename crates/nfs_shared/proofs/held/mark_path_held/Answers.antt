@@ -1,0 +1,50 @@
+-- A mark of a path enters no call.
+use Rattle.std.proofs.Common.{◌∙◌, ◌∷◌, [], List, ap, refl, arith}
+use Rattle.nfs_core.specs.PathMarking.{path_of}
+use Rattle.nfs_shared.proofs.Holding.{KeepsRules, gains_one, held_more}
+use Rattle.nfs_shared.proofs.Receipts.{others_in_more}
+use Rattle.nfs_shared.proofs.held.mark_path_held.Goals as goal
+use Rattle.nfs_shared.specs.Held.{HeldView}
+use Rattle.nfs_shared.specs.Naming.{start_of}
+use Rattle.nfs_shared.specs.Receipts.{others_in}
+use Rattle.nfs_shared.specs.Roll.{list_of}
+use Rattle.nfs_state.specs.State.{History}
+use Rattle.nfs_state.specs.declared.entry.Entry.{Entry}
+use Rattle.nfs_state.specs.declared.entry.Entry.TheVariants as entries
+
+pub invariant_of-held : goal.invariant_of-held
+invariant_of-held g c =
+    let held = c.held.inside in
+    let marked = c.mark_path in
+    let old : HeldView = record {
+      server = held.leased.core;
+      leases = held.leased.book;
+      places = held.register.places.items;
+      receipts = list_of held.register.writer;
+    } in
+    let new : HeldView = record {
+      server = marked.new.self.core;
+      leases = marked.new.self.book;
+      places = held.register.places.items;
+      receipts = list_of held.register.writer;
+    } in
+    let keeps : KeepsRules new.server new.leases = record {
+      lawful = marked.ensures.lawful;
+      safe = c.lawful_is_safe.ensures.safe _ _ marked.ensures.lawful;
+      agrees = marked.new.self.agrees;
+    } in
+    let more : List Entry = entries.Path (path_of c.args.client c.args.up) ∷ [] in
+    let gains = gains_one old.server new.server (entries.Path (path_of c.args.client c.args.up)) c.in-Ok.number c.in-Ok.ensures.marks in (
+      held_more old new more c.held.invariant.0 gains refl keeps refl refl,
+      c.held.invariant.1,
+      ap start_of gains.journal ∙ c.held.invariant.2,
+      c.held.invariant.3,
+      c.held.invariant.4,
+      omega (
+        arith,
+        c.add.ensures.total,
+        c.held.invariant.5,
+        ap (λ (j : History). others_in j.entries) gains.journal,
+        others_in_more old.server.journal.entries more refl,
+      ),
+    )
