@@ -30,8 +30,8 @@ INSIDE = "input ends inside a record"
 
 # What came of a connection: the fault that ended it, or None; its replies; and the numbers of its receipts.
 Ended = namedtuple("Ended", "fault replies receipts")
-# What came of those that were served at once; and of the sweeps meanwhile: how many they were, and how many clients they
-# removed.
+# What came of those that were served at once; and of the sweeps meanwhile: how many they were, and how many clients
+# they removed.
 Served = namedtuple("Served", "ended sweeps expired")
 # What came of a sweep; of a mark, the number of an error, or 0; and of a revocation this, how many delegations were
 # revoked (0 or 1), and the number of the entry, or 0.
