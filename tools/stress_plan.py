@@ -3,11 +3,14 @@
 Nobody knows in which order the connections are served, so the calls can't be made from replies. But numbers are given in
 order: the connection that comes alone makes clients, opens and lock states, whose numbers are therefore known. Each of
 the others has open owners and lock owners of its own, and guesses what comes of its calls: in ranges that nobody else
-locks, nearly all of them succeed. Other calls meet each other."""
+locks, nearly all of them succeed. Other calls meet each other. Files that are lent have other owners, whose calls go by
+no state: some give delegations, some call them back, and some come by them or give them back."""
 import random
+from collections import namedtuple
 from dataclasses import dataclass, field
 
 from messages import call, COMPOUND, handle, setclientid, split
+from tree import DEFAULT
 from wire import Opnum, opaque, u32, u64
 
 LEASE, EPOCH, PACE = 20, 7, 20
@@ -19,14 +22,21 @@ CLIENTS = 6
 # Clients that are used for a while, each by one kind of operation that renews its lease: by each link, the first of
 # them among its first FADE calls, the next one among twice as many, and so on.
 FADING = {9: "renew", 10: "lockt", 11: "release", 12: "open", 13: "open_confirm", 14: "open_downgrade", 15: "close",
-          16: "first_lock", 17: "next_lock", 18: "locku"}
+          16: "first_lock", 17: "next_lock", 18: "locku", 19: "delegreturn"}
 FADE = 5
 # How many clients the connection makes that comes alone.
 MADE = max(FADING)
 VERIFIER = b"verifier"
-# The nodes of the tree's files, with their paths.
+READ, WRITE, BOTH = 1, 2, 3
+# The nodes of the tree's files, with their paths. Several clients always have these open for writing, so that none of
+# them is lent.
 FILES = {1: (b"a",), 2: (b"b",), 4: (b"d", b"c")}
-READ, WRITE = 1, 2
+# The nodes and names of those that are lent: some to all who read them, and one to each client, which writes it.
+LENT_FOR_READING = {5 + number: b"read %d" % number for number in range(4)}
+LENT_FOR_WRITING = {8 + client: b"written %d" % client for client in range(1, CLIENTS + 1)}
+LENT = LENT_FOR_READING | LENT_FOR_WRITING
+DOCUMENT = 'policy.callbacks = "assume"\n' + DEFAULT
+DOCUMENT += "".join(f'[[file]]\npath = "{name.decode()}"\n' for name in LENT.values())
 # The bytes that everybody locks; each link has as many of its own above them.
 COMMON = 100
 
@@ -39,6 +49,18 @@ class Lock:
     number: int
     seqids: list
     last: int = 1
+
+
+# A delegation: whose it is, on which file, and its number.
+Delegation = namedtuple("Delegation", "client file number")
+
+
+@dataclass
+class Lender:
+    """An open owner that opens files which are lent, and its last sequence id."""
+    client: int
+    owner: bytes
+    last: int = 0
 
 
 @dataclass
@@ -81,9 +103,20 @@ def way_to(file):
     return [u32(Opnum.PUTROOTFH)] + [u32(Opnum.LOOKUP) + opaque(name) for name in FILES[file][:-1]]
 
 
-def open_of(one, seqid, access, deny):
+def open_of(one, seqid, access, deny, claim=None):
+    """An OPEN by this owner, of its open's file or by another claim."""
     words = u32(Opnum.OPEN, seqid, access, deny) + spelled(one.client, one.owner) + u32(0)
-    return words + u32(0) + opaque(FILES[one.file][-1])
+    return words + (claim or claim_null(FILES[one.file][-1]))
+
+
+def claim_null(name):
+    return u32(0) + opaque(name)
+
+
+def open_lent(lender, access, name):
+    """The next OPEN by this owner, of a file in the root."""
+    lender.last += 1
+    return [u32(Opnum.PUTROOTFH), open_of(lender, lender.last, access, 0, claim_null(name))]
 
 
 def first_lock(one, name, kind, offset, length):
@@ -105,7 +138,8 @@ def compounds(chunks, chance, uids=(None,)):
 
 
 class First:
-    """The connection that comes alone: it makes the clients, and for each link two opens, one with a lock."""
+    """The connection that comes alone: it makes the clients, and for each link two opens, one with a lock; and opens
+    the files that are lent, of which each client gets delegations."""
 
     def __init__(self, chance):
         self.chance, self.chunks, self.states = chance, [], 0
@@ -114,6 +148,8 @@ class First:
         self.opens = [self.make_open(link, turn) for turn in (0, 1) for link in range(LINKS)]
         for one in self.opens[:LINKS]:
             self.make_lock(one)
+        self.lent = []
+        self.lenders = [self.make_lender(link) for link in range(LINKS)]
         self.bytes = compounds(self.chunks, chance)
 
     def make_open(self, link, turn):
@@ -130,12 +166,35 @@ class First:
         self.chunks.append(([putfh(one.file), first_lock(one, one.lock.owner, WRITE, one.base, 10)], False))
         one.last += 1
 
+    def make_lender(self, link):
+        """It is confirmed by its first OPEN. The second one is lent what it opens, if its client hasn't got that; and
+        so is the third."""
+        one = Lender(1 + link % CLIENTS, b"lender %d" % link)
+        read, written = 5 + link // CLIENTS % len(LENT_FOR_READING), 8 + one.client
+        self.states += 1
+        words = u32(Opnum.OPEN_CONFIRM) + stateid(1, one.client, self.states) + u32(2)
+        self.chunks.append((open_lent(one, READ, LENT[read]) + [words], False))
+        one.last += 1
+        self.chunks.append((open_lent(one, READ, LENT[read]), False))
+        self.lend(one.client, read)
+        self.states += 1
+        self.chunks.append((open_lent(one, BOTH, LENT[written]), False))
+        self.lend(one.client, written)
+        return one
+
+    def lend(self, client, file):
+        if (client, file) not in [delegation[:2] for delegation in self.lent]:
+            self.states += 1
+            self.lent.append(Delegation(client, file, self.states))
+
 
 @dataclass
 class Link:
     """One of the connections that come at once."""
     place: int
     opens: list
+    lender: Lender
+    lent: list
     states: int
     chance: random.Random
     count: int
@@ -146,7 +205,8 @@ class Link:
             self.lock: 8, self.locku: 5, self.lockt: 4, self.lock_common: 2, self.lock_of_new_owner: 3, self.open: 4,
             self.open_denying: 1, self.open_downgrade: 2, self.open_confirm: 1, self.close: 0.4, self.again: 1,
             self.renew: 2, self.fading: 5, self.release: 3, self.setclientid: 1, self.setclientid_anew: 0.3,
-            self.on_tree: 3, self.getattr: 2, self.guess: 2, self.lock_of_other: 1}
+            self.on_tree: 3, self.getattr: 2, self.guess: 2, self.lock_of_other: 1, self.open_lent: 3, self.call_back: 2,
+            self.claim: 0.5, self.give_back: 0.5}
         for _ in range(self.count):
             self.chance.choices(list(makers), makers.values())[0]()
         self.bytes = compounds(self.chunks, self.chance, [None] * 15 + [5])
@@ -284,6 +344,41 @@ class Link:
             u32(Opnum.LOCKU, 1, 2) + state + span(0, 100), u32(Opnum.OPEN_DOWNGRADE) + state + u32(3, 1, 0)])
         self.add(putfh(file), words, may_fail=True)
 
+    # Delegations. Whether one is there depends on others; the sequence id of a lender doesn't.
+
+    def open_lent(self):
+        """It gives a delegation, if there is nothing against it."""
+        own = 8 + self.lender.client
+        file = self.chance.choice([*LENT_FOR_READING, own, own])
+        self.add(*open_lent(self.lender, BOTH if file == own else READ, LENT[file]), may_fail=True)
+
+    def by_new_owner(self, open_words):
+        """An OPEN that a new owner makes by this; and another one, with which the owner is gone."""
+        one = Lender(self.lender.client, b"once %d.%d" % (self.place, len(self.chunks)))
+        self.add(*open_words(one), may_fail=True)
+        self.add(*open_lent(one, READ, b"nothing"), may_fail=True)
+
+    def call_back(self):
+        """Delayed, as long as another client has a delegation."""
+        file = self.chance.choice(list(LENT))
+        self.by_new_owner(lambda one: open_lent(one, WRITE if file in LENT_FOR_READING else READ, LENT[file]))
+
+    def a_delegation(self):
+        """Of those that were there at first, one of the client."""
+        return self.chance.choice([it for it in self.lent if it.client == self.lender.client])
+
+    def claim(self):
+        """By a delegation that may be called back, or gone."""
+        client, file, number = self.a_delegation()
+        claim = u32(2) + stateid(1, client, number) + opaque(LENT[file])
+        self.by_new_owner(lambda one: [u32(Opnum.PUTROOTFH), open_of(one, 1, READ, 0, claim)])
+
+    def give_back(self):
+        """One that was there at first, or one with a number that may have been given since."""
+        client, file, number = self.a_delegation()
+        number = self.chance.choice([number, self.states + self.chance.randint(1, 60)])
+        self.add(putfh(file), u32(Opnum.DELEGRETURN) + stateid(1, client, number), may_fail=True)
+
     # Clients, and the tree.
 
     def renew(self):
@@ -303,6 +398,7 @@ class Link:
             "open_confirm": u32(Opnum.OPEN_CONFIRM) + state + u32(2),
             "open_downgrade": u32(Opnum.OPEN_DOWNGRADE) + state + u32(2, READ, 0),
             "close": u32(Opnum.CLOSE, 2) + state, "locku": u32(Opnum.LOCKU, READ, 2) + state + span(0, 1),
+            "delegreturn": u32(Opnum.DELEGRETURN) + state,
             "first_lock": u32(Opnum.LOCK, READ, 0) + span(0, 1) + u32(1, 2) + state + u32(1) + owner,
             "next_lock": u32(Opnum.LOCK, READ, 0) + span(0, 1) + u32(0) + state + u32(2)}[kind]
         self.add(putfh(1), operation, may_fail=True)
@@ -346,4 +442,5 @@ class Plan:
         self.others[-1] = self.others[-2]
 
     def link(self, place, first, chance):
-        return Link(place, first.opens[place::LINKS], first.states, chance, chance.choice([10, 60, 80, 100]))
+        count = chance.choice([10, 60, 80, 100])
+        return Link(place, first.opens[place::LINKS], first.lenders[place], first.lent, first.states, chance, count)

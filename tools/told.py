@@ -5,7 +5,7 @@ from collections import namedtuple
 
 import messages  # It makes the model's modules known.
 
-from entries import Call, Expire, MOMENT_LIMIT
+from entries import Call, Expire, MOMENT_LIMIT, Revoke
 from journal import states
 from model import Server
 from states import Refusal, Result
@@ -130,8 +130,8 @@ class Judge:
 
     def expect_ends(self):
         """Each client whose lease ended was heard of last when its entry says, where these are all links, and none of
-        their calls was refused for want of memory, which renews without an entry. The clients of a sweep come by rising
-        numbers. (That the leases were over is a part of what an audit says.)"""
+        their calls was refused for want of memory, which renews without an entry. What a sweep ends comes in its
+        order. (That the leases were over, and the delegations due, is a part of what an audit says.)"""
         server, heard = Server(epoch=self.journal.epoch), {}
         for number, entry in enumerate(self.journal.entries):
             before, after = self.lives[number:number + 2]
@@ -154,9 +154,14 @@ class Judge:
             raise Wrong(f"client {end.client} ends, seen last at {end.seen}, when it wasn't heard of")
 
     def expect_order(self):
-        """The ends of one sweep, which stand together, have one moment and rising clients; and no moment goes back."""
-        ends = [(number, entry) for number, entry in enumerate(self.journal.entries) if isinstance(entry, Expire)]
+        """The ends of one sweep, which stand together, have one moment: first those of clients, by their numbers, and
+        then those of delegations, by theirs; and no moment goes back."""
+        ends = [(number, end) for number, end in enumerate(self.journal.entries) if isinstance(end, (Expire, Revoke))]
         for (place, one), (other_place, other) in zip(ends, ends[1:]):
             is_one_sweep = other_place == place + 1 and other.now == one.now
-            if other.now < one.now or is_one_sweep and other.client <= one.client:
-                raise Wrong(f"client {other.client} ends at {other.now} after client {one.client} at {one.now}")
+            if other.now < one.now or is_one_sweep and rank(other) <= rank(one):
+                raise Wrong(f"{other} comes after {one}")
+
+
+def rank(end):
+    return isinstance(end, Revoke), end
