@@ -23,6 +23,7 @@ import rows
 import wire
 from check_rows import outcome_of
 from driver import ALONE, PROGRAM, SHARED
+from entries import Expire, Path, Revoke as Revocation
 from journal import Recorder, journal_bytes
 from ranges import ALL_ONES, LAST_BYTE
 from rows import Mark, Part, Pending, Revoke, Row, Sweep, Take
@@ -39,6 +40,9 @@ LOCK_OWNERS = [b"x", b"y", b"xa", b"A"]
 # The ends of ranges.
 BYTES = [*range(12), *range(LAST_BYTE - 11, LAST_BYTE + 1)]
 LAST = 2**32 - 1
+# What is counted besides the operations: delegations by their type, and entries of the journal.
+LENT = {1: "delegations for reading", 2: "delegations for writing"}
+WHAT = {Expire: "clients removed", Revocation: "delegations revoked", Path: "paths marked"}
 
 
 class Counting(Recorder):
@@ -49,7 +53,7 @@ class Counting(Recorder):
         self.counts = Counter()
 
     def delegate(self, client, file, kind):
-        self.counts["delegations for writing" if kind == 2 else "delegations for reading"] += kind > 0
+        self.counts.update([LENT[kind]] if kind in LENT else [])
         return super().delegate(client, file, kind)
 
     def apply(self, opnum, arguments, filehandle, principal, is_refused=False):
@@ -109,12 +113,13 @@ class Caller:
     def next_order(self):
         client, late = self.a_client(), self.moment + self.chance.choice([0, 1, self.lease, self.lease + 1])
         orders = [Take(bytes(4) + u32(self.chance.getrandbits(32)))] * 4 + [Mark(client, not self.is_rare(0.3))] * 2
-        orders += [Sweep(late, 0, 0)] + [Revoke(late), Revoke(late), Pending(0)] * (self.way == ALONE)
+        orders += [Sweep(self.moment, 0, 0)] * 3 + [Sweep(late, 0, 0)] * self.is_rare(0.3)
+        orders += [Revoke(late), Revoke(late), Pending(0)] * (self.way == ALONE)
         return outcome_of(self.server, self.chance.choice(orders))
 
     def next_call(self):
         """A call, at a moment that mostly is that of the one before; seldom it is an earlier one again."""
-        self.moment += self.chance.choice([0] * 6 + [1, 2, self.lease // 2])
+        self.moment += self.chance.choice([0] * 6 + [1, 2, self.lease // 2, self.lease // 4])
         self.server.moment = max(0, self.moment - self.is_rare(0.05) * self.chance.randint(1, 9))
         calls = [step.sent for step in self.steps if isinstance(step, Part)]
         if calls and self.is_rare(0.04):
@@ -351,6 +356,7 @@ def run(words):
     caller = Caller(seed)
     for _ in range(count):
         caller.next_step()
+    caller.server.counts.update(WHAT[type(entry)] for entry in caller.server.recorded if type(entry) in WHAT)
     row, journal = caller.row(), journal_bytes(caller.server.journal())
     place = first_difference(program, row, caller.way, journal)
     found = None if place is None else (row_of(row.steps[:place + 1], row.document, row.lease), caller.way)
@@ -401,7 +407,7 @@ def tell(counts, runs, calls):
     asked = counts[Opnum.LOCKT, Status.OK] + counts[Opnum.LOCKT, Status.DENIED] + counts[Opnum.LOCK, Status.DENIED]
     print(f"fuzz: {runs} runs of {calls} steps agree with the model: {total} operations on the state, of them "
           f"{changes} changes of ranges and {asked} questions or refusals of them")
-    for what in ("delegations for reading", "delegations for writing"):
+    for what in [*LENT.values(), *WHAT.values()]:
         print(f"    {what}: {counts.pop(what, 0)}")
     for (opnum, status), number in sorted(counts.items()):
         print(f"    {opnum.name} {status.name}: {number}")
