@@ -32,12 +32,14 @@ def send_garbage(peer, data):
         expect(f"replies to {data[:40]}", peer.receive_all(), Server().converse(data)[0])
 
 
-def never_read(peer, over=None, seconds=0.3):
-    """Sends calls with long replies until no more is taken, and waits. Each has the state as well."""
+def never_read(peer, over=None, seconds=0.3, full=None):
+    """Sends calls with long replies until no more is taken, says so, and waits. Each has the state as well."""
     tag = 100000
     arguments = opaque(bytes(tag)) + words(0, 2, PUTROOTFH, GETATTR, 0)
     with peer:
         peer.fill(call(1, COMPOUND, arguments, uid=MOST), seconds)
+        if full is not None:
+            full.set()
         wait_for(over)
 
 
