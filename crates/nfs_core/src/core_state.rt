@@ -24,7 +24,7 @@ use crate::answering::enter;
 use crate::expiry::enter_expiry;
 use crate::following::follow;
 use crate::holdings::Holdings;
-use crate::laws::lawful_is_safe;
+use crate::laws::{lawful_is_safe, recalls_follow};
 use crate::path_marking::enter_path_mark;
 use crate::pending_recalls::PendingRecalls;
 use crate::revoking::enter_revocation;
@@ -142,6 +142,7 @@ impl Core {
         ensures lawful { IsLawful self.new }
     {
         lawful_is_safe();
+        recalls_follow();
         let opnum = request.op.opnum();
         let held = &mut self.held;
         match enter(self.alloc, held, request) {
@@ -180,6 +181,7 @@ impl Core {
         ensures lawful { IsLawful self.new }
     {
         lawful_is_safe();
+        recalls_follow();
         let held = &mut self.held;
         enter_expiry(self.alloc, held, Expire { client, seen, now })
     }
@@ -197,6 +199,7 @@ impl Core {
         ensures lawful { IsLawful self.new }
     {
         lawful_is_safe();
+        recalls_follow();
         let held = &mut self.held;
         enter_revocation(self.alloc, held, now)
     }
@@ -212,6 +215,7 @@ impl Core {
         ensures lawful { IsLawful self.new }
     {
         lawful_is_safe();
+        recalls_follow();
         let held = &mut self.held;
         enter_path_mark(self.alloc, held, Path { client, up })
     }
@@ -230,6 +234,7 @@ impl Core {
         ensures lawful { IsLawful self.new }
     {
         lawful_is_safe();
+        recalls_follow();
         let held = &mut self.held;
         follow(self.alloc, held, entry)
     }

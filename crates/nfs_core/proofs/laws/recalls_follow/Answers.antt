@@ -1,0 +1,5 @@
+use Rattle.nfs_core.proofs.Recalling.{Recalls-follow}
+use Rattle.nfs_core.proofs.laws.recalls_follow.Goals as goal
+
+pub returns-clause-1 : goal.returns-clause-1
+returns-clause-1 c = Recalls-follow c.at_most_one_decision.ensures
