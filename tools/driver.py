@@ -19,6 +19,9 @@ PROGRAM = os.path.join(TOP, "crates/rows/out/rows")
 # its own, with a state that they share.
 ALONE, SHARED = 0, 1
 SERVE, SWEEP, MARK, REVOKE, TAKE, PENDING = range(1, 7)
+# The orders that are sent. The program has no recalls to give yet, so it isn't asked for them: by a row's lines `take`
+# and `pending` the model alone is judged.
+ASKED = (SERVE, SWEEP, MARK, REVOKE)
 # The seconds in which an order has to be answered, on however busy a machine.
 PATIENCE = 300
 # By the number of an error: the fault with which a connection ends.
@@ -27,8 +30,8 @@ INSIDE = "input ends inside a record"
 
 # What came of a connection: the fault that ended it, or None; its replies; and the numbers of its receipts.
 Ended = namedtuple("Ended", "fault replies receipts")
-# What came of those that were served at once; and of the sweeps meanwhile: how many they were, and how many clients they
-# removed.
+# What came of those that were served at once; and of the sweeps meanwhile: how many they were, and how many clients
+# they removed.
 Served = namedtuple("Served", "ended sweeps expired")
 # What came of a sweep; of a mark, the number of an error, or 0; and of a revocation this, how many delegations were
 # revoked (0 or 1), and the number of the entry, or 0.
