@@ -2,7 +2,7 @@
 ghost use Rattle.std.specs.Prelude.{◌≡◌, ◌+◌, ◌<◌, ◌≤◌, ◌↔◌, [], IfOk, IfErr, IfSome, IfNone, IsNone, IsTrue, OnErr, OnOk, length, map};
 ghost use Rattle.nfs_core.specs.PathMarking.{IsNotMarkedFor, path_of};
 ghost use Rattle.nfs_core.specs.Safe.{IsSafe};
-ghost use Rattle.nfs_core.specs.Server.{IsLawful};
+ghost use Rattle.nfs_core.specs.Server.{Enters, IsLawful, Server};
 ghost use Rattle.nfs_forms.specs.ClientId.{number_in};
 ghost use Rattle.nfs_shared.specs.Ends.{AreFresh, AreKept, AllStand, AllApart, AllBegin, receipts_in, given_in};
 ghost use Rattle.nfs_shared.specs.Held.{CanBeHeld, HeldView, MayBeHeld};
@@ -14,6 +14,7 @@ ghost use Rattle.nfs_shared.specs.Seats.{Gives, KnowsTheSame, fresh};
 ghost use Rattle.nfs_owners.specs.LiveClients.{IsNextUnknown};
 ghost use Rattle.nfs_state.specs.Entries.{IsFilehandle, request_of, resource};
 ghost use Rattle.nfs_state.specs.Stored.{meaning};
+ghost use Rattle.nfs_state.specs.declared.entry.Entry.TheVariants as entries;
 ghost use Rattle.nfs_xdr.specs.Op.{has_entry, opnum_of};
 ghost use Rattle.nfs_xdr.specs.OpResult.{op_result};
 ghost use Rattle.nfs_xdr.specs.Opnum.{answer_limit};
@@ -151,7 +152,7 @@ impl<N: Naming> Shared<N> {
 
     /// Marks whether callbacks reach this client, in one hold of the lock, and returns the number of the entry. It fails,
     /// and enters nothing, if the client isn't live, the journal is full, or memory ran out. No clause says that the lock
-    /// guarded the value that the failure is of, but that it may have.
+    /// guarded the value that this is said of, but that it may have.
     pub fn mark_path<R: Wait>(
         &self,
         rt: &R,
@@ -161,6 +162,8 @@ impl<N: Naming> Shared<N> {
     ) -> Result<u32, CoreError>
         ensures count { OnOk result (sweeper.new.count ≡ sweeper.old.count + 1) }
         ensures uncounted { OnErr result (sweeper.new ≡ sweeper.old) }
+        ensures marks { IfOk result (λ number. (held : HeldView) × CanBeHeld N.start held
+            × ((new : Server) × Enters held.server new (entries.Path (path_of client up)) number)) }
         ensures error { IfErr result (λ e. (held : HeldView) × CanBeHeld N.start held
             × IsNotMarkedFor held.server (path_of client up) e) }
     {
