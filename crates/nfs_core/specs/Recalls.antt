@@ -96,6 +96,10 @@ no_recalls = record { taken = 0; pending = [] }
 abbrev pub with_more : List Recall → RecallsLeft → RecallsLeft
 with_more more left = record left { pending = left.pending ++ more }
 
+-- this is the first of those that are left
+abbrev pub IsFirst : Recall → RecallsLeft → Type 0
+IsFirst recall left = (rest : List Recall) × (left.pending ≡ recall ∷ rest)
+
 -- What is left are the journal's recalls without those that were taken, which come first.
 abbrev pub AreLeftOf : History → RecallsLeft → Type 0
 AreLeftOf journal left =

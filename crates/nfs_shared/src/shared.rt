@@ -1,6 +1,7 @@
 //! The state that threads share, behind one lock.
 ghost use Rattle.std.specs.Prelude.{◌≡◌, ◌+◌, ◌<◌, ◌≤◌, ◌↔◌, [], IfOk, IfErr, IfSome, IfNone, IsNone, IsTrue, OnErr, OnOk, length, map};
 ghost use Rattle.nfs_core.specs.PathMarking.{IsNotMarkedFor, path_of};
+ghost use Rattle.nfs_core.specs.Recalls.{IsFirst};
 ghost use Rattle.nfs_core.specs.Safe.{IsSafe};
 ghost use Rattle.nfs_core.specs.Server.{Enters, IsLawful, Server};
 ghost use Rattle.nfs_forms.specs.ClientId.{number_in};
@@ -19,7 +20,7 @@ ghost use Rattle.nfs_xdr.specs.Op.{has_entry, opnum_of};
 ghost use Rattle.nfs_xdr.specs.OpResult.{op_result};
 ghost use Rattle.nfs_xdr.specs.Opnum.{answer_limit};
 
-use crate::held::Held;
+use crate::held::{Held, recalls_are_left};
 use crate::hold::Hold;
 use crate::naming::{Naming, ReceiptLedger, SweepLedger};
 use crate::opened::Opened;
@@ -28,7 +29,7 @@ use crate::register::Register;
 use crate::roll::{Copied, Roll, Token, meet};
 use crate::seat::Seat;
 use crate::sweeper::Sweeper;
-use nfs_core::{Core, CoreError, Moment};
+use nfs_core::{Core, CoreError, Moment, Recall};
 use nfs_leases::{LeasedCore, PlainLeases, Swept};
 use nfs_owners::ClientState;
 use nfs_state::Request;
@@ -79,6 +80,7 @@ impl<N: Naming> Shared<N> {
             count,
             rest,
         };
+        recalls_are_left(&core);
         let held = Held {
             leased: LeasedCore::new(core, leases),
             register,
@@ -168,6 +170,17 @@ impl<N: Naming> Shared<N> {
             × IsNotMarkedFor held.server (path_of client up) e) }
     {
         self.hold(rt).mark_path(sweeper, client, up)
+    }
+
+    /// Takes out the first of the recalls that are pending, in one hold of the lock. It takes no memory. No clause says
+    /// that the lock guarded the value that this is said of, but that it may have.
+    pub fn take<R: Wait>(&self, rt: &R) -> Option<Recall>
+        ensures none { IfNone result ((held : HeldView) × CanBeHeld N.start held
+            × (held.server.recalls.pending ≡ [])) }
+        ensures first { IfSome result (λ recall. (held : HeldView) × CanBeHeld N.start held
+            × IsFirst recall held.server.recalls) }
+    {
+        self.hold(rt).take()
     }
 
     /// A copy of what the record of a live client has of whose path to its callbacks nothing is known: of the client with
