@@ -74,7 +74,12 @@ fn opens_and_downgrades(rt: HostRuntime) -> Result<(), Fail> {
     assert!(rt; stateid.seqid == 2 && stateid.client == CLIENT && stateid.number == 7);
     assert!(rt; file.share_of(&owner(alloc, b"a")?) == Some(BOTH_ALONE));
     assert!(rt; file.denies(Modes::WRITE) && !file.denies(Modes::READ));
-    assert!(rt; matches!(try_open(alloc, &mut file, b"b", WRITE, 9), Err(ShareError::Denied)));
+    assert!(rt;
+        matches!(
+            try_open(alloc, &mut file, b"b", WRITE, 9),
+            Err(ShareError::Denied)
+        )
+    );
     assert!(rt; matches!(downgrade(&mut file, 7, WRITE), Err(ShareError::Invalid)));
     assert_eq!(rt; downgrade(&mut file, 7, READ)?.seqid, 3);
     assert!(rt; file.share_of(&owner(alloc, b"a")?) == Some(READ));
