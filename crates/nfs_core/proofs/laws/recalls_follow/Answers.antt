@@ -1,4 +1,4 @@
-use Rattle.nfs_core.proofs.Recalling.{Recalls-follow}
+use Rattle.nfs_core.proofs.RecallsLeft.{Recalls-follow}
 use Rattle.nfs_core.proofs.laws.recalls_follow.Goals as goal
 
 pub returns-clause-1 : goal.returns-clause-1

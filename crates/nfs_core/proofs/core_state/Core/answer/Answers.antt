@@ -2,7 +2,7 @@ use Rattle.std.proofs.Common.{Option, rules, subst, sym}
 use Rattle.nfs_state.specs.Stored.{meaning}
 use Rattle.nfs_core.proofs.Entering.{can_ask}
 use Rattle.nfs_core.proofs.Journals.{Lawful-entered, Lawful-same}
-use Rattle.nfs_core.proofs.Recalling.{Left-entered, Left-same}
+use Rattle.nfs_core.proofs.RecallsLeft.{Left-entered, Left-same}
 use Rattle.nfs_core.proofs.Storing.{store_agrees}
 use Rattle.nfs_core.proofs.core_state.Core.answer.Goals as goal
 use Rattle.nfs_core.proofs.core_state.Core.answer.Goals.{in-Ok, in-Err}

@@ -1,6 +1,6 @@
 use Rattle.std.proofs.Common.{subst}
 use Rattle.nfs_core.proofs.Journals.{Lawful-tried}
-use Rattle.nfs_core.proofs.Recalling.{Left-tried}
+use Rattle.nfs_core.proofs.RecallsLeft.{Left-tried}
 use Rattle.nfs_core.proofs.Storing.{store_agrees}
 use Rattle.nfs_core.proofs.core_state.Core.follow.Goals as goal
 use Rattle.nfs_core.specs.Following.{MayFollow}

@@ -1,5 +1,5 @@
 use Rattle.nfs_core.proofs.Journals.{Lawful-tried}
-use Rattle.nfs_core.proofs.Recalling.{Left-tried}
+use Rattle.nfs_core.proofs.RecallsLeft.{Left-tried}
 use Rattle.nfs_core.proofs.Storing.{store_agrees}
 use Rattle.nfs_core.proofs.core_state.Core.mark_path.Goals as goal
 use Rattle.nfs_core.specs.Server.{server_of}

@@ -3,7 +3,7 @@ use Rattle.nfs_state.specs.Kept.{Agrees}
 use Rattle.nfs_state.specs.Room.{stored_of}
 use Rattle.nfs_state.specs.Stored.{Stored}
 use Rattle.nfs_core.proofs.Journals.{Lawful-new}
-use Rattle.nfs_core.proofs.Recalling.{Left-new}
+use Rattle.nfs_core.proofs.RecallsLeft.{Left-new}
 use Rattle.nfs_core.proofs.core_state.Core.new.Goals as goal
 
 pub returns-clause-lawful : goal.returns-clause-lawful

@@ -1,6 +1,6 @@
 use Rattle.std.proofs.Common.{◌≡◌, ◌↔◌, ℕ, None, Ok, Option, Result, subst}
 use Rattle.nfs_core.proofs.Journals.{Lawful-revoked}
-use Rattle.nfs_core.proofs.Recalling.{Left-revoked}
+use Rattle.nfs_core.proofs.RecallsLeft.{Left-revoked}
 use Rattle.nfs_core.proofs.Storing.{store_agrees}
 use Rattle.nfs_core.proofs.core_state.Core.revoke.Goals as goal
 use Rattle.nfs_core.specs.Revoking.{NoneIsDue}

@@ -1,4 +1,4 @@
-use Rattle.nfs_core.proofs.Recalling.{Left-taken}
+use Rattle.nfs_core.proofs.RecallsLeft.{Left-taken}
 use Rattle.nfs_core.proofs.core_state.Core.take_recall.Goals as goal
 use Rattle.nfs_core.specs.Recalls.{left_of}
 
