@@ -30,11 +30,8 @@ use Rattle.nfs_state.specs.State.{State, History, empty_server}
 use Rattle.nfs_core.specs.Step.{Allows, AtMostOneStateAfter, AtMostOneStep, Step}
 use Rattle.nfs_state.specs.Entries.{entry_of, with_entry}
 use Rattle.nfs_state.specs.Kept.{Agrees}
-use Rattle.nfs_state.specs.Room.{state_of, stored_of}
-use Rattle.nfs_state.specs.Store.{AreAlike, server_of}
-use Rattle.nfs_state.specs.declared.store.Store.{Store}
 use Rattle.nfs_core.specs.Revoking.{IsRevoked, revoke_of}
-use Rattle.nfs_core.specs.Server.{Enters, Server}
+use Rattle.nfs_core.specs.Server.{AreAlike, Enters, IsLawful, Server}
 
 -- entries that lead to a state, and one more entry that leads on from there
 Leads-append : (journal : History) (old mid new : State) (entries : List Entry) (entry : Entry) → Leads journal old entries mid → Step (record journal { entries = journal.entries ++ entries }) mid entry new → Leads journal old (entries ++ entry ∷ []) new
@@ -75,7 +72,7 @@ Lawful-entered journal journal' old new entry lawful is step =
     subst (λ (j : History). Lawful j new) (sym is) (Lawful-step journal old new entry lawful step)
 
 -- an entry has at most one effect
-Allows-once : AtMostOneDecision → (journal : History) (old : State) (entry : Entry) (effect effect' : Effect) → Allows journal old entry effect → Allows journal old entry effect' → effect ≡ effect'
+pub Allows-once : AtMostOneDecision → (journal : History) (old : State) (entry : Entry) (effect effect' : Effect) → Allows journal old entry effect → Allows journal old entry effect' → effect ≡ effect'
 Allows-once once journal old (entries.Call call) effect effect' a a' =
     let d : Decision = record { answer = call.answer; effect = effect } in
     let d' : Decision = record { answer = call.answer; effect = effect' } in
@@ -117,25 +114,25 @@ pub Lawful-same : (journal journal' : History) (stored stored' : Stored) → jou
 Lawful-same journal journal' stored stored' same_journal same_stored lawful = rw (same_journal, same_stored) lawful
 
 -- a core that tried to add an entry
-pub Lawful-tried : {E : Type 0} (old new : Store) (entry : Entry) (result : Result ℕ E) → Lawful old.journal.history (state_of old.tables)
-    → IfOk result (λ number. Enters (server_of old) (server_of new) entry number) → OnErr result (AreAlike (server_of old) (server_of new))
-    → Lawful new.journal.history (state_of new.tables)
+pub Lawful-tried : {E : Type 0} (old new : Server) (entry : Entry) (result : Result ℕ E) → IsLawful old
+    → IfOk result (λ number. Enters old new entry number) → OnErr result (AreAlike old new)
+    → IsLawful new
 Lawful-tried old new entry (Ok number) lawful entered same =
-    Lawful-entered old.journal.history new.journal.history (state_of old.tables) (state_of new.tables) entry lawful entered.1 entered.2
+    Lawful-entered old.journal new.journal (meaning old.stored) (meaning new.stored) entry lawful entered.1 entered.2
 Lawful-tried old new entry (Err error) lawful entered same =
-    Lawful-same old.journal.history new.journal.history (stored_of old.tables) (stored_of new.tables) same.0 same.1 lawful
+    Lawful-same old.journal new.journal old.stored new.stored same.0 same.1 lawful
 
 -- a core that took away the next delegation that is due, if one was
-pub Lawful-revoked : {E : Type 0} (old new : Store) (now : ℕ) (result : Result (Option ℕ) E) → Lawful old.journal.history (state_of old.tables)
-    → IfOk result (IsRevoked (server_of old) (server_of new) now) → OnErr result (AreAlike (server_of old) (server_of new))
-    → Lawful new.journal.history (state_of new.tables)
+pub Lawful-revoked : {E : Type 0} (old new : Server) (now : ℕ) (result : Result (Option ℕ) E) → IsLawful old
+    → IfOk result (IsRevoked old new now) → OnErr result (AreAlike old new)
+    → IsLawful new
 Lawful-revoked old new now (Ok None) lawful same alike =
-    Lawful-same old.journal.history new.journal.history (stored_of old.tables) (stored_of new.tables)
+    Lawful-same old.journal new.journal old.stored new.stored
     (ap (λ (s : Server). s.journal) same) (ap (λ (s : Server). s.stored) same) lawful
 Lawful-revoked old new now (Ok (Some number)) lawful entered alike =
-    Lawful-entered old.journal.history new.journal.history (state_of old.tables) (state_of new.tables) (entries.Revoke (revoke_of number now)) lawful entered.1 entered.2
+    Lawful-entered old.journal new.journal (meaning old.stored) (meaning new.stored) (entries.Revoke (revoke_of number now)) lawful entered.1 entered.2
 Lawful-revoked old new now (Err error) lawful entered alike =
-    Lawful-same old.journal.history new.journal.history (stored_of old.tables) (stored_of new.tables) alike.0 alike.1 lawful
+    Lawful-same old.journal new.journal old.stored new.stored alike.0 alike.1 lawful
 
 -- and what it stores agrees with its journal as before
 pub Agrees-same : (journal journal' : History) (stored stored' : Stored) → journal' ≡ journal → stored' ≡ stored → Agrees journal stored.owners → Agrees journal' stored'.owners

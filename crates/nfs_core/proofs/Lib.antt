@@ -5,6 +5,7 @@ pub mod Journals
 pub mod LiveClients
 pub mod LiveLaws
 pub mod LiveLists
+pub mod RecallsLeft
 pub mod SafeDistinct
 pub mod SafeFiles
 pub mod SafeLists

@@ -1,6 +1,7 @@
 pub mod Step
 pub mod Lawful
 pub mod Safe
+pub mod Recalls
 pub mod Server
 pub mod Entered
 pub mod CoreError

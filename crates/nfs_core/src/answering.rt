@@ -4,14 +4,17 @@ ghost use Rattle.std.specs.Prelude.{◌≡◌, ◌≤◌, IfErr, IfOk, IsErrOf, 
 ghost use Rattle.nfs_core.specs.Following.{CanBeAsked, IsNext, MayBeAnswered, StoreAgrees};
 ghost use Rattle.nfs_core.specs.Entered.{IsEntered};
 ghost use Rattle.nfs_core.specs.Step.{HasNoAnswer};
+ghost use Rattle.nfs_core.specs.Server.{AreAlike, server_of};
 ghost use Rattle.nfs_state.specs.Entries.{IsSendable, entry_of};
 ghost use Rattle.nfs_state.specs.Room.{HasGivenNumbers, state_of};
-ghost use Rattle.nfs_state.specs.Store.{AreAlike, OwnersAgree, server_of};
+ghost use Rattle.nfs_state.specs.Store.{OwnersAgree};
 
 use crate::Entered;
+use crate::committing::commit;
 use crate::following::decide_next;
+use crate::holdings::Holdings;
 use nfs_rules::{Decision, at_most_one_decision};
-use nfs_state::{Call, Entry, Request, Shortage, Store, commit_entry, copy_of_answer};
+use nfs_state::{Call, Entry, Request, Shortage, copy_of_answer};
 use nfs_xdr::OpResult;
 use std::alloc::Global;
 
@@ -19,49 +22,49 @@ use std::alloc::Global;
 /// answer may come next, and with Memory only if no limit would be exceeded.
 pub(crate) fn enter(
     alloc: Global,
-    store: &mut Store,
+    held: &mut Holdings,
     request: Request,
 ) -> Result<(OpResult, Entered), Shortage>
-    requires asked { CanBeAsked store.old.journal.history request }
-    requires stored { StoreAgrees store.old }
-    ensures entered { IfOk result (λ r. IsEntered (server_of store.old) (server_of store.new)
+    requires asked { CanBeAsked held.old.store.journal.history request }
+    requires stored { StoreAgrees held.old.store }
+    ensures entered { IfOk result (λ r. IsEntered (server_of held.old) (server_of held.new)
         (entry_of request r.0) r.1) }
-    ensures kept { OwnersAgree store.new }
+    ensures kept { OwnersAgree held.new.store }
     ensures sendable { IfOk result (λ r. IsSendable request.op r.0) }
     ensures limit { IsErrOf result Shortage.Limit
-        → HasNoAnswer store.old.journal.history (state_of store.old.tables) request }
+        → HasNoAnswer held.old.store.journal.history (state_of held.old.store.tables) request }
     ensures memory { IsErrOf result Shortage.Memory
-        → MayBeAnswered store.old.journal.history (state_of store.old.tables) request }
-    ensures same { OnErr result (AreAlike (server_of store.old) (server_of store.new)) }
-    ensures room { OnErr result (store.old.journal.room ≤ store.new.journal.room) }
+        → MayBeAnswered held.old.store.journal.history (state_of held.old.store.tables) request }
+    ensures same { OnErr result (AreAlike (server_of held.old) (server_of held.new)) }
+    ensures room { OnErr result (held.old.store.journal.room ≤ held.new.store.journal.room) }
 {
     at_most_one_decision();
-    let decision = decide_next(alloc, store, &request)?;
-    enter_decided(alloc, store, request, decision)
+    let decision = decide_next(alloc, &held.store, &request)?;
+    enter_decided(alloc, held, request, decision)
 }
 
 // Enters the request with the answer that was decided.
 fn enter_decided(
     alloc: Global,
-    store: &mut Store,
+    held: &mut Holdings,
     request: Request,
     decision: Decision,
 ) -> Result<(OpResult, Entered), Shortage>
-    requires next { IsNext store.old.journal.history (state_of store.old.tables)
+    requires next { IsNext held.old.store.journal.history (state_of held.old.store.tables)
         (entry_of request decision.answer) decision.effect }
-    requires given { HasGivenNumbers (state_of store.old.tables) }
-    requires owners { OwnersAgree store.old }
+    requires given { HasGivenNumbers (state_of held.old.store.tables) }
+    requires owners { OwnersAgree held.old.store }
     ensures answer { IfOk result (λ r. r.0 ≡ decision.answer) }
-    ensures entered { IfOk result (λ r. IsEntered (server_of store.old) (server_of store.new)
+    ensures entered { IfOk result (λ r. IsEntered (server_of held.old) (server_of held.new)
         (entry_of request r.0) r.1) }
-    ensures kept { OwnersAgree store.new }
+    ensures kept { OwnersAgree held.new.store }
     ensures memory { IfErr result (λ e. e ≡ Shortage.Memory) }
-    ensures same { OnErr result (AreAlike (server_of store.old) (server_of store.new)) }
-    ensures room { OnErr result (store.old.journal.room ≤ store.new.journal.room) }
+    ensures same { OnErr result (AreAlike (server_of held.old) (server_of held.new)) }
+    ensures room { OnErr result (held.old.store.journal.room ≤ held.new.store.journal.room) }
 {
     let answer = copy_of_answer(&decision.answer)?;
     let live = decision.effect.live();
     let call = Call { request, answer };
-    let number = commit_entry(alloc, store, Entry::Call(call), decision.effect)?;
+    let number = commit(alloc, held, Entry::Call(call), decision.effect)?;
     Ok((decision.answer, Entered { number, live }))
 }

@@ -1,10 +1,11 @@
-ghost use Rattle.std.specs.Prelude.{◌≡◌, ◌↔◌, ◌≤◌, ◌<◌, [], None, Ok, IfErr, IfNone, IfOk, OnErr, OnOk, IsErrOf, IsTrue, length};
+ghost use Rattle.std.specs.Prelude.{◌≡◌, ◌↔◌, ◌≤◌, ◌<◌, ◌+◌, [], ◌∷◌, None, Ok, IfErr, IfNone, IfOk, IfSome, OnErr, OnOk, IsErrOf, IsTrue, length};
 ghost use Rattle.std.specs.Option.{option_copied};
 ghost use Rattle.nfs_core.specs.Entered.{Answers};
 ghost use Rattle.nfs_core.specs.Expiry.{IsNotEndedFor, IsWithoutRoom, expire_of};
 ghost use Rattle.nfs_core.specs.Following.{MayFollow};
 ghost use Rattle.nfs_core.specs.LiveClients.{AreNumbered, AreOfOneRun};
 ghost use Rattle.nfs_core.specs.PathMarking.{IsNotMarkedFor, path_of};
+ghost use Rattle.nfs_core.specs.Recalls.{AreLeftOf, no_recalls};
 ghost use Rattle.nfs_core.specs.Revoking.{IsNotRevokedFor, IsRevoked, NoneIsDue};
 ghost use Rattle.nfs_core.specs.Safe.{IsSafe, KeepRequests};
 ghost use Rattle.nfs_core.specs.Server.{Applies, AreAlike, Enters, IsLawful};
@@ -22,11 +23,14 @@ ghost use Rattle.nfs_xdr.specs.Opnum.{answer_limit};
 use crate::answering::enter;
 use crate::expiry::enter_expiry;
 use crate::following::follow;
-use crate::laws::lawful_is_safe;
+use crate::holdings::Holdings;
+use crate::laws::{lawful_is_safe, recalls_follow};
 use crate::path_marking::enter_path_mark;
+use crate::pending_recalls::PendingRecalls;
 use crate::revoking::enter_revocation;
 use crate::{CoreError, Entered, FollowError};
 use nfs_owners::ClientState;
+use nfs_rpc::Recall;
 use nfs_state::{
     Entry, Expire, JOURNAL_LIMIT, Journal, LEASE_MAX, LEASE_MIN, Moment, Path, Request, Store,
     Tables,
@@ -40,21 +44,24 @@ use std::marker::Model;
 #[derive(Debug, Drop)]
 pub struct Core {
     alloc: Global,
-    store: Store,
+    held: Holdings,
 }
 
 impl Model for Core {
     ghost use Rattle.nfs_core.specs.Lawful.{Lawful};
-    ghost use Rattle.nfs_core.specs.Server.{Server};
+    ghost use Rattle.nfs_core.specs.Recalls.{AreLeftOf, left_of};
+    ghost use Rattle.nfs_core.specs.Server.{Server, server_of};
     ghost use Rattle.nfs_state.specs.Room.{state_of};
-    ghost use Rattle.nfs_state.specs.Store.{OwnersAgree, server_of};
+    ghost use Rattle.nfs_state.specs.Store.{OwnersAgree};
 
     ghost Value = { Server };
 
-    ghost view = { λ c. server_of c.store };
+    ghost view = { λ c. server_of c.held };
 
-    ghost invariant = { λ c. Lawful c.store.journal.history (state_of c.store.tables)
-        × OwnersAgree c.store };
+    ghost invariant = { λ c.
+        Lawful c.held.store.journal.history (state_of c.held.store.tables)
+        × OwnersAgree c.held.store
+        × AreLeftOf c.held.store.journal.history (left_of c.held.recalls) };
 }
 
 impl Core {
@@ -76,15 +83,18 @@ impl Core {
           entries = [];
         }) }
         ensures stored { IfOk result (λ core. core.stored ≡ empty_store tree.now.nodes) }
+        ensures recalls { IfOk result (λ core. core.recalls ≡ no_recalls) }
         ensures lawful { IfOk result (λ core. IsLawful core) }
         ensures error { IfErr result (λ e. e ≡ CoreError.Memory) }
     {
+        let store = Store {
+            tables: Tables::of_tree(alloc, tree)?,
+            journal: Journal::new(alloc, tree.clone()?, lease, epoch, policy),
+        };
+        let recalls = PendingRecalls::new(alloc);
         Ok(Core {
             alloc,
-            store: Store {
-                tables: Tables::of_tree(alloc, tree)?,
-                journal: Journal::new(alloc, tree.clone()?, lease, epoch, policy),
-            },
+            held: Holdings { store, recalls },
         })
     }
 
@@ -132,9 +142,10 @@ impl Core {
         ensures lawful { IsLawful self.new }
     {
         lawful_is_safe();
+        recalls_follow();
         let opnum = request.op.opnum();
-        let store = &mut self.store;
-        match enter(self.alloc, store, request) {
+        let held = &mut self.held;
+        match enter(self.alloc, held, request) {
             Ok((answer, entered)) => {
                 answer.fits();
                 (answer, Some(entered))
@@ -152,10 +163,10 @@ impl Core {
         ensures error { IfErr result (IsWithoutRoom self.old) }
         ensures lawful { IsLawful self.new }
     {
-        if self.store.journal.is_full() {
+        if self.held.store.journal.is_full() {
             return Err(CoreError::Full);
         }
-        Ok(self.store.journal.reserve()?)
+        Ok(self.held.store.journal.reserve()?)
     }
 
     /// Removes the client with this number, whose lease was renewed last at `seen` and has run out at `now`, with all that
@@ -170,8 +181,9 @@ impl Core {
         ensures lawful { IsLawful self.new }
     {
         lawful_is_safe();
-        let store = &mut self.store;
-        enter_expiry(self.alloc, store, Expire { client, seen, now })
+        recalls_follow();
+        let held = &mut self.held;
+        enter_expiry(self.alloc, held, Expire { client, seen, now })
     }
 
     /// Takes away the delegation with the least number of those that are due at `now`: called back more than a lease
@@ -187,8 +199,9 @@ impl Core {
         ensures lawful { IsLawful self.new }
     {
         lawful_is_safe();
-        let store = &mut self.store;
-        enter_revocation(self.alloc, store, now)
+        recalls_follow();
+        let held = &mut self.held;
+        enter_revocation(self.alloc, held, now)
     }
 
     /// Marks whether callbacks reach the live client with this number, and enters that in the journal. Returns the
@@ -202,8 +215,9 @@ impl Core {
         ensures lawful { IsLawful self.new }
     {
         lawful_is_safe();
-        let store = &mut self.store;
-        enter_path_mark(self.alloc, store, Path { client, up })
+        recalls_follow();
+        let held = &mut self.held;
+        enter_path_mark(self.alloc, held, Path { client, up })
     }
 
     /// Enters an entry that is handed in, such as one of another server's journal, if it may come next: it is judged as
@@ -220,15 +234,16 @@ impl Core {
         ensures lawful { IsLawful self.new }
     {
         lawful_is_safe();
-        let store = &mut self.store;
-        follow(self.alloc, store, entry)
+        recalls_follow();
+        let held = &mut self.held;
+        follow(self.alloc, held, entry)
     }
 
     /// Whether the client with this number is live: whether it has a confirmed record.
     pub fn live(&self, client: u32) -> bool
         ensures { result ≡ is_live client self.now.stored.clients }
     {
-        self.store.tables.clients.live(client)
+        self.held.store.tables.clients.live(client)
     }
 
     /// The least number above this one that a live client has, if there is one.
@@ -239,7 +254,7 @@ impl Core {
         ensures lawful { IsLawful self.now }
     {
         lawful_is_safe();
-        self.store.tables.clients.next_live(after)
+        self.held.store.tables.clients.next_live(after)
     }
 
     /// What the record of a live client has of whose path to its callbacks nothing is known: of the client with the
@@ -247,14 +262,36 @@ impl Core {
     pub fn probe(&self, after: u32) -> Option<&ClientState>
         ensures { IsNextUnknown after self.now.stored.clients (option_copied result) }
     {
-        self.store.tables.clients.next_unknown(after)
+        self.held.store.tables.clients.next_unknown(after)
     }
 
     /// The number of the live client that the client with this number replaces once it is confirmed.
     pub fn replaced_by(&self, client: u32) -> Option<u32>
         ensures { result ≡ replaced_by client self.now.stored.clients }
     {
-        self.store.tables.clients.replaced_by(client)
+        self.held.store.tables.clients.replaced_by(client)
+    }
+
+    /// The recalls that the journal made and that nobody took yet, in the order of its entries, and within an entry by
+    /// the numbers of the delegations.
+    pub fn pending(&self) -> &[Recall]
+        ensures pending { result.now ≡ self.now.recalls.pending }
+        ensures recalls { AreLeftOf self.now.journal self.now.recalls }
+    {
+        self.held.recalls.pending()
+    }
+
+    /// Takes out the first of the recalls that are pending. It takes no memory, and makes no entry.
+    pub fn take_recall(&mut self) -> Option<Recall>
+        ensures others { self.new ≡ record self.old { recalls = self.new.recalls } }
+        ensures none { IfNone result
+            ((self.old.recalls.pending ≡ []) × (self.new ≡ self.old)) }
+        ensures first { IfSome result (λ recall.
+            self.old.recalls.pending ≡ recall ∷ self.new.recalls.pending) }
+        ensures taken { IfSome result (λ recall.
+            self.new.recalls.taken ≡ self.old.recalls.taken + 1) }
+    {
+        self.held.recalls.take()
     }
 
     /// The journal of the changes that led to the state.
@@ -266,6 +303,6 @@ impl Core {
         ensures counted { KeepRequests self.now.journal (meaning self.now.stored) }
     {
         lawful_is_safe();
-        &self.store.journal
+        &self.held.store.journal
     }
 }

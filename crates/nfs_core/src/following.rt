@@ -2,19 +2,21 @@
 
 ghost use Rattle.std.specs.Prelude.{◌≡◌, ◌≢◌, ◌≤◌, Err, IfOk, IsErrOf, OnErr};
 ghost use Rattle.nfs_core.specs.Following.{CanBeAsked, IsNext, MayBeAnswered, MayFollow, StoreAgrees};
-ghost use Rattle.nfs_core.specs.Server.{Enters};
+ghost use Rattle.nfs_core.specs.Server.{AreAlike, Enters, server_of};
 ghost use Rattle.nfs_core.specs.Step.{HasNoAnswer, HasNoStep};
 ghost use Rattle.nfs_state.specs.Entries.{IsSendable, entry_of};
 ghost use Rattle.nfs_state.specs.Room.{state_of};
-ghost use Rattle.nfs_state.specs.Store.{AreAlike, OwnersAgree, server_of};
+ghost use Rattle.nfs_state.specs.Store.{OwnersAgree};
 ghost use Rattle.nfs_state.specs.declared.entry.Entry.TheVariants as entries;
 
+use crate::committing::commit;
 use crate::expiry::decide_expiry;
+use crate::holdings::Holdings;
 use crate::path_marking::decide_path_mark;
 use crate::revoking::decide_revocation;
 use nfs_rules::{Decision, at_most_one_decision, decide};
 use nfs_state::{
-    Call, Effect, Entry, Expire, Path, Request, Revoke, Shortage, Store, commit_entry,
+    Call, Effect, Entry, Expire, Path, Request, Revoke, Shortage, Store,
 };
 use std::alloc::Global;
 
@@ -44,56 +46,56 @@ impl From<Shortage> for FollowError {
 /// Enters an entry that is handed in, if it may come next, and returns its number. Fails with NotNext only if it may
 /// not, and with Memory only if it may as far as it is judged without a call's answer. What fails changes nothing but
 /// room, of which there isn't less.
-pub(crate) fn follow(alloc: Global, store: &mut Store, entry: Entry) -> Result<u32, FollowError>
-    requires { StoreAgrees store.old }
-    ensures entered { IfOk result (λ number. Enters (server_of store.old) (server_of store.new)
+pub(crate) fn follow(alloc: Global, held: &mut Holdings, entry: Entry) -> Result<u32, FollowError>
+    requires { StoreAgrees held.old.store }
+    ensures entered { IfOk result (λ number. Enters (server_of held.old) (server_of held.new)
         entry number) }
-    ensures kept { OwnersAgree store.new }
+    ensures kept { OwnersAgree held.new.store }
     ensures not_next { IsErrOf result FollowError.NotNext
-        → HasNoStep store.old.journal.history (state_of store.old.tables) entry }
+        → HasNoStep held.old.store.journal.history (state_of held.old.store.tables) entry }
     ensures memory { IsErrOf result FollowError.Memory
-        → MayFollow (server_of store.old) entry }
-    ensures same { OnErr result (AreAlike (server_of store.old) (server_of store.new)) }
-    ensures room { OnErr result (store.old.journal.room ≤ store.new.journal.room) }
+        → MayFollow (server_of held.old) entry }
+    ensures same { OnErr result (AreAlike (server_of held.old) (server_of held.new)) }
+    ensures room { OnErr result (held.old.store.journal.room ≤ held.new.store.journal.room) }
 {
-    let effect = effect_of(alloc, store, &entry)?;
-    Ok(commit_entry(alloc, store, entry, effect)?)
+    let effect = effect_of(alloc, held, &entry)?;
+    Ok(commit(alloc, held, entry, effect)?)
 }
 
 // The effect of the entry, if it may come next.
-fn effect_of(alloc: Global, store: &Store, entry: &Entry) -> Result<Effect, FollowError>
-    requires { StoreAgrees store.now }
+fn effect_of(alloc: Global, held: &Holdings, entry: &Entry) -> Result<Effect, FollowError>
+    requires { StoreAgrees held.now.store }
     ensures next { IfOk result (λ effect.
-        IsNext store.now.journal.history (state_of store.now.tables) entry.now effect) }
+        IsNext held.now.store.journal.history (state_of held.now.store.tables) entry.now effect) }
     ensures not_next { IsErrOf result FollowError.NotNext
-        → HasNoStep store.now.journal.history (state_of store.now.tables) entry.now }
+        → HasNoStep held.now.store.journal.history (state_of held.now.store.tables) entry.now }
     ensures memory { IsErrOf result FollowError.Memory
-        → MayFollow (server_of store.now) entry.now }
+        → MayFollow (server_of held.now) entry.now }
 {
     match entry {
-        Entry::Call(call) => effect_of_call(alloc, store, call),
-        Entry::Expire(expire) => effect_of_expire(store, expire),
-        Entry::Revoke(revoke) => effect_of_revoke(store, revoke),
-        Entry::Path(path) => effect_of_path(store, path),
+        Entry::Call(call) => effect_of_call(alloc, held, call),
+        Entry::Expire(expire) => effect_of_expire(held, expire),
+        Entry::Revoke(revoke) => effect_of_revoke(held, revoke),
+        Entry::Path(path) => effect_of_path(held, path),
     }
 }
 
 // The effect of the call, if its request can be asked and its answer is the one that is decided.
-fn effect_of_call(alloc: Global, store: &Store, call: &Call) -> Result<Effect, FollowError>
-    requires { StoreAgrees store.now }
-    ensures next { IfOk result (λ effect. IsNext store.now.journal.history
-        (state_of store.now.tables) (entries.Call call.now) effect) }
+fn effect_of_call(alloc: Global, held: &Holdings, call: &Call) -> Result<Effect, FollowError>
+    requires { StoreAgrees held.now.store }
+    ensures next { IfOk result (λ effect. IsNext held.now.store.journal.history
+        (state_of held.now.store.tables) (entries.Call call.now) effect) }
     ensures not_next { IsErrOf result FollowError.NotNext
-        → HasNoStep store.now.journal.history (state_of store.now.tables)
+        → HasNoStep held.now.store.journal.history (state_of held.now.store.tables)
         (entries.Call call.now) }
     ensures memory { IsErrOf result FollowError.Memory
-        → MayFollow (server_of store.now) (entries.Call call.now) }
+        → MayFollow (server_of held.now) (entries.Call call.now) }
 {
     at_most_one_decision();
-    if !call.request.can_be_asked(store.journal.tree().len()) {
+    if !call.request.can_be_asked(held.store.journal.tree().len()) {
         return Err(FollowError::NotNext);
     }
-    let decision = decide_next(alloc, store, &call.request)?;
+    let decision = decide_next(alloc, &held.store, &call.request)?;
     if !decision.answer.is_same(&call.answer) {
         return Err(FollowError::NotNext);
     }
@@ -101,45 +103,45 @@ fn effect_of_call(alloc: Global, store: &Store, call: &Call) -> Result<Effect, F
 }
 
 // The effect of the client's end, if it may come next.
-fn effect_of_expire(store: &Store, expire: &Expire) -> Result<Effect, FollowError>
-    ensures next { IfOk result (λ effect. IsNext store.now.journal.history
-        (state_of store.now.tables) (entries.Expire expire.entry.now) effect) }
+fn effect_of_expire(held: &Holdings, expire: &Expire) -> Result<Effect, FollowError>
+    ensures next { IfOk result (λ effect. IsNext held.now.store.journal.history
+        (state_of held.now.store.tables) (entries.Expire expire.entry.now) effect) }
     ensures not_next { IsErrOf result FollowError.NotNext
-        → HasNoStep store.now.journal.history (state_of store.now.tables)
+        → HasNoStep held.now.store.journal.history (state_of held.now.store.tables)
         (entries.Expire expire.entry.now) }
     ensures memory { result ≢ Err FollowError.Memory }
 {
-    match decide_expiry(store, expire) {
+    match decide_expiry(held, expire) {
         Ok(effect) => Ok(effect),
         Err(_) => Err(FollowError::NotNext),
     }
 }
 
 // The effect of the delegation's end, if it may come next.
-fn effect_of_revoke(store: &Store, revoke: &Revoke) -> Result<Effect, FollowError>
-    ensures next { IfOk result (λ effect. IsNext store.now.journal.history
-        (state_of store.now.tables) (entries.Revoke revoke.entry.now) effect) }
+fn effect_of_revoke(held: &Holdings, revoke: &Revoke) -> Result<Effect, FollowError>
+    ensures next { IfOk result (λ effect. IsNext held.now.store.journal.history
+        (state_of held.now.store.tables) (entries.Revoke revoke.entry.now) effect) }
     ensures not_next { IsErrOf result FollowError.NotNext
-        → HasNoStep store.now.journal.history (state_of store.now.tables)
+        → HasNoStep held.now.store.journal.history (state_of held.now.store.tables)
         (entries.Revoke revoke.entry.now) }
     ensures memory { result ≢ Err FollowError.Memory }
 {
-    match decide_revocation(store, revoke) {
+    match decide_revocation(held, revoke) {
         Some(effect) => Ok(effect),
         None => Err(FollowError::NotNext),
     }
 }
 
 // The effect of the mark of a client's path, if it may come next.
-fn effect_of_path(store: &Store, path: &Path) -> Result<Effect, FollowError>
-    ensures next { IfOk result (λ effect. IsNext store.now.journal.history
-        (state_of store.now.tables) (entries.Path path.now) effect) }
+fn effect_of_path(held: &Holdings, path: &Path) -> Result<Effect, FollowError>
+    ensures next { IfOk result (λ effect. IsNext held.now.store.journal.history
+        (state_of held.now.store.tables) (entries.Path path.now) effect) }
     ensures not_next { IsErrOf result FollowError.NotNext
-        → HasNoStep store.now.journal.history (state_of store.now.tables)
+        → HasNoStep held.now.store.journal.history (state_of held.now.store.tables)
         (entries.Path path.now) }
     ensures memory { result ≢ Err FollowError.Memory }
 {
-    match decide_path_mark(store, path) {
+    match decide_path_mark(held, path) {
         Ok(effect) => Ok(effect),
         Err(_) => Err(FollowError::NotNext),
     }

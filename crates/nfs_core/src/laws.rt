@@ -1,5 +1,6 @@
 ghost use Rattle.nfs_core.specs.Lawful.{AtMostOneState, Lawful};
 ghost use Rattle.nfs_core.specs.LiveClients.{AreNumbered, AreOfOneRun, CallsFollow, EffectsFollow, EndsFollow, PathsFollow, RevocationsFollow};
+ghost use Rattle.nfs_core.specs.Recalls.{AreOneList, RecallsFollow};
 ghost use Rattle.nfs_core.specs.Safe.{IsSafe, KeepRequests};
 ghost use Rattle.nfs_core.specs.Step.{AtMostOneStateAfter, AtMostOneStep};
 ghost use Rattle.nfs_state.specs.State.{State, History};
@@ -14,6 +15,20 @@ use nfs_share::{delegations_stay_apart, delegations_stay_single, opens_stay_comp
 pub fn at_most_one_step()
     ensures calls { AtMostOneStep }
     ensures entries { AtMostOneStateAfter }
+{
+    at_most_one_decision();
+}
+
+/// The law that the recalls of a journal are one list.
+pub fn recalls_are_one_list()
+    ensures { AreOneList }
+{
+    at_most_one_decision();
+}
+
+/// The law that the recalls of a journal with one entry more are those that it had, and then those of the entry.
+pub fn recalls_follow()
+    ensures { RecallsFollow }
 {
     at_most_one_decision();
 }

@@ -2,20 +2,28 @@
 #![tactic(auto)]
 
 mod answering;
+mod committing;
 mod core_error;
 mod core_state;
 mod entered;
 mod expiry;
 mod following;
+mod holdings;
 mod laws;
 mod path_marking;
+mod pending_recalls;
+mod recalling;
 mod revoking;
 
 pub use core_error::CoreError;
 pub use core_state::Core;
 pub use entered::Entered;
 pub use following::FollowError;
-pub use laws::{at_most_one_state, at_most_one_step, lawful_is_safe, live_clients_follow};
+pub use laws::{
+    at_most_one_state, at_most_one_step, lawful_is_safe, live_clients_follow, recalls_are_one_list,
+    recalls_follow,
+};
+pub use nfs_rpc::Recall;
 pub use nfs_state::{
     Entry, JOURNAL_LIMIT, Journal, LEASE_MAX, LEASE_MIN, Moment, STATE_LIMIT, limits_of_the_state,
 };

@@ -1,4 +1,4 @@
-ghost use Rattle.std.specs.Prelude.{◌≡◌, ◌≤◌, ◌↔◌, IfErr, IfOk, IsTrue, None, Ok, OnErr, length};
+ghost use Rattle.std.specs.Prelude.{◌≡◌, ◌≤◌, ◌↔◌, ◌+◌, [], ◌∷◌, IfErr, IfNone, IfOk, IfSome, IsTrue, None, Ok, OnErr, length};
 ghost use Rattle.nfs_core.specs.Entered.{Answers};
 ghost use Rattle.nfs_core.specs.PathMarking.{IsNotMarkedFor, path_of};
 ghost use Rattle.nfs_core.specs.Revoking.{IsNotRevokedFor, IsRevoked, NoneIsDue};
@@ -17,7 +17,7 @@ use crate::following::follow;
 use crate::renewing::renew_lease;
 use crate::sweeping::sweep_core;
 use crate::{LeaseBook, PlainLeases, Swept};
-use nfs_core::{Core, CoreError, Entered, lawful_is_safe, live_clients_follow};
+use nfs_core::{Core, CoreError, Entered, Recall, lawful_is_safe, live_clients_follow};
 use nfs_state::{Moment, Request};
 use nfs_xdr::OpResult;
 
@@ -108,6 +108,22 @@ impl<B: LeaseBook> LeasedCore<B> {
         live_clients_follow();
         cores_are_lawful(&self.core);
         self.core.mark_path(client, up)
+    }
+
+    /// Takes out the first of the recalls that are pending, as the core does. The leases stay as they are.
+    pub fn take_recall(&mut self) -> Option<Recall>
+        ensures core { self.new.core ≡ record self.old.core {
+          recalls = self.new.core.recalls;
+        } }
+        ensures none { IfNone result ((self.old.core.recalls.pending ≡ [])
+            × (self.new.core ≡ self.old.core)) }
+        ensures first { IfSome result (λ recall.
+            self.old.core.recalls.pending ≡ recall ∷ self.new.core.recalls.pending) }
+        ensures taken { IfSome result (λ recall.
+            self.new.core.recalls.taken ≡ self.old.core.recalls.taken + 1) }
+        ensures book { self.new.book ≡ self.old.book }
+    {
+        self.core.take_recall()
     }
 }
 

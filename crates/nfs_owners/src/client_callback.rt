@@ -52,6 +52,14 @@ impl ClientCallback {
         })
     }
 
+    /// The callback, as the client asked for it.
+    pub fn as_callback(&self) -> &Callback
+        ensures value { result.now ≡ self.now }
+        ensures within { is_within_limit result.now.address ≡ true }
+    {
+        &self.callback
+    }
+
     /// The transport and the address on it.
     pub fn address(&self) -> &Address
         ensures value { result.now ≡ self.now.address }

@@ -1,5 +1,6 @@
 -- What the lock guards, after a call and after entries that are no calls.
 use Rattle.std.proofs.Common.{◌≡◌, ℕ, suc, refl, List, [], ◌∷◌, ◌++◌, length, sym, ap, ◌∙◌, arith, length-append}
+use Rattle.nfs_core.specs.Recalls.{AreLeftOf}
 use Rattle.nfs_core.specs.Safe.{IsSafe}
 use Rattle.nfs_core.specs.Server.{Enters, IsLawful, Server}
 use Rattle.nfs_leases.specs.BookOf.{IsBookOf}
@@ -20,6 +21,7 @@ pub record KeepsRules (server : Server) (leases : PlainBook) : Type 0 where
   pub lawful : IsLawful server
   pub safe : IsSafe (meaning server.stored)
   pub agrees : IsBookOf (is_open_in leases) (was_opened_in leases) leases.lease server
+  pub recalls : AreLeftOf server.journal server.recalls
 
 -- a call more
 pub held_call : (old new : HeldView) (number : ℕ) (call : Call) (receipt : Receipt)
@@ -37,6 +39,7 @@ held_call old new number call receipt h enters keeps number_is call_is places_is
       lawful = keeps.lawful;
       safe = keeps.safe;
       agrees = keeps.agrees;
+      recalls = keeps.recalls;
       places = omega (arith, ap length places_is, length-append old.places (receipt.place ∷ []), h.places, more);
       receipts = receipts_is ∙ ap (λ xs. xs ++ receipt ∷ []) h.receipts ∙ ap (λ r. receipts_of 0 es old.places ++ r ∷ []) here ∙ sym grown ∙ (λ i. receipts_of 0 (sym journal i) (sym places_is i));
     }
@@ -60,6 +63,7 @@ held_more old new more h gains none keeps places_is receipts_is =
       lawful = keeps.lawful;
       safe = keeps.safe;
       agrees = keeps.agrees;
+      recalls = keeps.recalls;
       places = ap length places_is ∙ h.places ∙ sym (calls_in_more es more none) ∙ ap calls_in (sym journal);
       receipts = receipts_is ∙ h.receipts ∙ sym (receipts_more 0 es more old.places none) ∙ (λ i. receipts_of 0 (sym journal i) (sym places_is i));
     }

@@ -3,6 +3,7 @@ use Rattle.std.specs.Prelude.{◌≡◌, ℕ, List, length}
 use mathlib.Core.List.{IsPrefix}
 use Rattle.atomic_table.specs.Seated.{TableId}
 use Rattle.atomic_table.specs.declared.shared.Seat as tokens
+use Rattle.nfs_core.specs.Recalls.{AreLeftOf}
 use Rattle.nfs_core.specs.Safe.{IsSafe}
 use Rattle.nfs_core.specs.Server.{IsLawful, Server}
 use Rattle.nfs_leases.specs.BookOf.{IsBookOf}
@@ -43,6 +44,8 @@ pub record IsHeld (held : HeldView) : Type 0 where
   -- the leases that are open are those of the live clients
   pub agrees :
       IsBookOf (is_open_in held.leases) (was_opened_in held.leases) held.leases.lease held.server
+  -- the recalls that nobody took yet are those of the journal without those that were taken, which come first
+  pub recalls : AreLeftOf held.server.journal held.server.recalls
   -- the receipts are for the calls of the journal, each with its number and the place of its seat
   pub places : length held.places ≡ calls_in held.server.journal.entries
   pub receipts : held.receipts ≡ receipts_of 0 held.server.journal.entries held.places

@@ -3,6 +3,7 @@ ghost use Rattle.std.specs.Prelude.{◌≡◌, ◌+◌, ◌<◌, ◌≤◌, ◌+
 ghost use Rattle.std.specs.Option.{option_copied};
 ghost use Rattle.nfs_core.specs.Entered.{Answers, number_entered};
 ghost use Rattle.nfs_core.specs.PathMarking.{IsNotMarkedFor, path_of};
+ghost use Rattle.nfs_core.specs.Recalls.{AreLeftOf};
 ghost use Rattle.nfs_core.specs.Server.{Applies, AreAlike, Enters, IsLawful};
 ghost use Rattle.nfs_core.specs.declared.entered.Entered.{Entered};
 ghost use Rattle.nfs_forms.specs.ClientId.{number_in};
@@ -27,7 +28,7 @@ use crate::register::{Register, give};
 use crate::roll::meet;
 use crate::seat::Seat;
 use crate::sweeper::Sweeper;
-use nfs_core::{Core, CoreError, Entered, Entry, Moment, lawful_is_safe};
+use nfs_core::{Core, CoreError, Entered, Entry, Moment, Recall, lawful_is_safe};
 use nfs_leases::{LeasedCore, PlainLeases, Swept, renewed_client};
 use nfs_owners::ClientState;
 use nfs_state::{Request, SeenCall};
@@ -121,6 +122,7 @@ pub fn call_held<N: Naming>(
 {
     lawful_is_safe();
     let (answer, entered) = answer_with_room(&mut held.leased, &mut held.register.places, request);
+    recalls_are_left(&held.leased.core);
     match entered {
         None => (answer, None),
         Some(entered) => {
@@ -182,6 +184,7 @@ pub fn sweep_held<N: Naming>(held: &mut Held<N>, sweeper: &mut Sweeper<N>, now: 
 {
     lawful_is_safe();
     let swept = held.leased.sweep(now);
+    recalls_are_left(&held.leased.core);
     let entries = swept.expired as u64 + swept.revoked as u64;
     held.sweep_count.add(&mut sweeper.share, entries);
     swept
@@ -208,13 +211,40 @@ pub fn mark_path_held<N: Naming>(
     ensures receipts { held.new.receipts ≡ held.old.receipts }
 {
     lawful_is_safe();
-    match held.leased.mark_path(client, up) {
+    let marked = held.leased.mark_path(client, up);
+    recalls_are_left(&held.leased.core);
+    match marked {
         Ok(number) => {
             held.sweep_count.add(&mut sweeper.share, 1);
             Ok(number)
         }
         Err(error) => Err(error),
     }
+}
+
+/// Takes out the first of the recalls that are pending. It makes no entry.
+pub fn take_held<N: Naming>(held: &mut Held<N>) -> Option<Recall>
+    ensures others { held.new ≡ record held.old {
+      server = record held.old.server { recalls = held.new.server.recalls };
+    } }
+    ensures none { IfNone result ((held.old.server.recalls.pending ≡ [])
+        × (held.new ≡ held.old)) }
+    ensures first { IfSome result (λ recall.
+        held.old.server.recalls.pending ≡ recall ∷ held.new.server.recalls.pending) }
+    ensures taken { IfSome result (λ recall.
+        held.new.server.recalls.taken ≡ held.old.server.recalls.taken + 1) }
+    ensures known { CanBeHeld N.start held.old }
+{
+    let recall = held.leased.take_recall();
+    recalls_are_left(&held.leased.core);
+    recall
+}
+
+// The law that the recalls which nobody took yet are what is left of those of the journal.
+pub(crate) fn recalls_are_left(core: &Core)
+    ensures { AreLeftOf core.now.journal core.now.recalls }
+{
+    let _ = core.pending();
 }
 
 /// Renews the lease of this client, if it is open, and returns whether it is. The seat's receipts begin those that were

@@ -20,12 +20,14 @@ ghost use Rattle.nfs_xdr.specs.Op.{has_entry, opnum_of};
 ghost use Rattle.nfs_xdr.specs.OpResult.{op_result};
 ghost use Rattle.nfs_xdr.specs.Opnum.{answer_limit};
 
-use crate::held::{Held, call_held, mark_path_held, renew_held, renew_named, sweep_held};
+use crate::held::{
+    Held, call_held, mark_path_held, renew_held, renew_named, sweep_held, take_held,
+};
 use crate::naming::Naming;
 use crate::receipt::Receipt;
 use crate::seat::Seat;
 use crate::sweeper::Sweeper;
-use nfs_core::{Core, CoreError, Moment};
+use nfs_core::{Core, CoreError, Moment, Recall};
 use nfs_leases::Swept;
 use nfs_owners::ClientState;
 use nfs_state::Request;
@@ -145,5 +147,21 @@ impl<'a, N: Naming> Hold<'a, N> {
         ensures receipts { self.new.receipts ≡ self.old.receipts }
     {
         mark_path_held(&mut *self.guard, sweeper, client, up)
+    }
+
+    /// Takes out the first of the recalls that are pending. It makes no entry.
+    pub fn take(&mut self) -> Option<Recall>
+        ensures others { self.new ≡ record self.old {
+          server = record self.old.server { recalls = self.new.server.recalls };
+        } }
+        ensures none { IfNone result ((self.old.server.recalls.pending ≡ [])
+            × (self.new ≡ self.old)) }
+        ensures first { IfSome result (λ recall.
+            self.old.server.recalls.pending ≡ recall ∷ self.new.server.recalls.pending) }
+        ensures taken { IfSome result (λ recall.
+            self.new.server.recalls.taken ≡ self.old.server.recalls.taken + 1) }
+        ensures known { CanBeHeld N.start self.old }
+    {
+        take_held(&mut *self.guard)
     }
 }

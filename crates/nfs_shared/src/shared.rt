@@ -1,8 +1,9 @@
 //! The state that threads share, behind one lock.
 ghost use Rattle.std.specs.Prelude.{◌≡◌, ◌+◌, ◌<◌, ◌≤◌, ◌↔◌, [], IfOk, IfErr, IfSome, IfNone, IsNone, IsTrue, OnErr, OnOk, length, map};
 ghost use Rattle.nfs_core.specs.PathMarking.{IsNotMarkedFor, path_of};
+ghost use Rattle.nfs_core.specs.Recalls.{IsFirst};
 ghost use Rattle.nfs_core.specs.Safe.{IsSafe};
-ghost use Rattle.nfs_core.specs.Server.{IsLawful};
+ghost use Rattle.nfs_core.specs.Server.{Enters, IsLawful, Server};
 ghost use Rattle.nfs_forms.specs.ClientId.{number_in};
 ghost use Rattle.nfs_shared.specs.Ends.{AreFresh, AreKept, AllStand, AllApart, AllBegin, receipts_in, given_in};
 ghost use Rattle.nfs_shared.specs.Held.{CanBeHeld, HeldView, MayBeHeld};
@@ -14,11 +15,12 @@ ghost use Rattle.nfs_shared.specs.Seats.{Gives, KnowsTheSame, fresh};
 ghost use Rattle.nfs_owners.specs.LiveClients.{IsNextUnknown};
 ghost use Rattle.nfs_state.specs.Entries.{IsFilehandle, request_of, resource};
 ghost use Rattle.nfs_state.specs.Stored.{meaning};
+ghost use Rattle.nfs_state.specs.declared.entry.Entry.TheVariants as entries;
 ghost use Rattle.nfs_xdr.specs.Op.{has_entry, opnum_of};
 ghost use Rattle.nfs_xdr.specs.OpResult.{op_result};
 ghost use Rattle.nfs_xdr.specs.Opnum.{answer_limit};
 
-use crate::held::Held;
+use crate::held::{Held, recalls_are_left};
 use crate::hold::Hold;
 use crate::naming::{Naming, ReceiptLedger, SweepLedger};
 use crate::opened::Opened;
@@ -27,7 +29,7 @@ use crate::register::Register;
 use crate::roll::{Copied, Roll, Token, meet};
 use crate::seat::Seat;
 use crate::sweeper::Sweeper;
-use nfs_core::{Core, CoreError, Moment};
+use nfs_core::{Core, CoreError, Moment, Recall};
 use nfs_leases::{LeasedCore, PlainLeases, Swept};
 use nfs_owners::ClientState;
 use nfs_state::Request;
@@ -78,6 +80,7 @@ impl<N: Naming> Shared<N> {
             count,
             rest,
         };
+        recalls_are_left(&core);
         let held = Held {
             leased: LeasedCore::new(core, leases),
             register,
@@ -151,7 +154,7 @@ impl<N: Naming> Shared<N> {
 
     /// Marks whether callbacks reach this client, in one hold of the lock, and returns the number of the entry. It fails,
     /// and enters nothing, if the client isn't live, the journal is full, or memory ran out. No clause says that the lock
-    /// guarded the value that the failure is of, but that it may have.
+    /// guarded the value that this is said of, but that it may have.
     pub fn mark_path<R: Wait>(
         &self,
         rt: &R,
@@ -161,10 +164,23 @@ impl<N: Naming> Shared<N> {
     ) -> Result<u32, CoreError>
         ensures count { OnOk result (sweeper.new.count ≡ sweeper.old.count + 1) }
         ensures uncounted { OnErr result (sweeper.new ≡ sweeper.old) }
+        ensures marks { IfOk result (λ number. (held : HeldView) × CanBeHeld N.start held
+            × ((new : Server) × Enters held.server new (entries.Path (path_of client up)) number)) }
         ensures error { IfErr result (λ e. (held : HeldView) × CanBeHeld N.start held
             × IsNotMarkedFor held.server (path_of client up) e) }
     {
         self.hold(rt).mark_path(sweeper, client, up)
+    }
+
+    /// Takes out the first of the recalls that are pending, in one hold of the lock. It takes no memory. No clause says
+    /// that the lock guarded the value that this is said of, but that it may have.
+    pub fn take<R: Wait>(&self, rt: &R) -> Option<Recall>
+        ensures none { IfNone result ((held : HeldView) × CanBeHeld N.start held
+            × (held.server.recalls.pending ≡ [])) }
+        ensures first { IfSome result (λ recall. (held : HeldView) × CanBeHeld N.start held
+            × IsFirst recall held.server.recalls) }
+    {
+        self.hold(rt).take()
     }
 
     /// A copy of what the record of a live client has of whose path to its callbacks nothing is known: of the client with

@@ -4,7 +4,7 @@ ghost use Rattle.nfs_state.specs.Entries.{with_entry};
 ghost use Rattle.nfs_state.specs.Kept.{Agrees, kept_in, owners_after, update_by};
 ghost use Rattle.nfs_state.specs.Room.{Fits, HasGivenNumbers, TakesNoMemory, state_of, stored_of};
 ghost use Rattle.nfs_state.specs.State.{History};
-ghost use Rattle.nfs_state.specs.Store.{AreAlike, OwnersAgree, server_of};
+ghost use Rattle.nfs_state.specs.Store.{HoldTheSame, OwnersAgree};
 
 use crate::effect::Effect;
 use crate::entry::{Entry, JOURNAL_LIMIT};
@@ -38,7 +38,7 @@ pub fn commit_entry(
     ensures memory { IfErr result (λ e. e ≡ Shortage.Memory) }
     ensures ready { 0 < store.old.journal.room → TakesNoMemory entry effect store.old.tables
         → IsOk result }
-    ensures same { OnErr result (AreAlike (server_of store.old) (server_of store.new)) }
+    ensures same { OnErr result (HoldTheSame store.old store.new) }
     ensures room { OnErr result (store.old.journal.room ≤ store.new.journal.room) }
 {
     store.journal.entries.reserve(1)?;

@@ -11,7 +11,8 @@ const PERIOD: u64 = 1;
 // How many looks the watcher has after a sweep at most.
 const MOST_LOOKS: u32 = 4_096;
 
-/// Removes the clients whose leases are over, once a second, until the end of the run is told. Then the watcher looks.
+/// Removes the clients whose leases are over, and revokes the delegations that are due, once a second, until the end of
+/// the run is told. Then the watcher looks.
 pub(crate) fn sweep_until<N: Naming, R: Wait + Timer, W: Watcher>(
     rt: &R,
     shared: &Shared<N>,

@@ -1,27 +1,26 @@
-use Rattle.std.proofs.Common.{◌∙◌, ap, length, subst, sym}
-use Rattle.nfs_core.proofs.Entering.{Step-next}
+use Rattle.std.proofs.Common.{◌≡◌, ℕ, ap, subst, sym}
 use Rattle.nfs_core.proofs.answering.enter_decided.Goals as goal
-use Rattle.nfs_state.specs.Changes.{after}
-use Rattle.nfs_state.specs.Entries.{entry_of, with_entry}
-use Rattle.nfs_state.specs.Room.{Fits, state_of}
+use Rattle.nfs_core.specs.Entered.{IsEntered}
+use Rattle.nfs_core.specs.Following.{IsNext}
+use Rattle.nfs_core.specs.Server.{Enters, server_of}
+use Rattle.nfs_state.specs.Entries.{entry_of}
+use Rattle.nfs_state.specs.LiveChange.{live_change_of}
+use Rattle.nfs_state.specs.Room.{state_of}
+use Rattle.nfs_state.specs.declared.effect.Effect.{Effect}
 use Rattle.nfs_xdr.specs.declared.op_result.OpResult.{OpResult}
 
-pub commit_entry-requires-clause-fits : goal.commit_entry-requires-clause-fits
-commit_entry-requires-clause-fits c =
-    subst (λ (answer : OpResult). Fits (entry_of c.args.request answer) c.args.decision.effect (state_of c.args.store.now.tables)) (sym c.in_ok-answer.ensures) c.requires.next.fits
+pub commit-requires-clause-next : goal.commit-requires-clause-next
+commit-requires-clause-next c =
+    let store = c.args.held.now.store in
+    subst (λ (answer : OpResult). IsNext store.journal.history (state_of store.tables) (entry_of c.args.request answer) c.args.decision.effect) (sym c.in_ok-answer.ensures) c.requires.next
 
 pub returns-clause-entered : goal.returns-clause-entered
 returns-clause-entered c =
-    let journal = c.args.store.now.journal.history in
-    let old = state_of c.args.store.now.tables in
-    let effect = c.args.decision.effect in
-    let entered = c.in_ok-number.ensures in
-    let same = c.in_ok-answer.ensures in (
-      (
-        entered.number,
-        entered.entry ∙ ap (λ (answer : OpResult). with_entry (entry_of c.args.request answer) journal) same,
-        Step-next journal old _ (entry_of c.args.request c.args.decision.answer) effect c.requires.next
-            (entered.state ∙ ap (λ (answer : OpResult). after (length journal.entries) (entry_of c.args.request answer) effect old) same),
-      ),
-      c.live-live.ensures,
-    )
+    let entered = c.in_ok-number.ensures.entered in
+    let old = server_of c.args.held.now in
+    let new = server_of c.commit.new.held in
+    let enters : Enters old new (entry_of c.args.request c.in_ok-answer.answer) c.in_ok-number.number = entered.0 in
+    let live = c.live-live.ensures in
+    let told : IsEntered old new (entry_of c.args.request c.in_ok-answer.answer) (record { number = c.in_ok-number.number; live = c.live-live.live }) =
+        (enters, live ∙ ap (λ (e : Effect). live_change_of e.change) (sym entered.1)) in
+    subst (λ (answer : OpResult). IsEntered old new (entry_of c.args.request answer) (record { number = c.in_ok-number.number; live = c.live-live.live })) c.in_ok-answer.ensures told

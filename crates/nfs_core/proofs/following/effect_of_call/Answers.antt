@@ -11,7 +11,7 @@ pub returns-clause-next : goal.returns-clause-next
 returns-clause-next c =
     let call = c.args.call.now in
     let decision = c.in_ok-decision.decision in
-    with_same_answer c.args.store.now.journal.history (state_of c.args.store.now.tables) call.request decision.answer call.answer decision.effect c.in_ok-decision.ensures.next (search rules)
+    with_same_answer c.args.held.now.store.journal.history (state_of c.args.held.now.store.tables) call.request decision.answer call.answer decision.effect c.in_ok-decision.ensures.next (search rules)
 
 pub returns-in_err-decision-clause-not_next : goal.returns-in_err-decision-clause-not_next
 returns-in_err-decision-clause-not_next c not_next =
@@ -31,4 +31,4 @@ returns-in_err-decision-clause-memory c is_memory =
 
 pub returns-then-not-can_be_asked-clause-not_next : goal.returns-then-not-can_be_asked-clause-not_next
 returns-then-not-can_be_asked-clause-not_next c is =
-    not_asked c.args.store.now.journal.history (state_of c.args.store.now.tables) c.args.call.now (search (rules, c.can_be_asked.ensures))
+    not_asked c.args.held.now.store.journal.history (state_of c.args.held.now.store.tables) c.args.call.now (search (rules, c.can_be_asked.ensures))

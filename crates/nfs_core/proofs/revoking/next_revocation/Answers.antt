@@ -6,5 +6,5 @@ use Rattle.nfs_state.specs.Room.{state_of}
 
 pub returns-clause-next : goal.returns-clause-next
 returns-clause-next c =
-    let store = c.args.store.now in
+    let store = c.args.held.now.store in
     (refl, next_may store.journal.history (state_of store.tables) c.lease.result c.args.now (delegation_seen c.in_ok-due.due) c.lease.ensures.value c.requires.numbers_differ c.in_ok-due.ensures)

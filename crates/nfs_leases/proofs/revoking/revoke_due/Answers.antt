@@ -1,10 +1,9 @@
 -- The loop goes one revocation further, until none is due or one is refused.
-use Rattle.std.proofs.Common.{◌≡◌, List, ℕ, length, ◌+◌, [], ◌∷◌, ◌++◌, Option, Some, None, Ok, refl, sym, ap, subst, ◌∙◌, arith, length-append}
+use Rattle.std.proofs.Common.{ℕ, [], ◌∷◌, ◌++◌, Option, Ok, refl, sym, ap, subst, ◌∙◌, arith, length-append}
 use Rattle.nfs_core.specs.Revoking.{IsRevoked}
 use Rattle.nfs_core.specs.Server.{Server}
 use Rattle.nfs_leases.proofs.RevokedDelegations.{clients_alike, count_below, ends, entries_left, revokes_more, revokes_none, stops}
 use Rattle.nfs_leases.proofs.revoking.revoke_due.Goals as goal
-use Rattle.nfs_state.specs.Stored.{Stored}
 
 pub loop-count-init : goal.loop-count-init
 loop-count-init c = ([], refl, revokes_none c.args.now c.args.core.now, c.journal.ensures.lawful)

@@ -1,5 +1,5 @@
 -- The two parts of a sweep.
-use Rattle.std.proofs.Common.{◌≡◌, ℕ, length, ap, ◌∙◌}
+use Rattle.std.proofs.Common.{ℕ, length, ap, ◌∙◌}
 use Rattle.nfs_leases.proofs.Books.{book_kept}
 use Rattle.nfs_leases.proofs.sweeping.sweep_core.Goals as goal
 use Rattle.nfs_leases.specs.declared.swept.Swept.{Swept}

@@ -85,6 +85,7 @@ invariant_of-held-in-Some g c =
       lawful = called.ensures.lawful;
       safe = c.lawful_is_safe.ensures.safe _ _ called.ensures.lawful;
       agrees = called.new.leased.agrees;
+      recalls = c.recalls_are_left.ensures;
     } in
     let tied = c.held.invariant.1 in (
       held_call old new c.in-Some.entered.number call receipt c.held.invariant.0 entered.0 keeps
@@ -155,6 +156,7 @@ invariant_of-held g c =
         lawful = called.ensures.lawful;
         safe = c.lawful_is_safe.ensures.safe _ _ called.ensures.lawful;
         agrees = called.new.leased.agrees;
+        recalls = c.recalls_are_left.ensures;
         places = ap length called.ensures.places ∙ was.places ∙ ap calls_in (sym entries);
         receipts = was.receipts ∙ (λ i. receipts_of 0 (sym entries i) (sym {A = List ℕ} called.ensures.places i));
       },

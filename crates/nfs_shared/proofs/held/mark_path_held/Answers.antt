@@ -32,6 +32,7 @@ invariant_of-held g c =
       lawful = marked.ensures.lawful;
       safe = c.lawful_is_safe.ensures.safe _ _ marked.ensures.lawful;
       agrees = marked.new.self.agrees;
+      recalls = c.recalls_are_left.ensures;
     } in
     let more : List Entry = entries.Path (path_of c.args.client c.args.up) ∷ [] in
     let gains = gains_one old.server new.server (entries.Path (path_of c.args.client c.args.up)) c.in-Ok.number c.in-Ok.ensures.marks in (

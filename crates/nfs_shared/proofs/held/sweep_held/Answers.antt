@@ -33,6 +33,7 @@ invariant_of-held g c =
       lawful = swept.ensures.lawful;
       safe = c.lawful_is_safe.ensures.safe _ _ swept.ensures.lawful;
       agrees = swept.new.self.agrees;
+      recalls = c.recalls_are_left.ensures;
     } in
     let now = c.args.now in
     let sweeps = swept.ensures.sweeps in

@@ -1,14 +1,21 @@
 use Rattle.nfs_core.proofs.Journals.{Lawful-tried}
+use Rattle.nfs_core.proofs.RecallsLeft.{Left-tried}
 use Rattle.nfs_core.proofs.Storing.{store_agrees}
 use Rattle.nfs_core.proofs.core_state.Core.expire.Goals as goal
+use Rattle.nfs_core.specs.Server.{server_of}
 
 pub enter_expiry-requires : goal.enter_expiry-requires
 enter_expiry-requires c =
-    store_agrees c.lawful_is_safe.ensures.safe c.self.inside.store c.self.invariant.0 c.self.invariant.1
+    store_agrees c.lawful_is_safe.ensures.safe c.self.inside.held.store c.self.invariant.0 c.self.invariant.1
 
 pub invariant_of-self : goal.invariant_of-self
 invariant_of-self c =
-    (Lawful-tried c.self.inside.store c.enter_expiry.new.store _ c.enter_expiry.result c.self.invariant.0 c.enter_expiry.ensures.entered c.enter_expiry.ensures.same, c.enter_expiry.ensures.kept)
+    let old = server_of c.self.inside.held in
+    let new = server_of c.enter_expiry.new.held in (
+      Lawful-tried old new _ c.enter_expiry.result c.self.invariant.0 c.enter_expiry.ensures.entered c.enter_expiry.ensures.same,
+      c.enter_expiry.ensures.kept,
+      Left-tried c.recalls_follow.ensures old new _ c.enter_expiry.result c.self.invariant.0 c.self.invariant.2 c.enter_expiry.ensures.entered c.enter_expiry.ensures.same,
+    )
 
 pub returns-clause-lawful : goal.returns-clause-lawful
 returns-clause-lawful c = (invariant_of-self c).0

@@ -3,6 +3,7 @@ use Rattle.nfs_state.specs.Kept.{Agrees}
 use Rattle.nfs_state.specs.Room.{stored_of}
 use Rattle.nfs_state.specs.Stored.{Stored}
 use Rattle.nfs_core.proofs.Journals.{Lawful-new}
+use Rattle.nfs_core.proofs.RecallsLeft.{Left-new}
 use Rattle.nfs_core.proofs.core_state.Core.new.Goals as goal
 
 pub returns-clause-lawful : goal.returns-clause-lawful
@@ -11,4 +12,8 @@ returns-clause-lawful c = Lawful-new c.new.result.history (stored_of c.in_ok-of_
 pub invariant_of-result : goal.invariant_of-result
 invariant_of-result c =
     let no_owners = ap (λ (stored : Stored). stored.owners) c.in_ok-of_tree.ensures in
-    (returns-clause-lawful c, subst (Agrees c.new.result.history) (sym no_owners) tt)
+    (
+      returns-clause-lawful c,
+      subst (Agrees c.new.result.history) (sym no_owners) tt,
+      Left-new c.new.result.history _ (search rules) c.new-2.ensures,
+    )

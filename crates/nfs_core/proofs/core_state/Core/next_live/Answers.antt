@@ -8,12 +8,12 @@ use Rattle.nfs_state.specs.Stored.{meaning}
 
 pub returns-clause-numbered : goal.returns-clause-numbered
 returns-clause-numbered c =
-    let store = c.self.inside.store in
+    let store = c.self.inside.held.store in
     subst (λ (s : Server). AreNumbered s.stored.clients) c.self.view_is
     (c.lawful_is_safe.ensures.numbered store.journal.history (state_of store.tables) c.self.invariant.0)
 
 pub returns-clause-run : goal.returns-clause-run
 returns-clause-run c =
-    let store = c.self.inside.store in
+    let store = c.self.inside.held.store in
     subst (λ (s : Server). AreOfOneRun s.journal (meaning s.stored)) c.self.view_is
     (c.lawful_is_safe.ensures.run store.journal.history (state_of store.tables) c.self.invariant.0)

@@ -1,18 +1,24 @@
 use Rattle.std.proofs.Common.{◌≡◌, ◌↔◌, ℕ, None, Ok, Option, Result, subst}
 use Rattle.nfs_core.proofs.Journals.{Lawful-revoked}
+use Rattle.nfs_core.proofs.RecallsLeft.{Left-revoked}
 use Rattle.nfs_core.proofs.Storing.{store_agrees}
 use Rattle.nfs_core.proofs.core_state.Core.revoke.Goals as goal
 use Rattle.nfs_core.specs.Revoking.{NoneIsDue}
-use Rattle.nfs_core.specs.Server.{Server}
+use Rattle.nfs_core.specs.Server.{Server, server_of}
 use Rattle.nfs_core.specs.declared.core_error.CoreError.{CoreError}
 
 pub enter_revocation-requires-clause-stored : goal.enter_revocation-requires-clause-stored
 enter_revocation-requires-clause-stored c =
-    store_agrees c.lawful_is_safe.ensures.safe c.self.inside.store c.self.invariant.0 c.self.invariant.1
+    store_agrees c.lawful_is_safe.ensures.safe c.self.inside.held.store c.self.invariant.0 c.self.invariant.1
 
 pub invariant_of-self : goal.invariant_of-self
 invariant_of-self c =
-    (Lawful-revoked c.self.inside.store c.enter_revocation.new.store c.args.now c.enter_revocation.result c.self.invariant.0 c.enter_revocation.ensures.revoked c.enter_revocation.ensures.same, c.enter_revocation.ensures.kept)
+    let old = server_of c.self.inside.held in
+    let new = server_of c.enter_revocation.new.held in (
+      Lawful-revoked old new c.args.now c.enter_revocation.result c.self.invariant.0 c.enter_revocation.ensures.revoked c.enter_revocation.ensures.same,
+      c.enter_revocation.ensures.kept,
+      Left-revoked c.recalls_follow.ensures old new c.args.now c.enter_revocation.result c.self.invariant.0 c.self.invariant.2 c.enter_revocation.ensures.revoked c.enter_revocation.ensures.same,
+    )
 
 pub returns-clause-lawful : goal.returns-clause-lawful
 returns-clause-lawful c = (invariant_of-self c).0

@@ -1,0 +1,125 @@
+-- The recalls that a journal makes: which delegations are called back, in what order, and how (RFC 7530, section 10.4.4).
+use Rattle.std.specs.Prelude.{◌≡◌, ⊤, ℕ, ◌+◌, Bool, ◌&&◌, if◌then◌else◌, List, [], ◌∷◌, ◌++◌, drop, length, Option, None, is_none, option_map}
+use Rattle.std.specs.List.{filter_map}
+use Rattle.nfs_core.specs.Lawful.{Lawful}
+use Rattle.nfs_core.specs.Step.{Allows}
+use Rattle.nfs_core.specs.declared.recalling.OpenWish.{OpenWish}
+use Rattle.nfs_owners.specs.Registry.{Registry, record_of, record_state}
+use Rattle.nfs_owners.specs.declared.client_record.ClientState.{ClientState}
+use Rattle.nfs_rpc.specs.declared.recall.Recall.{Recall}
+use Rattle.nfs_share.specs.AllOpens.{delegations_of}
+use Rattle.nfs_share.specs.Delegations.{conflicts, delegation_stateid}
+use Rattle.nfs_share.specs.declared.delegation.Delegation.{Delegation}
+use Rattle.nfs_share.specs.declared.delegation.FileUse.TheVariants as uses
+use Rattle.nfs_state.specs.Changes.{after}
+use Rattle.nfs_state.specs.Entries.{with_entry}
+use Rattle.nfs_state.specs.State.{History, State, empty_server}
+use Rattle.nfs_state.specs.declared.change.Change.{Change}
+use Rattle.nfs_state.specs.declared.change.Change.TheVariants as changes
+use Rattle.nfs_state.specs.declared.effect.Effect.{Effect}
+use Rattle.nfs_state.specs.declared.entry.Entry.{Entry}
+use Rattle.nfs_tree.specs.Tree.{handle_of}
+
+-- The delegation is in the way of the open, and wasn't called back before.
+abbrev pub is_called_back : OpenWish → Delegation → Bool
+is_called_back wish d = conflicts wish.client (uses.Open wish.share) d && is_none d.recalled
+
+-- the recall of a delegation of the node's file, as its client's record says how to call it back
+abbrev pub recall_to : ℕ → Delegation → ClientState → Recall
+recall_to node d client = record {
+  callback = client.callback;
+  principal = client.principal;
+  stateid = delegation_stateid d;
+  handle = handle_of node;
+}
+
+-- the recall of a delegation, where it is called back for this open, and its client is live
+abbrev pub recall_for : OpenWish → Registry → Delegation → Option Recall
+recall_for wish clients d =
+    if is_called_back wish d
+    then option_map (recall_to wish.node d) (record_state (record_of d.client clients))
+    else None
+
+-- the recalls for this open, in the order of the file's delegations
+abbrev pub recalls_for : OpenWish → State → List Recall
+recalls_for wish old =
+    filter_map (recall_for wish old.clients) (delegations_of wish.node old.delegations)
+
+-- The recalls that a change makes in this state. A file's delegations stand in the order of their numbers.
+abbrev pub recalls_by : Change → State → List Recall
+recalls_by (changes.Recalls node client share moment) old =
+    recalls_for (record { node = node; client = client; share = share }) old
+recalls_by change old = []
+
+-- the change calls nothing back
+abbrev pub CallsNothingBack : Change → Type 0
+CallsNothingBack (changes.Recalls node client share moment) = ⊥
+CallsNothingBack change = ⊤
+
+-- Starting in the state old with this journal, the entries make these recalls, in the order of the entries.
+abbrev pub Recalls : History → State → List Entry → List Recall → Type 0
+Recalls journal old [] recalls = recalls ≡ []
+Recalls journal old (entry ∷ entries) recalls =
+    (effect : Effect) × (rest : List Recall)
+    × Allows journal old entry effect
+    × Recalls (with_entry entry journal) (after (length journal.entries) entry effect old)
+        entries rest
+    × (recalls ≡ recalls_by effect.change old ++ rest)
+
+-- the journal, from an empty server, makes these recalls
+abbrev pub AreRecallsOf : History → List Recall → Type 0
+AreRecallsOf journal recalls =
+    Recalls (record journal { entries = [] }) (empty_server journal.nodes) journal.entries recalls
+
+-- What a contract sees of recalls that are taken one after the other, the first one first.
+pub record RecallsLeft : Type 0 where
+  -- how many were taken
+  pub taken : ℕ
+  -- those that weren't, in order
+  pub pending : List Recall
+
+-- the same, with how many can be added without memory
+pub record RoomyRecalls : Type 0 where
+  pub taken : ℕ
+  pub pending : List Recall
+  pub room : ℕ
+
+-- what is left, no matter how much room there is
+abbrev pub left_of : RoomyRecalls → RecallsLeft
+left_of recalls = record { taken = recalls.taken; pending = recalls.pending }
+
+-- none, of which none was taken
+abbrev pub no_recalls : RecallsLeft
+no_recalls = record { taken = 0; pending = [] }
+
+-- with these at the end
+abbrev pub with_more : List Recall → RecallsLeft → RecallsLeft
+with_more more left = record left { pending = left.pending ++ more }
+
+-- this is the first of those that are left
+abbrev pub IsFirst : Recall → RecallsLeft → Type 0
+IsFirst recall left = (rest : List Recall) × (left.pending ≡ recall ∷ rest)
+
+-- What is left are the journal's recalls without those that were taken, which come first.
+abbrev pub AreLeftOf : History → RecallsLeft → Type 0
+AreLeftOf journal left =
+    (recalls : List Recall) × AreRecallsOf journal recalls
+    × (left.taken + length left.pending ≡ length recalls)
+    × (left.pending ≡ drop left.taken recalls)
+
+-- The recalls of a journal are one list.
+abbrev pub AreOneList : Type 0
+AreOneList =
+    (journal : History) (recalls recalls' : List Recall)
+    → AreRecallsOf journal recalls
+    → AreRecallsOf journal recalls'
+    → recalls ≡ recalls'
+
+-- With an entry that may come next, a journal makes the recalls that it made, and then those of the entry.
+abbrev pub RecallsFollow : Type 0
+RecallsFollow =
+    (journal : History) (state : State) (entry : Entry) (effect : Effect) (recalls : List Recall)
+    → Lawful journal state
+    → AreRecallsOf journal recalls
+    → Allows journal state entry effect
+    → AreRecallsOf (with_entry entry journal) (recalls ++ recalls_by effect.change state)
