@@ -63,7 +63,7 @@ Recalls journal old (entry ∷ entries) recalls =
     (effect : Effect) × (rest : List Recall)
     × Allows journal old entry effect
     × Recalls (with_entry entry journal) (after (length journal.entries) entry effect old)
-        entries rest
+    entries rest
     × (recalls ≡ recalls_by effect.change old ++ rest)
 
 -- the journal, from an empty server, makes these recalls

@@ -15,9 +15,7 @@ use crate::holdings::Holdings;
 use crate::path_marking::decide_path_mark;
 use crate::revoking::decide_revocation;
 use nfs_rules::{Decision, at_most_one_decision, decide};
-use nfs_state::{
-    Call, Effect, Entry, Expire, Path, Request, Revoke, Shortage, Store,
-};
+use nfs_state::{Call, Effect, Entry, Expire, Path, Request, Revoke, Shortage, Store};
 use std::alloc::Global;
 
 /// Why an entry that was handed in wasn't entered.

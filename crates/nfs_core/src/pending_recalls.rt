@@ -96,12 +96,12 @@ fn blank(alloc: Global) -> Recall {
         callback: Callback {
             program: 0,
             address: Address {
-                netid: Bytes::new(alloc),
-                addr: Bytes::new(alloc),
+                netid: Bytes::new(Vec::new(alloc)),
+                addr: Bytes::new(Vec::new(alloc)),
             },
             ident: 0,
         },
-        principal: Principal::None,
+        principal: Principal::AuthNone,
         stateid: Stateid {
             seqid: 0,
             client,

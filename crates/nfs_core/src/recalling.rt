@@ -58,7 +58,10 @@ fn recalls_for(alloc: Global, store: &Store, wish: OpenWish) -> Result<Vec<Recal
 {
     let mut recalls = Vec::new(alloc);
     for lent in store.tables.opens.delegations_of(wish.node) {
-        push_some(&mut recalls, recall_for(alloc, wish, &store.tables.clients, lent)?)?;
+        push_some(
+            &mut recalls,
+            recall_for(alloc, wish, &store.tables.clients, lent)?,
+        )?;
     }
     Ok(recalls)
 }

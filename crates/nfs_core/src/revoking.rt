@@ -56,7 +56,11 @@ fn next_revocation(held: &Holdings, now: Moment) -> Option<Revoke>
         × IsRevocation held.now.store.journal.history (state_of held.now.store.tables) revoke effect)) }
     ensures none { IfNone result (NoneIsDue (server_of held.now) now) }
 {
-    let due = held.store.tables.opens.next_due(0, held.store.journal.lease(), now)?;
+    let due = held
+        .store
+        .tables
+        .opens
+        .next_due(0, held.store.journal.lease(), now)?;
     Some(Revoke {
         number: due.state.number,
         now,

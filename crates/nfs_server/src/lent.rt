@@ -1,4 +1,4 @@
-ghost use Rattle.std.specs.Prelude.{◌≡◌, ◌≤◌, ◌↔◌, ◌^◌, IfErr, IfOk, IsFalse, None, Ok, OnErr, ℕ, refl};
+ghost use Rattle.std.specs.Prelude.{◌≡◌, ◌≤◌, ◌↔◌, ◌^◌, ◌∷◌, [], IfErr, IfNone, IfOk, IfSome, IsFalse, None, Ok, OnErr, ℕ, refl};
 ghost use Rattle.nfs_core.specs.PathMarking.{IsNotMarkedFor, path_of};
 ghost use Rattle.nfs_core.specs.Revoking.{IsNotRevokedFor, IsRevoked, NoneIsDue};
 ghost use Rattle.nfs_core.specs.Server.{AreAlike, Enters};
@@ -9,7 +9,7 @@ ghost use Rattle.nfs_leases.specs.Sweeps.{Sweeps, leased_server};
 ghost use Rattle.nfs_state.specs.declared.entry.Entry.TheVariants as entries;
 
 use crate::Service;
-use nfs_core::{Core, CoreError, Moment};
+use nfs_core::{Core, CoreError, Moment, Recall};
 use nfs_leases::{LeasedCore, PlainLeases, Swept, renewal_answer, renewed_client};
 use nfs_state::Request;
 use nfs_xdr::{ClientId, OpResult};
@@ -95,6 +95,20 @@ impl Lent {
     {
         self.leased.mark_path(client, up)
     }
+
+    /// Takes out the first of the recalls that are pending. It makes no entry.
+    pub fn take_recall(&mut self) -> Option<Recall>
+        ensures others { self.new.core ≡ record self.old.core {
+          recalls = self.new.core.recalls;
+        } }
+        ensures none { IfNone result ((self.old.core.recalls.pending ≡ [])
+            × (self.new.core ≡ self.old.core)) }
+        ensures first { IfSome result (λ recall.
+            self.old.core.recalls.pending ≡ recall ∷ self.new.core.recalls.pending) }
+        ensures book { self.new.book ≡ self.old.book }
+    {
+        self.leased.take_recall()
+    }
 }
 
 impl Service for Lent {
@@ -104,7 +118,7 @@ impl Service for Lent {
 
     ghost alike = { λ old new. AreAlike old.core new.core × (new.book ≡ old.book) };
 
-    ghost alike_same = { λ l. ((refl, refl), refl) };
+    ghost alike_same = { λ l. ((refl, refl, refl), refl) };
 
     ghost serves = { λ l. l.core.journal.nodes };
 

@@ -58,6 +58,8 @@ impl Alone<'_> {
             Order::Sweep(now) => answer.put_swept(self.lent.sweep(now))?,
             Order::Mark(mark) => answer.put_marked(self.lent.mark_path(mark.client, mark.is_up))?,
             Order::Revoke(now) => answer.put_revoked(self.revoke(now))?,
+            Order::Take(xid) => answer.put_recall(xid, self.lent.take_recall())?,
+            Order::Pending => answer.put_count(self.lent.core().pending().len())?,
         }
         Ok(())
     }

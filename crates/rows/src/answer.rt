@@ -1,7 +1,8 @@
 use crate::failure::Failure;
-use nfs_core::{CoreError, Journal};
+use nfs_core::{CoreError, Journal, Recall};
 use nfs_journal::write_journal;
 use nfs_leases::Swept;
+use nfs_rpc::write_recall_call;
 use std::alloc::{AllocError, Global};
 
 /// The bytes of an answer: numbers with the highest byte first, and bytes behind their length.
@@ -78,6 +79,19 @@ impl Answer {
         self.put_word(error)?;
         self.put_word(count)?;
         self.put_count(entry)
+    }
+
+    /// The record by which the recall is sent, with this xid, behind its length; or a length of 0 where none waits.
+    pub(crate) fn put_recall(&mut self, xid: u32, recall: Option<Recall>) -> Result<(), Failure> {
+        let mut record = Vec::new(self.alloc);
+        if let Some(recall) = recall {
+            // Only for want of memory is a recall not written.
+            let Ok(()) = write_recall_call(&mut record, xid, &recall) else {
+                return Err(Failure::Memory);
+            };
+        }
+        self.put_part(record.as_slice())?;
+        Ok(())
     }
 
     /// The file of the journal, behind its length.

@@ -16,6 +16,10 @@ pub(crate) enum Order {
     Mark(Mark),
     /// To revoke a delegation that is due, as at this moment.
     Revoke(Moment),
+    /// To take the first of the recalls that wait, and to write it with this xid.
+    Take(u32),
+    /// To count the recalls that wait.
+    Pending,
 }
 
 /// Whether callbacks reach the client with this number.
@@ -37,6 +41,8 @@ impl Order {
             Some(2) => Ok(Some(Order::Sweep(input.moment()?))),
             Some(3) => Ok(Some(Order::Mark(Mark::read(input)?))),
             Some(4) => Ok(Some(Order::Revoke(input.moment()?))),
+            Some(5) => Ok(Some(Order::Take(input.word()?))),
+            Some(6) => Ok(Some(Order::Pending)),
             Some(_) => Err(Failure::Input),
         }
     }

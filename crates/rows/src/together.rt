@@ -170,8 +170,12 @@ impl<'a, N: Naming + Send + Sync, R: Threads + Wait + Sync> Together<'a, N, R> {
                 answer.put_marked(server.mark(mark))?;
                 Ok(server)
             }
-            // No call of the shared state revokes alone: its sweeps do.
-            Order::Revoke(_) => Err(Failure::Input),
+            Order::Take(xid) => {
+                answer.put_recall(xid, self.workers.shared.take(self.workers.rt))?;
+                Ok(self)
+            }
+            // No call of the shared state revokes alone: its sweeps do. None counts the recalls.
+            Order::Revoke(_) | Order::Pending => Err(Failure::Input),
         }
     }
 

@@ -32,10 +32,10 @@ invariant_of-self c =
             Left-entered c.recalls_follow.ensures old new _ w.in-Ok.entered.number lawful c.self.invariant.2 entered.0,
           )
       | in-Err w ↦ (
-          Lawful-same old.journal new.journal old.stored new.stored w.in-Err.ensures.same.0 w.in-Err.ensures.same.1 lawful,
-          w.in-Err.ensures.kept,
-          Left-same old new c.self.invariant.2 w.in-Err.ensures.same,
-        )
+        Lawful-same old.journal new.journal old.stored new.stored w.in-Err.ensures.same.0 w.in-Err.ensures.same.1 lawful,
+        w.in-Err.ensures.kept,
+        Left-same old new c.self.invariant.2 w.in-Err.ensures.same,
+      )
     ]
 
 pub returns-clause-lawful : goal.returns-clause-lawful

@@ -11,8 +11,7 @@ returns-clause-lawful c = Lawful-new c.new.result.history (stored_of c.in_ok-of_
 
 pub invariant_of-result : goal.invariant_of-result
 invariant_of-result c =
-    let no_owners = ap (λ (stored : Stored). stored.owners) c.in_ok-of_tree.ensures in
-    (
+    let no_owners = ap (λ (stored : Stored). stored.owners) c.in_ok-of_tree.ensures in (
       returns-clause-lawful c,
       subst (Agrees c.new.result.history) (sym no_owners) tt,
       Left-new c.new.result.history _ (search rules) c.new-2.ensures,
