@@ -19,9 +19,6 @@ PROGRAM = os.path.join(TOP, "crates/rows/out/rows")
 # its own, with a state that they share.
 ALONE, SHARED = 0, 1
 SERVE, SWEEP, MARK, REVOKE, TAKE, PENDING = range(1, 7)
-# The orders that are sent. The program has no recalls to give yet, so it isn't asked for them: by a row's lines `take`
-# and `pending` the model alone is judged.
-ASKED = (SERVE, SWEEP, MARK, REVOKE, TAKE, PENDING)
 # The seconds in which an order has to be answered, on however busy a machine.
 PATIENCE = 300
 # By the number of an error: the fault with which a connection ends.

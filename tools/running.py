@@ -3,8 +3,7 @@ wrong."""
 from collections import namedtuple
 from functools import partial
 
-from driver import (ALONE, ASKED, Driver, Ended, Failed, MARK, MEMORY, Marked, NOT_LIVE, PENDING, REVOKE, Revoked,
-                    SERVE, SHARED, SWEEP, Swept, TAKE)
+from driver import ALONE, Driver, Ended, Failed, MEMORY, Marked, NOT_LIVE, Revoked, SHARED, Swept
 from entries import Call, Revoke as Entry
 from journal import NotJournal, read_journal
 from tree import DEFAULT
@@ -16,8 +15,6 @@ WHOLE = 1 << 20
 PIECE = 1000
 # The pieces that an input comes in; one of more bytes than SHORT comes in none of a few bytes.
 PIECES, SHORT = (WHOLE, PIECE, 3, 1), 10_000
-# By what a step of a row is: the number of its order.
-NUMBERS = {Part: SERVE, Sweep: SWEEP, Mark: MARK, Revoke: REVOKE, Take: TAKE, Pending: PENDING}
 
 # What comes instead of what is wanted: by the place of a part or an order among the row's.
 Wrong = namedtuple("Wrong", "place got")
@@ -74,7 +71,7 @@ def wrongly_revoked(steps, came, entries):
 def first_wrong(driver, steps, piece, is_again, came):
     """The first step of which something else comes than is wanted, if there is one; and adds what came of each."""
     for place, step in enumerate(steps):
-        got = take(driver, step, piece, is_again) if NUMBERS[type(step)] in ASKED else wanted_of(step)
+        got = take(driver, step, piece, is_again)
         if is_again and not is_right(step, got):
             if not may_come_first(step, got):
                 return Wrong(place, got)
