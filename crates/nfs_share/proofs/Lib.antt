@@ -7,4 +7,5 @@ pub mod OneFile
 pub mod Names
 pub mod AllOpens
 pub mod NextDue
+pub mod DelegationOrder
 pub mod ApartDelegations

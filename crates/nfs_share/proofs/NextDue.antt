@@ -29,58 +29,6 @@ module _ (from lease now : ℕ) where
       all_weaken (λ d. IsTrue (is_due_from from lease now d) → number ≤ d.number) (λ d. IsTrue (is_due_from from lease now d) → lower ≤ d.number)
       (λ d above due. omega (arith, above due, below)) seen each
 
-  -- of the delegations, this is the next one that is due among those seen
-  abbrev pub IsLeastOf : List Delegation → List Delegation → Option Delegation → Type 0
-  IsLeastOf ds seen None = AreUndue seen
-  IsLeastOf ds seen (Some next) = Contains ds next × IsTrue (is_due_from from lease now next) × AreAbove next.number seen
-
-  due_more : (ds seen : List Delegation) (d : Delegation) (next : Option Delegation) → Contains ds d → is_due_from from lease now d ≡ true
-      → IsLeastOf ds seen next → IsLeastOf ds (seen ++ d ∷ []) (lesser (λ d. d.number) next (Some d))
-  due_more ds seen d None there due none =
-      (there, due, all_push (λ e. IsTrue (is_due_from from lease now e) → d.number ≤ e.number) seen d (undue_above d.number seen none) (λ _. omega arith))
-  due_more ds seen d (Some n) there due least =
-      cond_both (nat_lt d.number n.number) (Some d) (Some n) (IsLeastOf ds (seen ++ d ∷ []))
-      (λ less. (
-        there,
-        due,
-        all_push (λ e. IsTrue (is_due_from from lease now e) → d.number ≤ e.number) seen d
-            (lower_above n.number d.number seen (omega (arith, ltb-true d.number n.number less)) least.2) (λ _. omega arith),
-      ))
-      (λ not_less. (
-        least.0,
-        least.1,
-        all_push (λ e. IsTrue (is_due_from from lease now e) → n.number ≤ e.number) seen d least.2
-            (λ _. omega (arith, ltb-false d.number n.number not_less)),
-      ))
-
-  undue_more : (ds seen : List Delegation) (d : Delegation) (next : Option Delegation) → is_due_from from lease now d ≡ false
-      → IsLeastOf ds seen next → IsLeastOf ds (seen ++ d ∷ []) next
-  undue_more ds seen d None undue none = all_push (λ e. IsFalse (is_due_from from lease now e)) seen d none undue
-  undue_more ds seen d (Some n) undue least =
-      (least.0, least.1, all_push (λ e. IsTrue (is_due_from from lease now e) → n.number ≤ e.number) seen d least.2 (λ due. absurd (false≢true (sym undue ∙ due))))
-
-  -- the loop comes by a delegation that is due
-  pub due_at : (ds : List Delegation) (i : ℕ) (d : Delegation) (next new : Option Delegation) → i < length ds → d ≡ get_or ds i d
-      → is_due_from from lease now d ≡ true → new ≡ lesser (λ d. d.number) next (Some d)
-      → IsLeastOf ds (take i ds) next → IsLeastOf ds (take (i + 1) ds) new
-  due_at ds i d next new below is due new_is least =
-      let there : Contains ds d = subst (Contains ds) (sym is) (Contains-get_or ds i d below) in
-      let seen : take (i + 1) ds ≡ take i ds ++ d ∷ [] = take_more ds i d below ∙ ap (λ e. take i ds ++ e ∷ []) (sym is) in
-      subst (λ xs. IsLeastOf ds xs new) (sym seen) (subst (IsLeastOf ds (take i ds ++ d ∷ [])) (sym new_is) (due_more ds (take i ds) d next there due least))
-
-  -- the loop comes by one that isn't
-  pub undue_at : (ds : List Delegation) (i : ℕ) (d : Delegation) (next new : Option Delegation) → i < length ds → d ≡ get_or ds i d
-      → is_due_from from lease now d ≡ false → new ≡ next
-      → IsLeastOf ds (take i ds) next → IsLeastOf ds (take (i + 1) ds) new
-  undue_at ds i d next new below is undue new_is least =
-      let seen : take (i + 1) ds ≡ take i ds ++ d ∷ [] = take_more ds i d below ∙ ap (λ e. take i ds ++ e ∷ []) (sym is) in
-      subst (λ xs. IsLeastOf ds xs new) (sym seen) (subst (IsLeastOf ds (take i ds ++ d ∷ [])) (sym new_is) (undue_more ds (take i ds) d next undue least))
-
-  -- the next one of all is the next one
-  pub next_of : (ds seen : List Delegation) (next : Option Delegation) → seen ≡ ds → IsLeastOf ds seen next → IsNextDueOf from lease now ds next
-  next_of ds seen None all least = subst AreUndue all least
-  next_of ds seen (Some next) all least = (least.0, least.1, subst (AreAbove next.number) all least.2)
-
   -- of the delegations of all files, this is the next one that is due among those of the files seen
   abbrev pub IsLeast : List (List Delegation) → List (List Delegation) → Option DelegationAt → Type 0
   IsLeast all seen None = AllByRecursion AreUndue seen

@@ -1,5 +1,5 @@
 -- The delegations of a file (RFC 7530, section 10.4), beside its opens.
-use Rattle.std.specs.Prelude.{ℕ, ◌<◌, ◌≤◌, ◌+◌, Bool, true, false, ◌&&◌, ◌||◌, ◌==◌, nat_le, nat_lt, not, if◌then◌else◌, List, filter, find, map, Option, Some, None, is_none, IsFalse, IsTrue}
+use Rattle.std.specs.Prelude.{⊤, ℕ, ◌<◌, ◌≤◌, ◌+◌, Bool, true, false, ◌&&◌, ◌||◌, ◌==◌, nat_le, nat_lt, not, if◌then◌else◌, List, [], ◌∷◌, filter, find, map, Option, Some, None, is_none, IsFalse, IsTrue}
 use Rattle.std.specs.List.{AllByRecursion, Contains, list_any}
 use Rattle.nfs_forms.specs.ClientId.{is_same_client}
 use Rattle.nfs_forms.specs.declared.client_id.ClientId.{ClientId}
@@ -102,6 +102,11 @@ abbrev pub can_delegate : ClientId → DelegationKind → List OpenState → Lis
 can_delegate client kind opens ds =
     not (bars client kind opens) && not (has_delegation client ds)
     && not (has_conflict client (uses.Delegation kind) ds)
+
+-- each delegation has a lower number than those that come after it
+abbrev pub StandInOrder : List Delegation → Type 0
+StandInOrder [] = ⊤
+StandInOrder (d ∷ ds) = AllByRecursion (λ e. d.number < e.number) ds × StandInOrder ds
 
 -- each delegation has a lower number
 abbrev pub IsAboveLent : ℕ → List Delegation → Type 0

@@ -1,7 +1,7 @@
-ghost use Rattle.std.specs.Prelude.{◌≡◌, ◌≤◌, ◌<◌, ◌+◌, ◌↔◌, IfErr, IfNone, IfOk, IsErrOf, IsFalse, IsOk, IsTrue, OnErr, OnOk, OnSome, Some, filter, length, [], ◌∷◌, ◌++◌, option_map};
+ghost use Rattle.std.specs.Prelude.{◌≡◌, ◌≤◌, ◌<◌, ◌+◌, ◌↔◌, IfErr, IfNone, IfOk, IsErrOf, IsFalse, IsOk, IsTrue, OnErr, OnOk, OnSome, Some, filter, find, length, [], ◌∷◌, ◌++◌, option_map};
 ghost use Rattle.std.specs.List.{list_any};
 ghost use Rattle.std.specs.Option.{option_copied};
-ghost use Rattle.nfs_share.specs.Delegations.{IsAboveLent, IsNextDueOf, bars, can_delegate, conflicts, delegation_named_by, delegation_stateid, delegation_with_number, first_delegation, has_conflict, has_delegation, is_delegation_numbered, is_lent_to, is_stateid_of_delegation, lesser, with_recalls, without_lent};
+ghost use Rattle.nfs_share.specs.Delegations.{IsAboveLent, IsNextDueOf, bars, can_delegate, conflicts, delegation_named_by, delegation_stateid, delegation_with_number, first_delegation, has_conflict, has_delegation, is_delegation_numbered, is_due_from, is_lent_to, is_stateid_of_delegation, with_recalls, without_lent};
 ghost use Rattle.nfs_share.specs.Opens.{CanDowngrade, IsNewestFor, with_next_seqid, after_downgrade, is_denied, is_numbered, is_of, is_of_client, is_refused, is_stateid_of, open_named_by, after_open, next_stateid_of, open_with_number, open_of, share_of, stateid_of, with_each, with_opening, without};
 ghost use Rattle.nfs_share.specs.ShareError.{IsHeldFor, IsWhyNotLent, IsWhyNotOpened};
 ghost use Rattle.nfs_share.specs.declared.delegation.FileUse.TheVariants as uses;
@@ -24,6 +24,7 @@ pub struct FileShare {
 impl Model for FileShare {
     ghost use Rattle.std.specs.Prelude.{◌-◌};
     ghost use Rattle.std.specs.Vec.{vec_capacity, vec_len};
+    ghost use Rattle.nfs_share.specs.Delegations.{StandInOrder};
     ghost use Rattle.nfs_share.specs.Opens.{FileOpens};
 
     ghost Value = { FileOpens };
@@ -34,6 +35,8 @@ impl Model for FileShare {
       room = vec_capacity f.opens - vec_len f.opens;
       lending_room = vec_capacity f.delegations - vec_len f.delegations;
     } };
+
+    ghost invariant = { λ f. StandInOrder f.delegations.items };
 }
 
 impl FileShare {
@@ -411,13 +414,8 @@ impl FileShare {
     pub fn next_due(&self, from: u32, lease: u32, now: Moment) -> Option<Delegation>
         ensures { IsNextDueOf from lease now self.now.delegations result }
     {
-        let mut next = None;
-        for lent in self.delegations.iter() {
-            if lent.is_due_from(from, lease, now) {
-                next = lesser(next, *lent);
-            }
-        }
-        next
+        // They stand in the order of their numbers.
+        first_due(self.delegations.as_slice(), from, lease, now)
     }
 
     /// Makes room for a delegation, so that the next one takes no memory.
@@ -511,12 +509,12 @@ impl FileShare {
     }
 }
 
-// Of the two delegations the one with the lesser number; the second where there is no first.
-fn lesser(first: Option<Delegation>, second: Delegation) -> Option<Delegation>
-    ensures { result ≡ lesser (λ d. d.number) first (Some second) }
+// The first of these delegations that is due and has no number below `from`, if there is one.
+fn first_due(delegations: &[Delegation], from: u32, lease: u32, now: Moment) -> Option<Delegation>
+    ensures { result ≡ find (is_due_from from lease now) delegations.now }
 {
-    match first {
-        Some(first) if first.number <= second.number => Some(first),
-        _ => Some(second),
-    }
+    delegations
+        .iter()
+        .copied()
+        .find(|lent| lent.is_due_from(from, lease, now))
 }

@@ -1,9 +1,15 @@
-use Rattle.std.proofs.Common.{◌∙◌, ap, rules}
+use Rattle.std.proofs.Common.{◌∙◌, ap, rules, subst, sym}
 use Rattle.std.specs.Prelude.{not}
 use Rattle.std.proofs.lemmas.Fn.{filter_same}
-use Rattle.nfs_share.specs.Delegations.{is_delegation_numbered, without_lent}
+use Rattle.nfs_share.specs.Delegations.{StandInOrder, is_delegation_numbered, without_lent}
 use Rattle.nfs_share.specs.Opens.{FileOpens}
+use Rattle.nfs_share.proofs.DelegationOrder.{filter_in_order}
 use Rattle.nfs_share.proofs.file_share.FileShare.give_back.Goals as goal
+
+pub invariant_of-self : goal.invariant_of-self
+invariant_of-self c =
+    subst StandInOrder (sym (filter_same _ (λ d. not (is_delegation_numbered c.args.number d)) _ (λ x b f' k. search rules) _ _ c.retain.ensures.filtered))
+    (filter_in_order (λ d. not (is_delegation_numbered c.args.number d)) c.self.inside.delegations.items c.self.invariant)
 
 pub returns-clause-delegations : goal.returns-clause-delegations
 returns-clause-delegations c =

@@ -1,0 +1,84 @@
+-- The order of the delegations of a file, and which of them is the next that is due.
+use Rattle.std.proofs.Common.{◌≡◌, ℕ, ◌<◌, ◌≤◌, Bool, true, false, List, [], ◌∷◌, ◌++◌, None, Some, refl, suc, sym, ◌∙◌, arith}
+use Rattle.std.specs.Prelude.{Option, IsTrue, cond, filter, find, is_none, map}
+use Rattle.std.specs.List.{AllByRecursion, Contains}
+use Rattle.std.proofs.lemmas.Bool.{cond_both, false≢true}
+use Rattle.nfs_forms.specs.declared.client_id.ClientId.{ClientId}
+use Rattle.nfs_share.specs.Delegations.{IsAboveLent, IsNextDueOf, StandInOrder, conflicts, is_due_from, with_recall, with_recalls}
+use Rattle.nfs_share.specs.declared.delegation.Delegation.{Delegation}
+use Rattle.nfs_share.specs.declared.delegation.FileUse.{FileUse}
+use Rattle.nfs_share.proofs.EachElement.{all_map, all_push, all_weaken}
+
+-- the delegations have higher numbers
+abbrev AreAfter : ℕ → List Delegation → Type 0
+AreAfter number ds = AllByRecursion (λ d. number < d.number) ds
+
+after_filter : (number : ℕ) (test : Delegation → Bool) (ds : List Delegation) → AreAfter number ds → AreAfter number (filter test ds)
+after_filter number test [] h = tt
+after_filter number test (d ∷ ds) h =
+    cond_both (test d) (d ∷ filter test ds) (filter test ds) (AreAfter number)
+    (λ _. (h.0, after_filter number test ds h.1)) (λ _. after_filter number test ds h.1)
+
+-- those that pass a test stand in order
+pub filter_in_order : (test : Delegation → Bool) (ds : List Delegation) → StandInOrder ds → StandInOrder (filter test ds)
+filter_in_order test [] h = tt
+filter_in_order test (d ∷ ds) h =
+    cond_both (test d) (d ∷ filter test ds) (filter test ds) StandInOrder
+    (λ _. (after_filter d.number test ds h.0, filter_in_order test ds h.1)) (λ _. filter_in_order test ds h.1)
+
+-- and so do they with other marks
+pub map_in_order : (change : Delegation → Delegation) (ds : List Delegation) → ((d : Delegation) → (change d).number ≡ d.number)
+    → StandInOrder ds → StandInOrder (map change ds)
+map_in_order change [] same h = tt
+map_in_order change (d ∷ ds) same h = (
+  all_map (λ e. (change d).number < e.number) change ds
+      (all_weaken (λ e. d.number < e.number) (λ e. (change d).number < (change e).number) (λ e below. omega (arith, same d, same e, below)) ds h.0),
+  map_in_order change ds same h.1,
+)
+
+same_number : (client : ClientId) (file_use : FileUse) (moment : ℕ) (d : Delegation)
+    → (cond (conflicts client file_use d) (with_recall moment d) d).number ≡ d.number
+same_number client file_use moment d =
+    cond_both (conflicts client file_use d) (with_recall moment d) d (λ e. e.number ≡ d.number)
+    (λ _. cond_both (is_none d.recalled) (record d { recalled = Some moment }) d (λ e. e.number ≡ d.number) (λ _. refl) (λ _. refl)) (λ _. refl)
+
+pub recalls_in_order : (client : ClientId) (file_use : FileUse) (moment : ℕ) (ds : List Delegation) → StandInOrder ds
+    → StandInOrder (with_recalls client file_use moment ds)
+recalls_in_order client file_use moment ds h =
+    map_in_order (λ d. cond (conflicts client file_use d) (with_recall moment d) d) ds (same_number client file_use moment) h
+
+-- and with one at the end whose number is above all
+pub push_in_order : (ds : List Delegation) (d : Delegation) → IsAboveLent d.number ds → StandInOrder ds → StandInOrder (ds ++ d ∷ [])
+push_in_order [] d above h = (tt, tt)
+push_in_order (e ∷ ds) d above h = (all_push (λ x. e.number < x.number) ds d h.0 above.0, push_in_order ds d above.1 h.1)
+
+here : (d : Delegation) (ds : List Delegation) → Contains (d ∷ ds) d
+here d ds = (0, omega arith, refl)
+
+there : (d e : Delegation) (ds : List Delegation) → Contains ds e → Contains (d ∷ ds) e
+there d e ds h = (suc h.0, omega (arith, h.1), h.2)
+
+module _ (from lease now : ℕ) where
+  abbrev is : Delegation → Bool
+  is d = is_due_from from lease now d
+
+  abbrev IsAbove : ℕ → Delegation → Type 0
+  IsAbove number d = IsTrue (is d) → number ≤ d.number
+
+  next_more : (d : Delegation) (ds : List Delegation) (next : Option Delegation) → AreAfter d.number ds → is d ≡ false
+      → IsNextDueOf from lease now ds next → IsNextDueOf from lease now (d ∷ ds) next
+  next_more d ds None above undue none = (undue, none)
+  next_more d ds (Some next) above undue least =
+      (there d next ds least.0, least.1, (λ due. absurd (false≢true (sym undue ∙ due)), least.2))
+
+  -- The first one that is due has the least number.
+  pub first_is_next : (ds : List Delegation) → StandInOrder ds → IsNextDueOf from lease now ds (find is ds)
+  first_is_next [] h = tt
+  first_is_next (d ∷ ds) h =
+      cond_both (is d) (Some d) (find is ds) (IsNextDueOf from lease now (d ∷ ds))
+      (λ due. (
+        here d ds,
+        due,
+        ((λ _. omega arith), all_weaken (λ e. d.number < e.number) (IsAbove d.number) (λ e above _. omega (arith, above)) ds h.0),
+      ))
+      (λ undue. next_more d ds (find is ds) h.0 undue (first_is_next ds h.1))
