@@ -8,3 +8,5 @@ pub mod Groups
 pub mod Calls
 pub mod CallbackReplies
 pub mod Addresses
+pub mod Callbacks
+pub mod WrittenRecords

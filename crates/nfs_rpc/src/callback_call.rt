@@ -1,15 +1,17 @@
-ghost use Rattle.std.specs.Prelude.{◌≡◌, OnErr, Err};
+ghost use Rattle.std.specs.Prelude.{◌≡◌, ◌+◌, ◌^◌, ◌<◌, ◌≤◌, ◌++◌, length, take, drop, vec_capacity, OnErr, Err};
 ghost use Rattle.nfs_rpc.specs.CallbackCall.{callback_header, credential_of, null_call};
 ghost use Rattle.nfs_rpc.specs.Credential.{opaque_auth};
-ghost use Rattle.nfs_rpc.specs.Reply.{no_verifier};
+ghost use Rattle.nfs_rpc.specs.Reply.{no_verifier, written_record};
 ghost use Rattle.nfs_rpc.specs.RpcCall.{header};
 ghost use Rattle.xdr.specs.Form.{◌and◌};
 ghost use Rattle.xdr.specs.Writing.{Writes};
 
 use crate::credential::{AUTH_NONE, AUTH_SYS};
+use crate::records::{HEADER_LEN, LAST_FRAGMENT};
 use crate::rpc_call::{MESSAGE_CALL, RPC_VERSION};
+use byteorder::{BigEndian, ByteOrder};
 use nfs_xdr::Principal;
-use xdr::{WireError, write_five, write_two};
+use xdr::{WireError, write_five, write_two, write_u32};
 
 /// The version of a client's callback program (RFC 7531, NFS4_CALLBACK).
 pub const CALLBACK_VERSION: u32 = 1;
@@ -25,13 +27,42 @@ pub const OP_CB_RECALL: u32 = 4;
 // The length of an AUTH_SYS body that names a user, and no machine and no groups, in bytes.
 const USER_LEN: u32 = 20;
 
-/// Writes the call of a client's CB_NULL at the end, or nothing. Only memory can be missing.
+/// Writes the call of a client's CB_NULL at the end, as a record of one fragment, or nothing. Only memory can be
+/// missing.
+#[tactic(auto, unfolding(xdr::specs::Writing::written_number))]
 pub fn write_null_call(out: &mut Vec<u8>, xid: u32, program: u32) -> Result<(), WireError>
     ensures call { Writes out.old out.new result
-        (header.encoding (null_call xid program)) (header.Fits (null_call xid program)) }
+        (written_record (header.encoding (null_call xid program)))
+        (header.Fits (null_call xid program)) }
     ensures memory { OnErr result (result ≡ Err WireError.Memory) }
 {
-    write_callback_header(out, xid, program, CB_NULL, Principal::AuthNone)
+    let start = out.len();
+    // Space for the fragment's header, which is written once the length is known.
+    write_u32(out, 0)?;
+    match write_callback_header(out, xid, program, CB_NULL, Principal::AuthNone) {
+        Ok(()) => {
+            end_record(out, start);
+            Ok(())
+        }
+        Err(error) => {
+            out.truncate(start);
+            Err(error)
+        }
+    }
+}
+
+// Writes the header of a fragment into the four bytes kept for it at `start`. With the message after them it is then a
+// record of one fragment (RFC 5531, section 11).
+#[tactic(auto, unfolding(xdr::specs::Writing::written_number))]
+pub(crate) fn end_record(out: &mut Vec<u8>, start: usize)
+    requires kept { start + 4 ≤ length out.old.items }
+    requires short { length out.old.items < start + 4 + 2 ^ 31 }
+    ensures record { out.new.items
+        ≡ take start out.old.items ++ written_record (drop (start + 4) out.old.items) }
+    ensures room { vec_capacity out.new ≡ vec_capacity out.old }
+{
+    let len = (out.len() - start - HEADER_LEN) as u32;
+    BigEndian::write_u32(&mut out[start..], LAST_FRAGMENT + len);
 }
 
 // Writes the header of a call to a client with this principal.

@@ -1,10 +1,11 @@
 ghost use Rattle.std.specs.Prelude.{◌≡◌, [], false, OnErr, Err};
 ghost use Rattle.nfs_rpc.specs.CallbackCall.{recall_args, recall_call, recall_form, recall_head, recall_list, recall_operation, recall_target};
+ghost use Rattle.nfs_rpc.specs.Reply.{written_record};
 ghost use Rattle.xdr.specs.Writing.{Writes};
 
-use crate::callback_call::{CB_COMPOUND, OP_CB_RECALL, write_callback_header};
+use crate::callback_call::{CB_COMPOUND, OP_CB_RECALL, end_record, write_callback_header};
 use nfs_xdr::{Callback, FILE_HANDLE_LIMIT, FileHandle, Principal, Stateid};
-use xdr::{WireError, write_five, write_three};
+use xdr::{WireError, write_five, write_three, write_u32};
 
 /// The recall of a delegation (RFC 7530, section 10.4.4): which one, and how its client is called back.
 #[derive(Clone, Debug, Drop)]
@@ -19,9 +20,33 @@ pub struct Recall {
     pub handle: FileHandle,
 }
 
-/// Writes the CB_COMPOUND that recalls the delegation at the end, or nothing. Only memory can be missing.
+/// Writes the CB_COMPOUND that recalls the delegation at the end, as a record of one fragment, or nothing. Only memory
+/// can be missing.
+#[tactic(auto, unfolding(xdr::specs::Writing::written_number))]
 pub fn write_recall_call(out: &mut Vec<u8>, xid: u32, recall: &Recall) -> Result<(), WireError>
     ensures call { Writes out.old out.new result
+        (written_record (recall_form.encoding (recall_call xid recall.now)))
+        (recall_form.Fits (recall_call xid recall.now)) }
+    ensures memory { OnErr result (result ≡ Err WireError.Memory) }
+{
+    let start = out.len();
+    // Space for the fragment's header, which is written once the length is known.
+    write_u32(out, 0)?;
+    match write_recall_message(out, xid, recall) {
+        Ok(()) => {
+            end_record(out, start);
+            Ok(())
+        }
+        Err(error) => {
+            out.truncate(start);
+            Err(error)
+        }
+    }
+}
+
+// Writes the message of the call.
+fn write_recall_message(out: &mut Vec<u8>, xid: u32, recall: &Recall) -> Result<(), WireError>
+    ensures message { Writes out.old out.new result
         (recall_form.encoding (recall_call xid recall.now))
         (recall_form.Fits (recall_call xid recall.now)) }
     ensures memory { OnErr result (result ≡ Err WireError.Memory) }
