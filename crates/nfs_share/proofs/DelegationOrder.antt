@@ -1,8 +1,9 @@
 -- The order of the delegations of a file, and which of them is the next that is due.
-use Rattle.std.proofs.Common.{◌≡◌, ℕ, ◌<◌, ◌≤◌, Bool, true, false, List, [], ◌∷◌, ◌++◌, None, Some, refl, suc, sym, ◌∙◌, arith}
-use Rattle.std.specs.Prelude.{Option, IsTrue, cond, filter, find, is_none, map}
-use Rattle.std.specs.List.{AllByRecursion, Contains}
-use Rattle.std.proofs.lemmas.Bool.{cond_both, false≢true}
+use Rattle.std.proofs.Common.{◌≡◌, ℕ, ◌<◌, ◌≤◌, Bool, true, false, List, [], ◌∷◌, ◌++◌, None, Some, refl, suc, sym, ◌∙◌, ap, arith}
+use Rattle.std.specs.Prelude.{Option, IsTrue, ◌==◌, ◌||◌, cond, filter, find, is_none, is_some, map, nat_le}
+use Rattle.std.specs.List.{AllByRecursion, Contains, list_any}
+use Rattle.std.proofs.lemmas.Bool.{cond_both, eqb-false, eqb-true, false_from_ne_true, false≢true, leb-false, leb-true, true_from_ne_false}
+use Rattle.std.proofs.lemmas.Map.Entries.{option_filter}
 use Rattle.nfs_forms.specs.declared.client_id.ClientId.{ClientId}
 use Rattle.nfs_share.specs.Delegations.{IsAboveLent, IsNextDueOf, StandInOrder, conflicts, is_due_from, with_recall, with_recalls}
 use Rattle.nfs_share.specs.declared.delegation.Delegation.{Delegation}
@@ -82,3 +83,46 @@ module _ (from lease now : ℕ) where
         ((λ _. omega arith), all_weaken (λ e. d.number < e.number) (IsAbove d.number) (λ e above _. omega (arith, above)) ds h.0),
       ))
       (λ undue. next_more d ds (find is ds) h.0 undue (first_is_next ds h.1))
+
+module _ (number : ℕ) where
+  abbrev is_it : Delegation → Bool
+  is_it d = d.number == number
+
+  none_after : (low : ℕ) (ds : List Delegation) → number ≤ low → AreAfter low ds → find is_it ds ≡ None
+  none_after low [] below h = refl
+  none_after low (d ∷ ds) below h =
+      cond_both (is_it d) (Some d) (find is_it ds) (λ r. r ≡ None)
+      (λ same. absurd (omega (arith, eqb-true d.number number same, h.0, below)))
+      (λ _. none_after low ds below h.1)
+
+  -- The first one from a number on has it, or none has it.
+  first_is_found : (ds : List Delegation) → StandInOrder ds → option_filter is_it (find (λ d. nat_le number d.number) ds) ≡ find is_it ds
+  first_is_found [] h = refl
+  first_is_found (d ∷ ds) h =
+      cond_both (nat_le number d.number) (Some d) (find (λ e. nat_le number e.number) ds) (λ r. option_filter is_it r ≡ find is_it (d ∷ ds))
+      (λ from. sym (ap (λ r. cond (is_it d) (Some d) r) (none_after d.number ds (leb-true number d.number from) h.0)))
+      (λ below.
+      first_is_found ds h.1
+      ∙ sym (ap (λ b. cond b (Some d) (find is_it ds))
+      (false_from_ne_true (is_it d) (λ same. omega (arith, eqb-true d.number number same, leb-false number d.number below)))))
+
+  pub none_found : (ds : List Delegation) → StandInOrder ds → find (λ d. nat_le number d.number) ds ≡ None → find is_it ds ≡ None
+  none_found ds order none = sym (first_is_found ds order) ∙ ap (option_filter is_it) none
+
+  pub one_found : (ds : List Delegation) (d : Delegation) → StandInOrder ds → find (λ d. nat_le number d.number) ds ≡ Some d → d.number ≡ number
+      → find is_it ds ≡ Some d
+  one_found ds d order first same =
+      sym (first_is_found ds order) ∙ ap (option_filter is_it) first
+      ∙ ap (λ b. cond b (Some d) None) (true_from_ne_false (is_it d) (λ no. eqb-false d.number number no same))
+
+  pub other_found : (ds : List Delegation) (d : Delegation) → StandInOrder ds → find (λ d. nat_le number d.number) ds ≡ Some d → (d.number ≡ number → ⊥)
+      → find is_it ds ≡ None
+  other_found ds d order first differs =
+      sym (first_is_found ds order) ∙ ap (option_filter is_it) first
+      ∙ ap (λ b. cond b (Some d) None) (false_from_ne_true (is_it d) (λ yes. differs (eqb-true d.number number yes)))
+
+pub some_or_any : (test : Delegation → Bool) (ds : List Delegation) → is_some (find test ds) ≡ list_any test ds
+some_or_any test [] = refl
+some_or_any test (d ∷ ds) =
+    cond_both (test d) (Some d) (find test ds) (λ r. is_some r ≡ (test d || list_any test ds))
+    (λ yes. sym (ap (λ b. b || list_any test ds) yes)) (λ no. some_or_any test ds ∙ sym (ap (λ b. b || list_any test ds) no))

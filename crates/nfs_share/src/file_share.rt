@@ -1,4 +1,4 @@
-ghost use Rattle.std.specs.Prelude.{◌≡◌, ◌≤◌, ◌<◌, ◌+◌, ◌↔◌, IfErr, IfNone, IfOk, IsErrOf, IsFalse, IsOk, IsTrue, OnErr, OnOk, OnSome, Some, filter, find, length, [], ◌∷◌, ◌++◌, option_map};
+ghost use Rattle.std.specs.Prelude.{◌≡◌, ◌≤◌, ◌<◌, ◌+◌, ◌↔◌, IfErr, IfNone, IfOk, IsErrOf, IsFalse, IsOk, IsTrue, OnErr, OnOk, OnSome, Some, filter, find, length, nat_le, [], ◌∷◌, ◌++◌, option_map};
 ghost use Rattle.std.specs.List.{list_any};
 ghost use Rattle.std.specs.Option.{option_copied};
 ghost use Rattle.nfs_share.specs.Delegations.{IsAboveLent, IsNextDueOf, bars, can_delegate, conflicts, delegation_named_by, delegation_stateid, delegation_with_number, first_delegation, has_conflict, has_delegation, is_delegation_numbered, is_due_from, is_lent_to, is_stateid_of_delegation, with_recalls, without_lent};
@@ -327,17 +327,20 @@ impl FileShare {
     pub fn delegation_with_number(&self, number: u32) -> Option<Delegation>
         ensures { result ≡ delegation_with_number number self.now.delegations }
     {
-        self.delegations
-            .iter()
-            .copied()
-            .find(|lent| lent.number == number)
+        // They stand in the order of their numbers.
+        let lent = first_from(self.delegations.as_slice(), number)?;
+        if lent.number == number {
+            Some(lent)
+        } else {
+            None
+        }
     }
 
     /// Whether a delegation has this number.
     pub fn has_delegation_numbered(&self, number: u32) -> bool
         ensures { result ≡ list_any (is_delegation_numbered number) self.now.delegations }
     {
-        self.delegations.iter().any(|lent| lent.number == number)
+        self.delegation_with_number(number).is_some()
     }
 
     /// Whether the client has a delegation.
@@ -517,4 +520,14 @@ fn first_due(delegations: &[Delegation], from: u32, lease: u32, now: Moment) -> 
         .iter()
         .copied()
         .find(|lent| lent.is_due_from(from, lease, now))
+}
+
+// The first of these delegations that has no number below this one, if there is one.
+fn first_from(delegations: &[Delegation], number: u32) -> Option<Delegation>
+    ensures { result ≡ find (λ d. nat_le number d.number) delegations.now }
+{
+    delegations
+        .iter()
+        .copied()
+        .find(|lent| number <= lent.number)
 }
