@@ -1,9 +1,13 @@
--- The numbers of a file's opens: they stay below the next one.
+-- The numbers of a file's opens, and of its delegations: they stay below the next one.
 use Rattle.std.proofs.Common.{◌≡◌, ℕ, ◌+◌, ◌<◌, Bool, List, [], ◌∷◌, ◌++◌, Result, Ok, Err, refl, sym, ap, ◌∙◌, subst, arith}
 use Rattle.std.specs.Prelude.{OnErr, OnOk, is_some}
 use Rattle.std.proofs.lemmas.Bool.{cond_both}
 use Rattle.nfs_forms.specs.declared.open_owner.OpenOwner.{OpenOwner}
 use Rattle.nfs_forms.specs.declared.stateid.Stateid.{Stateid}
+use Rattle.nfs_forms.specs.declared.client_id.ClientId.{ClientId}
+use Rattle.nfs_share.specs.Delegations.{IsAboveLent, first_delegation}
+use Rattle.nfs_share.specs.declared.delegation.Delegation.{Delegation}
+use Rattle.nfs_share.specs.declared.delegation.DelegationKind.{DelegationKind}
 use Rattle.nfs_share.specs.Opens.{FileOpens, IsAbove, after_downgrade, after_open, first_open, is_numbered, is_of, open_of, with_each, with_opening}
 use Rattle.nfs_share.specs.declared.open_state.OpenState.{OpenState}
 use Rattle.nfs_share.specs.declared.share.Share.{Share}
@@ -44,3 +48,18 @@ pub downgraded : (number : ℕ) (share : Share) (above : ℕ) (result : Result S
 downgraded number share above (Ok stateid) old new ok err is =
     subst (λ (f : FileOpens). IsAbove above f.opens) (sym ok) (above_each above (is_numbered number) (after_downgrade share) (λ o. refl) old.opens is)
 downgraded number share above (Err error) old new ok err is = subst (λ (f : FileOpens). IsAbove above f.opens) (sym err) is
+
+lent_more : (number : ℕ) (ds : List Delegation) → IsAboveLent number ds → IsAboveLent (number + 1) ds
+lent_more number [] above = tt
+lent_more number (d ∷ ds) above = (omega (arith, above.0), lent_more number ds above.1)
+
+lent_push : (number : ℕ) (ds : List Delegation) (d : Delegation) → IsAboveLent number ds → d.number < number → IsAboveLent number (ds ++ d ∷ [])
+lent_push number [] d above below = (below, tt)
+lent_push number (first ∷ ds) d above below = (above.0, lent_push number ds d above.1 below)
+
+pub lent : (client : ClientId) (kind : DelegationKind) (number : ℕ) (result : Result Stateid ShareError) (old new : FileOpens)
+    → OnOk result (new.delegations ≡ old.delegations ++ first_delegation client kind number ∷ []) → OnErr result (new ≡ old)
+    → IsAboveLent number old.delegations → IsAboveLent (number + 1) new.delegations
+lent client kind number (Ok stateid) old new ok err above =
+    subst (IsAboveLent (number + 1)) (sym ok) (lent_push (number + 1) old.delegations (first_delegation client kind number) (lent_more number old.delegations above) (omega arith))
+lent client kind number (Err error) old new ok err above = lent_more number new.delegations (subst (λ (f : FileOpens). IsAboveLent number f.delegations) (sym err) above)

@@ -4,6 +4,8 @@
 #![tactic(auto)]
 
 #[cfg(test)]
+mod delegations;
+#[cfg(test)]
 mod names;
 #[cfg(test)]
 mod opens;
