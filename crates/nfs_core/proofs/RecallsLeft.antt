@@ -3,7 +3,7 @@ use Rattle.std.proofs.Common.{◌≡◌, ℕ, zero, suc, ◌+◌, ◌≤◌, Lis
 use Rattle.std.specs.Prelude.{IfNone, IfOk, IfSome, OnErr}
 use Rattle.nfs_core.proofs.Journals.{Allows-once, Step-once}
 use Rattle.nfs_core.specs.Lawful.{Lawful, Leads}
-use Rattle.nfs_core.specs.Recalls.{AreLeftOf, AreOneList, AreRecallsOf, Recalls, RecallsFollow, RecallsLeft, recalls_by, with_more}
+use Rattle.nfs_core.specs.Recalls.{AreLeftOf, AreOneList, AreRecallsOf, Recalls, RecallsFollow, RecallsLeft, RoomyRecalls, left_of, recalls_by, with_more}
 use Rattle.nfs_core.specs.Revoking.{IsRevoked, revoke_of}
 use Rattle.nfs_core.specs.Server.{AreAlike, Enters, IsLawful, Server}
 use Rattle.nfs_core.specs.Step.{Allows}
@@ -116,10 +116,10 @@ Left-revoked follow old new now (Ok (Some number)) lawful was entered alike =
 Left-revoked follow old new now (Err error) lawful was entered alike = Left-same old new was alike
 
 -- what is left after the first was taken out, if there was one
-pub Left-taken : (journal : History) (old new : RecallsLeft) (result : Option Recall) → AreLeftOf journal old
-    → IfNone result (new ≡ old) → IfSome result (λ r. old.pending ≡ r ∷ new.pending) → IfSome result (λ r. new.taken ≡ old.taken + 1)
-    → AreLeftOf journal new
-Left-taken journal old new None was none first taken = subst (λ (l : RecallsLeft). AreLeftOf journal l) (sym none) was
+pub Left-taken : (journal : History) (old new : RoomyRecalls) (result : Option Recall) → AreLeftOf journal (left_of old)
+    → IfNone result ((old.pending ≡ []) × (new ≡ old)) → IfSome result (λ r. old.pending ≡ r ∷ new.pending) → IfSome result (λ r. new.taken ≡ old.taken + 1)
+    → AreLeftOf journal (left_of new)
+Left-taken journal old new None was none first taken = subst (λ (r : RoomyRecalls). AreLeftOf journal (left_of r)) (sym none.1) was
 Left-taken journal old new (Some r) was none first taken = (
   was.0,
   was.1,

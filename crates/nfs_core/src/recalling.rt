@@ -1,6 +1,6 @@
 //! The recalls that an entry makes.
 
-ghost use Rattle.std.specs.Prelude.{◌≡◌, ◌++◌, IfOk, IsOk, OnOk, option_map};
+ghost use Rattle.std.specs.Prelude.{◌≡◌, ◌++◌, [], IfOk, IsOk, OnOk, option_map};
 ghost use Rattle.std.specs.Option.{option_to_list};
 ghost use Rattle.nfs_core.specs.Recalls.{CallsNothingBack, is_called_back, recall_for, recall_to, recalls_by, recalls_for};
 ghost use Rattle.nfs_state.specs.Room.{state_of};
@@ -30,6 +30,7 @@ pub(crate) fn recalls_by(
 ) -> Result<Vec<Recall>, AllocError>
     ensures recalls { IfOk result (λ recalls.
         recalls.items ≡ recalls_by change.now (state_of store.now.tables)) }
+    ensures none { CallsNothingBack change.now → IfOk result (λ recalls. recalls.items ≡ []) }
     ensures ready { CallsNothingBack change.now → IsOk result }
 {
     match change {

@@ -1,4 +1,4 @@
-use Rattle.std.proofs.Common.{refl}
+use Rattle.std.proofs.Common.{refl, rules}
 use Rattle.nfs_core.proofs.Entering.{Step-next}
 use Rattle.nfs_core.proofs.committing.commit.Goals as goal
 use Rattle.nfs_state.specs.Room.{state_of}

@@ -14,5 +14,5 @@ invariant_of-result c =
     let no_owners = ap (λ (stored : Stored). stored.owners) c.in_ok-of_tree.ensures in (
       returns-clause-lawful c,
       subst (Agrees c.new.result.history) (sym no_owners) tt,
-      Left-new c.new.result.history _ (search rules) c.new-2.ensures,
+      Left-new c.new.result.history _ (search rules) c.new-recalls.ensures,
     )

@@ -1,9 +1,9 @@
-use Rattle.std.proofs.Common.{◌≡◌, ◌↔◌, ℕ, None, Ok, Option, Result, subst}
+use Rattle.std.proofs.Common.{◌≡◌, ◌↔◌, ℕ, IfOk, None, Ok, Option, Result, subst}
 use Rattle.nfs_core.proofs.Journals.{Lawful-revoked}
 use Rattle.nfs_core.proofs.RecallsLeft.{Left-revoked}
 use Rattle.nfs_core.proofs.Storing.{store_agrees}
 use Rattle.nfs_core.proofs.core_state.Core.revoke.Goals as goal
-use Rattle.nfs_core.specs.Revoking.{NoneIsDue}
+use Rattle.nfs_core.specs.Revoking.{IsRevoked, NoneIsDue}
 use Rattle.nfs_core.specs.Server.{Server, server_of}
 use Rattle.nfs_core.specs.declared.core_error.CoreError.{CoreError}
 
@@ -22,6 +22,11 @@ invariant_of-self c =
 
 pub returns-clause-lawful : goal.returns-clause-lawful
 returns-clause-lawful c = (invariant_of-self c).0
+
+pub returns-clause-revoked : goal.returns-clause-revoked
+returns-clause-revoked c =
+    let new = server_of c.enter_revocation.new.held in
+    subst (λ (s : Server). IfOk c.enter_revocation.result (IsRevoked s new c.args.now)) c.self.view_is c.enter_revocation.ensures.revoked
 
 pub returns-clause-none : goal.returns-clause-none
 returns-clause-none c =
