@@ -21,6 +21,6 @@ returns-clause-entered c =
     let new = server_of c.commit.new.held in
     let enters : Enters old new (entry_of c.args.request c.in_ok-answer.answer) c.in_ok-number.number = entered.0 in
     let live = c.live-live.ensures in
-    let told : IsEntered old new (entry_of c.args.request c.in_ok-answer.answer) (record { number = c.in_ok-number.number; live = c.live-live.live }) =
+    let told : IsEntered old new (entry_of c.args.request c.in_ok-answer.answer) (record { number = c.in_ok-number.number; live = c.live-live.result }) =
     (enters, live ∙ ap (λ (e : Effect). live_change_of e.change) (sym entered.1)) in
-    subst (λ (answer : OpResult). IsEntered old new (entry_of c.args.request answer) (record { number = c.in_ok-number.number; live = c.live-live.live })) c.in_ok-answer.ensures told
+    subst (λ (answer : OpResult). IsEntered old new (entry_of c.args.request answer) (record { number = c.in_ok-number.number; live = c.live-live.result })) c.in_ok-answer.ensures told

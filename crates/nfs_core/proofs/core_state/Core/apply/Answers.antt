@@ -9,5 +9,5 @@ returns-in-Some-clause-applies c =
     let old = c.args.self.now in
     let new = c.answer-answer.new.self in
     let answer = c.answer-answer.result.0 in
-    let of_request = subst (λ (r : Request). Answers old new r answer c.answer-answer.result.1) c.in-Ok.ensures c.answer-answer.ensures.answers in
-    (subst (λ (entered : Option Entered). Answers old new (c.in-Ok.request) answer entered) c.in-Some.is c.answer-answer.ensures.answers).0
+    let entered = subst (λ (told : Option Entered). Answers old new c.in-Ok.request answer told) c.in-Some.is c.answer-answer.ensures.answers in
+    (subst (λ (request : Request). Answers old new request answer (Some c.in-Some.entered)) c.in-Ok.ensures entered).0
