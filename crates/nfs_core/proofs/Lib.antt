@@ -9,6 +9,7 @@ pub mod RecallsLeft
 pub mod SafeDistinct
 pub mod SafeFiles
 pub mod SafeLists
+pub mod SafeOrder
 pub mod SafeSums
 pub mod Safety
 pub mod Sound
@@ -19,6 +20,7 @@ pub mod SoundLimits
 pub mod SoundLocking
 pub mod SoundLocks
 pub mod SoundNumbers
+pub mod SoundOrder
 pub mod SoundOwners
 pub mod SoundRules
 pub mod SoundSequences

@@ -20,6 +20,7 @@ use Rattle.nfs_core.proofs.SoundDelegations.{HasSoundDelegations, StayApart, Sta
 use Rattle.nfs_core.proofs.SoundLimits.{FirstRuns, limits_changed, limits_empty, limits_owned}
 use Rattle.nfs_core.proofs.SoundLocks.{LocksStay}
 use Rattle.nfs_core.proofs.SoundNumbers.{HasNumbers, numbered_after, numbered_empty, numbers_differ, numbers_given}
+use Rattle.nfs_core.proofs.SoundOrder.{HasOrder, order_after, order_empty}
 use Rattle.nfs_core.proofs.SoundOwners.{HasOnes, ones_changed, ones_empty, ones_owned}
 use Rattle.nfs_core.proofs.SoundRules.{ruled_ready}
 use Rattle.nfs_core.proofs.SoundSequences.{live_owner}
@@ -72,6 +73,7 @@ pub record Holds (state : State) : Type 0 where
   pub numbered : HasNumbers state
   pub ones : HasOnes state
   pub delegations : HasSoundDelegations state
+  pub order : HasOrder state
   pub singles : HasSingles state.clients
   pub within : KeepsLimits state
 
@@ -81,6 +83,7 @@ holds_empty journal = record {
   numbered = numbered_empty journal.nodes;
   ones = ones_empty journal.nodes;
   delegations = delegations_empty journal.nodes;
+  order = order_empty journal.nodes;
   singles = singles_empty;
   within = limits_empty journal.nodes;
 }
@@ -101,6 +104,7 @@ holds_after laws number entry effect old ready holds = record {
   ones = ones_changed effect.change (with_owner_change effect.owner number old) ready.1 (ones_owned effect.owner number old holds.ones);
   delegations = delegations_changed laws.apart laws.single effect.change (with_owner_change effect.owner number old) ready.1
       (sound_owner laws.opens effect.owner number old ready.0 holds.sound) (delegations_owned laws.apart effect.owner number old holds.delegations);
+  order = order_after number entry effect old holds.numbered holds.order;
   singles = singles_after effect.change (with_owner_change effect.owner number old) ready.1 (singles_owned effect.owner number old holds.singles);
   within = limits_changed laws.runs effect.change (with_owner_change effect.owner number old) ready.1 (limits_owned effect.owner number old ready.0 holds.within);
 }
@@ -138,6 +142,7 @@ safe state holds =
       one_lock = holds.ones.locks;
       apart = holds.delegations.apart;
       one_delegation = holds.delegations.single;
+      delegations_in_order = holds.order;
       holders_live = holds.delegations.live;
       records = are_records state.clients holds.singles;
       one_of_client = one_of_client state.clients holds.singles;

@@ -142,7 +142,7 @@ lent_without : (w : ℕ → ℕ) (test : Delegation → Bool) (ds : List Delegat
 lent_without w test ds = sum_filter (of_lent w) (λ d. not (test d)) ds
 
 -- delegations that are called back
-recalled_number : (w : ℕ → ℕ) (moment : ℕ) (b : Bool) (d : Delegation) → w (cond b (with_recall moment d) d).number ≡ w d.number
+pub recalled_number : (w : ℕ → ℕ) (moment : ℕ) (b : Bool) (d : Delegation) → w (cond b (with_recall moment d) d).number ≡ w d.number
 recalled_number w moment true d = cond_both (is_none d.recalled) (record d { recalled = Some moment }) d (λ x. w x.number ≡ w d.number) (λ _. refl) (λ _. refl)
 recalled_number w moment false d = refl
 
@@ -253,7 +253,7 @@ once_after : (given : Bool) (last next n count more : ℕ) → more ≤ count + 
 once_after true last next n count more grows is h = subst (λ k. IsOnce k n more) (sym is) (once_given last n count more grows h)
 once_after false last next n count more grows is h = subst (λ k. IsOnce k n more) (sym is) (once_less last n count more (omega (arith, grows)) h)
 
-numbered_before : (change : Change) (old : State) → HasNumbers old → HasNumbers (before_grant change old)
+pub numbered_before : (change : Change) (old : State) → HasNumbers old → HasNumbers (before_grant change old)
 unfolding HasNumbers
 numbered_before change old h n =
     once_after (gives change old) old.last_state (before_grant change old).last_state n (weight (is_one n) old) (weight (is_one n) (before_grant change old))
@@ -271,7 +271,7 @@ numbered_changed (changes.Opens node owner share lent) old h =
     numbered_granted node owner.client lent (with_open node owner share old) (numbered_before (changes.Opens node owner share lent) old h)
 numbered_changed change old h = numbered_before change old h
 
-numbered_owned : (change : OwnerChange) (number : ℕ) (old : State) → HasNumbers old → HasNumbers (with_owner_change change number old)
+pub numbered_owned : (change : OwnerChange) (number : ℕ) (old : State) → HasNumbers old → HasNumbers (with_owner_change change number old)
 unfolding HasNumbers
 numbered_owned change number old h n =
     subst (λ last. IsOnce last n (weight (is_one n) (with_owner_change change number old))) (sym (last_owned change number old))

@@ -1,6 +1,6 @@
 -- The recalls that a journal makes: which delegations are called back, in what order, and how (RFC 7530, section 10.4.4).
-use Rattle.std.specs.Prelude.{◌≡◌, ⊤, ℕ, ◌+◌, Bool, ◌&&◌, if◌then◌else◌, List, [], ◌∷◌, ◌++◌, drop, length, Option, None, is_none, option_map}
-use Rattle.std.specs.List.{filter_map}
+use Rattle.std.specs.Prelude.{◌≡◌, ⊤, ℕ, ◌+◌, ◌<◌, Bool, ◌&&◌, if◌then◌else◌, List, [], ◌∷◌, ◌++◌, drop, length, Option, None, is_none, option_map}
+use Rattle.std.specs.List.{AllPairs, filter_map}
 use Rattle.nfs_core.specs.Lawful.{Lawful}
 use Rattle.nfs_core.specs.Step.{Allows}
 use Rattle.nfs_core.specs.declared.recalling.OpenWish.{OpenWish}
@@ -45,7 +45,8 @@ abbrev pub recalls_for : OpenWish → State → List Recall
 recalls_for wish old =
     filter_map (recall_for wish old.clients) (delegations_of wish.node old.delegations)
 
--- The recalls that a change makes in this state. A file's delegations stand in the order of their numbers.
+-- The recalls that a change makes in this state. In a state that a journal leads to, a file's delegations stand in the
+-- order of their numbers, and so do these recalls, as the law `recalls_rise` says.
 abbrev pub recalls_by : Change → State → List Recall
 recalls_by (changes.Recalls node client share moment) old =
     recalls_for (record { node = node; client = client; share = share }) old
@@ -123,3 +124,11 @@ RecallsFollow =
     → AreRecallsOf journal recalls
     → Allows journal state entry effect
     → AreRecallsOf (with_entry entry journal) (recalls ++ recalls_by effect.change state)
+
+-- The recalls of an entry that may come next stand in the order of the numbers of their delegations.
+abbrev pub RecallsRise : Type 0
+RecallsRise =
+    (journal : History) (state : State) (entry : Entry) (effect : Effect)
+    → Lawful journal state
+    → Allows journal state entry effect
+    → AllPairs (λ a b. a.stateid.number < b.stateid.number) (recalls_by effect.change state)

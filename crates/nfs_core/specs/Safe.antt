@@ -24,6 +24,7 @@ use Rattle.nfs_state.specs.declared.limits.TheConstants.{STATE_LIMIT}
 use Rattle.nfs_xdr.specs.Names.{is_sequenced}
 use Rattle.nfs_xdr.specs.OpResult.{status_of}
 use Rattle.nfs_share.specs.AllOpens.{delegations_of, opens_of}
+use Rattle.nfs_share.specs.Delegations.{StandInOrder}
 use Rattle.nfs_share.specs.Laws.{AllAreCompatible, AreApart, OneEach}
 use Rattle.nfs_share.specs.Opens.{is_numbered, is_of_client}
 use Rattle.nfs_share.specs.declared.delegation.Delegation.{Delegation}
@@ -144,6 +145,8 @@ pub record IsSafe (state : State) : Type 0 where
   pub apart : (node : ℕ) → AreApartAt state node
   -- a client has at most one delegation of a file
   pub one_delegation : AllByRecursion OneEach state.delegations
+  -- the delegations of a file stand in the order of their numbers
+  pub delegations_in_order : AllByRecursion StandInOrder state.delegations
   pub holders_live : EachDelegation (HasLiveHolder state) state
   -- an id has at most one confirmed and at most one unconfirmed record (section 16.33.5), and each client number was
   -- given, to one id

@@ -1,6 +1,6 @@
 ghost use Rattle.nfs_core.specs.Lawful.{AtMostOneState, Lawful};
 ghost use Rattle.nfs_core.specs.LiveClients.{AreNumbered, AreOfOneRun, CallsFollow, EffectsFollow, EndsFollow, PathsFollow, RevocationsFollow};
-ghost use Rattle.nfs_core.specs.Recalls.{AreOneList, RecallsFollow};
+ghost use Rattle.nfs_core.specs.Recalls.{AreOneList, RecallsFollow, RecallsRise};
 ghost use Rattle.nfs_core.specs.Safe.{IsSafe, KeepRequests};
 ghost use Rattle.nfs_core.specs.Step.{AtMostOneStateAfter, AtMostOneStep};
 ghost use Rattle.nfs_state.specs.State.{State, History};
@@ -31,6 +31,13 @@ pub fn recalls_follow()
     ensures { RecallsFollow }
 {
     at_most_one_decision();
+}
+
+/// The law that the recalls of an entry stand by rising numbers of their delegations.
+pub fn recalls_rise()
+    ensures { RecallsRise }
+{
+    lawful_is_safe();
 }
 
 /// The law that a journal leads to at most one state.
