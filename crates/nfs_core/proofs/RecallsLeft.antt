@@ -2,8 +2,8 @@
 use Rattle.std.proofs.Common.{◌≡◌, ℕ, zero, suc, ◌+◌, ◌≤◌, List, [], ◌∷◌, ◌++◌, drop, length, refl, sym, ap, ◌∙◌, subst, arith, add-one, append_assoc, append-nil, length-append, Option, Some, None, Result, Ok, Err}
 use Rattle.std.specs.Prelude.{IfNone, IfOk, IfSome, OnErr}
 use Rattle.nfs_core.proofs.Journals.{Allows-once, Step-once}
-use Rattle.nfs_core.specs.Lawful.{Lawful, Leads}
-use Rattle.nfs_core.specs.Recalls.{AreLeftOf, AreOneList, AreRecallsOf, Recalls, RecallsFollow, RecallsLeft, RoomyRecalls, left_of, recalls_by, with_more}
+use Rattle.nfs_core.specs.Lawful.{Leads}
+use Rattle.nfs_core.specs.Recalls.{AreLeftOf, AreOneList, Recalls, RecallsFollow, RecallsLeft, RoomyRecalls, left_of, recalls_by, with_more}
 use Rattle.nfs_core.specs.Revoking.{IsRevoked, revoke_of}
 use Rattle.nfs_core.specs.Server.{AreAlike, Enters, IsLawful, Server}
 use Rattle.nfs_core.specs.Step.{Allows}

@@ -1,4 +1,4 @@
-use Rattle.std.proofs.Common.{◌≡◌, ◌∙◌, ℕ, ap, subst, sym}
+use Rattle.std.proofs.Common.{◌∙◌, ap, subst, sym}
 use Rattle.nfs_core.proofs.answering.enter_decided.Goals as goal
 use Rattle.nfs_core.specs.Entered.{IsEntered}
 use Rattle.nfs_core.specs.Following.{IsNext}
