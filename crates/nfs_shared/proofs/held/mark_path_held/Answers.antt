@@ -1,6 +1,7 @@
 -- A mark of a path enters no call.
-use Rattle.std.proofs.Common.{◌∙◌, ◌∷◌, [], List, ap, refl, arith}
+use Rattle.std.proofs.Common.{◌∙◌, ◌∷◌, [], List, ap, refl, subst, arith}
 use Rattle.nfs_core.specs.PathMarking.{path_of}
+use Rattle.nfs_core.specs.Server.{Enters}
 use Rattle.nfs_shared.proofs.Holding.{KeepsRules, gains_one, held_more}
 use Rattle.nfs_shared.proofs.Receipts.{others_in_more}
 use Rattle.nfs_shared.proofs.held.mark_path_held.Goals as goal
@@ -15,7 +16,7 @@ use Rattle.nfs_state.specs.declared.entry.Entry.TheVariants as entries
 pub invariant_of-held : goal.invariant_of-held
 invariant_of-held g c =
     let held = c.held.inside in
-    let marked = c.mark_path in
+    let marked = c.mark_path-marked in
     let old : HeldView = record {
       server = held.leased.core;
       leases = held.leased.book;
@@ -49,3 +50,8 @@ invariant_of-held g c =
         others_in_more old.server.journal.entries more refl,
       ),
     )
+
+pub returns-in-Ok-clause-marks : goal.returns-in-Ok-clause-marks
+returns-in-Ok-clause-marks g c =
+    subst (λ (h : HeldView). Enters h.server c.mark_path-marked.new.self.core (entries.Path (path_of c.args.client c.args.up)) c.in-Ok.number)
+    c.held.view_is c.in-Ok.ensures.marks
