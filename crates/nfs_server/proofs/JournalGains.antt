@@ -51,7 +51,7 @@ gains_one : (old new : LentCore) (question : Question) (answer : OpResult) → I
 gains_one old new (Operation request) answer given =
     gains_operation old.core new.core request answer given.0 given.1
 gains_one old new (Renewal moment client) answer given =
-    gains_alike old.core new.core (ap (λ (s : Server). s.journal) given.1, ap (λ (s : Server). s.stored) given.1)
+    gains_alike old.core new.core (ap (λ (s : Server). s.journal) given.1, ap (λ (s : Server). s.stored) given.1, ap (λ (s : Server). s.recalls) given.1)
 
 -- states of a lent core that differ at most in room
 abbrev AreAlikeLent : LentCore → LentCore → Type 0
@@ -62,7 +62,7 @@ LentGains old questions answers new = Gains questions answers old.core.journal n
 
 lent_gains : IsGain IsGiven AreAlikeLent LentGains
 lent_gains = record {
-  same = λ (s : LentCore). ((refl, refl), refl);
+  same = λ (s : LentCore). ((refl, refl, refl), refl);
   stays = λ old new alike. gains_alike old.core new.core alike.0;
   one = gains_one;
   more = λ old mid new questions more answers others. gains_then questions more answers others old.core.journal mid.core.journal new.core.journal;
