@@ -4,6 +4,8 @@
 #![tactic(auto)]
 
 #[cfg(test)]
+mod callbacks;
+#[cfg(test)]
 mod devices;
 #[cfg(test)]
 mod faults;
