@@ -18,7 +18,7 @@ PROGRAM = os.path.join(TOP, "crates/rows/out/rows")
 # The ways to keep the state: each connection is served alone, with a core of its own; or each by a thread and a seat of
 # its own, with a state that they share.
 ALONE, SHARED = 0, 1
-SERVE, SWEEP, MARK, REVOKE, TAKE, PENDING = range(1, 7)
+SERVE, SWEEP, MARK, REVOKE, TAKE, PENDING, PROBE = range(1, 8)
 # The seconds in which an order has to be answered, on however busy a machine.
 PATIENCE = 300
 # By the number of an error: the fault with which a connection ends.
@@ -136,6 +136,11 @@ class Driver:
     def pending(self):
         """How many recalls wait; only where each connection is served alone."""
         self.send(u32(PENDING))
+        return self.word()
+
+    def probe(self, after):
+        """The least number above this one of a client of whose path nothing is known; or 0."""
+        self.send(u32(PROBE, after))
         return self.word()
 
     def end(self):

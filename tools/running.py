@@ -8,7 +8,7 @@ from entries import Call, Revoke as Entry
 from journal import NotJournal, read_journal
 from tree import DEFAULT
 
-from rows import Mark, ORDERS, Part, Pending, Revoke, Sweep, Take, order_line, words_beside
+from rows import Mark, ORDERS, Part, Pending, Probe, Revoke, Sweep, Take, order_line, words_beside
 
 # A read of the server asks for less than this, so that such pieces don't cut an input.
 WHOLE = 1 << 20
@@ -95,6 +95,8 @@ def take(driver, step, piece, has_room):
             return driver.take_recall(step.xid)
         case Pending():
             return driver.pending()
+        case Probe(after):
+            return driver.probe(after)
     return driver.serve([step.sent], step.moment, piece, rooms=[len(step.wanted) if has_room else 0]).ended[0]
 
 
@@ -129,6 +131,8 @@ def wanted_of(step):
             return record
         case Pending(count):
             return count
+        case Probe(_, client):
+            return client or 0
 
 
 def is_right(step, got):
@@ -199,7 +203,7 @@ def lines_of_order(order, got):
     if isinstance(order, Take):
         yield from words_beside(order.record, got, "got")
     else:
-        names = got._asdict() if isinstance(got, tuple) else {"pending": got}
+        names = got._asdict() if isinstance(got, tuple) else {"client" if isinstance(order, Probe) else "pending": got}
         yield "    got " + " ".join(f"{name} {number}" for name, number in names.items())
 
 

@@ -71,6 +71,8 @@ def outcome_of(server, order):
             return rows.Take() if recall is None else rows.Take(recall_call(order.xid, recall))
         case rows.Pending():
             return rows.Pending(len(server.pending()))
+        case rows.Probe(after):
+            return rows.Probe(after, server.probe(after))
 
 
 def is_marked(server, client, is_up):

@@ -1,6 +1,6 @@
 """The rules of delegations (RFC 7530, section 10.4), which `model.Server` has with its others: what one is in the way
 of, when it is given, called back, given back and taken. Sections are those of RFC 7530."""
-from states import Delegation, Recall, Refusal, UP, expect_filehandle, expect_seqid
+from states import Delegation, Recall, Refusal, UNKNOWN, UP, expect_filehandle, expect_seqid
 from wire import (CLAIM_NULL, OPEN_DELEGATE_NONE, OPEN_DELEGATE_READ, OPEN_DELEGATE_WRITE, READ, Stateid, Status, WRITE,
                   opaque, u32, u64)
 
@@ -107,6 +107,11 @@ class Delegating:
 
     def end_delegation(self, found):
         self.delegations = [it for it in self.delegations if it is not found]
+
+    def probe(self, after):
+        """The least number above this one that a live client has of whose path nothing is known, or None."""
+        return min((it.number for it in self.records if it.is_confirmed and it.path == UNKNOWN and it.number > after),
+                   default=None)
 
     # Recalls (section 10.4.4).
 

@@ -26,7 +26,7 @@ from driver import ALONE, PROGRAM, SHARED
 from entries import Expire, Path, Revoke as Revocation
 from journal import Recorder, journal_bytes
 from ranges import ALL_ONES, LAST_BYTE
-from rows import Mark, Part, Pending, Revoke, Row, Sweep, Take
+from rows import Mark, Part, Pending, Probe, Revoke, Row, Sweep, Take
 from running import WHOLE, run as run_row
 from states import Delegation, LockState, handle_of, next_sequence_id
 from tree import DEFAULT, Tree
@@ -113,7 +113,7 @@ class Caller:
     def next_order(self):
         client, late = self.a_client(), self.moment + self.chance.choice([0, 1, self.lease, self.lease + 1])
         orders = [Take(bytes(4) + u32(self.chance.getrandbits(32)))] * 4 + [Mark(client, not self.is_rare(0.3))] * 2
-        orders += [Sweep(self.moment, 0, 0)] * 3 + [Sweep(late, 0, 0)] * self.is_rare(0.3)
+        orders += [Probe(self.chance.randint(0, 3))] + [Sweep(self.moment, 0, 0)] * 3 + [Sweep(late, 0, 0)] * self.is_rare(0.3)
         orders += [Revoke(late), Revoke(late), Pending(0)] * (self.way == ALONE)
         return outcome_of(self.server, self.chance.choice(orders))
 

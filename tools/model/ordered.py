@@ -86,7 +86,7 @@ class Session:
             raise Invalid from None
 
     def run(self):
-        orders = [self.serve, self.sweep, self.mark, self.revoke, self.take, self.pending]
+        orders = [self.serve, self.sweep, self.mark, self.revoke, self.take, self.pending, self.probe]
         while (number := self.input.next_order()) is not None:
             orders[limited(number - 1, len(orders))]()
         data = journal_bytes(self.server.journal())
@@ -141,6 +141,9 @@ class Session:
     def pending(self):
         self.expect_alone()
         answer(len(self.server.pending()))
+
+    def probe(self):
+        answer(self.server.probe(self.input.u32()) or 0)
 
     def expect_alone(self):
         if self.way != ALONE:

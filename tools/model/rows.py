@@ -52,6 +52,7 @@ NO_MARK = "no mark of a path: `mark CLIENT up` or `mark CLIENT down`, and then `
 NO_REVOCATION = "no revocation: `revoke SECONDS none` or `revoke SECONDS state NUMBER`"
 NO_TAKE = "no recall that is taken: `take record` with its words, of which the first is its xid, or `take nothing`"
 NO_PENDING = "no number of recalls: `pending COUNT`"
+NO_PROBE = "no client to be tried: `probe CLIENT none` or `probe CLIENT client NUMBER`"
 NO_FAULT = "no fault of a connection"
 NO_SECTIONS = "no sections: `sections RFC NUMBER, SECTION, SECTION`, and behind a semicolon those of another RFC"
 
@@ -125,8 +126,15 @@ class Pending:
     count: int
 
 
+@dataclass(frozen=True)
+class Probe:
+    """Of whose path nothing is known: the least client number above this one that it is to be, or None."""
+    after: int
+    client: int = None
+
+
 # What a server is told that no call asks for.
-ORDERS = (Sweep, Mark, Revoke, Take, Pending)
+ORDERS = (Sweep, Mark, Revoke, Take, Pending, Probe)
 # What is told a server that serves each connection alone, and not one whose state threads share.
 ALONE_ORDERS = (Revoke, Pending)
 
@@ -414,6 +422,16 @@ def pending_of(text):
     raise Wrong(NO_PENDING)
 
 
+def probe_of(text):
+    """The client to be tried that is written as CLIENT none or CLIENT client NUMBER."""
+    match [*words_of(text)]:
+        case [after, "none"]:
+            return Probe(decimal(after, 2**32, NO_PROBE))
+        case [after, "client", client]:
+            return Probe(decimal(after, 2**32, NO_PROBE), decimal(client, 2**32, NO_PROBE))
+    raise Wrong(NO_PROBE)
+
+
 def order_lines(order):
     """An order as the lines of a row."""
     match order:
@@ -427,13 +445,15 @@ def order_lines(order):
             return ["take record", f"  hex:{record[4:].hex()}"] if record else ["take nothing"]
         case Pending(count):
             return [f"pending {count}"]
+        case Probe(after, client):
+            return [f"probe {after} " + ("none" if client is None else f"client {client}")]
 
 
 def order_line(order):
     return " ".join(word for line in order_lines(order) for word in line.split())
 
 
-ORDER_LINES = {"sweep": sweep_of, "mark": mark_of, "revoke": revocation_of, "pending": pending_of}
+ORDER_LINES = {"sweep": sweep_of, "mark": mark_of, "revoke": revocation_of, "pending": pending_of, "probe": probe_of}
 
 
 class File:

@@ -60,6 +60,7 @@ impl Alone<'_> {
             Order::Revoke(now) => answer.put_revoked(self.revoke(now))?,
             Order::Take(xid) => answer.put_recall(xid, self.lent.take_recall())?,
             Order::Pending => answer.put_count(self.lent.core().pending().len())?,
+            Order::Probe(after) => answer.put_client(self.lent.core().probe(after))?,
         }
         Ok(())
     }

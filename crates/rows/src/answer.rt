@@ -2,6 +2,7 @@ use crate::failure::Failure;
 use nfs_core::{CoreError, Journal, Recall};
 use nfs_journal::write_journal;
 use nfs_leases::Swept;
+use nfs_owners::ClientState;
 use nfs_rpc::write_recall_call;
 use std::alloc::{AllocError, Global};
 
@@ -92,6 +93,11 @@ impl Answer {
         }
         self.put_part(record.as_slice())?;
         Ok(())
+    }
+
+    /// The client's number, or 0 where there is none.
+    pub(crate) fn put_client(&mut self, client: Option<&ClientState>) -> Result<(), AllocError> {
+        self.put_word(client.map_or(0, |client| client.client.number))
     }
 
     /// The file of the journal, behind its length.

@@ -20,6 +20,8 @@ pub(crate) enum Order {
     Take(u32),
     /// To count the recalls that wait.
     Pending,
+    /// To tell of whose path nothing is known: of the least client number above this one.
+    Probe(u32),
 }
 
 /// Whether callbacks reach the client with this number.
@@ -43,6 +45,7 @@ impl Order {
             Some(4) => Ok(Some(Order::Revoke(input.moment()?))),
             Some(5) => Ok(Some(Order::Take(input.word()?))),
             Some(6) => Ok(Some(Order::Pending)),
+            Some(7) => Ok(Some(Order::Probe(input.word()?))),
             Some(_) => Err(Failure::Input),
         }
     }

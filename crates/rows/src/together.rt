@@ -174,6 +174,11 @@ impl<'a, N: Naming + Send + Sync, R: Threads + Wait + Sync> Together<'a, N, R> {
                 answer.put_recall(xid, self.workers.shared.take(self.workers.rt))?;
                 Ok(self)
             }
+            Order::Probe(after) => {
+                let found = self.workers.shared.probe(self.workers.rt, after)?;
+                answer.put_client(found.as_ref())?;
+                Ok(self)
+            }
             // No call of the shared state revokes alone: its sweeps do. None counts the recalls.
             Order::Revoke(_) | Order::Pending => Err(Failure::Input),
         }
