@@ -10,4 +10,5 @@ invariant-loop-entry l = record {
   journal : l.core.journal ≡ record l.fn.journal.history { entries = l.yielded };
   lawful : IsLawful l.core;
   place : l.number ≡ length l.yielded;
+  taken : l.core.recalls.taken ≡ 0;
 }
