@@ -1,5 +1,6 @@
 pub mod Prefixes
 pub mod Moves
+pub mod RecallOrders
 pub mod Receipts
 pub mod Giving
 pub mod Holding

@@ -1,6 +1,8 @@
 pub mod Ends
 pub mod Held
 pub mod Naming
+pub mod Passes
+pub mod RecallOrder
 pub mod Receipt
 pub mod Receipts
 pub mod Roll

@@ -1,0 +1,30 @@
+-- The passes of the queue, and what contracts see of them.
+use Rattle.std.specs.Prelude.{◌≡◌, List, [], ◌∷◌, ◌++◌}
+use Rattle.atomic_table.specs.Seated.{TableId}
+use Rattle.crossbeam_queue.specs.Passes.{Pass, view}
+use Rattle.nfs_rpc.specs.declared.recall.Recall.{Recall}
+use Rattle.nfs_shared.specs.declared.recall_queue.Log.{Log}
+use Rattle.nfs_shared.specs.RecallOrder.{putter, taker}
+
+pub record PassView : Type 0 where
+  pub queue : TableId
+  -- what was put, or taken, by this pass, in order
+  pub recalls : List Recall
+
+-- with one recall more, and with more of them
+abbrev pub with_recall : Recall → PassView → PassView
+with_recall recall pass = record pass { recalls = pass.recalls ++ recall ∷ [] }
+
+abbrev pub with_recalls : List Recall → PassView → PassView
+with_recalls recalls pass = record pass { recalls = pass.recalls ++ recalls }
+
+abbrev pub log_of : Pass Recall Log → Log
+log_of token = view token
+
+-- it is a pass by which recalls are put
+abbrev pub IsPutter : Pass Recall Log → Type 0
+IsPutter token = (token.me.1 ≡ []) × (log_of token ≡ putter (log_of token).put)
+
+-- and one by which they are taken
+abbrev pub IsTaker : Pass Recall Log → Type 0
+IsTaker token = (token.me.1 ≡ []) × (log_of token ≡ taker (log_of token).taken)

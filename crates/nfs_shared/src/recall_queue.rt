@@ -1,0 +1,196 @@
+//! The queue by which recalls go from whoever holds the lock to the thread that sends them.
+ghost use Rattle.std.specs.Prelude.{◌≡◌, [], IfErr, IfOk, IfNone, IfSome, OnOk};
+ghost use mathlib.Core.List.{IsPrefix};
+ghost use Rattle.nfs_shared.specs.RecallOrder.{WasEmpty, WasFull};
+ghost use Rattle.nfs_shared.specs.Passes.{with_recall};
+
+use crossbeam_queue::protocol::{Join, Lesson, Outcome, Protocol, Split};
+use crossbeam_queue::{Pass, RuledArrayQueue};
+use nfs_core::Recall;
+use std::alloc::{AllocError, Global};
+use std::collections::LinkedList;
+use std::marker::Model;
+use std::sync::Wait;
+
+/// How many recalls the queue has room for.
+pub const CAPACITY: usize = 1_024;
+
+// What a pass may do, what was put and what was taken by it. No value of it is made.
+pub struct Log {
+    pub puts: bool,
+    pub takes: bool,
+    pub put: LinkedList<Recall>,
+    pub taken: LinkedList<Recall>,
+}
+
+pub struct InOrder;
+
+impl Protocol<Recall, Log> for InOrder {
+    ghost use Rattle.std.specs.Prelude.{true, []};
+    ghost use Rattle.nfs_shared.specs.RecallOrder.{log, Relayed};
+
+    ghost holds = { Relayed };
+
+    ghost first = { log true true [] [] };
+}
+
+// One pass puts, and another takes.
+pub struct Roles;
+
+impl Split<Log> for Roles {
+    ghost use Rattle.nfs_shared.specs.RecallOrder.{putter, taker};
+
+    ghost left = { λ v. putter v.put };
+
+    ghost right = { λ v. taker v.taken };
+}
+
+impl Join<Log> for Roles {
+    ghost use Rattle.std.specs.Prelude.{true, false, []};
+    ghost use Rattle.nfs_shared.specs.RecallOrder.{log};
+
+    ghost both = { λ v w. log true true v.put w.taken };
+
+    ghost spent = { log false false [] [] };
+}
+
+pub struct Puts;
+
+impl Outcome<Recall, Log> for Puts {
+    ghost use Rattle.std.specs.Prelude.{◌≡◌, ◌++◌, ◌∷◌, []};
+    ghost use Rattle.nfs_shared.specs.RecallOrder.{putter};
+
+    ghost then = { λ v x w. w ≡ putter (v.put ++ x ∷ []) };
+}
+
+impl Lesson<Recall, Log> for Puts {
+    ghost use Rattle.nfs_shared.specs.RecallOrder.{WereLeftOf};
+
+    ghost fact = { λ v items. WereLeftOf v.put items };
+}
+
+pub struct Takes;
+
+impl Outcome<Recall, Log> for Takes {
+    ghost use Rattle.std.specs.Prelude.{◌≡◌, ◌++◌, ◌∷◌, []};
+    ghost use Rattle.nfs_shared.specs.RecallOrder.{taker};
+
+    ghost then = { λ v x w. w ≡ taker (v.taken ++ x ∷ []) };
+}
+
+impl Lesson<Recall, Log> for Takes {
+    ghost use Rattle.nfs_shared.specs.RecallOrder.{WereHeldBy};
+
+    ghost fact = { λ v items. WereHeldBy v items };
+}
+
+// Who may do both learns that what was put is what was taken and what is left.
+pub struct Total;
+
+impl Lesson<Recall, Log> for Total {
+    ghost use Rattle.std.specs.Prelude.{◌≡◌, ◌++◌};
+
+    ghost fact = { λ v items. v.put ≡ v.taken ++ items };
+}
+
+type Line = RuledArrayQueue<Recall, Log, InOrder>;
+
+type Token = Pass<Recall, Log>;
+
+/// A queue of recalls, with room for `CAPACITY`. Contracts see its name.
+#[derive(Drop)]
+pub struct RecallQueue {
+    line: Line,
+}
+
+impl Model for RecallQueue {
+    ghost use Rattle.std.specs.Prelude.{◌≡◌};
+    ghost use Rattle.atomic_table.specs.Seated.{TableId};
+    ghost use Rattle.crossbeam_queue.specs.Passes.{ruled_capacity};
+    ghost use Rattle.nfs_shared.specs.declared.recall_queue.TheConstants.{CAPACITY};
+
+    ghost Value = { TableId };
+
+    ghost view = { λ q. q.line.table.shared.table_id };
+
+    ghost invariant = { λ q. ruled_capacity q.line ≡ CAPACITY };
+}
+
+/// The right to put, which the locked value has. Contracts see the queue's name, and what was put, in order.
+#[derive(Drop)]
+pub struct PutPass {
+    token: Token,
+}
+
+impl Model for PutPass {
+    ghost use Rattle.nfs_shared.specs.Passes.{PassView, log_of, IsPutter};
+
+    ghost Value = { PassView };
+
+    ghost view = { λ p. record { queue = p.token.table_id; recalls = (log_of p.token).put } };
+
+    ghost invariant = { λ p. IsPutter p.token };
+}
+
+/// The right to take. Contracts see the queue's name, and what was taken, in order.
+#[derive(Drop)]
+pub struct TakePass {
+    token: Token,
+}
+
+impl Model for TakePass {
+    ghost use Rattle.nfs_shared.specs.Passes.{PassView, log_of, IsTaker};
+
+    ghost Value = { PassView };
+
+    ghost view = { λ p. record { queue = p.token.table_id; recalls = (log_of p.token).taken } };
+
+    ghost invariant = { λ p. IsTaker p.token };
+}
+
+impl RecallQueue {
+    /// An empty queue, with the right to put and the right to take.
+    pub fn new(alloc: Global) -> Result<(RecallQueue, PutPass, TakePass), AllocError>
+        ensures put { IfOk result (λ r. r.1 ≡ record { queue = r.0; recalls = [] }) }
+        ensures take { IfOk result (λ r. r.2 ≡ record { queue = r.0; recalls = [] }) }
+    {
+        let (line, mut put) = Line::ruled(alloc, CAPACITY)?;
+        let take = line.another::<Roles>(&mut put);
+        Ok((
+            RecallQueue { line },
+            PutPass { token: put },
+            TakePass { token: take },
+        ))
+    }
+
+    /// Puts a recall at the end. It comes back only if the queue was full at a moment of the call. It takes no memory.
+    pub fn put<R: Wait>(&self, rt: &R, pass: &mut PutPass, recall: Recall) -> Result<(), Recall>
+        requires queue { pass.old.queue ≡ self.now }
+        ensures ok { OnOk result (pass.new ≡ with_recall recall pass.old) }
+        ensures back { IfErr result (λ r. (r ≡ recall) × (pass.new ≡ pass.old)) }
+        ensures full { IfErr result (λ r. WasFull CAPACITY pass.old.recalls) }
+    {
+        self.line.push_as::<Puts, R>(rt, &mut pass.token, recall)
+    }
+
+    /// Takes out the first recall. None only if the queue was empty at a moment of the call. It takes no memory.
+    pub fn take<R: Wait>(&self, rt: &R, pass: &mut TakePass) -> Option<Recall>
+        requires queue { pass.old.queue ≡ self.now }
+        ensures some { IfSome result (λ r. pass.new ≡ with_recall r pass.old) }
+        ensures none { IfNone result (pass.new ≡ pass.old) }
+        ensures empty { IfNone result (WasEmpty pass.old.recalls) }
+    {
+        self.line.pop_as::<Takes, R>(rt, &mut pass.token)
+    }
+
+    /// What was taken begins what was put. Both rights end.
+    pub fn settle(&self, put: PutPass, take: TakePass)
+        requires put { put.queue ≡ self.now }
+        requires take { take.queue ≡ self.now }
+        ensures { IsPrefix take.recalls put.recalls }
+    {
+        let mut whole = put.token;
+        self.line.absorb::<Roles>(&mut whole, take.token);
+        self.line.learn_as::<Total>(&mut whole);
+    }
+}
