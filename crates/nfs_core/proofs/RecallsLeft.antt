@@ -1,9 +1,10 @@
 -- The recalls of a journal with one entry more, and what is left of them.
 use Rattle.std.proofs.Common.{◌≡◌, ℕ, zero, suc, ◌+◌, ◌≤◌, List, [], ◌∷◌, ◌++◌, drop, length, refl, sym, ap, ◌∙◌, subst, arith, add-one, append_assoc, append-nil, length-append, Option, Some, None, Result, Ok, Err}
+use mathlib.Core.List.{IsPrefix}
 use Rattle.std.specs.Prelude.{IfNone, IfOk, IfSome, OnErr}
 use Rattle.nfs_core.proofs.Journals.{Allows-once, Step-once}
 use Rattle.nfs_core.specs.Lawful.{Leads}
-use Rattle.nfs_core.specs.Recalls.{AreLeftOf, AreOneList, Recalls, RecallsFollow, RecallsLeft, RoomyRecalls, left_of, recalls_by, with_more}
+use Rattle.nfs_core.specs.Recalls.{AreLeftOf, AreOneList, Recalls, RecallsBegin, RecallsFollow, RecallsLeft, RoomyRecalls, left_of, recalls_by, with_more}
 use Rattle.nfs_core.specs.Revoking.{IsRevoked, revoke_of}
 use Rattle.nfs_core.specs.Server.{AreAlike, Enters, IsLawful, Server}
 use Rattle.nfs_core.specs.Step.{Allows}
@@ -61,6 +62,25 @@ Recalls-same once journal old (entry ∷ entries) recalls recalls' is is' =
 pub Recalls-once : AtMostOneDecision → AreOneList
 Recalls-once once journal recalls recalls' is is' =
     Recalls-same once (record journal { entries = [] }) (empty_server journal.nodes) journal.entries recalls recalls' is is'
+
+-- with the same first recalls
+begins_behind : (first xs ys : List Recall) → IsPrefix xs ys → IsPrefix (first ++ xs) (first ++ ys)
+begins_behind first xs ys h = (h.0, append_assoc first xs h.0 ∙ ap (λ (rs : List Recall). first ++ rs) h.1)
+
+Recalls-begins : AtMostOneDecision → (journal : History) (old : State) (entries more : List Entry) (recalls recalls' : List Recall) → Recalls journal old entries recalls → Recalls journal old (entries ++ more) recalls' → IsPrefix recalls recalls'
+Recalls-begins once journal old [] more recalls recalls' is is' = (recalls', ap (λ (rs : List Recall). rs ++ recalls') is)
+Recalls-begins once journal old (entry ∷ entries) more recalls recalls' is is' =
+    let same : is.0 ≡ is'.0 = Allows-once once journal old entry is.0 is'.0 is.2 is'.2 in
+    let next = with_entry entry journal in
+    let rest : Recalls next (after (length journal.entries) entry is'.0 old) entries is.1 = subst (λ (e : Effect). Recalls next (after (length journal.entries) entry e old) entries is.1) same is.3 in
+    let begin = begins_behind (recalls_by is'.0.change old) is.1 is'.1 (Recalls-begins once next (after (length journal.entries) entry is'.0 old) entries more is.1 is'.1 rest is'.3) in
+    subst (λ (rs : List Recall × List Recall). IsPrefix rs.0 rs.1)
+    (λ i. (sym (is.4 ∙ ap (λ (e : Effect). recalls_by e.change old ++ is.1) same) i, sym is'.4 i)) begin
+
+-- the recalls of a journal begin those of each one that goes on from it
+pub Recalls-begin : AtMostOneDecision → RecallsBegin
+Recalls-begin once journal more recalls recalls' is is' =
+    Recalls-begins once (record journal { entries = [] }) (empty_server journal.nodes) journal.entries more recalls recalls' is is'
 
 drop_within : (n : ℕ) (xs ys : List Recall) → n ≤ length xs → drop n (xs ++ ys) ≡ drop n xs ++ ys
 drop_within zero xs ys h = refl

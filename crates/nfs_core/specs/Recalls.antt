@@ -1,6 +1,7 @@
 -- The recalls that a journal makes: which delegations are called back, in what order, and how (RFC 7530, section 10.4.4).
 use Rattle.std.specs.Prelude.{◌≡◌, ⊤, ℕ, ◌+◌, ◌<◌, Bool, ◌&&◌, if◌then◌else◌, List, [], ◌∷◌, ◌++◌, drop, length, Option, None, is_none, option_map}
 use Rattle.std.specs.List.{AllPairs, filter_map}
+use mathlib.Core.List.{IsPrefix}
 use Rattle.nfs_core.specs.Lawful.{Lawful}
 use Rattle.nfs_core.specs.Step.{Allows}
 use Rattle.nfs_core.specs.declared.recalling.OpenWish.{OpenWish}
@@ -115,6 +116,14 @@ AreOneList =
     → AreRecallsOf journal recalls
     → AreRecallsOf journal recalls'
     → recalls ≡ recalls'
+
+-- The recalls of a journal begin those of each one that goes on from it.
+abbrev pub RecallsBegin : Type 0
+RecallsBegin =
+    (journal : History) (more : List Entry) (recalls recalls' : List Recall)
+    → AreRecallsOf journal recalls
+    → AreRecallsOf (record journal { entries = journal.entries ++ more }) recalls'
+    → IsPrefix recalls recalls'
 
 -- With an entry that may come next, a journal makes the recalls that it made, and then those of the entry.
 abbrev pub RecallsFollow : Type 0

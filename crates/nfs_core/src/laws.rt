@@ -1,6 +1,6 @@
 ghost use Rattle.nfs_core.specs.Lawful.{AtMostOneState, Lawful};
 ghost use Rattle.nfs_core.specs.LiveClients.{AreNumbered, AreOfOneRun, CallsFollow, EffectsFollow, EndsFollow, PathsFollow, RevocationsFollow};
-ghost use Rattle.nfs_core.specs.Recalls.{AreOneList, RecallsFollow, RecallsRise};
+ghost use Rattle.nfs_core.specs.Recalls.{AreOneList, RecallsBegin, RecallsFollow, RecallsRise};
 ghost use Rattle.nfs_core.specs.Safe.{IsSafe, KeepRequests};
 ghost use Rattle.nfs_core.specs.Step.{AtMostOneStateAfter, AtMostOneStep};
 ghost use Rattle.nfs_state.specs.State.{State, History};
@@ -29,6 +29,13 @@ pub fn recalls_are_one_list()
 /// The law that the recalls of a journal with one entry more are those that it had, and then those of the entry.
 pub fn recalls_follow()
     ensures { RecallsFollow }
+{
+    at_most_one_decision();
+}
+
+/// The law that the recalls of a journal begin those of each one that goes on from it.
+pub fn recalls_begin()
+    ensures { RecallsBegin }
 {
     at_most_one_decision();
 }
