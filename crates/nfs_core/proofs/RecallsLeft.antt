@@ -4,7 +4,7 @@ use mathlib.Core.List.{IsPrefix}
 use Rattle.std.specs.Prelude.{IfNone, IfOk, IfSome, OnErr}
 use Rattle.nfs_core.proofs.Journals.{Allows-once, Step-once}
 use Rattle.nfs_core.specs.Lawful.{Leads}
-use Rattle.nfs_core.specs.Recalls.{AreLeftOf, AreOneList, Recalls, RecallsBegin, RecallsFollow, RecallsLeft, RoomyRecalls, left_of, recalls_by, with_more}
+use Rattle.nfs_core.specs.Recalls.{AreLeftOf, AreOneList, OthersRecallNothing, Recalls, RecallsBegin, RecallsFollow, RecallsLeft, RoomyRecalls, left_of, recalls_by, with_more}
 use Rattle.nfs_core.specs.Revoking.{IsRevoked, revoke_of}
 use Rattle.nfs_core.specs.Server.{AreAlike, Enters, IsLawful, Server}
 use Rattle.nfs_core.specs.Step.{Allows}
@@ -81,6 +81,13 @@ Recalls-begins once journal old (entry ∷ entries) more recalls recalls' is is'
 pub Recalls-begin : AtMostOneDecision → RecallsBegin
 Recalls-begin once journal more recalls recalls' is is' =
     Recalls-begins once (record journal { entries = [] }) (empty_server journal.nodes) journal.entries more recalls recalls' is is'
+
+-- an entry that is no call calls nothing back
+pub Others-recall-nothing : OthersRecallNothing
+Others-recall-nothing journal state (entries.Call call) effect other allowed = absurd cc
+Others-recall-nothing journal state (entries.Expire expire) effect other allowed = ap (λ (e : Effect). recalls_by e.change state) allowed.removal
+Others-recall-nothing journal state (entries.Revoke revoke) effect other allowed = ap (λ (e : Effect). recalls_by e.change state) allowed.removal
+Others-recall-nothing journal state (entries.Path path) effect other allowed = ap (λ (e : Effect). recalls_by e.change state) allowed.mark
 
 drop_within : (n : ℕ) (xs ys : List Recall) → n ≤ length xs → drop n (xs ++ ys) ≡ drop n xs ++ ys
 drop_within zero xs ys h = refl

@@ -13,7 +13,7 @@ use Rattle.nfs_share.specs.Delegations.{conflicts, delegation_stateid}
 use Rattle.nfs_share.specs.declared.delegation.Delegation.{Delegation}
 use Rattle.nfs_share.specs.declared.delegation.FileUse.TheVariants as uses
 use Rattle.nfs_state.specs.Changes.{after}
-use Rattle.nfs_state.specs.Entries.{with_entry}
+use Rattle.nfs_state.specs.Entries.{call_of, with_entry}
 use Rattle.nfs_state.specs.State.{History, State, empty_server}
 use Rattle.nfs_state.specs.declared.change.Change.{Change}
 use Rattle.nfs_state.specs.declared.change.Change.TheVariants as changes
@@ -133,6 +133,14 @@ RecallsFollow =
     → AreRecallsOf journal recalls
     → Allows journal state entry effect
     → AreRecallsOf (with_entry entry journal) (recalls ++ recalls_by effect.change state)
+
+-- An entry that is no call calls nothing back.
+abbrev pub OthersRecallNothing : Type 0
+OthersRecallNothing =
+    (journal : History) (state : State) (entry : Entry) (effect : Effect)
+    → call_of entry ≡ None
+    → Allows journal state entry effect
+    → recalls_by effect.change state ≡ []
 
 -- The recalls of an entry that may come next stand in the order of the numbers of their delegations.
 abbrev pub RecallsRise : Type 0

@@ -1,6 +1,6 @@
 ghost use Rattle.nfs_core.specs.Lawful.{AtMostOneState, Lawful};
 ghost use Rattle.nfs_core.specs.LiveClients.{AreNumbered, AreOfOneRun, CallsFollow, EffectsFollow, EndsFollow, PathsFollow, RevocationsFollow};
-ghost use Rattle.nfs_core.specs.Recalls.{AreOneList, RecallsBegin, RecallsFollow, RecallsRise};
+ghost use Rattle.nfs_core.specs.Recalls.{AreOneList, OthersRecallNothing, RecallsBegin, RecallsFollow, RecallsRise};
 ghost use Rattle.nfs_core.specs.Safe.{IsSafe, KeepRequests};
 ghost use Rattle.nfs_core.specs.Step.{AtMostOneStateAfter, AtMostOneStep};
 ghost use Rattle.nfs_state.specs.State.{State, History};
@@ -39,6 +39,11 @@ pub fn recalls_begin()
 {
     at_most_one_decision();
 }
+
+/// The law that an entry which is no call makes no recalls.
+pub fn others_recall_nothing()
+    ensures { OthersRecallNothing }
+{}
 
 /// The law that the recalls of an entry stand by rising numbers of their delegations.
 pub fn recalls_rise()

@@ -20,8 +20,8 @@ pub use core_state::Core;
 pub use entered::Entered;
 pub use following::FollowError;
 pub use laws::{
-    at_most_one_state, at_most_one_step, lawful_is_safe, live_clients_follow, recalls_are_one_list,
-    recalls_begin, recalls_follow, recalls_rise,
+    at_most_one_state, at_most_one_step, lawful_is_safe, live_clients_follow,
+    others_recall_nothing, recalls_are_one_list, recalls_begin, recalls_follow, recalls_rise,
 };
 pub use nfs_rpc::Recall;
 pub use nfs_state::{
