@@ -11,7 +11,7 @@ use Rattle.nfs_core.specs.Step.{Allows}
 use Rattle.nfs_rpc.specs.declared.recall.Recall.{Recall}
 use Rattle.nfs_rules.specs.operations.{AtMostOneDecision}
 use Rattle.nfs_state.specs.Changes.{after}
-use Rattle.nfs_state.specs.Entries.{with_entry}
+use Rattle.nfs_state.specs.Entries.{call_of, with_entry}
 use Rattle.nfs_state.specs.State.{History, State, empty_server}
 use Rattle.nfs_state.specs.Stored.{meaning}
 use Rattle.nfs_state.specs.declared.effect.Effect.{Effect}
@@ -153,3 +153,22 @@ Left-taken journal old new (Some r) was none first taken = (
   omega (arith, taken, ap (λ (rs : List Recall). length rs) first, was.2),
   sym (drop_next old.taken was.0 r new.pending (sym was.3 ∙ first)) ∙ ap (λ (n : ℕ). drop n was.0) (sym (taken ∙ add-one old.taken)),
 )
+
+-- an entry that is no call, or that could not be entered, leaves what is left
+pub Left-other : {E : Type 0} (old new : Server) (entry : Entry) (result : Result ℕ E) → call_of entry ≡ None
+    → IfOk result (λ number. Enters old new entry number) → OnErr result (AreAlike old new)
+    → new.recalls ≡ old.recalls
+Left-other old new entry (Ok number) other entered same =
+    entered.3 ∙ ap (λ (rs : List Recall). with_more rs old.recalls) (Others-recall-nothing old.journal (meaning old.stored) entry entered.2.effect other entered.2.allowed)
+    ∙ ap (λ (rs : List Recall). record old.recalls { pending = rs }) (append-nil old.recalls.pending)
+Left-other old new entry (Err error) other entered same = same.2
+
+-- and so does the end of a delegation, if one is due
+pub Left-due : {E : Type 0} (old new : Server) (now : ℕ) (result : Result (Option ℕ) E)
+    → IfOk result (IsRevoked old new now) → OnErr result (AreAlike old new)
+    → new.recalls ≡ old.recalls
+Left-due old new now (Ok None) revoked same = ap (λ (s : Server). s.recalls) revoked
+Left-due {E = E} old new now (Ok (Some number)) revoked same =
+    let entered : Result ℕ E = Ok (length old.journal.entries) in
+    Left-other old new (entries.Revoke (revoke_of number now)) entered refl revoked tt
+Left-due old new now (Err error) revoked same = same.2

@@ -175,6 +175,7 @@ impl Core {
     pub fn expire(&mut self, client: u32, seen: Moment, now: Moment) -> Result<u32, CoreError>
         ensures expires { IfOk result (Enters self.old self.new
             (entries.Expire (expire_of client seen now))) }
+        ensures recalls { self.new.recalls ≡ self.old.recalls }
         ensures error { IfErr result (IsNotEndedFor self.old (expire_of client seen now)) }
         ensures same { OnErr result (AreAlike self.old self.new) }
         ensures room { OnErr result (self.old.room ≤ self.new.room) }
@@ -192,6 +193,7 @@ impl Core {
     /// isn't less.
     pub fn revoke(&mut self, now: Moment) -> Result<Option<u32>, CoreError>
         ensures revoked { IfOk result (IsRevoked self.old self.new now) }
+        ensures recalls { self.new.recalls ≡ self.old.recalls }
         ensures none { result ≡ Ok None ↔ NoneIsDue self.old now }
         ensures error { IfErr result (IsNotRevokedFor self.old now) }
         ensures same { OnErr result (AreAlike self.old self.new) }
@@ -209,6 +211,7 @@ impl Core {
     /// room, of which there isn't less.
     pub fn mark_path(&mut self, client: u32, up: bool) -> Result<u32, CoreError>
         ensures marks { IfOk result (Enters self.old self.new (entries.Path (path_of client up))) }
+        ensures recalls { self.new.recalls ≡ self.old.recalls }
         ensures error { IfErr result (IsNotMarkedFor self.old (path_of client up)) }
         ensures same { OnErr result (AreAlike self.old self.new) }
         ensures room { OnErr result (self.old.room ≤ self.new.room) }

@@ -1,8 +1,9 @@
+use Rattle.std.proofs.Common.{◌∙◌, ap, refl}
 use Rattle.nfs_core.proofs.Journals.{Lawful-tried}
-use Rattle.nfs_core.proofs.RecallsLeft.{Left-tried}
+use Rattle.nfs_core.proofs.RecallsLeft.{Left-other, Left-tried}
 use Rattle.nfs_core.proofs.Storing.{store_agrees}
 use Rattle.nfs_core.proofs.core_state.Core.expire.Goals as goal
-use Rattle.nfs_core.specs.Server.{server_of}
+use Rattle.nfs_core.specs.Server.{Server, server_of}
 
 pub enter_expiry-requires : goal.enter_expiry-requires
 enter_expiry-requires c =
@@ -19,3 +20,9 @@ invariant_of-self c =
 
 pub returns-clause-lawful : goal.returns-clause-lawful
 returns-clause-lawful c = (invariant_of-self c).0
+
+pub returns-clause-recalls : goal.returns-clause-recalls
+returns-clause-recalls c =
+    let old = server_of c.self.inside.held in
+    let new = server_of c.enter_expiry.new.held in
+    Left-other old new _ c.enter_expiry.result refl c.enter_expiry.ensures.entered c.enter_expiry.ensures.same ∙ ap (λ (s : Server). s.recalls) c.self.view_is

@@ -1,8 +1,9 @@
+use Rattle.std.proofs.Common.{◌∙◌, ap, refl}
 use Rattle.nfs_core.proofs.Journals.{Lawful-tried}
-use Rattle.nfs_core.proofs.RecallsLeft.{Left-tried}
+use Rattle.nfs_core.proofs.RecallsLeft.{Left-other, Left-tried}
 use Rattle.nfs_core.proofs.Storing.{store_agrees}
 use Rattle.nfs_core.proofs.core_state.Core.mark_path.Goals as goal
-use Rattle.nfs_core.specs.Server.{server_of}
+use Rattle.nfs_core.specs.Server.{Server, server_of}
 
 pub enter_path_mark-requires : goal.enter_path_mark-requires
 enter_path_mark-requires c =
@@ -19,3 +20,9 @@ invariant_of-self c =
 
 pub returns-clause-lawful : goal.returns-clause-lawful
 returns-clause-lawful c = (invariant_of-self c).0
+
+pub returns-clause-recalls : goal.returns-clause-recalls
+returns-clause-recalls c =
+    let old = server_of c.self.inside.held in
+    let new = server_of c.enter_path_mark.new.held in
+    Left-other old new _ c.enter_path_mark.result refl c.enter_path_mark.ensures.entered c.enter_path_mark.ensures.same ∙ ap (λ (s : Server). s.recalls) c.self.view_is

@@ -1,6 +1,6 @@
-use Rattle.std.proofs.Common.{◌≡◌, ◌↔◌, ℕ, IfOk, None, Ok, Option, Result, subst}
+use Rattle.std.proofs.Common.{◌≡◌, ◌↔◌, ◌∙◌, ℕ, IfOk, None, Ok, Option, Result, ap, subst}
 use Rattle.nfs_core.proofs.Journals.{Lawful-revoked}
-use Rattle.nfs_core.proofs.RecallsLeft.{Left-revoked}
+use Rattle.nfs_core.proofs.RecallsLeft.{Left-due, Left-revoked}
 use Rattle.nfs_core.proofs.Storing.{store_agrees}
 use Rattle.nfs_core.proofs.core_state.Core.revoke.Goals as goal
 use Rattle.nfs_core.specs.Revoking.{IsRevoked, NoneIsDue}
@@ -32,3 +32,9 @@ pub returns-clause-none : goal.returns-clause-none
 returns-clause-none c =
     let none : Result (Option ℕ) CoreError = Ok None in
     subst (λ (s : Server). (c.enter_revocation.result ≡ none) ↔ NoneIsDue s c.args.now) c.self.view_is c.enter_revocation.ensures.none
+
+pub returns-clause-recalls : goal.returns-clause-recalls
+returns-clause-recalls c =
+    let old = server_of c.self.inside.held in
+    let new = server_of c.enter_revocation.new.held in
+    Left-due old new c.args.now c.enter_revocation.result c.enter_revocation.ensures.revoked c.enter_revocation.ensures.same ∙ ap (λ (s : Server). s.recalls) c.self.view_is
