@@ -71,6 +71,7 @@ impl<B: LeaseBook> LeasedCore<B> {
     pub fn sweep(&mut self, now: Moment) -> Swept
         ensures sweeps { Sweeps B.happens now (leased_server self.old.core self.old.book) result
             (leased_server self.new.core self.new.book) }
+        ensures recalls { self.new.core.recalls ≡ self.old.core.recalls }
         ensures lawful { IsLawful self.new.core }
     {
         sweep_core(&mut self.core, &mut self.book, now)
@@ -85,6 +86,7 @@ impl<B: LeaseBook> LeasedCore<B> {
         ensures error { IfErr result (IsNotRevokedFor self.old.core now) }
         ensures same { OnErr result (AreAlike self.old.core self.new.core) }
         ensures room { OnErr result (self.old.core.room ≤ self.new.core.room) }
+        ensures recalls { self.new.core.recalls ≡ self.old.core.recalls }
         ensures book { self.new.book ≡ self.old.book }
         ensures lawful { IsLawful self.new.core }
     {
@@ -102,6 +104,7 @@ impl<B: LeaseBook> LeasedCore<B> {
         ensures error { IfErr result (IsNotMarkedFor self.old.core (path_of client up)) }
         ensures same { OnErr result (AreAlike self.old.core self.new.core) }
         ensures room { OnErr result (self.old.core.room ≤ self.new.core.room) }
+        ensures recalls { self.new.core.recalls ≡ self.old.core.recalls }
         ensures book { self.new.book ≡ self.old.book }
         ensures lawful { IsLawful self.new.core }
     {

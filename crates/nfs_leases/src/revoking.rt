@@ -15,6 +15,7 @@ pub(crate) fn revoke_due(core: &mut Core, now: Moment) -> Revocations
         × (result.count ≡ length numbers)
         × RevokesDue now numbers result.stopped core.old core.new }
     ensures clients { HaveSameClients core.old.stored.clients core.new.stored.clients }
+    ensures recalls { core.new.recalls ≡ core.old.recalls }
     ensures lawful { IsLawful core.new }
 {
     live_clients_follow();

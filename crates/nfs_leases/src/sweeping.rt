@@ -27,6 +27,7 @@ pub fn sweep_core<B: LeaseBook>(core: &mut Core, book: &mut B, now: Moment) -> S
         core.old }
     ensures sweeps { Sweeps B.happens now (leased_server core.old book.old) result
         (leased_server core.new book.new) }
+    ensures recalls { core.new.recalls ≡ core.old.recalls }
     ensures agrees { IsBookOf (B.is_open book.new) (B.was_opened book.new) (B.lease book.new)
         core.new }
     ensures lawful { IsLawful core.new }
@@ -48,6 +49,7 @@ fn end_clients<B: LeaseBook>(core: &mut Core, book: &mut B, now: Moment) -> Swep
         × (result ≡ tally none_swept visits)
         × EndsClients B.happens now visits (leased_server core.old book.old)
         (leased_server core.new book.new) }
+    ensures recalls { core.new.recalls ≡ core.old.recalls }
     ensures agrees { IsBookOf (B.is_open book.new) (B.was_opened book.new) (B.lease book.new)
         core.new }
     ensures lawful { IsLawful core.new }
@@ -75,6 +77,7 @@ fn visit_of<B: LeaseBook>(core: &mut Core, book: &mut B, client: u32, now: Momen
         × IsRightBy result seen now core.old
         × AllHappen B.happens book.old (events_by result client seen now) book.new
         × Gains (expiries (events_by result client seen now)) core.old core.new }
+    ensures recalls { core.new.recalls ≡ core.old.recalls }
 {
     let LeaseState::Open(seen) = book.look(client) else {
         unreachable!()
@@ -109,6 +112,7 @@ fn close_and_expire<B: LeaseBook>(
     requires below { length core.old.journal.entries < JOURNAL_LIMIT }
     ensures book { B.happens book.old (Close client seen now result) book.new }
     ensures core { Gains (expiries (Close client seen now result ∷ [])) core.old core.new }
+    ensures recalls { core.new.recalls ≡ core.old.recalls }
 {
     let closing = book.close(client, seen, now);
     match closing {

@@ -6,7 +6,7 @@ use Rattle.nfs_leases.proofs.RevokedDelegations.{clients_alike, count_below, end
 use Rattle.nfs_leases.proofs.revoking.revoke_due.Goals as goal
 
 pub loop-count-init : goal.loop-count-init
-loop-count-init c = ([], refl, revokes_none c.args.now c.args.core.now, c.journal.ensures.lawful)
+loop-count-init c = ([], refl, revokes_none c.args.now c.args.core.now, c.journal.ensures.lawful, refl)
 
 pub overflow_add-count : goal.overflow_add-count
 overflow_add-count c =
@@ -39,6 +39,7 @@ loop-count-preserved c =
       omega (arith, i.1, length-append i.0 (number ∷ [])),
       more,
       c.revoke.ensures.lawful,
+      c.revoke.ensures.recalls ∙ i.4,
     )
 
 pub returns-in-Ok-None-clause-revokes : goal.returns-in-Ok-None-clause-revokes

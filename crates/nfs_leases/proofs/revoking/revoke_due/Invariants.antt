@@ -7,6 +7,7 @@ use Rattle.nfs_state.specs.declared.entry.TheConstants.{JOURNAL_LIMIT}
 abbrev pub invariant-loop-count : goal.invariant-loop-count
 invariant-loop-count l =
     (numbers : List ℕ) × (l.count ≡ length numbers) × Revokes l.now numbers l.fn.core l.core × IsLawful l.core
+    × (l.core.recalls ≡ l.fn.core.recalls)
 
 abbrev pub decreases-loop-count : goal.decreases-loop-count
 decreases-loop-count l = JOURNAL_LIMIT - length l.core.journal.entries

@@ -1,5 +1,5 @@
 -- The loop goes one visit further.
-use Rattle.std.proofs.Common.{ℕ, [], ◌∷◌, ◌++◌, Option, sym, subst, arith}
+use Rattle.std.proofs.Common.{ℕ, [], ◌∷◌, ◌++◌, ◌∙◌, Option, refl, sym, subst, arith}
 use Rattle.nfs_leases.specs.Sweeps.{IsVisit}
 use Rattle.nfs_leases.specs.Visit.{Visit, events_of, expiries, with_case}
 use Rattle.nfs_leases.specs.declared.swept.Swept.{Swept}
@@ -16,7 +16,7 @@ loop-next-init g c =
     let first =
     comes_first g.B.LeaseBook.happens c.args.now c.args.core.now c.args.book.now c.next_open-next.result
     (c.lawful_is_safe.ensures.numbered _ _ lawful) next in
-    (0, [], first, c.requires.agrees, c.lawful_is_safe.ensures.run _ _ lawful, lawful)
+    (0, [], first, c.requires.agrees, c.lawful_is_safe.ensures.run _ _ lawful, lawful, refl)
 
 pub and-swept-requires : goal.and-swept-requires
 and-swept-requires g c =
@@ -67,7 +67,7 @@ loop-next-preserved g c =
     Comes happens c.args.now t.client c.args.core.now c.args.book.now s (i.1 ++ t ∷ []) c.visit_of.new.core
     c.visit_of.new.book c.next_open-next-in-Some.result)
     {x = with_case c.loop-next.swept t.case} (sym c.and-swept.ensures) further in
-    (t.client, i.1 ++ t ∷ [], counted, agrees, c.lawful_is_safe.ensures.run _ _ lawful, lawful)
+    (t.client, i.1 ++ t ∷ [], counted, agrees, c.lawful_is_safe.ensures.run _ _ lawful, lawful, c.visit_of.ensures.recalls ∙ i.6)
 
 pub returns-clause-ends : goal.returns-clause-ends
 returns-clause-ends g c =

@@ -1,4 +1,4 @@
-use Rattle.std.proofs.Common.{ℕ, ◌-◌, List, Option, Some, None}
+use Rattle.std.proofs.Common.{◌≡◌, ℕ, ◌-◌, List, Option, Some, None}
 use Rattle.nfs_core.specs.LiveClients.{AreOfOneRun}
 use Rattle.nfs_core.specs.Server.{IsLawful}
 use Rattle.nfs_leases.specs.BookOf.{IsBookOf}
@@ -19,6 +19,7 @@ invariant-loop-next g l =
     × IsBookOf (g.B.LeaseBook.is_open l.book) (g.B.LeaseBook.was_opened l.book) (g.B.LeaseBook.lease l.book) l.core
     × AreOfOneRun l.core.journal (meaning l.core.stored)
     × IsLawful l.core
+    × (l.core.recalls ≡ l.fn.core.recalls)
 
 abbrev pub decreases-loop-next : goal.decreases-loop-next
 decreases-loop-next g l = left l.next
