@@ -1,6 +1,7 @@
 pub mod Prefixes
 pub mod Moves
 pub mod RecallOrders
+pub mod RecallsOut
 pub mod Receipts
 pub mod Giving
 pub mod Holding
