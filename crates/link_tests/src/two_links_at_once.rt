@@ -6,7 +6,7 @@ use crate::board::Board;
 use crate::board_link::BoardLink;
 use nfs_core::{Core, Moment};
 use nfs_server::ServeError;
-use nfs_shared::{Naming, Opened, Seat, Shared};
+use nfs_shared::{Naming, Opened, Seat, Shared, SharedParts};
 use nfs_threads::{WorkerEnd, serve_all, workers_keep_receipts};
 use nfs_tree::Tree;
 use std::alloc::Global;
@@ -47,9 +47,15 @@ fn serve_links_in<N: Naming + Send + Sync, R: Threads + Wait + Sleeper + Sync>(
     requires beginning { CanBegin N.run N.start opened core }
     requires tree { N.start.nodes ≡ tree.now.nodes }
 {
-    let Ok((shared, seats, sweeper)) = Shared::<N>::new(alloc, opened, core) else {
+    let Ok(parts) = Shared::<N>::new(alloc, opened, core) else {
         return None;
     };
+    let SharedParts {
+        shared,
+        seats,
+        sweeper,
+        sender,
+    } = parts;
     let board = Board::new(alloc, seats.len()).ok()?;
     let links = links_at(alloc, rt, &board, seats)?;
     let Ok(all) = serve_all(alloc, rt, &shared, tree, links) else {
@@ -60,7 +66,7 @@ fn serve_links_in<N: Naming + Send + Sync, R: Threads + Wait + Sleeper + Sync>(
         return None;
     };
     workers_keep_receipts::<N, BoardLink<'_, R>>();
-    let core = shared.end(receipts.as_slice(), seats, sweeper);
+    let core = shared.end(receipts.as_slice(), seats, sweeper, sender);
     Some(Outcome {
         served,
         read_failures,

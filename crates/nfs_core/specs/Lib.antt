@@ -10,3 +10,4 @@ pub mod Expiry
 pub mod LiveClients
 pub mod Revoking
 pub mod PathMarking
+pub mod Callbacks

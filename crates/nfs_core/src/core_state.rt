@@ -1,5 +1,6 @@
 ghost use Rattle.std.specs.Prelude.{◌≡◌, ◌↔◌, ◌≤◌, ◌<◌, ◌+◌, [], ◌∷◌, None, Ok, IfErr, IfNone, IfOk, IfSome, OnErr, OnOk, IsErrOf, IsTrue, length};
 ghost use Rattle.std.specs.Option.{option_copied};
+ghost use Rattle.nfs_core.specs.Callbacks.{callback_of, has_delegation};
 ghost use Rattle.nfs_core.specs.Entered.{Answers};
 ghost use Rattle.nfs_core.specs.Expiry.{IsNotEndedFor, IsWithoutRoom, expire_of};
 ghost use Rattle.nfs_core.specs.Following.{MayFollow};
@@ -36,7 +37,7 @@ use nfs_state::{
     Tables,
 };
 use nfs_tree::{Policy, Tree};
-use nfs_xdr::{Op, OpResult, Principal, Refusal};
+use nfs_xdr::{Callback, ClientId, Op, OpResult, Principal, Refusal, Stateid};
 use std::alloc::Global;
 use std::marker::Model;
 
@@ -266,6 +267,30 @@ impl Core {
         ensures { IsNextUnknown after self.now.stored.clients (option_copied result) }
     {
         self.held.store.tables.clients.next_unknown(after)
+    }
+
+    /// How the live client with this number is called back, if there is one.
+    pub fn callback(&self, client: u32) -> Option<&Callback>
+        ensures { option_copied result ≡ callback_of client self.now }
+    {
+        let store = &self.held.store;
+        let client = ClientId {
+            epoch: store.journal.epoch(),
+            number: client,
+        };
+        Some(store.tables.clients.of(client)?.callback.as_callback())
+    }
+
+    /// Whether a client has the delegation that the stateid names, no matter its seqid.
+    pub fn has_delegation(&self, stateid: Stateid) -> bool
+        ensures { result ≡ has_delegation stateid self.now }
+    {
+        self.held
+            .store
+            .tables
+            .opens
+            .find_delegation(stateid)
+            .is_some()
     }
 
     /// The number of the live client that the client with this number replaces once it is confirmed.

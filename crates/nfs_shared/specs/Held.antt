@@ -1,17 +1,21 @@
 -- What the lock of the shared state guards, and what holds whenever the lock is free (`IsHeld`).
-use Rattle.std.specs.Prelude.{◌≡◌, ℕ, List, length}
+use Rattle.std.specs.Prelude.{◌≡◌, ℕ, List, [], ◌++◌, Option, length, option_to_list}
 use mathlib.Core.List.{IsPrefix}
+use mathlib.Core.Logic.{◌⊎◌}
 use Rattle.atomic_table.specs.Seated.{TableId}
 use Rattle.atomic_table.specs.declared.shared.Seat as tokens
-use Rattle.nfs_core.specs.Recalls.{AreLeftOf}
+use Rattle.nfs_core.specs.Recalls.{AreLeftOf, AreRecallsOf, RecallsLeft}
 use Rattle.nfs_core.specs.Safe.{IsSafe}
 use Rattle.nfs_core.specs.Server.{IsLawful, Server}
 use Rattle.nfs_leases.specs.BookOf.{IsBookOf}
+use Rattle.nfs_rpc.specs.declared.recall.Recall.{Recall}
 use Rattle.nfs_shared.specs.Naming.{start_of}
+use Rattle.nfs_shared.specs.RecallOrder.{WasFull}
 use Rattle.nfs_leases.specs.PlainBook.{PlainBook, is_open_in, was_opened_in}
 use Rattle.nfs_shared.specs.Receipts.{calls_in, receipts_of}
 use Rattle.nfs_shared.specs.Roll.{IsOf, IsWriter, list_of}
 use Rattle.nfs_shared.specs.Seats.{SeatView}
+use Rattle.nfs_shared.specs.declared.recall_queue.TheConstants.{CAPACITY}
 use Rattle.nfs_shared.specs.declared.receipt.Receipt.{Receipt}
 use Rattle.nfs_shared.specs.declared.roll.View.{View}
 use Rattle.nfs_state.specs.State.{History}
@@ -26,6 +30,13 @@ pub record HeldView : Type 0 where
   pub places : List ℕ
   -- all receipts that were given, in order
   pub receipts : List Receipt
+  -- the recalls that were put into the queue, in order, and one that found no room there
+  pub put : List Recall
+  pub hand : Option Recall
+
+-- the recalls that wait for room in the queue: the one in hand, and then those that are left in the core
+abbrev pub waiting : Option Recall → RecallsLeft → List Recall
+waiting hand left = option_to_list hand ++ left.pending
 
 -- Whenever the lock of the shared state is free, the state is what the rules give for its own stored journal from an
 -- empty server; no two opens break each other's deny modes; no byte is held by two lock owners unless both read; no
@@ -44,8 +55,10 @@ pub record IsHeld (held : HeldView) : Type 0 where
   -- the leases that are open are those of the live clients
   pub agrees :
       IsBookOf (is_open_in held.leases) (was_opened_in held.leases) held.leases.lease held.server
-  -- the recalls that nobody took yet are those of the journal without those that were taken, which come first
+  -- the recalls that are left in the core are those of the journal without those that left it, which come first
   pub recalls : AreLeftOf held.server.journal held.server.recalls
+  -- what was put into the queue, followed by what waits for room in it, are the recalls of the journal
+  pub queued : AreRecallsOf held.server.journal (held.put ++ waiting held.hand held.server.recalls)
   -- the receipts are for the calls of the journal, each with its number and the place of its seat
   pub places : length held.places ≡ calls_in held.server.journal.entries
   pub receipts : held.receipts ≡ receipts_of 0 held.server.journal.entries held.places
@@ -61,6 +74,25 @@ pub record MayBeHeld (origin : History) (seat : SeatView) (value : HeldView) : T
   pub held : IsHeld value
   pub start : start_of value.server.journal ≡ origin
   pub begins : IsPrefix seat.receipts.list value.receipts
+
+-- what was put into the queue and what is in hand stay
+abbrev pub HasQueued : HeldView → HeldView → Type 0
+HasQueued old new = (new.put ≡ old.put) × (new.hand ≡ old.hand)
+
+-- Recalls go from those that wait into the queue, in order, and all else stays.
+pub record Moves (old new : HeldView) : Type 0 where
+  pub others : new ≡ record old {
+    server = record old.server { recalls = new.server.recalls };
+    put = new.put;
+    hand = new.hand;
+  }
+  pub recalls : new.put ++ waiting new.hand new.server.recalls
+      ≡ old.put ++ waiting old.hand old.server.recalls
+  pub put : IsPrefix old.put new.put
+
+-- none waits, or the queue was full when it held all that was put and not taken
+abbrev pub IsMoved : HeldView → Type 0
+IsMoved held = (waiting held.hand held.server.recalls ≡ []) ⊎ WasFull CAPACITY held.put
 
 -- The token is the writer's of this run's roll, which is the roll that is kept, and the run's ledger has counted the
 -- receipts.

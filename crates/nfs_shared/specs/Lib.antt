@@ -7,5 +7,6 @@ pub mod Receipt
 pub mod Receipts
 pub mod Roll
 pub mod Seats
+pub mod Sender
 pub mod Sweeper
 pub mod laws

@@ -15,7 +15,9 @@ pub record OpenedView : Type 0 where
   pub receipt_ledger : ℕ
   pub workers : ℕ
   -- the name of the ledger of the entries that are no calls
-  pub sweep_ledger : ℕ
+  pub other_ledger : ℕ
+  -- the queue of recalls
+  pub queue : TableId
 
 -- what the server was started with: the journal without its entries
 abbrev pub start_of : History → History
@@ -44,7 +46,13 @@ no_table = record {
 
 -- the run and the start that stand where none is named
 abbrev pub no_run : OpenedView
-no_run = record { roll = no_table; receipt_ledger = 0; workers = 0; sweep_ledger = 0 }
+no_run = record {
+  roll = no_table;
+  receipt_ledger = 0;
+  workers = 0;
+  other_ledger = 0;
+  queue = no_table;
+}
 
 abbrev pub no_start : History
 no_start = record {

@@ -1,17 +1,19 @@
 //! The value that the lock guards, and what is done to it.
-ghost use Rattle.std.specs.Prelude.{◌≡◌, ◌+◌, ◌<◌, ◌≤◌, ◌++◌, ◌∷◌, [], IfErr, IfNone, IfOk, IfSome, IsTrue, OnErr, OnOk, Option, Some, length, slice_get, vec_capacity, vec_len};
+ghost use Rattle.std.specs.Prelude.{◌≡◌, ◌↔◌, ◌+◌, ◌<◌, ◌≤◌, ◌++◌, ◌∷◌, [], ⊥, IfErr, IfNone, IfOk, IfSome, IsTrue, Ok, OnErr, OnOk, Option, None, Some, length, slice_get, vec_capacity, vec_len};
 ghost use Rattle.std.specs.Option.{option_copied};
+ghost use Rattle.nfs_core.specs.Callbacks.{callback_of, has_delegation};
 ghost use Rattle.nfs_core.specs.Entered.{Answers, number_entered};
 ghost use Rattle.nfs_core.specs.PathMarking.{IsNotMarkedFor, path_of};
-ghost use Rattle.nfs_core.specs.Recalls.{AreLeftOf};
+ghost use Rattle.nfs_core.specs.Recalls.{AreLeftOf, AreOneList, RecallsBegin};
 ghost use Rattle.nfs_core.specs.Server.{Applies, AreAlike, Enters, IsLawful};
 ghost use Rattle.nfs_core.specs.declared.entered.Entered.{Entered};
 ghost use Rattle.nfs_forms.specs.ClientId.{number_in};
 ghost use Rattle.nfs_leases.specs.BookEvent.{AllHappen};
 ghost use Rattle.nfs_leases.specs.BookOf.{events_entered};
-ghost use Rattle.nfs_shared.specs.Held.{CanBeHeld, MayBeHeld};
+ghost use Rattle.nfs_shared.specs.Held.{CanBeHeld, HasQueued, MayBeHeld};
 ghost use Rattle.nfs_leases.specs.PlainBook.{Happens, has_open_lease, with_renewal};
 ghost use Rattle.nfs_leases.specs.Renewals.{renewed_by};
+ghost use Rattle.nfs_shared.specs.Sender.{with_mark};
 ghost use Rattle.nfs_shared.specs.Seats.{Gives, KnowsTheSame, number_given};
 ghost use Rattle.nfs_leases.specs.Sweeps.{Sweeps, leased_server};
 ghost use Rattle.nfs_owners.specs.LiveClients.{IsNextUnknown};
@@ -22,27 +24,34 @@ ghost use Rattle.nfs_xdr.specs.Op.{has_entry, opnum_of};
 ghost use Rattle.nfs_xdr.specs.OpResult.{op_result};
 ghost use Rattle.nfs_xdr.specs.Opnum.{answer_limit};
 
-use crate::naming::{Naming, SweepLedger};
+use crate::naming::{Naming, OtherLedger};
+use crate::recall_queue::PutPass;
 use crate::receipt::Receipt;
 use crate::register::{Register, give};
 use crate::roll::meet;
 use crate::seat::Seat;
+use crate::sender::Sender;
 use crate::sweeper::Sweeper;
-use nfs_core::{Core, CoreError, Entered, Entry, Moment, Recall, lawful_is_safe};
+use nfs_core::{
+    Core, CoreError, Entered, Entry, Moment, Recall, lawful_is_safe, recalls_are_one_list,
+    recalls_begin,
+};
 use nfs_leases::{LeasedCore, PlainLeases, Swept, renewed_client};
 use nfs_owners::ClientState;
 use nfs_state::{Request, SeenCall};
-use nfs_xdr::{ClientId, Op, OpResult, Refusal};
+use nfs_xdr::{Callback, ClientId, Op, OpResult, Refusal, Stateid};
 use std::marker::Model;
 use std::sync::ledger::Book;
 
-/// The core with its journal and the leases of its clients, the register of the receipts for its entries, and the number
-/// of the entries that are no calls.
+/// The core with its journal and the leases of its clients, the register of the receipts for its entries, the number of
+/// the entries that are no calls, the right to put recalls into the queue, and a recall that found no room there.
 #[derive(Drop)]
 pub struct Held<N: Naming> {
     pub(crate) leased: LeasedCore<PlainLeases>,
     pub(crate) register: Register<N>,
-    pub(crate) sweep_count: Book<SweepLedger<N>>,
+    pub(crate) other_count: Book<OtherLedger<N>>,
+    pub(crate) put: PutPass,
+    pub(crate) hand: Option<Recall>,
 }
 
 impl<N: Naming> Held<N> {
@@ -61,6 +70,22 @@ impl<N: Naming> Held<N> {
     {
         self.leased.core.probe(after)
     }
+
+    /// How the live client with this number is called back, if there is one.
+    pub(crate) fn callback(&self, client: u32) -> Option<&Callback>
+        ensures callback { option_copied result ≡ callback_of client self.now.server }
+        ensures known { CanBeHeld N.start self.now }
+    {
+        self.leased.core.callback(client)
+    }
+
+    /// Whether a client has the delegation that the stateid names, no matter its seqid.
+    pub(crate) fn has_delegation(&self, stateid: Stateid) -> bool
+        ensures has { result ≡ has_delegation stateid self.now.server }
+        ensures known { CanBeHeld N.start self.now }
+    {
+        self.leased.core.has_delegation(stateid)
+    }
 }
 
 impl<N: Naming> Model for Held<N> {
@@ -77,6 +102,8 @@ impl<N: Naming> Model for Held<N> {
       leases = h.leased.book;
       places = h.register.places.items;
       receipts = list_of h.register.writer;
+      put = h.put.recalls;
+      hand = h.hand;
     } };
 
     ghost invariant = { λ h.
@@ -85,11 +112,14 @@ impl<N: Naming> Model for Held<N> {
           leases = h.leased.book;
           places = h.register.places.items;
           receipts = list_of h.register.writer;
+          put = h.put.recalls;
+          hand = h.hand;
         })
         × IsTied N.run.roll h.register.roll.shared.table_id h.register.writer h.register.count.total
         × (start_of h.leased.core.journal ≡ N.start)
         × (h.register.rest.parts ≡ 0) × (h.register.rest.amount ≡ 0)
-        × (h.sweep_count.total ≡ others_in h.leased.core.journal.entries) };
+        × (h.other_count.total ≡ others_in h.leased.core.journal.entries)
+        × (h.put.queue ≡ N.run.queue) };
 }
 
 /// Has the core answer an operation, and makes the receipt for its entry. The lease of the client that the operation
@@ -108,6 +138,7 @@ pub fn call_held<N: Naming>(
         (λ r. r.call ≡ record { request = request; answer = result.0 }) }
     ensures same { IfNone result.1 ((held.new.places ≡ held.old.places)
         × (held.new.receipts ≡ held.old.receipts) × KnowsTheSame seat.old seat.new) }
+    ensures queue { HasQueued held.old held.new }
     ensures places { IfSome result.1 (λ r. held.new.places ≡ held.old.places ++ r.place ∷ []) }
     ensures receipts { IfSome result.1 (λ r. held.new.receipts ≡ held.old.receipts ++ r ∷ []) }
     ensures given { IfSome result.1 (λ r. Gives seat.old r seat.new) }
@@ -121,6 +152,7 @@ pub fn call_held<N: Naming>(
         (events_entered entered request.moment) held.new.leases }
 {
     lawful_is_safe();
+    recalls_stay();
     let (answer, entered) = answer_with_room(&mut held.leased, &mut held.register.places, request);
     recalls_are_left(&held.leased.core);
     match entered {
@@ -179,22 +211,24 @@ pub fn sweep_held<N: Naming>(held: &mut Held<N>, sweeper: &mut Sweeper<N>, now: 
     ensures sweeps { Sweeps Happens now (leased_server held.old.server held.old.leases) result
         (leased_server held.new.server held.new.leases) }
     ensures count { sweeper.new.count ≡ sweeper.old.count + result.expired + result.revoked }
+    ensures queue { HasQueued held.old held.new }
     ensures places { held.new.places ≡ held.old.places }
     ensures receipts { held.new.receipts ≡ held.old.receipts }
 {
     lawful_is_safe();
+    recalls_stay();
     let swept = held.leased.sweep(now);
     recalls_are_left(&held.leased.core);
     let entries = swept.expired as u64 + swept.revoked as u64;
-    held.sweep_count.add(&mut sweeper.share, entries);
+    held.other_count.add(&mut sweeper.share, entries);
     swept
 }
 
 /// Marks whether callbacks reach this client, and returns the number of the entry. No receipt is made: the entry is the
-/// sweeper's. What fails changes nothing but room, of which there isn't less.
+/// sender's. What fails changes nothing but room, of which there isn't less.
 pub fn mark_path_held<N: Naming>(
     held: &mut Held<N>,
-    sweeper: &mut Sweeper<N>,
+    sender: &mut Sender<N>,
     client: u32,
     up: bool,
 ) -> Result<u32, CoreError>
@@ -204,47 +238,86 @@ pub fn mark_path_held<N: Naming>(
     ensures known { CanBeHeld N.start held.old }
     ensures same { OnErr result (AreAlike held.old.server held.new.server) }
     ensures room { OnErr result (held.old.server.room ≤ held.new.server.room) }
-    ensures count { OnOk result (sweeper.new.count ≡ sweeper.old.count + 1) }
-    ensures uncounted { OnErr result (sweeper.new ≡ sweeper.old) }
+    ensures count { OnOk result (sender.new ≡ with_mark sender.old) }
+    ensures uncounted { OnErr result (sender.new ≡ sender.old) }
     ensures leases { held.new.leases ≡ held.old.leases }
+    ensures queue { HasQueued held.old held.new }
     ensures places { held.new.places ≡ held.old.places }
     ensures receipts { held.new.receipts ≡ held.old.receipts }
 {
     lawful_is_safe();
+    recalls_stay();
     let marked = held.leased.mark_path(client, up);
     recalls_are_left(&held.leased.core);
     match marked {
         Ok(number) => {
-            held.sweep_count.add(&mut sweeper.share, 1);
+            held.other_count.add(&mut sender.share, 1);
             Ok(number)
         }
         Err(error) => Err(error),
     }
 }
 
-/// Takes out the first of the recalls that are pending. It makes no entry.
-pub fn take_held<N: Naming>(held: &mut Held<N>) -> Option<Recall>
-    ensures others { held.new ≡ record held.old {
-      server = record held.old.server { recalls = held.new.server.recalls };
-    } }
-    ensures none { IfNone result ((held.old.server.recalls.pending ≡ [])
-        × (held.new ≡ held.old)) }
-    ensures first { IfSome result (λ recall.
-        held.old.server.recalls.pending ≡ recall ∷ held.new.server.recalls.pending) }
-    ensures taken { IfSome result (λ recall.
-        held.new.server.recalls.taken ≡ held.old.server.recalls.taken + 1) }
+/// Marks whether callbacks reach this client, as `mark_path_held` does, where the client is live and is called back so.
+/// Elsewhere nothing is marked, and nothing changes.
+pub fn mark_called_held<N: Naming>(
+    held: &mut Held<N>,
+    sender: &mut Sender<N>,
+    client: u32,
+    callback: &Callback,
+    up: bool,
+) -> Result<Option<u32>, CoreError>
+    ensures called { callback_of client held.old.server ≡ Some callback.now
+        ↔ (result ≡ Ok None → ⊥) }
+    ensures other { result ≡ Ok None → (held.new ≡ held.old) × (sender.new ≡ sender.old) }
+    ensures marks { IfOk result (λ marked. IfSome marked
+        (Enters held.old.server held.new.server (entries.Path (path_of client up)))) }
+    ensures error { IfErr result (IsNotMarkedFor held.old.server (path_of client up)) }
     ensures known { CanBeHeld N.start held.old }
+    ensures same { OnErr result (AreAlike held.old.server held.new.server) }
+    ensures room { OnErr result (held.old.server.room ≤ held.new.server.room) }
+    ensures count { IfOk result (λ marked. IfSome marked
+        (λ number. sender.new ≡ with_mark sender.old)) }
+    ensures uncounted { OnErr result (sender.new ≡ sender.old) }
+    ensures leases { held.new.leases ≡ held.old.leases }
+    ensures queue { HasQueued held.old held.new }
+    ensures places { held.new.places ≡ held.old.places }
+    ensures receipts { held.new.receipts ≡ held.old.receipts }
 {
-    let recall = held.leased.take_recall();
-    recalls_are_left(&held.leased.core);
-    recall
+    recalls_are_left(held.core());
+    if !is_called_by(held.core(), client, callback) {
+        return Ok(None);
+    }
+    match mark_path_held(held, sender, client, up) {
+        Ok(number) => Ok(Some(number)),
+        Err(error) => Err(error),
+    }
 }
 
-// The law that the recalls which nobody took yet are what is left of those of the journal.
+// Whether the client is live and is called back so.
+fn is_called_by(core: &Core, client: u32, callback: &Callback) -> bool
+    ensures { IsTrue result ↔ (callback_of client core.now ≡ Some callback.now) }
+{
+    match core.callback(client) {
+        Some(found) => *found == *callback,
+        None => false,
+    }
+}
+
+// The law that the recalls which are left in the core are those of the journal without those that left it.
 pub(crate) fn recalls_are_left(core: &Core)
     ensures { AreLeftOf core.now.journal core.now.recalls }
 {
     let _ = core.pending();
+}
+
+// The laws that a journal's recalls are one list, and begin those of each journal that goes on from it.
+fn recalls_stay()
+    ensures one { AreOneList }
+    ensures begin { RecallsBegin }
+{
+    recalls_are_one_list();
+    recalls_begin();
 }
 
 /// Renews the lease of this client, if it is open, and returns whether it is. The seat's receipts begin those that were

@@ -1,6 +1,7 @@
 //! A hold of the lock of the shared state, as a value.
-ghost use Rattle.std.specs.Prelude.{◌≡◌, ◌+◌, ◌≤◌, ◌++◌, ◌∷◌, ◌↔◌, [], IfErr, IfNone, IfOk, IfSome, IsNone, IsTrue, OnErr, OnOk, Option, length};
+ghost use Rattle.std.specs.Prelude.{◌≡◌, ◌+◌, ◌≤◌, ◌++◌, ◌∷◌, ◌↔◌, [], ⊥, IfErr, IfNone, IfOk, IfSome, IsNone, IsTrue, None, Ok, OnErr, OnOk, Option, Some, length};
 ghost use Rattle.std.specs.Option.{option_copied};
+ghost use Rattle.nfs_core.specs.Callbacks.{callback_of, has_delegation};
 ghost use Rattle.nfs_core.specs.Entered.{Answers, number_entered};
 ghost use Rattle.nfs_core.specs.PathMarking.{IsNotMarkedFor, path_of};
 ghost use Rattle.nfs_core.specs.Server.{Applies, AreAlike, Enters};
@@ -8,9 +9,10 @@ ghost use Rattle.nfs_core.specs.declared.entered.Entered.{Entered};
 ghost use Rattle.nfs_forms.specs.ClientId.{number_in};
 ghost use Rattle.nfs_leases.specs.BookEvent.{AllHappen};
 ghost use Rattle.nfs_leases.specs.BookOf.{events_entered};
-ghost use Rattle.nfs_shared.specs.Held.{CanBeHeld, MayBeHeld};
+ghost use Rattle.nfs_shared.specs.Held.{CanBeHeld, HasQueued, MayBeHeld};
 ghost use Rattle.nfs_leases.specs.PlainBook.{Happens, has_open_lease, with_renewal};
 ghost use Rattle.nfs_leases.specs.Renewals.{renewed_by};
+ghost use Rattle.nfs_shared.specs.Sender.{with_mark};
 ghost use Rattle.nfs_shared.specs.Seats.{Gives, KnowsTheSame, number_given};
 ghost use Rattle.nfs_leases.specs.Sweeps.{Sweeps, leased_server};
 ghost use Rattle.nfs_owners.specs.LiveClients.{IsNextUnknown};
@@ -21,35 +23,54 @@ ghost use Rattle.nfs_xdr.specs.OpResult.{op_result};
 ghost use Rattle.nfs_xdr.specs.Opnum.{answer_limit};
 
 use crate::held::{
-    Held, call_held, mark_path_held, renew_held, renew_named, sweep_held, take_held,
+    Held, call_held, mark_called_held, mark_path_held, renew_held, renew_named, sweep_held,
 };
+use crate::moving::move_held;
 use crate::naming::Naming;
+use crate::recall_queue::RecallQueue;
 use crate::receipt::Receipt;
 use crate::seat::Seat;
+use crate::sender::Sender;
 use crate::sweeper::Sweeper;
-use nfs_core::{Core, CoreError, Moment, Recall};
+use nfs_core::{Core, CoreError, Moment};
 use nfs_leases::Swept;
 use nfs_owners::ClientState;
 use nfs_state::Request;
-use nfs_xdr::{ClientId, Op, OpResult};
+use nfs_xdr::{Callback, ClientId, Op, OpResult, Stateid};
 use std::marker::Model;
-use std::sync::MutexGuard;
+use std::sync::{MutexGuard, Wait};
 
-/// A hold of the lock. Contracts see the value that the lock guards. The lock is given back when this is dropped.
-#[derive(Drop)]
-pub struct Hold<'a, N: Naming> {
+/// A hold of the lock. Contracts see the value that the lock guards. Where it is dropped, the recalls that wait are put
+/// into the queue, as far as that has room, and the lock is given back.
+pub struct Hold<'a, N: Naming, R: Wait> {
+    pub(crate) rt: &'a R,
+    pub(crate) queue: &'a RecallQueue,
     pub(crate) guard: MutexGuard<'a, Held<N>>,
 }
 
-impl<'a, N: Naming> Model for Hold<'a, N> {
+impl<'a, N: Naming, R: Wait> Model for Hold<'a, N, R> {
+    ghost use Rattle.std.specs.Prelude.{◌≡◌};
     ghost use Rattle.nfs_shared.specs.Held.{HeldView};
 
     ghost Value = { HeldView };
 
     ghost view = { λ h. h.guard.value };
+
+    ghost invariant = { λ h. h.queue.now ≡ N.run.queue };
 }
 
-impl<'a, N: Naming> Hold<'a, N> {
+impl<N: Naming, R: Wait> Drop for Hold<'_, N, R> {
+    fn drop(self) {
+        let Hold {
+            rt,
+            queue,
+            mut guard,
+        } = self;
+        move_held(rt, queue, &mut *guard);
+    }
+}
+
+impl<'a, N: Naming, R: Wait> Hold<'a, N, R> {
     /// The core that the lock guards, to be looked at.
     pub fn core(&self) -> &Core
         ensures { result.now ≡ self.now.server }
@@ -66,6 +87,22 @@ impl<'a, N: Naming> Hold<'a, N> {
         self.guard.probe(after)
     }
 
+    /// How the live client with this number is called back, if there is one.
+    pub fn callback(&self, client: u32) -> Option<&Callback>
+        ensures callback { option_copied result ≡ callback_of client self.now.server }
+        ensures known { CanBeHeld N.start self.now }
+    {
+        self.guard.callback(client)
+    }
+
+    /// Whether a client has the delegation that the stateid names, no matter its seqid.
+    pub fn has_delegation(&self, stateid: Stateid) -> bool
+        ensures has { result ≡ has_delegation stateid self.now.server }
+        ensures known { CanBeHeld N.start self.now }
+    {
+        self.guard.has_delegation(stateid)
+    }
+
     /// Has the core answer a request, as `call_held` does.
     pub fn call(&mut self, seat: &mut Seat<N>, request: Request) -> (OpResult, Option<Receipt>)
         requires entry { IsTrue (has_entry request.op) }
@@ -77,6 +114,7 @@ impl<'a, N: Naming> Hold<'a, N> {
             (λ r. r.call ≡ record { request = request; answer = result.0 }) }
         ensures same { IfNone result.1 ((self.new.places ≡ self.old.places)
             × (self.new.receipts ≡ self.old.receipts) × KnowsTheSame seat.old seat.new) }
+        ensures queue { HasQueued self.old self.new }
         ensures places { IfSome result.1 (λ r. self.new.places ≡ self.old.places ++ r.place ∷ []) }
         ensures receipts { IfSome result.1 (λ r. self.new.receipts ≡ self.old.receipts ++ r ∷ []) }
         ensures given { IfSome result.1 (λ r. Gives seat.old r seat.new) }
@@ -120,17 +158,18 @@ impl<'a, N: Naming> Hold<'a, N> {
         ensures sweeps { Sweeps Happens now (leased_server self.old.server self.old.leases) result
             (leased_server self.new.server self.new.leases) }
         ensures count { sweeper.new.count ≡ sweeper.old.count + result.expired + result.revoked }
+        ensures queue { HasQueued self.old self.new }
         ensures places { self.new.places ≡ self.old.places }
         ensures receipts { self.new.receipts ≡ self.old.receipts }
     {
         sweep_held(&mut *self.guard, sweeper, now)
     }
 
-    /// Marks whether callbacks reach this client, and returns the number of the entry, which is the sweeper's. What fails
+    /// Marks whether callbacks reach this client, and returns the number of the entry, which is the sender's. What fails
     /// changes nothing but room, of which there isn't less.
     pub fn mark_path(
         &mut self,
-        sweeper: &mut Sweeper<N>,
+        sender: &mut Sender<N>,
         client: u32,
         up: bool,
     ) -> Result<u32, CoreError>
@@ -140,28 +179,42 @@ impl<'a, N: Naming> Hold<'a, N> {
         ensures known { CanBeHeld N.start self.old }
         ensures same { OnErr result (AreAlike self.old.server self.new.server) }
         ensures room { OnErr result (self.old.server.room ≤ self.new.server.room) }
-        ensures count { OnOk result (sweeper.new.count ≡ sweeper.old.count + 1) }
-        ensures uncounted { OnErr result (sweeper.new ≡ sweeper.old) }
+        ensures count { OnOk result (sender.new ≡ with_mark sender.old) }
+        ensures uncounted { OnErr result (sender.new ≡ sender.old) }
         ensures leases { self.new.leases ≡ self.old.leases }
+        ensures queue { HasQueued self.old self.new }
         ensures places { self.new.places ≡ self.old.places }
         ensures receipts { self.new.receipts ≡ self.old.receipts }
     {
-        mark_path_held(&mut *self.guard, sweeper, client, up)
+        mark_path_held(&mut *self.guard, sender, client, up)
     }
 
-    /// Takes out the first of the recalls that are pending. It makes no entry.
-    pub fn take(&mut self) -> Option<Recall>
-        ensures others { self.new ≡ record self.old {
-          server = record self.old.server { recalls = self.new.server.recalls };
-        } }
-        ensures none { IfNone result ((self.old.server.recalls.pending ≡ [])
-            × (self.new ≡ self.old)) }
-        ensures first { IfSome result (λ recall.
-            self.old.server.recalls.pending ≡ recall ∷ self.new.server.recalls.pending) }
-        ensures taken { IfSome result (λ recall.
-            self.new.server.recalls.taken ≡ self.old.server.recalls.taken + 1) }
+    /// Marks whether callbacks reach this client, as `mark_path` does, where the client is live and is called back so.
+    /// Elsewhere nothing is marked, and nothing changes.
+    pub fn mark_called(
+        &mut self,
+        sender: &mut Sender<N>,
+        client: u32,
+        callback: &Callback,
+        up: bool,
+    ) -> Result<Option<u32>, CoreError>
+        ensures called { callback_of client self.old.server ≡ Some callback.now
+            ↔ (result ≡ Ok None → ⊥) }
+        ensures other { result ≡ Ok None → (self.new ≡ self.old) × (sender.new ≡ sender.old) }
+        ensures marks { IfOk result (λ marked. IfSome marked
+            (Enters self.old.server self.new.server (entries.Path (path_of client up)))) }
+        ensures error { IfErr result (IsNotMarkedFor self.old.server (path_of client up)) }
         ensures known { CanBeHeld N.start self.old }
+        ensures same { OnErr result (AreAlike self.old.server self.new.server) }
+        ensures room { OnErr result (self.old.server.room ≤ self.new.server.room) }
+        ensures count { IfOk result (λ marked. IfSome marked
+            (λ number. sender.new ≡ with_mark sender.old)) }
+        ensures uncounted { OnErr result (sender.new ≡ sender.old) }
+        ensures leases { self.new.leases ≡ self.old.leases }
+        ensures queue { HasQueued self.old self.new }
+        ensures places { self.new.places ≡ self.old.places }
+        ensures receipts { self.new.receipts ≡ self.old.receipts }
     {
-        take_held(&mut *self.guard)
+        mark_called_held(&mut *self.guard, sender, client, callback, up)
     }
 }

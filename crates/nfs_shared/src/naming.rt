@@ -31,13 +31,13 @@ impl<N: Naming> Ledger for ReceiptLedger<N> {
     ghost parts = { N.run.workers };
 }
 
-/// The ledger of the entries of a run that are no calls, in one part.
-pub struct SweepLedger<N> {
+/// The ledger of the entries of a run that are no calls, in two parts: that of sweeps, and that of marks of paths.
+pub struct OtherLedger<N> {
     run: PhantomData<N>,
 }
 
-impl<N: Naming> Ledger for SweepLedger<N> {
-    ghost name = { N.run.sweep_ledger };
+impl<N: Naming> Ledger for OtherLedger<N> {
+    ghost name = { N.run.other_ledger };
 
-    ghost parts = { 1 };
+    ghost parts = { 2 };
 }

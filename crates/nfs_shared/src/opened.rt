@@ -1,19 +1,24 @@
 ghost use Rattle.std.specs.Prelude.{◌≡◌, IfOk};
 
+use crate::recall_queue::{PutPass, RecallQueue, TakePass};
 use crate::roll::{Roll, Token};
 use std::alloc::{AllocError, Global};
 use std::marker::Model;
 use std::sync::ledger::Blank;
 
-/// What a run needs before it has a name: the table of receipts with the writer's token, and two ledgers. That of
-/// receipts is cut into a part for each worker; that of the entries which are no calls is in one part.
+/// What a run needs before it has a name: the table of receipts with the writer's token, two ledgers, and the queue of
+/// recalls with its passes. The ledger of receipts is cut into a part for each worker, and that of the entries which are
+/// no calls into two.
 #[derive(Drop)]
 pub struct Opened {
     pub(crate) roll: Roll,
     pub(crate) writer: Token,
     pub(crate) receipt_ledger: Blank,
-    pub(crate) sweep_ledger: Blank,
+    pub(crate) other_ledger: Blank,
     pub(crate) workers: u32,
+    pub(crate) queue: RecallQueue,
+    pub(crate) put: PutPass,
+    pub(crate) take: TakePass,
 }
 
 impl Model for Opened {
@@ -27,12 +32,15 @@ impl Model for Opened {
       roll = o.roll.shared.table_id;
       receipt_ledger = o.receipt_ledger.name;
       workers = o.workers;
-      sweep_ledger = o.sweep_ledger.name;
+      other_ledger = o.other_ledger.name;
+      queue = o.queue;
     } };
 
     ghost invariant = { λ o.
         IsOf o.roll.shared.table_id o.writer × (o.writer.me ≡ (writer_of [], []))
-        × (o.receipt_ledger.parts ≡ o.workers) × (o.sweep_ledger.parts ≡ 1) };
+        × (o.receipt_ledger.parts ≡ o.workers) × (o.other_ledger.parts ≡ 2)
+        × (o.put ≡ record { queue = o.queue; recalls = [] })
+        × (o.take ≡ record { queue = o.queue; recalls = [] }) };
 }
 
 impl Opened {
@@ -41,12 +49,16 @@ impl Opened {
         ensures { IfOk result (λ o. o.workers ≡ workers) }
     {
         let (roll, writer) = Roll::of_words(alloc, &[0], &())?;
+        let (queue, put, take) = RecallQueue::new(alloc)?;
         Ok(Opened {
             roll,
             writer,
             receipt_ledger: Blank::new(workers as u64),
-            sweep_ledger: Blank::new(1),
+            other_ledger: Blank::new(2),
             workers,
+            queue,
+            put,
+            take,
         })
     }
 }

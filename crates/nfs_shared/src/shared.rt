@@ -1,18 +1,22 @@
 //! The state that threads share, behind one lock.
-ghost use Rattle.std.specs.Prelude.{◌≡◌, ◌+◌, ◌<◌, ◌≤◌, ◌↔◌, [], IfOk, IfErr, IfSome, IfNone, IsNone, IsTrue, OnErr, OnOk, length, map};
+ghost use Rattle.std.specs.Prelude.{◌≡◌, ◌+◌, ◌<◌, ◌≤◌, ◌↔◌, ◌++◌, [], ⊥, IfOk, IfErr, IfSome, IfNone, IsNone, IsTrue, List, None, Ok, OnErr, OnOk, Some, length, map};
+ghost use Rattle.nfs_core.specs.Callbacks.{callback_of, has_delegation};
 ghost use Rattle.nfs_core.specs.PathMarking.{IsNotMarkedFor, path_of};
-ghost use Rattle.nfs_core.specs.Recalls.{IsFirst};
+ghost use Rattle.nfs_core.specs.Recalls.{AreRecallsOf};
 ghost use Rattle.nfs_core.specs.Safe.{IsSafe};
 ghost use Rattle.nfs_core.specs.Server.{Enters, IsLawful, Server};
 ghost use Rattle.nfs_forms.specs.ClientId.{number_in};
 ghost use Rattle.nfs_shared.specs.Ends.{AreFresh, AreKept, AllStand, AllApart, AllBegin, receipts_in, given_in};
 ghost use Rattle.nfs_shared.specs.Held.{CanBeHeld, HeldView, MayBeHeld};
 ghost use Rattle.nfs_shared.specs.Naming.{CanBegin, start_of};
+ghost use Rattle.nfs_shared.specs.RecallOrder.{WasEmpty};
 ghost use Rattle.nfs_leases.specs.PlainBook.{has_open_lease};
 ghost use Rattle.nfs_shared.specs.Receipts.{calls_in, others_in};
 ghost use Rattle.nfs_shared.specs.Roll.{IsOf, IsWriter, list_of, writer_of};
+ghost use Rattle.nfs_shared.specs.Sender.{with_mark, with_taken};
 ghost use Rattle.nfs_shared.specs.Seats.{Gives, KnowsTheSame, fresh};
 ghost use Rattle.nfs_owners.specs.LiveClients.{IsNextUnknown};
+ghost use Rattle.nfs_rpc.specs.declared.recall.Recall.{Recall};
 ghost use Rattle.nfs_state.specs.Entries.{IsFilehandle, request_of, resource};
 ghost use Rattle.nfs_state.specs.Stored.{meaning};
 ghost use Rattle.nfs_state.specs.declared.entry.Entry.TheVariants as entries;
@@ -22,40 +26,51 @@ ghost use Rattle.nfs_xdr.specs.Opnum.{answer_limit};
 
 use crate::held::{Held, recalls_are_left};
 use crate::hold::Hold;
-use crate::naming::{Naming, ReceiptLedger, SweepLedger};
+use crate::naming::{Naming, OtherLedger, ReceiptLedger};
 use crate::opened::Opened;
+use crate::recall_queue::RecallQueue;
 use crate::receipt::Receipt;
 use crate::register::Register;
 use crate::roll::{Copied, Roll, Token, meet};
 use crate::seat::Seat;
+use crate::sender::Sender;
 use crate::sweeper::Sweeper;
 use nfs_core::{Core, CoreError, Moment, Recall};
 use nfs_leases::{LeasedCore, PlainLeases, Swept};
 use nfs_owners::ClientState;
 use nfs_state::Request;
-use nfs_xdr::{ClientId, Op, OpResult, Principal, Refusal};
+use nfs_xdr::{Callback, ClientId, Op, OpResult, Principal, Refusal, Stateid};
 use std::alloc::{AllocError, Global};
 use std::sync::ledger::Share;
 use std::sync::{Mutex, Wait};
 
-/// The core with its journal, the leases and the receipts' register, behind one lock. What holds whenever the lock is
-/// free is the invariant of `Held`.
+/// The core with its journal, the leases and the receipts' register, behind one lock, and the queue by which recalls reach
+/// the thread that sends them. What holds whenever the lock is free is the invariant of `Held`.
 #[derive(Drop)]
 pub struct Shared<N: Naming> {
     held: Mutex<Held<N>>,
+    queue: RecallQueue,
+    ghost named: { queue ≡ N.run.queue },
+}
+
+/// The shared state, and what the threads of a run need for it.
+#[derive(Drop)]
+pub struct SharedParts<N: Naming> {
+    pub shared: Shared<N>,
+    /// A seat for each worker, in the order of their places.
+    pub seats: Vec<Seat<N>>,
+    pub sweeper: Sweeper<N>,
+    pub sender: Sender<N>,
 }
 
 impl<N: Naming> Shared<N> {
-    /// The core under a lock, a seat for each worker, and who sweeps. The core's journal is empty, and no client is live
-    /// in it. It fails only where memory is refused, and gives the core back.
-    pub fn new(
-        alloc: Global,
-        opened: Opened,
-        core: Core,
-    ) -> Result<(Shared<N>, Vec<Seat<N>>, Sweeper<N>), Core>
+    /// The core under a lock, a seat for each worker, who sweeps, and who sends recalls. The core's journal is empty, and
+    /// no client is live in it. It fails only where memory is refused, and gives the core back.
+    pub fn new(alloc: Global, opened: Opened, core: Core) -> Result<SharedParts<N>, Core>
         requires beginning { CanBegin N.run N.start opened core }
-        ensures seats { IfOk result (λ r. AreFresh N.run.workers r.1.items) }
-        ensures sweeper { IfOk result (λ r. r.2.count ≡ 0) }
+        ensures seats { IfOk result (λ r. AreFresh N.run.workers r.seats.items) }
+        ensures sweeper { IfOk result (λ r. r.sweeper.count ≡ 0) }
+        ensures sender { IfOk result (λ r. r.sender ≡ record { taken = []; count = 0 }) }
         ensures err { IfErr result (λ c. c ≡ core) }
     {
         let Ok(leases) = PlainLeases::new(alloc, core.journal().lease()) else {
@@ -65,11 +80,14 @@ impl<N: Naming> Shared<N> {
             roll,
             mut writer,
             receipt_ledger,
-            sweep_ledger,
+            other_ledger,
             workers,
+            queue,
+            put,
+            take,
         } = opened;
         let (count, mut rest) = receipt_ledger.open::<ReceiptLedger<N>>();
-        let (sweep_count, share) = sweep_ledger.open::<SweepLedger<N>>();
+        let (other_count, mut share) = other_ledger.open::<OtherLedger<N>>();
         let Ok(seats) = new_seats(alloc, &roll, &mut writer, &mut rest, workers) else {
             return Err(core);
         };
@@ -84,15 +102,30 @@ impl<N: Naming> Shared<N> {
         let held = Held {
             leased: LeasedCore::new(core, leases),
             register,
-            sweep_count,
+            other_count,
+            put,
+            hand: None,
         };
-        let held = Mutex::new(held);
-        Ok((Shared { held }, seats, Sweeper { share }))
+        let sender = Sender {
+            pass: take,
+            share: share.split_off(1, 0),
+        };
+        Ok(SharedParts {
+            shared: Shared {
+                held: Mutex::new(held),
+                queue,
+            },
+            seats,
+            sweeper: Sweeper { share },
+            sender,
+        })
     }
 
     /// Takes the lock, for as long as the value lives that is returned.
-    pub fn hold<R: Wait>(&self, rt: &R) -> Hold<'_, N> {
+    pub fn hold<'a, R: Wait>(&'a self, rt: &'a R) -> Hold<'a, N, R> {
         Hold {
+            rt,
+            queue: &self.queue,
             guard: self.held.lock(rt),
         }
     }
@@ -158,29 +191,73 @@ impl<N: Naming> Shared<N> {
     pub fn mark_path<R: Wait>(
         &self,
         rt: &R,
-        sweeper: &mut Sweeper<N>,
+        sender: &mut Sender<N>,
         client: u32,
         up: bool,
     ) -> Result<u32, CoreError>
-        ensures count { OnOk result (sweeper.new.count ≡ sweeper.old.count + 1) }
-        ensures uncounted { OnErr result (sweeper.new ≡ sweeper.old) }
+        ensures count { OnOk result (sender.new ≡ with_mark sender.old) }
+        ensures uncounted { OnErr result (sender.new ≡ sender.old) }
         ensures marks { IfOk result (λ number. (held : HeldView) × CanBeHeld N.start held
             × ((new : Server) × Enters held.server new (entries.Path (path_of client up)) number)) }
         ensures error { IfErr result (λ e. (held : HeldView) × CanBeHeld N.start held
             × IsNotMarkedFor held.server (path_of client up) e) }
     {
-        self.hold(rt).mark_path(sweeper, client, up)
+        self.hold(rt).mark_path(sender, client, up)
     }
 
-    /// Takes out the first of the recalls that are pending, in one hold of the lock. It takes no memory. No clause says
-    /// that the lock guarded the value that this is said of, but that it may have.
-    pub fn take<R: Wait>(&self, rt: &R) -> Option<Recall>
-        ensures none { IfNone result ((held : HeldView) × CanBeHeld N.start held
-            × (held.server.recalls.pending ≡ [])) }
-        ensures first { IfSome result (λ recall. (held : HeldView) × CanBeHeld N.start held
-            × IsFirst recall held.server.recalls) }
+    /// Marks whether callbacks reach this client, as `mark_path` does, in the hold of the lock in which it finds the client
+    /// live and called back so. Elsewhere it marks nothing, and returns no number.
+    pub fn mark_called<R: Wait>(
+        &self,
+        rt: &R,
+        sender: &mut Sender<N>,
+        client: u32,
+        callback: &Callback,
+        up: bool,
+    ) -> Result<Option<u32>, CoreError>
+        ensures count { IfOk result (λ marked. IfSome marked
+            (λ number. sender.new ≡ with_mark sender.old)) }
+        ensures uncounted { OnErr result (sender.new ≡ sender.old) }
+        ensures other { result ≡ Ok None → (sender.new ≡ sender.old) × ((held : HeldView)
+            × CanBeHeld N.start held × (callback_of client held.server ≡ Some callback.now → ⊥)) }
+        ensures marks { IfOk result (λ marked. IfSome marked (λ number. (held : HeldView)
+            × CanBeHeld N.start held × (callback_of client held.server ≡ Some callback.now)
+            × ((new : Server) × Enters held.server new (entries.Path (path_of client up)) number))) }
+        ensures error { IfErr result (λ e. (held : HeldView) × CanBeHeld N.start held
+            × IsNotMarkedFor held.server (path_of client up) e) }
     {
-        self.hold(rt).take()
+        self.hold(rt).mark_called(sender, client, callback, up)
+    }
+
+    /// Takes the first recall out of the queue, without the lock. None only if the queue was empty at a moment of the
+    /// call. It takes no memory.
+    pub fn take<R: Wait>(&self, rt: &R, sender: &mut Sender<N>) -> Option<Recall>
+        ensures some { IfSome result (λ r. sender.new ≡ with_taken r sender.old) }
+        ensures none { IfNone result (sender.new ≡ sender.old) }
+        ensures empty { IfNone result (WasEmpty sender.old.taken) }
+    {
+        self.queue.take(rt, &mut sender.pass)
+    }
+
+    /// How a live client is called back, as a copy, if there is such a client. It fails only where memory is refused for
+    /// the copy. No clause says that the lock guarded the value that answers, but that it may have.
+    pub fn callback<R: Wait>(&self, rt: &R, client: u32) -> Result<Option<Callback>, AllocError>
+        ensures { IfOk result (λ found. (held : HeldView) × CanBeHeld N.start held
+            × (found ≡ callback_of client held.server)) }
+    {
+        match self.hold(rt).callback(client) {
+            Some(callback) => Ok(Some(callback.clone()?)),
+            None => Ok(None),
+        }
+    }
+
+    /// Whether a client has the delegation that the stateid names, no matter its seqid. No clause says that the lock
+    /// guarded the value that answers, but that it may have.
+    pub fn has_delegation<R: Wait>(&self, rt: &R, stateid: Stateid) -> bool
+        ensures { (held : HeldView) × CanBeHeld N.start held
+            × (result ≡ has_delegation stateid held.server) }
+    {
+        self.hold(rt).has_delegation(stateid)
     }
 
     /// A copy of what the record of a live client has of whose path to its callbacks nothing is known: of the client with
@@ -196,9 +273,16 @@ impl<N: Naming> Shared<N> {
         }
     }
 
-    /// The core, once the workers and the sweeper have ended. `receipts` has for each seat those that it was given, in
-    /// order, and all seats are handed in, in the order of their places.
-    pub fn end(self, receipts: &[Vec<Receipt>], seats: Vec<Seat<N>>, sweeper: Sweeper<N>) -> Core
+    /// The core, once all threads have ended. `receipts` has for each seat those that it was given, in order, and all
+    /// seats are handed in, in the order of their places. What was taken from the queue begins the recalls of the core's
+    /// journal, in order, each once.
+    pub fn end(
+        self,
+        receipts: &[Vec<Receipt>],
+        seats: Vec<Seat<N>>,
+        sweeper: Sweeper<N>,
+        sender: Sender<N>,
+    ) -> Core
         requires all { length seats.items ≡ N.run.workers }
         requires kept { AreKept seats.items (map (λ v. v.items) receipts.now) }
         ensures start { start_of result.journal ≡ N.start }
@@ -208,15 +292,22 @@ impl<N: Naming> Shared<N> {
         ensures apart { AllApart (map (λ v. v.items) receipts.now) }
         ensures counted { calls_in result.journal.entries
             ≡ receipts_in (map (λ v. v.items) receipts.now) }
-        ensures others { others_in result.journal.entries ≡ sweeper.count }
+        ensures others { others_in result.journal.entries ≡ sweeper.count + sender.count }
+        ensures taken { (rest : List Recall)
+            × AreRecallsOf result.journal (sender.taken ++ rest) }
     {
-        let held = self.held.into_inner();
+        let Shared { held, queue } = self;
+        let held = held.into_inner();
         let Held {
             leased,
             register,
-            mut sweep_count,
+            mut other_count,
+            put,
+            hand: _,
         } = held;
         let Sweeper { mut share } = sweeper;
+        let Sender { pass, share: marks } = sender;
+        queue.settle(put, pass);
         let Register {
             places: _,
             roll,
@@ -226,7 +317,8 @@ impl<N: Naming> Shared<N> {
         } = register;
         meet_each(&roll, &mut writer, &mut rest, seats);
         count.audit(&mut rest);
-        sweep_count.audit(&mut share);
+        share.merge(marks);
+        other_count.audit(&mut share);
         leased.into_core()
     }
 }

@@ -1,12 +1,12 @@
-use crate::naming::{Naming, SweepLedger};
+use crate::naming::{Naming, OtherLedger};
 use std::marker::Model;
 use std::sync::ledger::Share;
 
-/// Who sweeps, and who marks paths. There is one in a run, and besides calls nothing else makes an entry of the journal.
-/// Contracts see how many entries came by it.
+/// Who sweeps. There is one in a run. Besides calls, only what it and the `Sender` do makes entries of the journal.
+/// Contracts see how many came by it.
 #[derive(Drop)]
 pub struct Sweeper<N: Naming> {
-    pub(crate) share: Share<SweepLedger<N>>,
+    pub(crate) share: Share<OtherLedger<N>>,
 }
 
 impl<N: Naming> Model for Sweeper<N> {

@@ -28,7 +28,7 @@ use std::sync::Wait;
 pub struct Desk<'a, N: Naming, R: Wait> {
     rt: &'a R,
     shared: &'a Shared<N>,
-    hold: BatchHold<'a, N>,
+    hold: BatchHold<'a, N, R>,
     seat: Seat<N>,
     receipts: Vec<Receipt>,
 }
@@ -132,15 +132,15 @@ impl<'a, N: Naming, R: Wait> Service for Desk<'a, N, R> {
 
 // The hold of the lock in which a batch is answered, if one is under way. What asks nothing takes none.
 #[derive(Drop)]
-enum BatchHold<'a, N: Naming> {
+enum BatchHold<'a, N: Naming, R: Wait> {
     NoBatch,
     NotAsked,
-    Taken(Hold<'a, N>),
+    Taken(Hold<'a, N, R>),
 }
 
-impl<'a, N: Naming> BatchHold<'a, N> {
+impl<'a, N: Naming, R: Wait> BatchHold<'a, N, R> {
     // Takes the lock for a batch that now asks for the first time.
-    fn ask<R: Wait>(&mut self, rt: &R, shared: &'a Shared<N>)
+    fn ask(&mut self, rt: &'a R, shared: &'a Shared<N>)
         ensures asked { self.new ≢ BatchHold.NotAsked }
         ensures none { self.old ≡ BatchHold.NoBatch → self.new ≡ BatchHold.NoBatch }
     {
@@ -152,9 +152,9 @@ impl<'a, N: Naming> BatchHold<'a, N> {
 
 // Has the shared state answer a request, in the hold of the batch if there is one, and else in one of its own.
 fn call_in<'a, N: Naming, R: Wait>(
-    rt: &R,
+    rt: &'a R,
     shared: &'a Shared<N>,
-    hold: &mut BatchHold<'a, N>,
+    hold: &mut BatchHold<'a, N, R>,
     seat: &mut Seat<N>,
     request: Request,
 ) -> (OpResult, Option<Receipt>)
@@ -178,9 +178,9 @@ fn call_in<'a, N: Naming, R: Wait>(
 
 // Renews the lease of this client, in the hold of the batch if there is one, and else in one of its own.
 fn renew_in<'a, N: Naming, R: Wait>(
-    rt: &R,
+    rt: &'a R,
     shared: &'a Shared<N>,
-    hold: &mut BatchHold<'a, N>,
+    hold: &mut BatchHold<'a, N, R>,
     seat: &mut Seat<N>,
     moment: Moment,
     client: ClientId,

@@ -25,7 +25,7 @@ use crate::{
     workers_keep_receipts,
 };
 use nfs_core::Core;
-use nfs_shared::{Naming, Opened, Receipt, Seat, Shared, Sweeper};
+use nfs_shared::{Naming, Opened, Receipt, Seat, Sender, Shared, SharedParts, Sweeper};
 use nfs_tree::Tree;
 use std::alloc::Global;
 use std::marker::Brand;
@@ -138,10 +138,16 @@ fn run<N: Naming + Send + Sync, R: Threads + Wait + Timer + Sync, W: Watcher + S
     let Ok(lists) = Lists::<N, R, W>::new(setting.alloc, connections as usize) else {
         return Err(core);
     };
-    let (shared, seats, sweeper) = match Shared::<N>::new(setting.alloc, opened, core) {
-        Ok(shared) => shared,
+    let parts_of_run = match Shared::<N>::new(setting.alloc, opened, core) {
+        Ok(parts) => parts,
         Err(core) => return Err(core),
     };
+    let SharedParts {
+        shared,
+        seats,
+        sweeper,
+        sender,
+    } = parts_of_run;
     let Lists {
         links: mut all,
         spare,
@@ -151,7 +157,7 @@ fn run<N: Naming + Send + Sync, R: Threads + Wait + Timer + Sync, W: Watcher + S
     link_all(links, seats, &mut all);
     let (ends, sweeper, is_swept) = serve_swept(setting, &shared, sweeper, all, spare);
     workers_keep_receipts::<N, TcpLinks<'_, R, W>>();
-    let (core, workers) = end(shared, sweeper, ends, parts, accounts);
+    let (core, workers) = end(shared, sweeper, sender, ends, parts, accounts);
     Ok(RunEnd {
         core,
         workers,
@@ -270,6 +276,7 @@ fn refuse_all<N: Naming, R, W>(
 fn end<N: Naming>(
     shared: Shared<N>,
     sweeper: Sweeper<N>,
+    sender: Sender<N>,
     all: Vec<WorkerEnd<N>>,
     mut parts: Parts<N>,
     accounts: Vec<WorkerAccount>,
@@ -294,7 +301,7 @@ fn end<N: Naming>(
         seats,
         receipts,
     } = parts;
-    let core = shared.end(receipts.as_slice(), seats, sweeper);
+    let core = shared.end(receipts.as_slice(), seats, sweeper, sender);
     (core, pair(shifts, receipts, accounts))
 }
 

@@ -7,7 +7,7 @@ ghost use Rattle.nfs_shared.specs.Receipts.{calls_in, others_in};
 ghost use Rattle.rows.specs.Places.{AreBackFrom, AreFreshFrom};
 
 use nfs_core::Core;
-use nfs_shared::{Naming, Receipt, Seat, Shared, Sweeper};
+use nfs_shared::{Naming, Receipt, Seat, Sender, Shared, Sweeper};
 use nfs_threads::WorkerEnd;
 use std::alloc::{AllocError, Global};
 use std::marker::Model;
@@ -99,7 +99,12 @@ impl<N: Naming> SeatsBack<N> {
 
     /// The core, once the sweeper has ended and all workers have handed in their seats; and the receipts by the places of
     /// their seats.
-    pub(crate) fn end(self, shared: Shared<N>, sweeper: Sweeper<N>) -> (Core, Vec<Vec<Receipt>>)
+    pub(crate) fn end(
+        self,
+        shared: Shared<N>,
+        sweeper: Sweeper<N>,
+        sender: Sender<N>,
+    ) -> (Core, Vec<Vec<Receipt>>)
         requires all { length self.seats ≡ N.run.workers }
         ensures start { start_of result.0.journal ≡ N.start }
         ensures lawful { IsLawful result.0 }
@@ -107,14 +112,14 @@ impl<N: Naming> SeatsBack<N> {
         ensures stand { AllStand result.0.journal.entries self.receipts }
         ensures apart { AllApart self.receipts }
         ensures counted { calls_in result.0.journal.entries ≡ receipts_in self.receipts }
-        ensures others { others_in result.0.journal.entries ≡ sweeper.count }
+        ensures others { others_in result.0.journal.entries ≡ sweeper.count + sender.count }
     {
         let SeatsBack {
             alloc: _,
             seats,
             receipts,
         } = self;
-        let core = shared.end(receipts.as_slice(), seats, sweeper);
+        let core = shared.end(receipts.as_slice(), seats, sweeper, sender);
         (core, receipts)
     }
 }

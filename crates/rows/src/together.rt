@@ -22,10 +22,10 @@ use crate::session::Session;
 use crate::sweeping::Sweeps;
 use crate::workers::Workers;
 use crate::yielding::Yielding;
-use nfs_core::{Core, CoreError, Moment};
+use nfs_core::{Core, CoreError, Moment, Recall};
 use nfs_leases::Swept;
 use nfs_server::ServeError;
-use nfs_shared::{Naming, Opened, Receipt, Seat, Shared, Sweeper};
+use nfs_shared::{Naming, Opened, Receipt, Seat, Sender, Shared, SharedParts, Sweeper};
 use nfs_threads::{Links, Shift, WorkerEnd};
 use nfs_tree::Tree;
 use std::alloc::{AllocError, Global};
@@ -63,18 +63,24 @@ fn run<N: Naming + Send + Sync, R: Threads + Wait + Sync, I: Read + Drop, O: Wri
     requires nodes { core.journal.nodes ≡ tree.now.nodes }
 {
     let alloc = session.alloc;
-    let Ok((shared, seats, sweeper)) = Shared::<N>::new(alloc, opened, core) else {
+    let Ok(parts) = Shared::<N>::new(alloc, opened, core) else {
         return Err(Failure::Memory);
     };
+    let SharedParts {
+        shared,
+        seats,
+        sweeper,
+        sender,
+    } = parts;
     let workers = Workers {
         rt,
         alloc,
         shared: &shared,
         tree,
     };
-    let server = Together::new(workers, seats, sweeper);
-    let (back, sweeper) = server.direct(session)?.close()?;
-    let (core, _) = back.end(shared, sweeper);
+    let server = Together::new(workers, seats, sweeper, sender);
+    let (back, sweeper, sender) = server.direct(session)?.close()?;
+    let (core, _) = back.end(shared, sweeper, sender);
     Ok(core)
 }
 
@@ -85,6 +91,7 @@ struct Together<'a, N: Naming, R> {
     left: IntoIter<Seat<N>>,
     back: SeatsBack<N>,
     sweeper: Sweeper<N>,
+    sender: Sender<N>,
 }
 
 // Contracts see how many seats came back.
@@ -108,6 +115,7 @@ impl<'a, N: Naming + Send + Sync, R: Threads + Wait + Sync> Together<'a, N, R> {
         workers: Workers<'a, N, R>,
         seats: Vec<Seat<N>>,
         sweeper: Sweeper<N>,
+        sender: Sender<N>,
     ) -> Together<'a, N, R>
         requires nodes { N.start.nodes ≡ workers.tree.now.nodes }
         requires fresh { AreFresh N.run.workers seats.items }
@@ -118,11 +126,12 @@ impl<'a, N: Naming + Send + Sync, R: Threads + Wait + Sync> Together<'a, N, R> {
             left: seats.into_iter(),
             back,
             sweeper,
+            sender,
         }
     }
 
     // Hands in the seats that are left.
-    fn close(self) -> Result<(SeatsBack<N>, Sweeper<N>), AllocError>
+    fn close(self) -> Result<(SeatsBack<N>, Sweeper<N>, Sender<N>), AllocError>
         ensures { IfOk result (λ r. length r.0.seats ≡ N.run.workers) }
     {
         let Together {
@@ -130,9 +139,10 @@ impl<'a, N: Naming + Send + Sync, R: Threads + Wait + Sync> Together<'a, N, R> {
             left,
             mut back,
             sweeper,
+            sender,
         } = self;
         back.hand_in_unused(left)?;
-        Ok((back, sweeper))
+        Ok((back, sweeper, sender))
     }
 
     // Does what it is told until the input ends. After a failure the server is gone.
@@ -171,8 +181,9 @@ impl<'a, N: Naming + Send + Sync, R: Threads + Wait + Sync> Together<'a, N, R> {
                 Ok(server)
             }
             Order::Take(xid) => {
-                answer.put_recall(xid, self.workers.shared.take(self.workers.rt))?;
-                Ok(self)
+                let mut server = self;
+                answer.put_recall(xid, server.take())?;
+                Ok(server)
             }
             Order::Probe(after) => {
                 let found = self.workers.shared.probe(self.workers.rt, after)?;
@@ -197,6 +208,7 @@ impl<'a, N: Naming + Send + Sync, R: Threads + Wait + Sync> Together<'a, N, R> {
             mut left,
             mut back,
             sweeper,
+            sender,
         } = self;
         let calls = Calls::new(start, pace);
         let sent = connections.as_mut_slice();
@@ -209,6 +221,7 @@ impl<'a, N: Naming + Send + Sync, R: Threads + Wait + Sync> Together<'a, N, R> {
             left,
             back,
             sweeper,
+            sender,
         };
         Ok((BatchOutcome { outcomes, sweeps }, server))
     }
@@ -223,7 +236,11 @@ impl<'a, N: Naming + Send + Sync, R: Threads + Wait + Sync> Together<'a, N, R> {
         let Mark { client, is_up } = mark;
         self.workers
             .shared
-            .mark_path(self.workers.rt, &mut self.sweeper, client, is_up)
+            .mark_path(self.workers.rt, &mut self.sender, client, is_up)
+    }
+
+    fn take(&mut self) -> Option<Recall> {
+        self.workers.shared.take(self.workers.rt, &mut self.sender)
     }
 }
 

@@ -1,0 +1,23 @@
+use crate::naming::{Naming, OtherLedger};
+use crate::recall_queue::TakePass;
+use std::marker::Model;
+use std::sync::ledger::Share;
+
+/// Who sends recalls, and marks the paths to clients' callbacks. There is one in a run. Contracts see the recalls that it
+/// took from the queue, in order, and how many entries of the journal came by it.
+#[derive(Drop)]
+pub struct Sender<N: Naming> {
+    pub(crate) pass: TakePass,
+    pub(crate) share: Share<OtherLedger<N>>,
+}
+
+impl<N: Naming> Model for Sender<N> {
+    ghost use Rattle.std.specs.Prelude.{◌≡◌};
+    ghost use Rattle.nfs_shared.specs.Sender.{SenderView};
+
+    ghost Value = { SenderView };
+
+    ghost view = { λ s. record { taken = s.pass.recalls; count = s.share.amount } };
+
+    ghost invariant = { λ s. (s.share.parts ≡ 1) × (s.pass.queue ≡ N.run.queue) };
+}
