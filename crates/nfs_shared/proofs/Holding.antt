@@ -1,10 +1,12 @@
 -- What the lock guards, after a call and after entries that are no calls.
-use Rattle.std.proofs.Common.{◌≡◌, ℕ, suc, refl, List, [], ◌∷◌, ◌++◌, length, sym, ap, ◌∙◌, arith, length-append}
-use Rattle.nfs_core.specs.Recalls.{AreLeftOf}
+use Rattle.std.proofs.Common.{◌≡◌, ◌×◌, ℕ, suc, refl, List, [], ◌∷◌, ◌++◌, length, sym, ap, ◌∙◌, subst, arith, append_assoc, length-append}
+use mathlib.Core.List.{IsPrefix}
+use Rattle.nfs_core.specs.Recalls.{AreLeftOf, AreRecallsOf}
 use Rattle.nfs_core.specs.Safe.{IsSafe}
 use Rattle.nfs_core.specs.Server.{Enters, IsLawful, Server}
 use Rattle.nfs_leases.specs.BookOf.{IsBookOf}
-use Rattle.nfs_shared.specs.Held.{HeldView, IsHeld}
+use Rattle.nfs_rpc.specs.declared.recall.Recall.{Recall}
+use Rattle.nfs_shared.specs.Held.{HeldView, IsHeld, Moves, waiting}
 use Rattle.nfs_leases.specs.PlainBook.{PlainBook, is_open_in, was_opened_in}
 use Rattle.nfs_shared.specs.Receipts.{calls_in, receipts_of}
 use Rattle.nfs_leases.specs.Visit.{Gains}
@@ -16,16 +18,17 @@ use Rattle.nfs_state.specs.declared.entry.Call.{Call}
 use Rattle.nfs_state.specs.declared.entry.Entry.{Entry}
 use Rattle.nfs_state.specs.declared.entry.Entry.TheVariants as entries
 
--- what the state, its journal and the leases have to keep
-pub record KeepsRules (server : Server) (leases : PlainBook) : Type 0 where
-  pub lawful : IsLawful server
-  pub safe : IsSafe (meaning server.stored)
-  pub agrees : IsBookOf (is_open_in leases) (was_opened_in leases) leases.lease server
-  pub recalls : AreLeftOf server.journal server.recalls
+-- what the state, its journal, the leases and the recalls have to keep
+pub record KeepsRules (held : HeldView) : Type 0 where
+  pub lawful : IsLawful held.server
+  pub safe : IsSafe (meaning held.server.stored)
+  pub agrees : IsBookOf (is_open_in held.leases) (was_opened_in held.leases) held.leases.lease held.server
+  pub recalls : AreLeftOf held.server.journal held.server.recalls
+  pub queued : AreRecallsOf held.server.journal (held.put ++ waiting held.hand held.server.recalls)
 
 -- a call more
 pub held_call : (old new : HeldView) (number : ℕ) (call : Call) (receipt : Receipt)
-    → IsHeld old → Enters old.server new.server (entries.Call call) number → KeepsRules new.server new.leases
+    → IsHeld old → Enters old.server new.server (entries.Call call) number → KeepsRules new
     → receipt.number ≡ number → receipt.call ≡ call
     → new.places ≡ old.places ++ receipt.place ∷ [] → new.receipts ≡ old.receipts ++ receipt ∷ []
     → IsHeld new
@@ -40,6 +43,7 @@ held_call old new number call receipt h enters keeps number_is call_is places_is
       safe = keeps.safe;
       agrees = keeps.agrees;
       recalls = keeps.recalls;
+      queued = keeps.queued;
       places = omega (arith, ap length places_is, length-append old.places (receipt.place ∷ []), h.places, more);
       receipts = receipts_is ∙ ap (λ xs. xs ++ receipt ∷ []) h.receipts ∙ ap (λ r. receipts_of 0 es old.places ++ r ∷ []) here ∙ sym grown ∙ (λ i. receipts_of 0 (sym journal i) (sym places_is i));
     }
@@ -54,7 +58,7 @@ gains_one old new entry number enters = record {
 -- entries that are no calls, as the journal gained them
 pub held_more : (old new : HeldView) (more : List Entry)
     → IsHeld old → Gains more old.server new.server → calls_in more ≡ 0
-    → KeepsRules new.server new.leases → new.places ≡ old.places → new.receipts ≡ old.receipts
+    → KeepsRules new → new.places ≡ old.places → new.receipts ≡ old.receipts
     → IsHeld new
 held_more old new more h gains none keeps places_is receipts_is =
     let es : List Entry = old.server.journal.entries in
@@ -64,6 +68,55 @@ held_more old new more h gains none keeps places_is receipts_is =
       safe = keeps.safe;
       agrees = keeps.agrees;
       recalls = keeps.recalls;
+      queued = keeps.queued;
       places = ap length places_is ∙ h.places ∙ sym (calls_in_more es more none) ∙ ap calls_in (sym journal);
       receipts = receipts_is ∙ h.receipts ∙ sym (receipts_more 0 es more old.places none) ∙ (λ i. receipts_of 0 (sym journal i) (sym places_is i));
     }
+
+-- recalls that went from those that wait into the queue
+pub held_moved : (old new : HeldView) → IsHeld old
+    → new.server ≡ record old.server { recalls = new.server.recalls }
+    → new.places ≡ old.places → new.receipts ≡ old.receipts
+    → IsBookOf (is_open_in new.leases) (was_opened_in new.leases) new.leases.lease new.server
+    → AreLeftOf new.server.journal new.server.recalls
+    → new.put ++ waiting new.hand new.server.recalls ≡ old.put ++ waiting old.hand old.server.recalls
+    → IsHeld new
+held_moved old new was server places receipts agrees left same =
+    let journal : new.server.journal ≡ old.server.journal = ap (λ (s : Server). s.journal) server in
+    record {
+      lawful = subst IsLawful (sym server) was.lawful;
+      safe = subst (λ (s : Server). IsSafe (meaning s.stored)) (sym server) was.safe;
+      agrees = agrees;
+      recalls = left;
+      queued = subst (λ (y : History × List Recall). AreRecallsOf y.0 y.1) (λ i. (sym journal i, sym same i)) was.queued;
+      places = ap length places ∙ was.places ∙ ap (λ (j : History). calls_in j.entries) (sym journal);
+      receipts = receipts ∙ was.receipts ∙ (λ i. receipts_of 0 (sym journal i).entries (sym places i));
+    }
+
+append_nil : (xs : List Recall) → xs ++ [] ≡ xs
+append_nil [] = refl
+append_nil (x ∷ xs) = ap (λ (ys : List Recall). x ∷ ys) (append_nil xs)
+
+pub prefix_same : (xs : List Recall) → IsPrefix xs xs
+prefix_same xs = ([], append_nil xs)
+
+pub prefix_more : (xs ys zs : List Recall) → IsPrefix xs ys → IsPrefix ys zs → IsPrefix xs zs
+prefix_more xs ys zs p q = (p.0 ++ q.0, sym (append_assoc xs p.0 q.0) ∙ ap (λ (l : List Recall). l ++ q.0) p.1 ∙ q.1)
+
+-- nothing went
+pub moves_none : (held : HeldView) → Moves held held
+moves_none held = record { others = refl; recalls = refl; put = prefix_same held.put }
+
+-- and more went
+pub moves_more : (old mid new : HeldView) → Moves old mid → Moves mid new → Moves old new
+moves_more old mid new first then = record {
+  others =
+      then.others
+      ∙ ap (λ (h : HeldView). record h {
+        server = record h.server { recalls = new.server.recalls };
+        put = new.put;
+        hand = new.hand;
+      }) first.others;
+  recalls = then.recalls ∙ first.recalls;
+  put = prefix_more old.put mid.put new.put first.put then.put;
+}

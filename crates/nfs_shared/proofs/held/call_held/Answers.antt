@@ -1,10 +1,12 @@
 -- The receipt is for the entry that the call made, and the register has it.
-use Rattle.std.proofs.Common.{◌≡◌, ◌∙◌, ◌++◌, ◌∷◌, [], length, List, ℕ, Option, Some, ap, sym, subst, arith, length-append}
+use Rattle.std.proofs.Common.{◌≡◌, ◌∙◌, ◌++◌, ◌∷◌, [], length, List, ℕ, Option, Some, ap, refl, sym, subst, arith, length-append}
 use Rattle.nfs_core.specs.Entered.{Answers, IsEntered, number_entered}
+use Rattle.nfs_core.specs.Recalls.{RecallsLeft}
 use Rattle.nfs_core.specs.Server.{Enters, Server}
 use Rattle.nfs_core.specs.declared.entered.Entered.{Entered}
 use Rattle.nfs_shared.proofs.Giving.{above_all, counted, last_entry, one_call}
 use Rattle.nfs_shared.proofs.Holding.{KeepsRules, held_call}
+use Rattle.nfs_shared.proofs.RecallsOut.{queued_kept, queued_same}
 use Rattle.nfs_shared.proofs.Receipts.{calls_in_length, others_in_call}
 use Rattle.nfs_shared.proofs.Renewals.{told_named}
 use Rattle.nfs_shared.proofs.held.call_held.Goals as goal
@@ -74,18 +76,26 @@ invariant_of-held-in-Some g c =
       leases = held.leased.book;
       places = held.register.places.items;
       receipts = list_of held.register.writer;
+      put = held.put.recalls;
+      hand = held.hand;
     } in
     let new : HeldView = record {
       server = called.new.leased.core;
       leases = called.new.leased.book;
       places = c.give-receipt.new.register.places.items;
       receipts = list_of c.give-receipt.new.register.writer;
+      put = held.put.recalls;
+      hand = held.hand;
     } in
-    let keeps : KeepsRules new.server new.leases = record {
+    let keeps : KeepsRules new = record {
       lawful = called.ensures.lawful;
       safe = c.lawful_is_safe.ensures.safe _ _ called.ensures.lawful;
       agrees = called.new.leased.agrees;
       recalls = c.recalls_are_left.ensures;
+      queued =
+          queued_kept c.recalls_stay.ensures.one c.recalls_stay.ensures.begin old new (entries.Call call ∷ [])
+          c.held.invariant.0.recalls c.held.invariant.0.queued entered.0.1 c.recalls_are_left.ensures
+          (ap (λ (left : RecallsLeft). left.taken) entered.0.3) (refl, refl);
     } in
     let tied = c.held.invariant.1 in (
       held_call old new c.in-Some.entered.number call receipt c.held.invariant.0 entered.0 keeps
@@ -104,6 +114,7 @@ invariant_of-held-in-Some g c =
       c.held.invariant.5
           ∙ sym (others_in_call held.leased.core.journal.entries call)
           ∙ ap (λ (j : History). others_in j.entries) (sym entered.0.1),
+      c.held.invariant.6,
     )
 
 -- the answer is the core's, and the receipt has the number of its entry
@@ -151,12 +162,29 @@ invariant_of-held g c =
     let was = c.held.invariant.0 in
     let called = c.answer_with_room-answer in
     let alike = (subst (λ (o : Option Entered). Answers held.leased.core called.new.leased.core c.args.request called.result.0 o) c.in-None.is called.ensures.answers).1 in
-    let entries : called.new.leased.core.journal.entries ≡ held.leased.core.journal.entries = ap (λ (j : History). j.entries) alike.0 in (
+    let entries : called.new.leased.core.journal.entries ≡ held.leased.core.journal.entries = ap (λ (j : History). j.entries) alike.0 in
+    let old : HeldView = record {
+      server = held.leased.core;
+      leases = held.leased.book;
+      places = held.register.places.items;
+      receipts = list_of held.register.writer;
+      put = held.put.recalls;
+      hand = held.hand;
+    } in
+    let new : HeldView = record {
+      server = called.new.leased.core;
+      leases = called.new.leased.book;
+      places = called.new.places.items;
+      receipts = list_of held.register.writer;
+      put = held.put.recalls;
+      hand = held.hand;
+    } in (
       record {
         lawful = called.ensures.lawful;
         safe = c.lawful_is_safe.ensures.safe _ _ called.ensures.lawful;
         agrees = called.new.leased.agrees;
         recalls = c.recalls_are_left.ensures;
+        queued = queued_same old new was.queued alike.0 alike.2 (refl, refl);
         places = ap length called.ensures.places ∙ was.places ∙ ap calls_in (sym entries);
         receipts = was.receipts ∙ (λ i. receipts_of 0 (sym entries i) (sym {A = List ℕ} called.ensures.places i));
       },
@@ -165,4 +193,5 @@ invariant_of-held g c =
       c.held.invariant.3,
       c.held.invariant.4,
       c.held.invariant.5 ∙ ap others_in (sym entries),
+      c.held.invariant.6,
     )

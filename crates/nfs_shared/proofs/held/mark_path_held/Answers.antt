@@ -2,7 +2,9 @@
 use Rattle.std.proofs.Common.{◌∙◌, ◌∷◌, [], List, ap, refl, subst, arith}
 use Rattle.nfs_core.specs.PathMarking.{path_of}
 use Rattle.nfs_core.specs.Server.{Enters}
+use Rattle.nfs_core.specs.Recalls.{RecallsLeft}
 use Rattle.nfs_shared.proofs.Holding.{KeepsRules, gains_one, held_more}
+use Rattle.nfs_shared.proofs.RecallsOut.{queued_kept}
 use Rattle.nfs_shared.proofs.Receipts.{others_in_more}
 use Rattle.nfs_shared.proofs.held.mark_path_held.Goals as goal
 use Rattle.nfs_shared.specs.Held.{HeldView}
@@ -22,21 +24,29 @@ invariant_of-held g c =
       leases = held.leased.book;
       places = held.register.places.items;
       receipts = list_of held.register.writer;
+      put = held.put.recalls;
+      hand = held.hand;
     } in
     let new : HeldView = record {
       server = marked.new.self.core;
       leases = marked.new.self.book;
       places = held.register.places.items;
       receipts = list_of held.register.writer;
+      put = held.put.recalls;
+      hand = held.hand;
     } in
-    let keeps : KeepsRules new.server new.leases = record {
+    let more : List Entry = entries.Path (path_of c.args.client c.args.up) ∷ [] in
+    let gains = gains_one old.server new.server (entries.Path (path_of c.args.client c.args.up)) c.in-Ok.number c.in-Ok.ensures.marks in
+    let keeps : KeepsRules new = record {
       lawful = marked.ensures.lawful;
       safe = c.lawful_is_safe.ensures.safe _ _ marked.ensures.lawful;
       agrees = marked.new.self.agrees;
       recalls = c.recalls_are_left.ensures;
-    } in
-    let more : List Entry = entries.Path (path_of c.args.client c.args.up) ∷ [] in
-    let gains = gains_one old.server new.server (entries.Path (path_of c.args.client c.args.up)) c.in-Ok.number c.in-Ok.ensures.marks in (
+      queued =
+          queued_kept c.recalls_stay.ensures.one c.recalls_stay.ensures.begin old new more c.held.invariant.0.recalls
+          c.held.invariant.0.queued gains.journal c.recalls_are_left.ensures
+          (ap (λ (left : RecallsLeft). left.taken) marked.ensures.recalls) (refl, refl);
+    } in (
       held_more old new more c.held.invariant.0 gains refl keeps refl refl,
       c.held.invariant.1,
       ap start_of gains.journal ∙ c.held.invariant.2,
@@ -49,6 +59,7 @@ invariant_of-held g c =
         ap (λ (j : History). others_in j.entries) gains.journal,
         others_in_more old.server.journal.entries more refl,
       ),
+      c.held.invariant.6,
     )
 
 pub returns-in-Ok-clause-marks : goal.returns-in-Ok-clause-marks

@@ -1,6 +1,8 @@
 -- A sweep enters no call: the ends of clients, and then those of delegations.
 use Rattle.std.proofs.Common.{◌∙◌, ap, refl, arith}
+use Rattle.nfs_core.specs.Recalls.{RecallsLeft}
 use Rattle.nfs_shared.proofs.Holding.{KeepsRules, held_more}
+use Rattle.nfs_shared.proofs.RecallsOut.{queued_kept}
 use Rattle.nfs_shared.proofs.Receipts.{others_in_more, sweep_no_calls}
 use Rattle.nfs_shared.proofs.held.sweep_held.Goals as goal
 use Rattle.nfs_shared.specs.Held.{HeldView}
@@ -22,24 +24,32 @@ invariant_of-held g c =
       leases = held.leased.book;
       places = held.register.places.items;
       receipts = list_of held.register.writer;
+      put = held.put.recalls;
+      hand = held.hand;
     } in
     let new : HeldView = record {
       server = swept.new.self.core;
       leases = swept.new.self.book;
       places = held.register.places.items;
       receipts = list_of held.register.writer;
-    } in
-    let keeps : KeepsRules new.server new.leases = record {
-      lawful = swept.ensures.lawful;
-      safe = c.lawful_is_safe.ensures.safe _ _ swept.ensures.lawful;
-      agrees = swept.new.self.agrees;
-      recalls = c.recalls_are_left.ensures;
+      put = held.put.recalls;
+      hand = held.hand;
     } in
     let now = c.args.now in
     let sweeps = swept.ensures.sweeps in
     let gains = gains_of_sweep Happens now (leased_server old.server old.leases) swept.result (leased_server new.server new.leases) sweeps in
     let more = entries_of_sweep now sweeps.visits sweeps.numbers in
-    let none = sweep_no_calls now sweeps.visits sweeps.numbers in (
+    let none = sweep_no_calls now sweeps.visits sweeps.numbers in
+    let keeps : KeepsRules new = record {
+      lawful = swept.ensures.lawful;
+      safe = c.lawful_is_safe.ensures.safe _ _ swept.ensures.lawful;
+      agrees = swept.new.self.agrees;
+      recalls = c.recalls_are_left.ensures;
+      queued =
+          queued_kept c.recalls_stay.ensures.one c.recalls_stay.ensures.begin old new more c.held.invariant.0.recalls
+          c.held.invariant.0.queued gains.journal c.recalls_are_left.ensures
+          (ap (λ (left : RecallsLeft). left.taken) swept.ensures.recalls) (refl, refl);
+    } in (
       held_more old new more c.held.invariant.0 gains none keeps refl refl,
       c.held.invariant.1,
       ap start_of gains.journal ∙ c.held.invariant.2,
@@ -53,4 +63,5 @@ invariant_of-held g c =
         others_in_more old.server.journal.entries more none,
         sweep_tally now sweeps.visits sweeps.numbers swept.result sweeps.counts,
       ),
+      c.held.invariant.6,
     )
