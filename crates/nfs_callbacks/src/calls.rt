@@ -1,0 +1,156 @@
+use crate::errand::Errand;
+use crate::line::LineState;
+use crate::lines::Lines;
+use crate::{CallbackSource, MarkError};
+use std::alloc::Global;
+
+// Of how many calls under way one look asks at most whether they are still awaited.
+const CHECK_LIMIT: usize = 64;
+
+/// The calls to all clients, and what becomes of those that are over: they mark the path of their client.
+#[derive(Drop)]
+pub(crate) struct Calls {
+    pub(crate) lines: Lines,
+    // The client whose call was checked last.
+    checked: u32,
+    // Whether paths can still be marked in this run.
+    can_mark: bool,
+}
+
+impl Calls {
+    pub(crate) fn new(alloc: Global) -> Calls {
+        Calls {
+            lines: Lines::new(alloc),
+            checked: 0,
+            can_mark: true,
+        }
+    }
+
+    /// Whether paths can still be marked in this run, as far as is known.
+    pub(crate) fn can_mark(&self) -> bool {
+        self.can_mark
+    }
+
+    /// How many calls are under way.
+    pub(crate) fn under_way(&self) -> usize {
+        let stalled = self.lines.count(LineState::Stalled);
+        self.lines
+            .count(LineState::UnderWay)
+            .saturating_add(stalled)
+    }
+
+    /// Goes on with the client's call.
+    pub(crate) fn advance<S: CallbackSource>(&mut self, client: u32, source: &mut S) {
+        let Some(line) = self.lines.line_mut(client) else {
+            return;
+        };
+        if let Some((errand, up)) = line.advance() {
+            self.mark_after(client, errand, up, source);
+        }
+    }
+
+    /// Goes on with the calls that are stalled.
+    pub(crate) fn advance_stalled<S: CallbackSource>(&mut self, source: &mut S) {
+        let mut client = 0;
+        for _ in 0..self.lines.count(LineState::Stalled) {
+            let Some(next) = self.lines.next(client, LineState::Stalled) else {
+                return;
+            };
+            client = next;
+            self.advance(client, source);
+        }
+    }
+
+    /// Puts the lines that the system refused a socket among those whose turn may come.
+    pub(crate) fn retry_refused(&mut self) {
+        let mut client = 0;
+        for _ in 0..self.lines.count(LineState::Refused) {
+            let Some(next) = self.lines.next(client, LineState::Refused) else {
+                return;
+            };
+            client = next;
+            if let Some(line) = self.lines.line_mut(client) {
+                line.retry();
+            }
+        }
+    }
+
+    /// Makes the marks again that couldn't be made.
+    pub(crate) fn mark_owed<S: CallbackSource>(&mut self, source: &mut S) {
+        let mut client = 0;
+        for _ in 0..self.lines.count(LineState::Owing) {
+            let Some(next) = self.lines.next(client, LineState::Owing) else {
+                return;
+            };
+            client = next;
+            let Some(line) = self.lines.line_mut(client) else {
+                return;
+            };
+            if let Some((errand, up)) = line.take_owed() {
+                self.mark(client, errand, up, source);
+            }
+        }
+    }
+
+    /// Marks the client's path after a call that is over, which is no longer in its line. A recall whose delegation is
+    /// gone marks nothing.
+    pub(crate) fn mark_after<S: CallbackSource>(
+        &mut self,
+        client: u32,
+        errand: Errand,
+        up: bool,
+        source: &mut S,
+    ) {
+        if errand.is_due(client, source) {
+            self.mark(client, errand, up, source);
+        } else {
+            self.lines.tidy(client);
+        }
+    }
+
+    /// Marks the client's path. Where that has to wait, the client's line does.
+    pub(crate) fn mark<S: CallbackSource>(
+        &mut self,
+        client: u32,
+        errand: Errand,
+        up: bool,
+        source: &mut S,
+    ) {
+        match source.mark(client, errand.callback(), up) {
+            Ok(()) => {}
+            Err(MarkError::Later) => {
+                if let Some(line) = self.lines.line_mut(client) {
+                    line.owe(errand, up);
+                }
+            }
+            Err(MarkError::Never) => self.can_mark = false,
+        }
+        self.lines.tidy(client);
+    }
+
+    /// Lets go calls under way that aren't awaited any more. So many are looked at, behind those of the last time.
+    pub(crate) fn check<S: CallbackSource>(&mut self, source: &mut S) {
+        let count = self.lines.count(LineState::UnderWay).min(CHECK_LIMIT);
+        for _ in 0..count {
+            let Some(client) = self.lines.next(self.checked, LineState::UnderWay) else {
+                return;
+            };
+            self.checked = client;
+            self.check_one(client, source);
+        }
+    }
+
+    fn check_one<S: CallbackSource>(&mut self, client: u32, source: &mut S) {
+        let Some(line) = self.lines.line_mut(client) else {
+            return;
+        };
+        let is_awaited = match line.current() {
+            Some(errand) => errand.is_awaited(client, source),
+            None => true,
+        };
+        if !is_awaited {
+            line.let_go();
+            self.lines.tidy(client);
+        }
+    }
+}

@@ -1,0 +1,172 @@
+use crate::CallbackSource;
+use crate::calls::Calls;
+use crate::errand::Errand;
+use crate::exchange::{BeginError, Exchange};
+use crate::line::LineState;
+use crate::source::Probe;
+use mio::{Events, Poll};
+use nfs_rpc::Recall;
+use std::alloc::Global;
+use std::io;
+use std::net::Net;
+use std::time::Duration;
+
+// How many calls are under way at once at most.
+const UNDER_WAY_LIMIT: usize = 512;
+
+// How many calls are begun in one look at most, those that are over at once included.
+const BEGIN_LIMIT: usize = 1_024;
+
+// How many recalls one look takes at most.
+const TAKE_LIMIT: usize = 65_536;
+
+// For how many clients one look asks at most of whose paths nothing is known.
+const PROBE_LIMIT: usize = 64;
+
+/// Calls clients back: recalls their delegations, and tries paths of which nothing is known. It does so in looks, which
+/// wait for nothing but for sockets to be ready, and for that no longer than they are told.
+#[derive(Drop)]
+pub struct Sender {
+    alloc: Global,
+    poll: Poll,
+    events: Events,
+    calls: Calls,
+    // A recall that was taken from the source, for which there was no memory yet.
+    in_hand: Option<Recall>,
+    // The number of the next call.
+    xid: u32,
+    // The client of the call that was begun last.
+    begun: u32,
+    // The client that was probed last.
+    probed: u32,
+}
+
+impl Sender {
+    /// A sender that has nothing to do yet.
+    pub fn new<N: Net>(alloc: Global, net: &N) -> io::Result<Sender> {
+        Ok(Sender {
+            alloc,
+            poll: Poll::new(net)?,
+            events: Events::with_capacity(alloc, UNDER_WAY_LIMIT)?,
+            calls: Calls::new(alloc),
+            in_hand: None,
+            xid: 1,
+            begun: 0,
+            probed: 0,
+        })
+    }
+
+    /// One look: waits until a socket is ready, but no longer than `wait`, and does all that can be done at once.
+    pub fn look<N: Net, S: CallbackSource>(&mut self, net: &N, source: &mut S, wait: Duration) {
+        // Where the wait fails, there are no events.
+        let _ = self.poll.poll(&mut self.events, Some(wait));
+        self.calls.retry_refused();
+        self.calls.mark_owed(source);
+        self.calls.advance_stalled(source);
+        self.advance(source);
+        self.take_recalls(source);
+        self.calls.check(source);
+        self.probe(source);
+        self.begin(net, source);
+    }
+
+    // Goes on with the calls whose connections are ready.
+    fn advance<S: CallbackSource>(&mut self, source: &mut S) {
+        for event in &self.events {
+            if let Ok(client) = u32::try_from(event.token().0) {
+                self.calls.advance(client, source);
+            }
+        }
+    }
+
+    // Takes recalls as long as there is memory to keep each. None is taken while one is in hand.
+    fn take_recalls<S: CallbackSource>(&mut self, source: &mut S) {
+        for _ in 0..TAKE_LIMIT {
+            if self.in_hand.is_none() {
+                self.in_hand = source.take();
+            }
+            let Some(recall) = self.in_hand.take() else {
+                return;
+            };
+            let client = recall.stateid.client.number;
+            if let Err(Errand::Recall(recall)) = self.calls.lines.push(client, Errand::Recall(recall)) {
+                self.in_hand = Some(recall);
+                return;
+            }
+        }
+    }
+
+    // Puts a CB_NULL into the line of each client of whose path nothing is known and to whom nothing else is to be said.
+    fn probe<S: CallbackSource>(&mut self, source: &mut S) {
+        if self.in_hand.is_some() || !self.calls.can_mark() {
+            return;
+        }
+        for _ in 0..PROBE_LIMIT {
+            let Ok(found) = source.probe(self.probed) else {
+                return;
+            };
+            let Some(Probe { client, callback }) = found else {
+                self.probed = 0;
+                return;
+            };
+            if self.calls.lines.state(client) == LineState::Empty
+                && self.calls.lines.push(client, Errand::Null(callback)).is_err()
+            {
+                return;
+            }
+            self.probed = client;
+        }
+    }
+
+    // Begins calls, the client's first behind whose call was begun last.
+    fn begin<N: Net, S: CallbackSource>(&mut self, net: &N, source: &mut S) {
+        let mut room = UNDER_WAY_LIMIT.saturating_sub(self.calls.under_way());
+        for _ in 0..BEGIN_LIMIT {
+            if room == 0 {
+                return;
+            }
+            let Some(client) = self.calls.lines.next(self.begun, LineState::Ready) else {
+                return;
+            };
+            self.begun = client;
+            if self.begin_first(client, net, source) {
+                room -= 1;
+            }
+        }
+    }
+
+    // Begins the client's first call, and returns whether it is under way now.
+    fn begin_first<N: Net, S: CallbackSource>(
+        &mut self,
+        client: u32,
+        net: &N,
+        source: &mut S,
+    ) -> bool {
+        let Some(line) = self.calls.lines.line_mut(client) else {
+            return false;
+        };
+        let Some(errand) = line.first() else {
+            return false;
+        };
+        if !errand.is_due(client, source) {
+            line.take_first();
+            self.calls.lines.tidy(client);
+            return false;
+        }
+        let registry = self.poll.registry();
+        match Exchange::begin(self.alloc, net, registry, client, errand, self.xid) {
+            Ok(exchange) => {
+                line.begin(exchange);
+                self.xid = self.xid.wrapping_add(1);
+                return true;
+            }
+            Err(BeginError::Refused) => line.refuse(),
+            Err(BeginError::Fault) => {
+                if let Some(errand) = line.take_first() {
+                    self.calls.mark(client, errand, false, source);
+                }
+            }
+        }
+        false
+    }
+}
