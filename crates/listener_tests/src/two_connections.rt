@@ -23,7 +23,7 @@ struct Outcome {
 }
 
 // Serves two clients at once that have these connections with the listener; none where memory was refused.
-fn serve_two<R: Threads + Wait + Clock + Sync>(
+fn serve_two<R: Threads + Wait + Clock + Net<Listener = TcpListener, Stream = TcpStream> + Sync>(
     rt: &R,
     alloc: Global,
     listener: &TcpListener,

@@ -11,13 +11,22 @@ use nfs_program::{Beginning, Fault, Reporter, end_ongoing_run, file_buffer};
 use nfs_threads::{Door, RunEnd, WorkerAccount, accept_for, close_at_end, serve_through};
 use nfs_tree::Tree;
 use std::alloc::{AllocError, Global};
-use std::net::TcpListener;
+use std::net::{Net, TcpListener, TcpStream};
 use std::sync::{Arc, Wait};
 use std::thread::Threads;
 use std::time::Clock;
 
 /// Serves one connection after the other, as many at once as the options say, until what they name ends the run.
-pub(crate) fn serve_ongoing<R: Threads + Wait + Clock + Copy + Send + Sync + 'static>(
+pub(crate) fn serve_ongoing<
+    R: Threads
+        + Wait
+        + Clock
+        + Net<Listener = TcpListener, Stream = TcpStream>
+        + Copy
+        + Send
+        + Sync
+        + 'static,
+>(
     rt: &HostRuntime,
     threads: R,
     options: &ServeOptions<'_>,
@@ -57,7 +66,16 @@ pub(crate) fn serve_ongoing<R: Threads + Wait + Clock + Copy + Send + Sync + 'st
 }
 
 // The door for the connections of this listener, which is closed by what is to end the run.
-fn open_door<R: Threads + Wait + Clock + Copy + Send + Sync + 'static>(
+fn open_door<
+    R: Threads
+        + Wait
+        + Clock
+        + Net<Listener = TcpListener, Stream = TcpStream>
+        + Copy
+        + Send
+        + Sync
+        + 'static,
+>(
     rt: &HostRuntime,
     threads: R,
     options: &ServeOptions<'_>,

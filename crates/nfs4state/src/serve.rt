@@ -11,17 +11,23 @@ use nfs_options::ServeOptions;
 use nfs_program::{Fault, end_run, file_buffer};
 use nfs_threads::serve_on;
 use nfs_tree::Tree;
+use std::net::{Net, TcpListener, TcpStream};
 use std::sync::Wait;
 use std::thread::Threads;
 use std::time::Clock;
 
 /// `nfs4state serve`: connections of a TCP listener, and the journal to its file at the end. `threads` is what threads are
 /// started and waited for by; it is of a type parameter, since it goes to those threads.
-pub(crate) fn serve<R: Threads + Wait + Clock + Copy + Send + Sync + 'static>(
-    rt: &HostRuntime,
-    threads: R,
-    options: &ServeOptions<'_>,
-) -> u8
+pub(crate) fn serve<
+    R: Threads
+        + Wait
+        + Clock
+        + Net<Listener = TcpListener, Stream = TcpStream>
+        + Copy
+        + Send
+        + Sync
+        + 'static,
+>(rt: &HostRuntime, threads: R, options: &ServeOptions<'_>) -> u8
     requires { IsServeWithinLimits options.now }
 {
     let tree = match tree(rt, options.tree) {
@@ -42,7 +48,9 @@ pub(crate) fn serve<R: Threads + Wait + Clock + Copy + Send + Sync + 'static>(
 }
 
 // Serves so many connections, each in a thread of its own.
-fn serve_connections<R: Threads + Wait + Clock + Sync>(
+fn serve_connections<
+    R: Threads + Wait + Clock + Net<Listener = TcpListener, Stream = TcpStream> + Sync,
+>(
     rt: &HostRuntime,
     threads: &R,
     options: &ServeOptions<'_>,

@@ -208,9 +208,7 @@ fn judge(alloc: Global, received: &[u8], xid: u32, is_compound: bool) -> Verdict
     let mut records = Records::new(alloc);
     let fed = records.feed(received);
     match records.next() {
-        Some(message) => {
-            Verdict::Reply(read_cb_reply(message.as_slice(), xid, is_compound))
-        }
+        Some(message) => { Verdict::Reply(read_cb_reply(message.as_slice(), xid, is_compound)) }
         None if fed == Err(RecordError::Memory) => Verdict::Memory,
         None => Verdict::Unfinished,
     }

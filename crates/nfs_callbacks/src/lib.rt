@@ -2,15 +2,15 @@
 //! no lock. What is to be called, and where what comes of it goes, is asked of a source.
 #![tactic(auto)]
 
+mod caller;
 mod calls;
 mod errand;
 mod exchange;
 mod line;
 mod lines;
-mod sender;
 mod source;
 
-pub use sender::Sender;
+pub use caller::Caller;
 pub use source::{CallbackSource, MarkError, Probe};
 
 #[cfg(test)]

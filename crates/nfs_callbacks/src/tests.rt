@@ -1,4 +1,5 @@
 use super::*;
+
 #[test]
 fn nothing(rt: HostRuntime) {
     assert_eq!(&rt; 1u32, 1u32);

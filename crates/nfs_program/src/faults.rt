@@ -42,13 +42,13 @@ fn is_memory_refused(workers: &[WorkerAccount]) -> bool
 /// The fault of a run: that nobody swept, since no thread could be made for that; or else the first of a worker, in the
 /// order of the list; or else that of the journal's file.
 pub(crate) fn run_fault(
-    is_swept: bool,
+    has_helpers: bool,
     workers: &[WorkerAccount],
     filed: Option<Fault>,
 ) -> Option<Fault>
-    ensures { result ≡ fault_of_run is_swept workers.now filed }
+    ensures { result ≡ fault_of_run has_helpers workers.now filed }
 {
-    if is_swept {
+    if has_helpers {
         first_fault_of_workers(workers).or(filed)
     } else {
         Some(Fault::NoMemory)
@@ -58,13 +58,13 @@ pub(crate) fn run_fault(
 /// The fault of a run that goes on, of which none of its connections has a part: that nobody swept, or that memory or a
 /// thread was refused for a worker; or else that of the journal's file.
 pub(crate) fn ongoing_run_fault(
-    is_swept: bool,
+    has_helpers: bool,
     workers: &[WorkerAccount],
     filed: Option<Fault>,
 ) -> Option<Fault>
-    ensures { result ≡ fault_of_ongoing_run is_swept workers.now filed }
+    ensures { result ≡ fault_of_ongoing_run has_helpers workers.now filed }
 {
-    if !is_swept || is_memory_refused(workers) {
+    if !has_helpers || is_memory_refused(workers) {
         return Some(Fault::NoMemory);
     }
     filed

@@ -30,10 +30,10 @@ pub fn end_run<E: Write, J: Sink>(
         run.now.core.journal filed
         × (filed ≡ Some Fault.NoMemory
         → ¬ (HasRoomForFileOf (vec_capacity buffer.old) run.now.core.journal))
-        × (result ≡ status_of (fault_of_run run.now.is_swept run.now.workers.items filed)) }
+        × (result ≡ status_of (fault_of_run run.now.has_helpers run.now.workers.items filed)) }
 {
     let filed = file_journal(buffer, run.core.journal(), journal);
-    let fault = run_fault(run.is_swept, run.workers.as_slice(), filed);
+    let fault = run_fault(run.has_helpers, run.workers.as_slice(), filed);
     exit_status(errors, fault)
 }
 
@@ -52,11 +52,11 @@ pub fn end_ongoing_run<R: Wait, E: Write + Drop, D: Draft + Drop, J: Sink>(
         run.now.core.journal filed
         × (filed ≡ Some Fault.NoMemory
         → ¬ (HasRoomForFileOf (vec_capacity buffer.old) run.now.core.journal))
-        × (result ≡ status_of (fault_of_ongoing_run run.now.is_swept run.now.workers.items filed)) }
+        × (result ≡ status_of (fault_of_ongoing_run run.now.has_helpers run.now.workers.items filed)) }
 {
     let filed = file_journal(buffer, run.core.journal(), journal);
     let unfiled = filed.map(|_| run.core.journal());
     let mut errors = reporter.end(unfiled);
-    let fault = ongoing_run_fault(run.is_swept, run.workers.as_slice(), filed);
+    let fault = ongoing_run_fault(run.has_helpers, run.workers.as_slice(), filed);
     exit_status(&mut errors, fault)
 }

@@ -16,6 +16,7 @@ ghost use Rattle.nfs_shared.specs.Receipts.{calls_in};
 ghost use Rattle.nfs_state.specs.Stored.{meaning};
 
 use crate::bell::Bell;
+use crate::calling::{SharedSource, call_back_until};
 use crate::lists::{Lists, Parts};
 use crate::sweeping::sweep_until;
 use crate::tcp_links::Entrance;
@@ -29,18 +30,18 @@ use nfs_shared::{Naming, Opened, Receipt, Seat, Sender, Shared, SharedParts, Swe
 use nfs_tree::Tree;
 use std::alloc::Global;
 use std::marker::Brand;
-use std::net::TcpListener;
+use std::net::{Net, TcpListener, TcpStream};
 use std::sync::Wait;
 use std::thread;
 use std::thread::{Scope, Threads};
 use std::time::{Clock as Timer, Duration};
 
 /// Serves the next connections that come to the listener, as many as `connections` says, each in a thread of its own,
-/// and ends when all of them have ended. Meanwhile clients are removed whose leases are over, by one more thread. It
-/// returns the core as the connections left it, how each of them ended, and whether that thread could be made: if not,
-/// the connections are served all the same, and no lease ends. If memory is refused for the state, the core comes back;
+/// and ends when all of them have ended. Meanwhile one more thread removes clients whose leases are over, and another one
+/// calls clients back. It returns the core as the connections left it, how each of them ended, and whether these two
+/// threads could be made: if not, the connections are served all the same. If memory is refused for the state, the core comes back;
 /// if it is for the workers, each of them ends for want of memory, and no connection is accepted.
-pub fn serve_on<R: Threads + Wait + Timer + Sync>(
+pub fn serve_on<R: Threads + Wait + Timer + Net<Listener = TcpListener, Stream = TcpStream> + Sync>(
     alloc: Global,
     rt: &R,
     listener: &TcpListener,
@@ -76,14 +77,10 @@ pub fn serve_on<R: Threads + Wait + Timer + Sync>(
 
 /// Serves the connections that come through the door, one after the other at each worker, and ends when the door is closed
 /// and all of them have ended. Else it is as `serve_on`; the watcher is told of the run, and sees the core.
-pub fn serve_through<R: Threads + Wait + Timer + Sync, W: Watcher + Sync>(
-    alloc: Global,
-    rt: &R,
-    door: &Door,
-    watcher: &W,
-    core: Core,
-    tree: &Tree,
-) -> Result<RunEnd, Core>
+pub fn serve_through<
+    R: Threads + Wait + Timer + Net<Listener = TcpListener, Stream = TcpStream> + Sync,
+    W: Watcher + Sync,
+>(alloc: Global, rt: &R, door: &Door, watcher: &W, core: Core, tree: &Tree) -> Result<RunEnd, Core>
     requires empty { core.journal.entries ≡ [] }
     requires nobody { (number : ℕ) → IsFalse (is_live number core.stored.clients) }
     requires nodes { core.journal.nodes ≡ tree.now.nodes }
@@ -120,8 +117,19 @@ struct Setting<'a, R, W> {
     watcher: &'a W,
 }
 
+// What the threads beside the workers need of the shared state.
+#[derive(Drop)]
+struct Helpers<N: Naming> {
+    sweeper: Sweeper<N>,
+    sender: Sender<N>,
+}
+
 // Serves in a run of this name. No type of the signature may rest on the name.
-fn run<N: Naming + Send + Sync, R: Threads + Wait + Timer + Sync, W: Watcher + Sync>(
+fn run<
+    N: Naming + Send + Sync,
+    R: Threads + Wait + Timer + Net<Listener = TcpListener, Stream = TcpStream> + Sync,
+    W: Watcher + Sync,
+>(
     setting: &Setting<'_, R, W>,
     links: &TcpLinks<'_, R, W>,
     connections: u32,
@@ -155,13 +163,14 @@ fn run<N: Naming + Send + Sync, R: Threads + Wait + Timer + Sync, W: Watcher + S
         accounts,
     } = lists;
     link_all(links, seats, &mut all);
-    let (ends, sweeper, is_swept) = serve_swept(setting, &shared, sweeper, all, spare);
+    let helpers = Helpers { sweeper, sender };
+    let (ends, helpers, has_helpers) = serve_helped(setting, &shared, helpers, all, spare);
     workers_keep_receipts::<N, TcpLinks<'_, R, W>>();
-    let (core, workers) = end(shared, sweeper, sender, ends, parts, accounts);
+    let (core, workers) = end(shared, helpers, ends, parts, accounts);
     Ok(RunEnd {
         core,
         workers,
-        is_swept,
+        has_helpers,
     })
 }
 
@@ -181,15 +190,19 @@ fn link_all<'a, N: Naming, R, W>(
     }
 }
 
-// Serves the links, while another thread sweeps, and says whether one did. What the workers give back is put into `spare`
-// if they can't begin.
-fn serve_swept<N: Naming + Send + Sync, R: Threads + Wait + Timer + Sync, W: Watcher + Sync>(
+// Serves the links, while one more thread sweeps and another one calls clients back, and says whether both did. What the
+// workers give back is put into `spare` if they can't begin.
+fn serve_helped<
+    N: Naming + Send + Sync,
+    R: Threads + Wait + Timer + Net<Listener = TcpListener, Stream = TcpStream> + Sync,
+    W: Watcher + Sync,
+>(
     setting: &Setting<'_, R, W>,
     shared: &Shared<N>,
-    sweeper: Sweeper<N>,
+    helpers: Helpers<N>,
     links: Vec<(TcpLinks<'_, R, W>, Seat<N>)>,
     spare: Vec<WorkerEnd<N>>,
-) -> (Vec<WorkerEnd<N>>, Sweeper<N>, bool)
+) -> (Vec<WorkerEnd<N>>, Helpers<N>, bool)
     requires nodes { N.start.nodes ≡ setting.now.tree.now.nodes }
     requires unused { AreUnused (seats_of links.items) }
     requires empty { spare.items ≡ [] }
@@ -199,46 +212,54 @@ fn serve_swept<N: Naming + Send + Sync, R: Threads + Wait + Timer + Sync, W: Wat
     thread::scope(
         thread::scope_env(),
         setting.rt,
-        |scope| -> (Vec<WorkerEnd<N>>, Sweeper<N>, bool)
+        |scope| -> (Vec<WorkerEnd<N>>, Helpers<N>, bool)
             requires { (N.start.nodes ≡ setting.now.tree.now.nodes) × AreUnused (seats_of links.items)
                 × (spare.items ≡ []) × (length links.items ≤ vec_capacity spare) }
             ensures { AreEndsOf tcp setting.entry.now.tree.now links.entry.items result.0.items }
-        { serve_beside_sweep(scope, setting, shared, sweeper, links, spare) },
+        { serve_beside_helpers(scope, setting, shared, helpers, links, spare) },
     )
 }
 
-// Serves the links, while a thread of this scope sweeps, and tells it their end. Where none can be made, the sweeper is
-// asked for once the links are served: it finds the end told, and comes back without a sweep.
-fn serve_beside_sweep<
+// Serves the links, while threads of this scope sweep and call clients back, and tells them their end. Where one can't be
+// made, what it was to do is asked for once the links are served: it finds the end told, and comes back with nothing done.
+fn serve_beside_helpers<
     's,
     E,
     N: Naming + Send + Sync + 's,
-    R: Threads + Wait + Timer + Sync,
+    R: Threads + Wait + Timer + Net<Listener = TcpListener, Stream = TcpStream> + Sync,
     W: Watcher + Sync,
 >(
     scope: &Scope<'s, E>,
     setting: &'s Setting<'s, R, W>,
     shared: &'s Shared<N>,
-    sweeper: Sweeper<N>,
+    helpers: Helpers<N>,
     links: Vec<(TcpLinks<'_, R, W>, Seat<N>)>,
     spare: Vec<WorkerEnd<N>>,
-) -> (Vec<WorkerEnd<N>>, Sweeper<N>, bool)
+) -> (Vec<WorkerEnd<N>>, Helpers<N>, bool)
     requires nodes { N.start.nodes ≡ setting.now.tree.now.nodes }
     requires unused { AreUnused (seats_of links.items) }
     requires empty { spare.items ≡ [] }
     requires room { length links.items ≤ vec_capacity spare }
     ensures { AreEndsOf tcp setting.now.tree.now links.entry.items result.0.items }
 {
-    let begun = scope.spawn(move || sweep(setting, shared, sweeper));
+    let Helpers { sweeper, sender } = helpers;
+    let sweeping = scope.spawn(move || sweep(setting, shared, sweeper));
+    let calling = scope.spawn(move || call_back(setting, shared, sender));
     let all = match serve_all(setting.alloc, setting.rt, shared, setting.tree, links) {
         Ok(all) => all,
         Err(links) => refuse_all(setting.alloc, setting.tree, links, spare),
     };
     setting.bell.ring(setting.rt);
-    match begun {
-        Ok(handle) => (all, handle.join(setting.rt), true),
-        Err(back) => (all, (back.value)(), false),
-    }
+    let has_helpers = sweeping.is_ok() && calling.is_ok();
+    let sweeper = match sweeping {
+        Ok(handle) => handle.join(setting.rt),
+        Err(back) => (back.value)(),
+    };
+    let sender = match calling {
+        Ok(handle) => handle.join(setting.rt),
+        Err(back) => (back.value)(),
+    };
+    (all, Helpers { sweeper, sender }, has_helpers)
 }
 
 // Sweeps until the end of the connections is told, and gives the sweeper back.
@@ -251,6 +272,17 @@ fn sweep<N: Naming, R: Wait + Timer, W: Watcher>(
     let (bell, watcher) = (setting.bell, setting.watcher);
     sweep_until(setting.rt, shared, &mut sweeper, &mut uptime, bell, watcher);
     sweeper
+}
+
+// Calls clients back until the end of the connections is told, and gives the sender back.
+fn call_back<N: Naming, R: Net + Wait + Timer, W>(
+    setting: &Setting<'_, R, W>,
+    shared: &Shared<N>,
+    sender: Sender<N>,
+) -> Sender<N> {
+    let mut source = SharedSource::new(setting.rt, shared, sender);
+    call_back_until(setting.alloc, setting.rt, &mut source, setting.bell);
+    source.into_sender()
 }
 
 // The links get no worker, as memory is refused: none is served, and the seats come back.
@@ -275,8 +307,7 @@ fn refuse_all<N: Naming, R, W>(
 // The core at the end, and what each worker did.
 fn end<N: Naming>(
     shared: Shared<N>,
-    sweeper: Sweeper<N>,
-    sender: Sender<N>,
+    helpers: Helpers<N>,
     all: Vec<WorkerEnd<N>>,
     mut parts: Parts<N>,
     accounts: Vec<WorkerAccount>,
@@ -301,6 +332,7 @@ fn end<N: Naming>(
         seats,
         receipts,
     } = parts;
+    let Helpers { sweeper, sender } = helpers;
     let core = shared.end(receipts.as_slice(), seats, sweeper, sender);
     (core, pair(shifts, receipts, accounts))
 }

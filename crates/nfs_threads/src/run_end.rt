@@ -8,6 +8,7 @@ pub struct RunEnd {
     pub core: Core,
     /// What each worker served, in the order of their seats.
     pub workers: Vec<WorkerAccount>,
-    /// Whether a thread swept leases meanwhile. Where none could be made, no lease ended.
-    pub is_swept: bool,
+    /// Whether one thread swept leases meanwhile, and another one called clients back. What no thread could be made for
+    /// wasn't done.
+    pub has_helpers: bool,
 }

@@ -14,6 +14,6 @@ returns g c =
         filed,
         subst (λ h. IsFiled (device_of_sink g.J.Sink.takes g.J.Sink.fails) g.J.Sink.failures c.args.journal.now c.file_journal-filed.new.file h filed) c.journal.ensures.journal c.file_journal-filed.ensures.filed,
         subst (λ h. filed ≡ Some NoMemory → ¬ (HasRoomForFileOf (vec_capacity c.args.buffer.now) h)) c.journal.ensures.journal c.file_journal-filed.ensures.memory,
-        c.exit_status.ensures ∙ ap status_of (c.run_fault-fault.ensures ∙ ap (λ connections. fault_of_run c.args.run.now.is_swept connections filed) c.as_slice.ensures.value),
+        c.exit_status.ensures ∙ ap status_of (c.run_fault-fault.ensures ∙ ap (λ connections. fault_of_run c.args.run.now.has_helpers connections filed) c.as_slice.ensures.value),
       );
     }

@@ -26,7 +26,7 @@ const PROBE_LIMIT: usize = 64;
 /// Calls clients back: recalls their delegations, and tries paths of which nothing is known. It does so in looks, which
 /// wait for nothing but for sockets to be ready, and for that no longer than they are told.
 #[derive(Drop)]
-pub struct Sender {
+pub struct Caller {
     alloc: Global,
     poll: Poll,
     events: Events,
@@ -41,10 +41,10 @@ pub struct Sender {
     probed: u32,
 }
 
-impl Sender {
+impl Caller {
     /// A sender that has nothing to do yet.
-    pub fn new<N: Net>(alloc: Global, net: &N) -> io::Result<Sender> {
-        Ok(Sender {
+    pub fn new<N: Net>(alloc: Global, net: &N) -> io::Result<Caller> {
+        Ok(Caller {
             alloc,
             poll: Poll::new(net)?,
             events: Events::with_capacity(alloc, UNDER_WAY_LIMIT)?,
@@ -89,7 +89,11 @@ impl Sender {
                 return;
             };
             let client = recall.stateid.client.number;
-            if let Err(Errand::Recall(recall)) = self.calls.lines.push(client, Errand::Recall(recall)) {
+            if let Err(Errand::Recall(recall)) = self
+                .calls
+                .lines
+                .push(client, Errand::Recall(recall))
+            {
                 self.in_hand = Some(recall);
                 return;
             }
@@ -110,7 +114,11 @@ impl Sender {
                 return;
             };
             if self.calls.lines.state(client) == LineState::Empty
-                && self.calls.lines.push(client, Errand::Null(callback)).is_err()
+                && self
+                    .calls
+                    .lines
+                    .push(client, Errand::Null(callback))
+                    .is_err()
             {
                 return;
             }
