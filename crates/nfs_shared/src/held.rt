@@ -10,7 +10,7 @@ ghost use Rattle.nfs_core.specs.declared.entered.Entered.{Entered};
 ghost use Rattle.nfs_forms.specs.ClientId.{number_in};
 ghost use Rattle.nfs_leases.specs.BookEvent.{AllHappen};
 ghost use Rattle.nfs_leases.specs.BookOf.{events_entered};
-ghost use Rattle.nfs_shared.specs.Held.{CanBeHeld, HasQueued, MayBeHeld};
+ghost use Rattle.nfs_shared.specs.Held.{CanBeHeld, HasQueued, MayBeHeld, waiting};
 ghost use Rattle.nfs_leases.specs.PlainBook.{Happens, has_open_lease, with_renewal};
 ghost use Rattle.nfs_leases.specs.Renewals.{renewed_by};
 ghost use Rattle.nfs_shared.specs.Sender.{with_mark};
@@ -69,6 +69,17 @@ impl<N: Naming> Held<N> {
         ensures known { CanBeHeld N.start self.now }
     {
         self.leased.core.probe(after)
+    }
+
+    /// How many recalls wait for room in the queue.
+    pub(crate) fn waiting(&self) -> usize
+        ensures { result ≡ length (waiting self.now.hand self.now.server.recalls) }
+    {
+        let left = self.leased.core.pending().len();
+        match self.hand {
+            Some(_) => 1 + left,
+            None => left,
+        }
     }
 
     /// How the live client with this number is called back, if there is one.

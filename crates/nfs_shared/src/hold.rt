@@ -9,7 +9,7 @@ ghost use Rattle.nfs_core.specs.declared.entered.Entered.{Entered};
 ghost use Rattle.nfs_forms.specs.ClientId.{number_in};
 ghost use Rattle.nfs_leases.specs.BookEvent.{AllHappen};
 ghost use Rattle.nfs_leases.specs.BookOf.{events_entered};
-ghost use Rattle.nfs_shared.specs.Held.{CanBeHeld, HasQueued, MayBeHeld};
+ghost use Rattle.nfs_shared.specs.Held.{CanBeHeld, HasQueued, MayBeHeld, waiting};
 ghost use Rattle.nfs_leases.specs.PlainBook.{Happens, has_open_lease, with_renewal};
 ghost use Rattle.nfs_leases.specs.Renewals.{renewed_by};
 ghost use Rattle.nfs_shared.specs.Sender.{with_mark};
@@ -85,6 +85,13 @@ impl<'a, N: Naming, R: Wait> Hold<'a, N, R> {
         ensures known { CanBeHeld N.start self.now }
     {
         self.guard.probe(after)
+    }
+
+    /// How many recalls wait for room in the queue. Where the hold ends, they go there as far as there is room.
+    pub fn waiting(&self) -> usize
+        ensures { result ≡ length (waiting self.now.hand self.now.server.recalls) }
+    {
+        self.guard.waiting()
     }
 
     /// How the live client with this number is called back, if there is one.

@@ -190,8 +190,15 @@ impl<'a, N: Naming + Send + Sync, R: Threads + Wait + Sync> Together<'a, N, R> {
                 answer.put_client(found.as_ref())?;
                 Ok(self)
             }
-            // No call of the shared state revokes alone: its sweeps do. None counts the recalls.
-            Order::Revoke(_) | Order::Pending => Err(Failure::Input),
+            Order::Pending => {
+                let hold = self.workers.shared.hold(self.workers.rt);
+                let count = hold.waiting();
+                drop(hold);
+                answer.put_count(count)?;
+                Ok(self)
+            }
+            // No call of the shared state revokes alone: its sweeps do.
+            Order::Revoke(_) => Err(Failure::Input),
         }
     }
 
