@@ -50,8 +50,9 @@ def handle(node):
 
 
 def setclientid(verifier, client):
-    """SETCLIENTID with the program 0x40000000, the address 127.0.0.1.8.1 over tcp, and ident 1."""
-    address = opaque(b"tcp") + opaque(b"127.0.0.1.8.1")
+    """SETCLIENTID with the program 0x40000000, the address 127.0.0.1.3.232 over tcp, where nobody listens, and ident
+    1."""
+    address = opaque(b"tcp") + opaque(b"127.0.0.1.3.232")
     return words(SETCLIENTID) + verifier + opaque(client) + words(0x40000000) + address + words(1)
 
 
