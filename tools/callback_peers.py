@@ -14,12 +14,13 @@ from messages import call, words
 # The model's, which `messages` has made known.
 from wire import Callback, PROG_UNAVAIL, REPLY, Status, accepted, record
 
-PROGRAM, IDENT = 0x40000000, 7
+# What a client gives beside the address.
+CALLBACK_PROGRAM, IDENT = 0x40000000, 7
 
 
 def callback_at(address):
     """What a client gives to the server so that it is called at this address."""
-    return Callback(PROGRAM, b"tcp", universal_address(address).encode(), IDENT)
+    return Callback(CALLBACK_PROGRAM, b"tcp", universal_address(address).encode(), IDENT)
 
 
 # Odd answers, to any call or to a recall.
@@ -106,29 +107,32 @@ def full_listener():
                 stream.close()
 
 
-# A peer by what it does: what gives its callback to a client of the server with this port; and how that client's path
-# is marked, which is None where it isn't.
-BadPeer = namedtuple("BadPeer", "name callback mark")
+# A peer by what it does: what gives its callback to a client of the server with this port; how that client's path is
+# marked, which is None where it isn't; and whether a callback is one of the server's own connections.
+class BadPeer(namedtuple("BadPeer", "name callback mark takes_connection", defaults=(False,))):
+    @property
+    def is_unanswered(self):
+        return self.mark is None
 
 
 def bad_peers():
     """Each kind of peer that a server has to stand."""
-    def answers(name, answer, mark, kind=Listener):
+    def answers(name, answer, mark=False, kind=Listener):
         return BadPeer(name, lambda port: listener(answer, kind), mark)
 
     def is_at(name, callback):
         return BadPeer(name, lambda port: nullcontext(callback), False)
-    yield answers("accepts, and never answers", keep_silent, None)
+    yield answers("accepts, and never answers", keep_silent, mark=None)
     yield BadPeer("never accepts", lambda port: full_listener(), None)
-    yield answers("resets at once", keep_silent, False, Resetting)
-    yield answers("resets behind the call", lambda heard: reset(heard.stream), False)
-    yield answers("closes behind the call", lambda heard: heard.stream.close(), False)
-    yield answers("refuses the program", refuse, False)
+    yield answers("resets at once", keep_silent, kind=Resetting)
+    yield answers("resets behind the call", lambda heard: reset(heard.stream))
+    yield answers("closes behind the call", lambda heard: heard.stream.close())
+    yield answers("refuses the program", refuse)
     for kind, data in garbage().items():
-        yield answers(f"answers garbage {kind}", partial(Heard.send, data=data), False)
-    yield answers("answers without end", answer_without_end, False)
-    yield answers("answers in pieces", answer_in_pieces, True)
-    yield BadPeer("is the server", lambda port: nullcontext(callback_at(("127.0.0.1", port))), False)
+        yield answers(f"answers garbage {kind}", partial(Heard.send, data=data))
+    yield answers("answers without end", answer_without_end)
+    yield answers("answers in pieces", answer_in_pieces, mark=True)
+    yield BadPeer("is the server", lambda port: nullcontext(callback_at(("127.0.0.1", port))), False, True)
     yield is_at("has port 0", callback_at(("127.0.0.1", 0)))
-    yield is_at("has no address", Callback(PROGRAM, b"", b"", IDENT))
+    yield is_at("has no address", Callback(CALLBACK_PROGRAM, b"", b"", IDENT))
     yield BadPeer("doesn't listen", lambda port: nobody(), False)
