@@ -22,7 +22,8 @@ RecallArguments = namedtuple("RecallArguments", "ident stateid truncate filehand
 # The calls, and their reply.
 
 def read_callback(data):
-    """The call of a record; or Unreadable where it is neither CB_NULL nor a CB_COMPOUND of one CB_RECALL."""
+    """The call that a record is, by its bytes without headers; or Unreadable where it is neither CB_NULL nor a
+    CB_COMPOUND of one CB_RECALL."""
     reader = Reader(data)
     xid, kind, rpc_version = reader.u32(), reader.u32(), reader.u32()
     program, version, procedure = reader.u32(), reader.u32(), reader.u32()
@@ -44,6 +45,14 @@ def read_recall(reader):
     return tag, RecallArguments(ident, read_stateid(reader), reader.one_of(2), reader.opaque(FILEHANDLE_LIMIT))
 
 
+def call_of(data):
+    """The call that a record is, or None."""
+    try:
+        return read_callback(data)
+    except Unreadable:
+        return None
+
+
 def reply_to(call, status=Status.OK):
     """The reply with SUCCESS, and to CB_RECALL with this status."""
     results = b"" if call.recall is None else u32(status) + opaque(call.tag) + u32(1, OP_CB_RECALL, status)
@@ -53,15 +62,12 @@ def reply_to(call, status=Status.OK):
 # The listener.
 
 class Heard:
-    """A record that came on a connection: when, from where, without the headers of its fragments, and the call that it
-    is, or None. `is_over` is set once the connection has ended."""
+    """A record that came on a connection: when, from where, its bytes, and the call that it is, or None. `is_over` is
+    set once the connection has ended."""
 
-    def __init__(self, stream, peer, data, is_over):
-        self.moment, self.stream, self.peer, self.data, self.is_over = time.monotonic(), stream, peer, data, is_over
-        try:
-            self.call = read_callback(data)
-        except Unreadable:
-            self.call = None
+    def __init__(self, stream, peer, data, call, is_over):
+        self.moment, self.stream, self.peer, self.data = time.monotonic(), stream, peer, data
+        self.call, self.is_over = call, is_over
 
     def reply(self, data):
         self.send(record(data))
@@ -123,10 +129,15 @@ class Listener:
 
     def attend(self, stream, peer):
         """Has the records of a connection answered, up to its end."""
-        is_over = threading.Event()
+        is_over, data = threading.Event(), bytearray()
+
+        def take(count):
+            data.extend(taken := stream.recv(count, socket.MSG_WAITALL))
+            return taken
         try:
-            for data in records(lambda count: stream.recv(count, socket.MSG_WAITALL)):
-                self.hear(Heard(stream, peer, data, is_over))
+            for body in records(take):
+                self.hear(Heard(stream, peer, bytes(data), call_of(body), is_over))
+                data.clear()
         except (Fault, OSError):
             # It ended within a record, or by a reset of either side.
             pass
