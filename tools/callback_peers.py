@@ -75,13 +75,7 @@ def garbage():
         "of another xid": record(accepted(0xFFFFFFFF, 0)), "of half a reply": record(words(1, REPLY))}
 
 
-# Where a client is called. Each gives the callback, while it is there.
-
-@contextmanager
-def listener(answer, kind=Listener):
-    with kind(answer) as listening:
-        yield callback_at(listening.address)
-
+# Addresses where nobody accepts. Each gives the callback to it, for as long as it is there.
 
 @contextmanager
 def nobody():
@@ -107,9 +101,11 @@ def full_listener():
                 stream.close()
 
 
-# A peer by what it does: what gives its callback to a client of the server with this port; how that client's path is
-# marked, which is None where it isn't; and whether a callback is one of the server's own connections.
-class BadPeer(namedtuple("BadPeer", "name callback mark takes_connection", defaults=(False,))):
+class BadPeer(namedtuple("BadPeer", "name place mark takes_connection", defaults=(False, False))):
+    """A peer by what it does. It is there while its place is entered, which is made for the port of the server, and
+    gives a listener or a callback. A callback there marks the path *up* or *down*, or not at all (None); it may be one
+    of the server's own connections."""
+
     @property
     def is_unanswered(self):
         return self.mark is None
@@ -118,12 +114,12 @@ class BadPeer(namedtuple("BadPeer", "name callback mark takes_connection", defau
 def bad_peers():
     """Each kind of peer that a server has to stand."""
     def answers(name, answer, mark=False, kind=Listener):
-        return BadPeer(name, lambda port: listener(answer, kind), mark)
+        return BadPeer(name, lambda port: kind(answer), mark)
 
     def is_at(name, callback):
-        return BadPeer(name, lambda port: nullcontext(callback), False)
+        return BadPeer(name, lambda port: nullcontext(callback))
     yield answers("accepts, and never answers", keep_silent, mark=None)
-    yield BadPeer("never accepts", lambda port: full_listener(), None)
+    yield BadPeer("never accepts", lambda port: full_listener(), mark=None)
     yield answers("resets at once", keep_silent, kind=Resetting)
     yield answers("resets behind the call", lambda heard: reset(heard.stream))
     yield answers("closes behind the call", lambda heard: heard.stream.close())
@@ -132,7 +128,7 @@ def bad_peers():
         yield answers(f"answers garbage {kind}", partial(Heard.send, data=data))
     yield answers("answers without end", answer_without_end)
     yield answers("answers in pieces", answer_in_pieces, mark=True)
-    yield BadPeer("is the server", lambda port: nullcontext(callback_at(("127.0.0.1", port))), False, True)
+    yield BadPeer("is the server", lambda port: nullcontext(callback_at(("127.0.0.1", port))), takes_connection=True)
     yield is_at("has port 0", callback_at(("127.0.0.1", 0)))
     yield is_at("has no address", Callback(CALLBACK_PROGRAM, b"", b"", IDENT))
-    yield BadPeer("doesn't listen", lambda port: nobody(), False)
+    yield BadPeer("doesn't listen", lambda port: nobody())
