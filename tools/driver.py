@@ -129,12 +129,14 @@ class Driver:
         return Revoked(*[self.word() for _ in Revoked._fields])
 
     def take_recall(self, xid):
-        """The record of the first recall that waits, with this xid; or nothing where none waits."""
+        """The record of the first recall that waits, with this xid; or nothing where none waits. Where threads share the
+        state it is the first in the queue, and no lock is held."""
         self.send(u32(TAKE, xid))
         return self.part()
 
     def pending(self):
-        """How many recalls wait; only where each connection is served alone."""
+        """How many recalls wait. Where threads share the state: for how many the queue had no room when the lock was
+        held last; then they go there, as far as it has."""
         self.send(u32(PENDING))
         return self.word()
 

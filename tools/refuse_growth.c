@@ -1,7 +1,9 @@
 /* Refuses growths of memory of the program that it is loaded into (LD_PRELOAD): the one whose number, from 1 on, is in
    REFUSED_GROWTH, and with REFUSED_SINCE all after it as well; with REFUSED_END all after the end of standard input, or
-   of a connection. Where a growth was refused, the file that REFUSED_MARK names is made; it has a byte where the run
-   had begun before: standard input had been read, or a connection accepted. */
+   of a connection. With REFUSED_AFTER and REFUSED_UNTIL those alone have a number that come when more bytes of standard
+   input were read than the first says, and no more than the second. Where a growth was refused, the file that
+   REFUSED_MARK names is made; it has a byte where the run had begun before: standard input had been read, or a
+   connection accepted. */
 #define _GNU_SOURCE
 #include <dlfcn.h>
 #include <errno.h>
@@ -12,12 +14,18 @@
 #include <sys/socket.h>
 #include <unistd.h>
 
-static atomic_long growths;
+static atomic_long growths, bytes_read;
 static atomic_int has_begun, has_ended;
+
+static int is_counted(void) {
+    const char *after = getenv("REFUSED_AFTER"), *until = getenv("REFUSED_UNTIL");
+    long so_far = atomic_load(&bytes_read);
+    return (!after || so_far > atol(after)) && (!until || so_far <= atol(until));
+}
 
 static int is_numbered(void) {
     const char *refused = getenv("REFUSED_GROWTH");
-    if (!refused) return 0;
+    if (!refused || !is_counted()) return 0;
     long number = atomic_fetch_add(&growths, 1) + 1, first = strtol(refused, NULL, 10);
     return getenv("REFUSED_SINCE") ? number >= first : number == first;
 }
@@ -39,6 +47,7 @@ ssize_t read(int file, void *buffer, size_t size) {
     if (!next) next = (ssize_t (*)(int, void *, size_t))dlsym(RTLD_NEXT, "read");
     ssize_t count = next(file, buffer, size);
     if (file == 0) atomic_store(&has_begun, 1);
+    if (file == 0 && count > 0) atomic_fetch_add(&bytes_read, count);
     if (file == 0 && count == 0) atomic_store(&has_ended, 1);
     return count;
 }

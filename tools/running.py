@@ -164,7 +164,7 @@ def run_again(row, **program):
 
 def run_shared(row, **program):
     """Each part by a thread, with a state that threads share; and then without, which has to leave the same journal.
-    Only without, if the row orders what a state that threads share isn't told."""
+    Only without, if the row orders what a state that threads share isn't told, or answers otherwise."""
     if row.is_unshared:
         return run_once(row, **program)
     shared = run(row, SHARED, PIECE, **program)

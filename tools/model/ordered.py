@@ -17,6 +17,7 @@ import wire
 from callbacks import recall_call
 from entries import MOMENT_LIMIT
 from journal import LEASE_LIMIT, Recorder, journal_bytes
+from recall_queue import Queuing
 from states import Unchanged
 from tree import Refused, Tree
 from wire import u32
@@ -80,8 +81,9 @@ class Session:
         self.input, self.way = given, limited(given.u32(), 2)
         lease, epoch, self.seats = limited(given.u32() - 1, LEASE_LIMIT) + 1, given.u32(), given.u32()
         document = given.part()
+        kind = Queuing if self.way == SHARED else Recorder
         try:
-            self.server = Recorder(Tree(document.decode()), lease, epoch)
+            self.server = kind(Tree(document.decode()), lease, epoch)
         except UnicodeDecodeError:
             raise Invalid from None
 
@@ -129,7 +131,8 @@ class Session:
 
     def revoke(self):
         moment = self.input.moment()
-        self.expect_alone()
+        if self.way != ALONE:
+            raise Invalid
         error, entry = error_of(lambda: self.server.revoke(moment))
         answer(error, entry is not None, entry or 0)
 
@@ -139,15 +142,10 @@ class Session:
         send(u32(len(record)) + record)
 
     def pending(self):
-        self.expect_alone()
-        answer(len(self.server.pending()))
+        answer(self.server.waiting() if self.way == SHARED else len(self.server.pending()))
 
     def probe(self):
         answer(self.server.probe(self.input.u32()) or 0)
-
-    def expect_alone(self):
-        if self.way != ALONE:
-            raise Invalid
 
 
 def error_of(change):

@@ -135,7 +135,7 @@ class Probe:
 
 # What a server is told that no call asks for.
 ORDERS = (Sweep, Mark, Revoke, Take, Pending, Probe)
-# What is told a server that serves each connection alone, and not one whose state threads share.
+# What a server whose state threads share isn't told, or answers otherwise, as it hands its recalls over by a queue.
 ALONE_ORDERS = (Revoke, Pending)
 
 
@@ -199,7 +199,7 @@ class Row:
 
     @property
     def is_unshared(self):
-        """Whether the server is told something that one isn't whose state threads share."""
+        """Whether the server is told something that one isn't whose state threads share, or answers otherwise."""
         return any(isinstance(step, ALONE_ORDERS) for step in self.steps)
 
     @property

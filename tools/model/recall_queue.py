@@ -1,0 +1,45 @@
+"""A server whose state threads share behind a lock. Its recalls go into a queue, from which who sends them takes them."""
+from dataclasses import dataclass
+
+from journal import Recorder
+
+# How many recalls the queue has room for.
+ROOM = 1024
+
+
+@dataclass
+class Queuing(Recorder):
+    """At the end of each hold of the lock the recalls go into the queue, in order, as far as that has room. The others
+    wait for the next hold."""
+    # How many of the run's recalls went into the queue.
+    queued: int = 0
+
+    def hold(self, change, *given):
+        """What comes of a change, in a hold of the lock."""
+        try:
+            return change(*given)
+        finally:
+            self.queued = min(len(self.recalls), self.taken + ROOM)
+
+    def apply(self, *given):
+        return self.hold(super().apply, *given)
+
+    def renew(self, arguments):
+        return self.hold(super().renew, arguments)
+
+    def sweep(self, now):
+        return self.hold(super().sweep, now)
+
+    def mark_path(self, number, is_up):
+        return self.hold(super().mark_path, number, is_up)
+
+    def probe(self, after):
+        return self.hold(super().probe, after)
+
+    def waiting(self):
+        """How many recalls wait for room in the queue, as the hold begins in which they are counted."""
+        return self.hold(lambda: len(self.recalls) - self.queued)
+
+    def take_recall(self):
+        """The first recall in the queue, or None where there is none. This takes no lock."""
+        return super().take_recall() if self.taken < self.queued else None
