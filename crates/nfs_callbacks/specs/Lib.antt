@@ -1,0 +1,3 @@
+pub mod Errands
+pub mod Exchanges
+pub mod Lines

@@ -6,6 +6,7 @@ use crate::line::LineState;
 use crate::source::Probe;
 use mio::{Events, Poll};
 use nfs_rpc::Recall;
+use nfs_xdr::Callback;
 use std::alloc::Global;
 use std::io;
 use std::net::Net;
@@ -36,13 +37,13 @@ pub struct Caller {
     // The number of the next call.
     xid: u32,
     // The client of the call that was begun last.
-    begun: u32,
+    turn: u32,
     // The client that was probed last.
-    probed: u32,
+    last_probe: u32,
 }
 
 impl Caller {
-    /// A sender that has nothing to do yet.
+    /// A caller that has nothing to do yet.
     pub fn new<N: Net>(alloc: Global, net: &N) -> io::Result<Caller> {
         Ok(Caller {
             alloc,
@@ -51,8 +52,8 @@ impl Caller {
             calls: Calls::new(alloc),
             in_hand: None,
             xid: 1,
-            begun: 0,
-            probed: 0,
+            turn: 0,
+            last_probe: 0,
         })
     }
 
@@ -100,30 +101,35 @@ impl Caller {
         }
     }
 
-    // Puts a CB_NULL into the line of each client of whose path nothing is known and to whom nothing else is to be said.
+    // Has a CB_NULL sent to each client of whose path nothing is known.
     fn probe<S: CallbackSource>(&mut self, source: &mut S) {
         if self.in_hand.is_some() || !self.calls.can_mark() {
             return;
         }
         for _ in 0..PROBE_LIMIT {
-            let Ok(found) = source.probe(self.probed) else {
+            let Ok(found) = source.probe(self.last_probe) else {
                 return;
             };
             let Some(Probe { client, callback }) = found else {
-                self.probed = 0;
+                self.last_probe = 0;
                 return;
             };
-            if self.calls.lines.state(client) == LineState::Empty
-                && self
-                    .calls
-                    .lines
-                    .push(client, Errand::Null(callback))
-                    .is_err()
-            {
+            if !self.put_null(client, callback) {
                 return;
             }
-            self.probed = client;
+            self.last_probe = client;
         }
+    }
+
+    // Puts a CB_NULL into the line of a client to whom nothing else is to be said. It returns whether there was memory.
+    fn put_null(&mut self, client: u32, callback: Callback) -> bool {
+        let lines = &mut self.calls.lines;
+        if lines.state(client) != LineState::Empty {
+            return true;
+        }
+        let is_put = lines.push(client, Errand::Null(callback)).is_ok();
+        lines.tidy(client);
+        is_put
     }
 
     // Begins calls, the client's first behind whose call was begun last.
@@ -133,10 +139,10 @@ impl Caller {
             if room == 0 {
                 return;
             }
-            let Some(client) = self.calls.lines.next(self.begun, LineState::Ready) else {
+            let Some(client) = self.calls.lines.next(self.turn, LineState::Ready) else {
                 return;
             };
-            self.begun = client;
+            self.turn = client;
             if self.begin_first(client, net, source) {
                 room -= 1;
             }
@@ -153,7 +159,7 @@ impl Caller {
         let Some(line) = self.calls.lines.line_mut(client) else {
             return false;
         };
-        let Some(errand) = line.first() else {
+        let (LineState::Ready, Some(errand)) = (line.state(), line.first()) else {
             return false;
         };
         if !errand.is_due(client, source) {

@@ -12,7 +12,7 @@ const CHECK_LIMIT: usize = 64;
 pub(crate) struct Calls {
     pub(crate) lines: Lines,
     // The client whose call was checked last.
-    checked: u32,
+    last_check: u32,
     // Whether paths can still be marked in this run.
     can_mark: bool,
 }
@@ -21,7 +21,7 @@ impl Calls {
     pub(crate) fn new(alloc: Global) -> Calls {
         Calls {
             lines: Lines::new(alloc),
-            checked: 0,
+            last_check: 0,
             can_mark: true,
         }
     }
@@ -132,10 +132,10 @@ impl Calls {
     pub(crate) fn check<S: CallbackSource>(&mut self, source: &mut S) {
         let count = self.lines.count(LineState::UnderWay).min(CHECK_LIMIT);
         for _ in 0..count {
-            let Some(client) = self.lines.next(self.checked, LineState::UnderWay) else {
+            let Some(client) = self.lines.next(self.last_check, LineState::UnderWay) else {
                 return;
             };
-            self.checked = client;
+            self.last_check = client;
             self.check_one(client, source);
         }
     }

@@ -1,6 +1,10 @@
+ghost use Rattle.std.specs.Prelude.{◌≡◌, IfOk};
+ghost use Rattle.nfs_callbacks.specs.Errands as specs;
+
 use crate::CallbackSource;
 use nfs_rpc::{Recall, write_null_call, write_recall_call};
 use nfs_xdr::Callback;
+use std::alloc::Global;
 use xdr::WireError;
 
 /// What a client is called back for.
@@ -14,7 +18,9 @@ pub(crate) enum Errand {
 
 impl Errand {
     /// How the client is called.
-    pub(crate) fn callback(&self) -> &Callback {
+    pub(crate) fn callback(&self) -> &Callback
+        ensures { result.now ≡ specs.callback_of self.now }
+    {
         match self {
             Errand::Recall(recall) => &recall.callback,
             Errand::Null(callback) => callback,
@@ -22,20 +28,26 @@ impl Errand {
     }
 
     /// Whether the call is a CB_COMPOUND.
-    pub(crate) fn is_compound(&self) -> bool {
+    pub(crate) fn is_compound(&self) -> bool
+        ensures { result ≡ specs.is_compound self.now }
+    {
         matches!(self, Errand::Recall(_))
     }
 
-    /// Writes the call at the end, as a record of one fragment, or nothing. Only memory can be missing.
-    pub(crate) fn write_call(&self, out: &mut Vec<u8>, xid: u32) -> Result<(), WireError> {
+    /// The record of the call with this xid. It fails only where memory is refused.
+    pub(crate) fn call(&self, alloc: Global, xid: u32) -> Result<Vec<u8>, WireError>
+        ensures { IfOk result (λ call. call.items ≡ specs.call_of xid self.now) }
+    {
+        let mut call = Vec::new(alloc);
         match self {
-            Errand::Recall(recall) => write_recall_call(out, xid, recall),
-            Errand::Null(callback) => write_null_call(out, xid, callback.program),
+            Errand::Recall(recall) => write_recall_call(&mut call, xid, recall)?,
+            Errand::Null(callback) => write_null_call(&mut call, xid, callback.program)?,
         }
+        Ok(call)
     }
 
-    /// Whether there is still reason to begin the call. That of a recall goes to the callback that the recall names, also
-    /// where its client has another one by now.
+    /// Whether there is still reason to begin the call. That of a recall goes to the callback that the recall names,
+    /// also where its client has another one by now.
     pub(crate) fn is_due<S: CallbackSource>(&self, client: u32, source: &mut S) -> bool {
         match self {
             Errand::Recall(recall) => source.has_delegation(recall),

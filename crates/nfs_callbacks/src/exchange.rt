@@ -1,22 +1,30 @@
+ghost use Rattle.std.specs.Prelude.{◌≡◌, ◌↔◌, ◌+◌, ◌≤◌, ◌^◌, IfNone, IfOk, IfSome, IsTrue, length, take, true};
+ghost use Rattle.nfs_callbacks.specs.Exchanges.{ComesTo, Conversation, GoesOn, HasCome, HasNoReply, HasReply, IsVerdict, beginning};
+ghost use Rattle.nfs_callbacks.specs.declared.exchange.Progress.TheVariants as progresses;
+ghost use Rattle.nfs_callbacks.specs.declared.exchange.TheConstants.{PLACE_LEN};
+
 use crate::errand::Errand;
 use mio::net::TcpStream;
 use mio::{Interest, Registry, Token};
-use nfs_rpc::{CallbackReply, RecordError, Records, read_cb_reply, socket_address};
-use std::alloc::Global;
+use nfs_rpc::{CallbackReply, RecordError, Records, one_split, read_cb_reply, socket_address};
+use std::alloc::{AllocError, Global};
+use std::io;
 use std::io::{Error, ErrorKind, Read, Write};
+use std::marker::Model;
 use std::net::{Net, SocketAddr};
 
-// By how many bytes a reply has to be whole, the headers of its fragments included. One byte more is read, to see that
-// there are more.
-const REPLY_LIMIT: usize = 4_096;
+// How many bytes are read at most, the headers of fragments included. Where these have no whole record, none is waited
+// for.
+const PLACE_LEN: usize = 4_097;
 
-const PLACE_LEN: usize = REPLY_LIMIT + 1;
+// The bits of a fragment's header that are its length (RFC 5531, section 11).
+const FRAGMENT_LEN: u32 = 0x7fff_ffff;
 
 // How often a read or a write is tried in one look. Each takes a byte at least, unless a signal came.
 const TRIES: u32 = 8_192;
 
-// The system's numbers for what it refuses a socket for, that has nothing to do with the peer: EINTR, EAGAIN, ENOMEM, ENFILE,
-// EMFILE, EADDRNOTAVAIL and ENOBUFS of Linux.
+// For what the system refuses a socket that has nothing to do with the peer: EINTR, EAGAIN, ENOMEM, ENFILE, EMFILE,
+// EADDRNOTAVAIL and ENOBUFS, by Linux's numbers.
 const REFUSALS: [i32; 7] = [4, 11, 12, 23, 24, 99, 105];
 
 /// Why the exchange of a callback didn't begin.
@@ -73,12 +81,28 @@ pub(crate) struct Exchange {
     // The call's record.
     call: Vec<u8>,
     // How many bytes of it are written.
-    written: usize,
+    sent_len: usize,
     // The place of the bytes that were read.
     place: Vec<u8>,
     // How many these are.
-    received: usize,
+    reply_len: usize,
     is_stalled: bool,
+}
+
+impl Model for Exchange {
+    ghost Value = { Conversation };
+
+    ghost view = { λ e. record {
+      xid = e.xid;
+      is_compound = e.is_compound;
+      call = e.call.items;
+      sent_len = e.sent_len;
+      reply = take e.reply_len e.place.items;
+      is_stalled = e.is_stalled;
+    } };
+
+    ghost invariant = { λ e. (e.sent_len ≤ length e.call.items)
+        × (e.reply_len ≤ length e.place.items) × (length e.place.items ≡ PLACE_LEN) };
 }
 
 impl Exchange {
@@ -90,14 +114,15 @@ impl Exchange {
         client: u32,
         errand: &Errand,
         xid: u32,
-    ) -> Result<Exchange, BeginError> {
+    ) -> Result<Exchange, BeginError>
+        ensures { IfOk result (λ e. e ≡ beginning xid errand.now) }
+    {
         let Some(address) = socket_address(&errand.callback().address) else {
             return Err(BeginError::Fault);
         };
-        let mut call = Vec::new(alloc);
-        if errand.write_call(&mut call, xid).is_err() {
+        let Ok(call) = errand.call(alloc, xid) else {
             return Err(BeginError::Refused);
-        }
+        };
         let Ok(place) = Vec::from_elem(alloc, 0u8, PLACE_LEN) else {
             return Err(BeginError::Refused);
         };
@@ -116,66 +141,124 @@ impl Exchange {
             xid,
             is_compound: errand.is_compound(),
             call,
-            written: 0,
+            sent_len: 0,
             place,
-            received: 0,
+            reply_len: 0,
             is_stalled: false,
         })
     }
 
     /// Writes and reads what can be written and read at once.
-    pub(crate) fn advance(&mut self) -> Progress {
+    pub(crate) fn advance(&mut self) -> Progress
+        ensures goes { GoesOn self.old self.new }
+        ensures comes { HasCome self.new result }
+        ensures stalled { IsTrue self.new.is_stalled ↔ (result ≡ progresses.Stalled) }
+    {
         let progress = self.progress();
         self.is_stalled = progress == Progress::Stalled;
         progress
     }
 
     /// Whether it has to go on in the next look, whatever the connection tells.
-    pub(crate) fn is_stalled(&self) -> bool {
+    pub(crate) fn is_stalled(&self) -> bool
+        ensures { result ≡ self.now.is_stalled }
+    {
         self.is_stalled
     }
 
-    fn progress(&mut self) -> Progress {
-        let flows = [self.send(), self.receive()];
-        let received = &self.place[..self.received];
-        match judge(self.alloc, received, self.xid, self.is_compound) {
-            Verdict::Reply(reply) => Progress::Ended(reply == CallbackReply::Accepted),
-            Verdict::Memory => Progress::Stalled,
-            Verdict::Unfinished => progress_of(flows),
-        }
+    fn progress(&mut self) -> Progress
+        ensures goes { GoesOn self.old self.new }
+        ensures comes { HasCome self.new result }
+    {
+        let sent = self.send();
+        let heard = self.receive();
+        let reply = &self.place[..self.reply_len];
+        let verdict = judge(self.alloc, reply, self.xid, self.is_compound);
+        progress_by(verdict, sent, heard)
     }
 
     // Writes what is left of the call.
-    fn send(&mut self) -> Flow {
-        for _ in 0..TRIES {
-            if self.written == self.call.len() {
-                return Flow::Over;
-            }
-            match self.stream.write(&self.call[self.written..]) {
-                Ok(0) => return Flow::Broken,
-                Ok(n) => self.written += n,
-                Err(error) if error.kind() == ErrorKind::Interrupted => {}
-                Err(error) => return flow_after(&error),
+    fn send(&mut self) -> Flow
+        ensures { GoesOn self.old self.new }
+    {
+        'tries: for _ in 0..TRIES {
+            let flow = self.write_once();
+            if flow != Flow::Open {
+                return flow;
             }
         }
         Flow::Open
     }
 
-    // Reads what has come, as far as there is a place for it.
-    fn receive(&mut self) -> Flow {
-        for _ in 0..TRIES {
-            if self.received == self.place.len() {
-                return Flow::Over;
+    // Makes one write.
+    fn write_once(&mut self) -> Flow
+        ensures { GoesOn self.old self.new }
+    {
+        if self.sent_len == self.call.len() {
+            return Flow::Over;
+        }
+        match self.stream.write(&self.call[self.sent_len..]) {
+            Ok(0) => Flow::Broken,
+            Ok(n) => {
+                self.sent_len += n;
+                Flow::Open
             }
-            match self.stream.read(&mut self.place[self.received..]) {
-                Ok(0) => return Flow::Broken,
-                Ok(n) => self.received += n,
-                Err(error) if error.kind() == ErrorKind::Interrupted => {}
-                Err(error) => return flow_after(&error),
+            Err(error) => flow_after(&error),
+        }
+    }
+
+    // Reads what has come, as far as there is a place for it.
+    fn receive(&mut self) -> Flow
+        ensures { GoesOn self.old self.new }
+    {
+        'tries: for _ in 0..TRIES {
+            let flow = self.read_once();
+            if flow != Flow::Open {
+                return flow;
             }
         }
         Flow::Open
     }
+
+    // Makes one read.
+    fn read_once(&mut self) -> Flow
+        ensures { GoesOn self.old self.new }
+    {
+        if self.is_reply_too_long() {
+            return Flow::Over;
+        }
+        match read_behind(&mut self.stream, &mut self.place, self.reply_len) {
+            Ok(0) => Flow::Broken,
+            Ok(n) => {
+                self.reply_len += n;
+                Flow::Open
+            }
+            Err(error) => flow_after(&error),
+        }
+    }
+
+    // Whether as many bytes came as there is a place for, or the first fragment is longer than that.
+    fn is_reply_too_long(&self) -> bool {
+        self.reply_len == self.place.len() || is_fragment_too_long(&self.place[..self.reply_len])
+    }
+}
+
+// Whether the header of the fragment with which these bytes begin, if it is whole, tells of more bytes than are read.
+fn is_fragment_too_long(bytes: &[u8]) -> bool {
+    let Some(header) = bytes.first_chunk::<4>() else {
+        return false;
+    };
+    (u32::from_be_bytes(*header) & FRAGMENT_LEN) as usize > PLACE_LEN
+}
+
+// Reads behind the bytes that are in their place already.
+fn read_behind(stream: &mut TcpStream, place: &mut Vec<u8>, start: usize) -> io::Result<usize>
+    requires { start ≤ length place.old.items }
+    ensures within { IfOk result (λ n. start + n ≤ length place.new.items) }
+    ensures kept { take start place.new.items ≡ take start place.old.items }
+    ensures len { length place.new.items ≡ length place.old.items }
+{
+    stream.read(&mut place[start..])
 }
 
 // What a connection that couldn't be begun says of the client.
@@ -189,27 +272,62 @@ fn begin_error(error: &Error) -> BeginError {
 fn flow_after(error: &Error) -> Flow {
     match error.kind() {
         ErrorKind::WouldBlock => Flow::Blocked,
+        ErrorKind::Interrupted => Flow::Open,
         _ => Flow::Broken,
     }
 }
 
-// How far an exchange without a reply is, by what goes out and what comes in. Where no more than there is a place for
-// came without a whole record, none is waited for.
-fn progress_of(flows: [Flow; 2]) -> Progress {
-    match flows {
-        [Flow::Broken, _] | [_, Flow::Broken | Flow::Over] => Progress::Ended(false),
-        [Flow::Open, _] | [_, Flow::Open] => Progress::Stalled,
+// How far an exchange is, by what came in and by the flows of what goes out and comes in.
+fn progress_by(verdict: Verdict, sent: Flow, heard: Flow) -> Progress
+    ensures { ComesTo verdict result }
+{
+    match verdict {
+        Verdict::Reply(CallbackReply::Accepted) => Progress::Ended(true),
+        Verdict::Reply(_) => Progress::Ended(false),
+        Verdict::Unfinished => progress_without_reply(sent, heard),
+        Verdict::Memory => Progress::Stalled,
+    }
+}
+
+// How far an exchange without a reply is. Where as many bytes came as there is a place for, none is waited for.
+fn progress_without_reply(sent: Flow, heard: Flow) -> Progress
+    ensures { result ≡ progresses.Ended true → ⊥ }
+{
+    match (sent, heard) {
+        (Flow::Broken, _) | (_, Flow::Broken | Flow::Over) => Progress::Ended(false),
+        (Flow::Open, _) | (_, Flow::Open) => Progress::Stalled,
         _ => Progress::UnderWay,
     }
 }
 
 // What these bytes say to the callback with this xid.
-fn judge(alloc: Global, received: &[u8], xid: u32, is_compound: bool) -> Verdict {
+fn judge(alloc: Global, bytes: &[u8], xid: u32, is_compound: bool) -> Verdict
+    requires { length bytes.now ≤ 2 ^ 40 }
+    ensures { IsVerdict is_compound xid bytes.now result }
+{
+    match first_record(alloc, bytes) {
+        Ok(Some(message)) => {
+            one_split();
+            Verdict::Reply(read_cb_reply(message.as_slice(), xid, is_compound))
+        }
+        Ok(None) => Verdict::Unfinished,
+        Err(_) => Verdict::Memory,
+    }
+}
+
+// The first record of these bytes, if one is whole. It fails only where memory is refused.
+fn first_record(alloc: Global, bytes: &[u8]) -> Result<Option<Vec<u8>>, AllocError>
+    requires { length bytes.now ≤ 2 ^ 40 }
+    ensures some { IfOk result
+        (λ found. IfSome found (λ message. HasReply bytes.now message.items)) }
+    ensures none { IfOk result (λ found. IfNone found (HasNoReply bytes.now)) }
+{
+    one_split();
     let mut records = Records::new(alloc);
-    let fed = records.feed(received);
-    match records.next() {
-        Some(message) => { Verdict::Reply(read_cb_reply(message.as_slice(), xid, is_compound)) }
-        None if fed == Err(RecordError::Memory) => Verdict::Memory,
-        None => Verdict::Unfinished,
+    match records.feed(bytes) {
+        Ok(()) => Ok(records.next()),
+        // The records before the one that is too long were taken.
+        Err(RecordError::TooLong) => Ok(records.next()),
+        Err(RecordError::Memory) => Err(AllocError),
     }
 }

@@ -1,3 +1,9 @@
+ghost use Rattle.std.specs.Prelude.{◌≡◌, [], ◌≤◌, IfErr, IfNone, IfSome, OnErr, OnOk, option_copied};
+ghost use Rattle.std.specs.VecDeque.{deque_capacity, deque_len};
+ghost use Rattle.nfs_callbacks.specs.Lines.{Ends, BeginsFirst, Gains, Loses, WaitsAlike, current_of, first_of, owed_of, state_of, without_null};
+ghost use Rattle.nfs_callbacks.specs.declared.line.LineState.TheVariants as states;
+ghost use Rattle.nfs_callbacks.specs.declared.line.Stage.TheVariants as stages;
+
 use crate::errand::Errand;
 use crate::exchange::{Exchange, Progress};
 use std::alloc::{AllocFailed, Global};
@@ -37,68 +43,110 @@ enum Stage {
 /// they came. A CB_NULL waits only where no recall does.
 #[derive(Drop)]
 pub(crate) struct Line {
-    waiting: VecDeque<Errand>,
+    queue: VecDeque<Errand>,
     stage: Stage,
 }
 
 impl Line {
-    pub(crate) fn new(alloc: Global) -> Line {
+    pub(crate) fn new(alloc: Global) -> Line
+        ensures waiting { result.queue.items ≡ [] }
+        ensures stage { result.stage ≡ stages.Idle }
+    {
         Line {
-            waiting: VecDeque::new(alloc),
+            queue: VecDeque::new(alloc),
             stage: Stage::Idle,
         }
     }
 
-    pub(crate) fn state(&self) -> LineState {
+    pub(crate) fn state(&self) -> LineState
+        ensures { result ≡ state_of self.now }
+    {
         match &self.stage {
             Stage::Calling(_, exchange) if exchange.is_stalled() => LineState::Stalled,
             Stage::Calling(_, _) => LineState::UnderWay,
             Stage::Owing(_, _) => LineState::Owing,
             Stage::Refused => LineState::Refused,
-            Stage::Idle if self.waiting.is_empty() => LineState::Empty,
+            Stage::Idle if self.queue.is_empty() => LineState::Empty,
             Stage::Idle => LineState::Ready,
         }
     }
 
     /// Puts a call at the end. A CB_NULL that waits is given up for it: a recall tells as much of the path.
-    pub(crate) fn push(&mut self, errand: Errand) -> Result<(), AllocFailed<Errand>> {
-        if let Some(Errand::Null(_)) = self.waiting.front() {
-            self.waiting.pop_front();
+    pub(crate) fn push(&mut self, errand: Errand) -> Result<(), AllocFailed<Errand>>
+        ensures ok { OnOk result (Gains self.old self.new errand) }
+        ensures err { IfErr result (λ failed. failed.value ≡ errand) }
+        ensures waiting { OnErr result (WaitsAlike self.old self.new) }
+        ensures stage { self.new.stage ≡ self.old.stage }
+    {
+        if self.queue.reserve(1).is_err() {
+            return Err(AllocFailed { value: errand });
         }
-        self.waiting.push_back(errand)
+        self.drop_null();
+        self.queue.push_back_reserved(errand);
+        Ok(())
+    }
+
+    // Takes out a CB_NULL that is the first of those that wait.
+    fn drop_null(&mut self)
+        ensures waiting { self.new.queue.items ≡ without_null self.old.queue.items }
+        ensures len { deque_len self.new.queue ≤ deque_len self.old.queue }
+        ensures capacity { deque_capacity self.new.queue ≡ deque_capacity self.old.queue }
+        ensures stage { self.new.stage ≡ self.old.stage }
+    {
+        if let Some(Errand::Null(_)) = self.queue.front() {
+            self.queue.pop_front();
+        }
     }
 
     /// The first call of those that wait.
-    pub(crate) fn first(&self) -> Option<&Errand> {
-        self.waiting.front()
+    pub(crate) fn first(&self) -> Option<&Errand>
+        ensures { option_copied result ≡ first_of self.now }
+    {
+        self.queue.front()
     }
 
     /// Takes out the first call of those that wait.
-    pub(crate) fn take_first(&mut self) -> Option<Errand> {
-        self.waiting.pop_front()
+    pub(crate) fn take_first(&mut self) -> Option<Errand>
+        ensures some { IfSome result (λ errand. Loses self.old self.new errand) }
+        ensures none { IfNone result (WaitsAlike self.old self.new) }
+        ensures stage { self.new.stage ≡ self.old.stage }
+    {
+        self.queue.pop_front()
     }
 
     /// The first call of those that wait is under way from now on, by this exchange.
-    pub(crate) fn begin(&mut self, exchange: Exchange) {
-        if let Some(errand) = self.waiting.pop_front() {
-            self.stage = Stage::Calling(errand, exchange);
+    pub(crate) fn begin(&mut self, exchange: Exchange)
+        requires { state_of self.old ≡ states.Ready }
+        ensures { BeginsFirst self.old self.new exchange }
+    {
+        match self.queue.pop_front() {
+            Some(errand) => self.stage = Stage::Calling(errand, exchange),
+            None => unreachable!(),
         }
     }
 
     /// The system refused it a socket in this look.
-    pub(crate) fn refuse(&mut self) {
+    pub(crate) fn refuse(&mut self)
+        ensures stage { self.new.stage ≡ stages.Refused }
+        ensures waiting { WaitsAlike self.old self.new }
+    {
         self.stage = Stage::Refused;
     }
 
     /// The next look has come, after one in which the system refused it a socket.
-    pub(crate) fn retry(&mut self) {
+    pub(crate) fn retry(&mut self)
+        ensures waiting { WaitsAlike self.old self.new }
+        ensures current { current_of self.new ≡ current_of self.old }
+    {
         if let Stage::Refused = self.stage {
             self.stage = Stage::Idle;
         }
     }
 
     /// The call that is under way.
-    pub(crate) fn current(&self) -> Option<&Errand> {
+    pub(crate) fn current(&self) -> Option<&Errand>
+        ensures { option_copied result ≡ current_of self.now }
+    {
         match &self.stage {
             Stage::Calling(errand, _) => Some(errand),
             _ => None,
@@ -106,7 +154,11 @@ impl Line {
     }
 
     /// Goes on with the call that is under way. One that ends is taken out, with whether it reached the client.
-    pub(crate) fn advance(&mut self) -> Option<(Errand, bool)> {
+    pub(crate) fn advance(&mut self) -> Option<(Errand, bool)>
+        ensures some { IfSome result (λ e. Ends self.old self.new e.0 e.1) }
+        ensures none { IfNone result (current_of self.new ≡ current_of self.old) }
+        ensures waiting { WaitsAlike self.old self.new }
+    {
         let Stage::Calling(_, exchange) = &mut self.stage else {
             return None;
         };
@@ -120,24 +172,37 @@ impl Line {
     }
 
     /// Lets go the call that is under way.
-    pub(crate) fn let_go(&mut self) {
+    pub(crate) fn let_go(&mut self)
+        ensures stage { self.new.stage ≡ stages.Idle }
+        ensures waiting { WaitsAlike self.old self.new }
+    {
         self.leave_stage();
     }
 
     /// The path is still to be marked, after this call.
-    pub(crate) fn owe(&mut self, errand: Errand, up: bool) {
+    pub(crate) fn owe(&mut self, errand: Errand, up: bool)
+        ensures stage { self.new.stage ≡ stages.Owing errand up }
+        ensures waiting { WaitsAlike self.old self.new }
+    {
         self.stage = Stage::Owing(errand, up);
     }
 
     /// Takes out the call after which the path is still to be marked, with whether it reached the client.
-    pub(crate) fn take_owed(&mut self) -> Option<(Errand, bool)> {
+    pub(crate) fn take_owed(&mut self) -> Option<(Errand, bool)>
+        ensures owed { result ≡ owed_of self.old }
+        ensures waiting { WaitsAlike self.old self.new }
+    {
         match self.leave_stage() {
             Stage::Owing(errand, up) => Some((errand, up)),
             _ => None,
         }
     }
 
-    fn leave_stage(&mut self) -> Stage {
+    fn leave_stage(&mut self) -> Stage
+        ensures left { result ≡ self.old.stage }
+        ensures stage { self.new.stage ≡ stages.Idle }
+        ensures waiting { WaitsAlike self.old self.new }
+    {
         mem::replace(&mut self.stage, Stage::Idle)
     }
 }

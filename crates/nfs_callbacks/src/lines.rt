@@ -1,6 +1,9 @@
+ghost use Rattle.std.specs.Prelude.{◌≡◌, ◌≢◌, ◌∷◌, ◌++◌, [], ℕ, IfErr, IfSome, OnErr, OnOk};
+ghost use Rattle.nfs_callbacks.specs.Lines.{recalls_at, recalls_in, state_for, queue_at};
+
 use crate::errand::Errand;
 use crate::line::{Line, LineState};
-use std::alloc::Global;
+use std::alloc::{AllocError, Global};
 use std::collections::BTreeMap;
 use std::ops::Bound;
 
@@ -12,7 +15,9 @@ pub(crate) struct Lines {
 }
 
 impl Lines {
-    pub(crate) fn new(alloc: Global) -> Lines {
+    pub(crate) fn new(alloc: Global) -> Lines
+        ensures { (client : ℕ) → queue_at client result ≡ [] }
+    {
         Lines {
             alloc,
             lines: BTreeMap::new(alloc),
@@ -20,16 +25,35 @@ impl Lines {
     }
 
     /// Puts a call at the end of its client's line. Where memory is refused, it comes back, and no line has changed.
-    pub(crate) fn push(&mut self, client: u32, errand: Errand) -> Result<(), Errand> {
-        if !self.lines.contains_key(&client) {
-            let line = Line::new(self.alloc);
-            if self.lines.insert(client, line).is_err() {
-                return Err(errand);
-            }
+    pub(crate) fn push(&mut self, client: u32, errand: Errand) -> Result<(), Errand>
+        ensures recalls { OnOk result (recalls_at client self.new
+            ≡ recalls_at client self.old ++ recalls_in (errand ∷ [])) }
+        ensures others { (other : ℕ) → other ≢ client
+            → queue_at other self.new ≡ queue_at other self.old }
+        ensures err { OnErr result (queue_at client self.new ≡ queue_at client self.old) }
+        ensures back { IfErr result (λ back. back ≡ errand) }
+    {
+        if self.make_line(client).is_err() {
+            return Err(errand);
         }
         match self.lines.get_mut(&client) {
             Some(line) => line.push(errand).map_err(|failed| failed.value),
             None => Err(errand),
+        }
+    }
+
+    // Makes the client's line, if there is none.
+    fn make_line(&mut self, client: u32) -> Result<(), AllocError>
+        ensures own { queue_at client self.new ≡ queue_at client self.old }
+        ensures others { (other : ℕ) → other ≢ client
+            → queue_at other self.new ≡ queue_at other self.old }
+    {
+        if self.lines.contains_key(&client) {
+            return Ok(());
+        }
+        match self.lines.insert(client, Line::new(self.alloc)) {
+            Ok(_) => Ok(()),
+            Err(_) => Err(AllocError),
         }
     }
 
@@ -38,7 +62,9 @@ impl Lines {
     }
 
     /// What the client's line waits for.
-    pub(crate) fn state(&self, client: u32) -> LineState {
+    pub(crate) fn state(&self, client: u32) -> LineState
+        ensures { result ≡ state_for client self.now }
+    {
         match self.lines.get(&client) {
             Some(line) => line.state(),
             None => LineState::Empty,
@@ -46,7 +72,9 @@ impl Lines {
     }
 
     /// Forgets the client's line where it is empty.
-    pub(crate) fn tidy(&mut self, client: u32) {
+    pub(crate) fn tidy(&mut self, client: u32)
+        ensures { (other : ℕ) → queue_at other self.new ≡ queue_at other self.old }
+    {
         if self.state(client) == LineState::Empty {
             self.lines.remove(&client);
         }
@@ -60,16 +88,20 @@ impl Lines {
             .count()
     }
 
-    /// The client whose line is the first one in this state behind that of the client `after`, and from the least number
-    /// again after the greatest.
-    pub(crate) fn next(&self, after: u32, state: LineState) -> Option<u32> {
+    /// The client whose line is the first one in this state behind that of the client `after`, and from the least
+    /// number again after the greatest.
+    pub(crate) fn next(&self, after: u32, state: LineState) -> Option<u32>
+        ensures { IfSome result (λ client. state_for client self.now ≡ state) }
+    {
         match self.first_from(Bound::Excluded(after), state) {
             None => self.first_from(Bound::Unbounded, state),
             found => found,
         }
     }
 
-    fn first_from(&self, start: Bound<u32>, state: LineState) -> Option<u32> {
+    fn first_from(&self, start: Bound<u32>, state: LineState) -> Option<u32>
+        ensures { IfSome result (λ client. state_for client self.now ≡ state) }
+    {
         let mut rest = self.lines.range((start, Bound::Unbounded));
         let (client, _) = rest.find(|(_, line)| line.state() == state)?;
         Some(*client)

@@ -21,7 +21,7 @@ pub enum MarkError {
     Never,
 }
 
-/// What a sender asks of the state. A client is named by its number.
+/// What a caller asks of the state. A client is named by its number.
 pub trait CallbackSource {
     /// The next recall, if there is one. It takes no memory.
     fn take(&mut self) -> Option<Recall>;

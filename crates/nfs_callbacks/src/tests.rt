@@ -1,6 +1,3 @@
-use super::*;
-
-#[test]
-fn nothing(rt: HostRuntime) {
-    assert_eq!(&rt; 1u32, 1u32);
-}
+mod calls;
+mod peer;
+mod toy;

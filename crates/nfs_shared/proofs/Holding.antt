@@ -1,5 +1,5 @@
 -- What the lock guards, after a call and after entries that are no calls.
-use Rattle.std.proofs.Common.{◌≡◌, ◌×◌, ℕ, suc, refl, List, [], ◌∷◌, ◌++◌, length, sym, ap, ◌∙◌, subst, arith, append_assoc, length-append}
+use Rattle.std.proofs.Common.{◌≡◌, ℕ, suc, refl, List, [], ◌∷◌, ◌++◌, length, sym, ap, ◌∙◌, subst, arith, append_assoc, length-append}
 use mathlib.Core.List.{IsPrefix}
 use Rattle.nfs_core.specs.Recalls.{AreLeftOf, AreRecallsOf}
 use Rattle.nfs_core.specs.Safe.{IsSafe}

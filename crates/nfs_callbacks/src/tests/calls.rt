@@ -1,0 +1,141 @@
+use super::peer::{ACCEPTED, NULL_ACCEPTED, Peer, read_null, read_recall, write_reply};
+use super::toy::callback_at;
+use crate::{MarkError, Probe};
+use std::io;
+use std::io::Write;
+use std::net::TcpStream;
+
+/// A client's recalls go out one after the other, in their order; the next begins in the look that ends the one before.
+#[test]
+fn recalls_in_order(rt: HostRuntime) -> io::Result<()> {
+    let mut peer = Peer::new(&rt)?;
+    let calls = answer_one_of_two(&rt, &mut peer);
+    let is_marked = peer.toy.marks.as_slice() == [(1u32, true), (1u32, false)].as_slice();
+    drop(peer);
+    assert_eq!(&rt; (calls?, is_marked), ([(1u32, 11u32), (2u32, 12u32)], true));
+    Ok(())
+}
+
+// What two recalls are, of which the first is answered, and the second ends without an answer.
+fn answer_one_of_two(rt: &HostRuntime, peer: &mut Peer) -> io::Result<[(u32, u32); 2]> {
+    let addr = peer.address(rt)?;
+    peer.toy.recall(rt.alloc(), 1, 11, addr.as_str())?;
+    peer.toy.recall(rt.alloc(), 1, 12, addr.as_str())?;
+    let stream = peer.accept(rt)?;
+    let first = read_recall(&stream)?;
+    write_reply(&stream, first.0, &ACCEPTED)?;
+    let stream = peer.accept(rt)?;
+    let second = read_recall(&stream)?;
+    drop(stream);
+    peer.look(rt);
+    Ok([first, second])
+}
+
+/// An address that can't be read is a fault without a connection, and one where nobody listens is one, too.
+#[test]
+fn addresses_without_a_client(rt: HostRuntime) -> io::Result<()> {
+    let mut peer = Peer::new(&rt)?;
+    let result = recall_nowhere(&rt, &mut peer);
+    let is_marked = peer.toy.marks.as_slice() == [(1u32, false), (2u32, false)].as_slice();
+    drop(peer);
+    assert_eq!(&rt; (result?, is_marked), ((), true));
+    Ok(())
+}
+
+fn recall_nowhere(rt: &HostRuntime, peer: &mut Peer) -> io::Result<()> {
+    let addr = peer.address(rt)?;
+    peer.close(rt)?;
+    peer.toy.recall(rt.alloc(), 1, 11, "127.0.0.1.8")?;
+    peer.toy.recall(rt.alloc(), 2, 12, addr.as_str())?;
+    peer.look(rt);
+    peer.look(rt);
+    Ok(())
+}
+
+/// A path of which nothing is known is tried by CB_NULL, and a reply may come a byte at a time.
+#[test]
+fn probe_of_a_path(rt: HostRuntime) -> io::Result<()> {
+    let mut peer = Peer::new(&rt)?;
+    let xid = answer_slowly(&rt, &mut peer);
+    let is_marked = peer.toy.marks.as_slice() == [(3u32, true)].as_slice();
+    drop(peer);
+    assert_eq!(&rt; (xid?, is_marked), (1u32, true));
+    Ok(())
+}
+
+fn answer_slowly(rt: &HostRuntime, peer: &mut Peer) -> io::Result<u32> {
+    let addr = peer.address(rt)?;
+    let callback = callback_at(rt.alloc(), addr.as_str())?;
+    peer.toy.unknown = Some(Probe {
+        client: 3,
+        callback,
+    });
+    let stream = peer.accept(rt)?;
+    let xid = read_null(&stream)?;
+    write_slowly(rt, peer, &stream, &[0x80, 0, 0, 24, 0, 0, 0, 1])?;
+    write_slowly(rt, peer, &stream, &NULL_ACCEPTED)?;
+    Ok(xid)
+}
+
+fn write_slowly(
+    rt: &HostRuntime,
+    peer: &mut Peer,
+    mut stream: &TcpStream,
+    bytes: &[u8],
+) -> io::Result<()> {
+    for byte in bytes {
+        stream.write_all(&[*byte])?;
+        peer.look(rt);
+    }
+    Ok(())
+}
+
+/// A mark that can't be made yet is made again, and until then the client isn't called.
+#[test]
+fn marks_again(rt: HostRuntime) -> io::Result<()> {
+    let mut peer = Peer::new(&rt)?;
+    let call = call_after_mark(&rt, &mut peer);
+    let is_marked = peer.toy.marks.as_slice() == [(1u32, false)].as_slice();
+    drop(peer);
+    assert_eq!(&rt; (call?, is_marked), (Some((1u32, 12u32)), true));
+    Ok(())
+}
+
+// What is called once the mark after the call before can be made; none if it is called sooner.
+fn call_after_mark(rt: &HostRuntime, peer: &mut Peer) -> io::Result<Option<(u32, u32)>> {
+    let addr = peer.address(rt)?;
+    peer.toy.recall(rt.alloc(), 1, 11, "127.0.0.1.8")?;
+    peer.toy.recall(rt.alloc(), 1, 12, addr.as_str())?;
+    peer.toy.refusal = Some(MarkError::Later);
+    peer.look(rt);
+    if peer.accept(rt).is_ok() {
+        return Ok(None);
+    }
+    peer.toy.refusal = None;
+    let stream = peer.accept(rt)?;
+    Ok(Some(read_recall(&stream)?))
+}
+
+/// A recall under way is let go when its delegation is gone, and marks nothing.
+#[test]
+fn recall_let_go(rt: HostRuntime) -> io::Result<()> {
+    let mut peer = Peer::new(&rt)?;
+    let call = answer_late(&rt, &mut peer);
+    let is_marked = !peer.toy.marks.is_empty();
+    drop(peer);
+    assert_eq!(&rt; (call?, is_marked), ((1u32, 11u32), false));
+    Ok(())
+}
+
+fn answer_late(rt: &HostRuntime, peer: &mut Peer) -> io::Result<(u32, u32)> {
+    let addr = peer.address(rt)?;
+    peer.toy.recall(rt.alloc(), 1, 11, addr.as_str())?;
+    let stream = peer.accept(rt)?;
+    let call = read_recall(&stream)?;
+    peer.toy.is_held = false;
+    peer.look(rt);
+    // The connection is closed already, so this may fail.
+    let _ = write_reply(&stream, call.0, &ACCEPTED);
+    peer.look(rt);
+    Ok(call)
+}

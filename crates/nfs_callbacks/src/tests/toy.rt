@@ -1,0 +1,100 @@
+use crate::{CallbackSource, MarkError, Probe};
+use nfs_rpc::Recall;
+use nfs_xdr::{Address, Callback, ClientId, FileHandle, Principal, Stateid};
+use std::alloc::{AllocError, Global};
+use std::collections::VecDeque;
+use xdr::Bytes;
+
+/// A state with the recalls that it was given, and at most one client of whose path nothing is known.
+#[derive(Drop)]
+pub(super) struct Toy {
+    pub(super) recalls: VecDeque<Recall>,
+    pub(super) unknown: Option<Probe>,
+    /// Whether the delegations are still their clients'.
+    pub(super) is_held: bool,
+    /// What marks fail with.
+    pub(super) refusal: Option<MarkError>,
+    /// The marks that were made: the client, and whether its path is up.
+    pub(super) marks: Vec<(u32, bool)>,
+}
+
+impl Toy {
+    pub(super) fn new(alloc: Global) -> Toy {
+        Toy {
+            recalls: VecDeque::new(alloc),
+            unknown: None,
+            is_held: true,
+            refusal: None,
+            marks: Vec::new(alloc),
+        }
+    }
+
+    /// A recall of a client's delegation, which is told at this universal address.
+    pub(super) fn recall(
+        &mut self,
+        alloc: Global,
+        client: u32,
+        number: u32,
+        addr: &str,
+    ) -> Result<(), AllocError> {
+        let client = ClientId {
+            epoch: 1,
+            number: client,
+        };
+        self.recalls.push_back(Recall {
+            callback: callback_at(alloc, addr)?,
+            principal: Principal::AuthNone,
+            stateid: Stateid {
+                seqid: 1,
+                client,
+                number,
+            },
+            handle: FileHandle::copy_of(alloc, b"nfh1\0\0\0\x01")?,
+        })?;
+        Ok(())
+    }
+}
+
+pub(super) fn callback_at(alloc: Global, addr: &str) -> Result<Callback, AllocError> {
+    let address = Address {
+        netid: Bytes::copy_of(alloc, b"tcp")?,
+        addr: Bytes::copy_of(alloc, addr.as_bytes())?,
+    };
+    Ok(Callback {
+        program: 0x4000_0000,
+        address,
+        ident: 1,
+    })
+}
+
+impl CallbackSource for Toy {
+    fn take(&mut self) -> Option<Recall> {
+        self.recalls.pop_front()
+    }
+
+    fn probe(&mut self, after: u32) -> Result<Option<Probe>, AllocError> {
+        match &self.unknown {
+            Some(probe) if probe.client > after => Ok(Some(Probe {
+                client: probe.client,
+                callback: probe.callback.clone()?,
+            })),
+            _ => Ok(None),
+        }
+    }
+
+    fn has_callback(&mut self, _client: u32, _callback: &Callback) -> bool {
+        true
+    }
+
+    fn has_delegation(&mut self, _recall: &Recall) -> bool {
+        self.is_held
+    }
+
+    fn mark(&mut self, client: u32, _callback: &Callback, up: bool) -> Result<(), MarkError> {
+        if let Some(refusal) = self.refusal {
+            return Err(refusal);
+        }
+        self.unknown = None;
+        self.marks.push((client, up)).map_err(|_| MarkError::Later)
+    }
+}
