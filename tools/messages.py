@@ -49,10 +49,10 @@ def handle(node):
     return opaque(b"nfh1" + words(node))
 
 
-def setclientid(verifier, client):
-    """SETCLIENTID with the program 0x40000000, the address 127.0.0.1.8.1 over tcp, and ident 1."""
-    address = opaque(b"tcp") + opaque(b"127.0.0.1.8.1")
-    return words(SETCLIENTID) + verifier + opaque(client) + words(0x40000000) + address + words(1)
+def setclientid(verifier, client, address=b"127.0.0.1.8.1", ident=1):
+    """SETCLIENTID with the program 0x40000000, and an address over tcp."""
+    callback = words(0x40000000) + opaque(b"tcp") + opaque(address) + words(ident)
+    return words(SETCLIENTID) + verifier + opaque(client) + callback
 
 
 def given(epoch, number, confirm):
