@@ -117,7 +117,7 @@ int main(int count, char **words)
     client->client.id.id_len = 6;
     client->client.id.id_val = "libnfs";
     client->callback.cb_program = 0x40000000;
-    client->callback.cb_location = (clientaddr4){"tcp", "127.0.0.1.8.1"};
+    client->callback.cb_location = (clientaddr4){"tcp", "127.0.0.1.3.232"};
     client->callback_ident = 1;
     call_compound(rpc, "COMPOUND of SETCLIENTID", 1, &introduce);
 

@@ -49,8 +49,9 @@ def handle(node):
     return opaque(b"nfh1" + words(node))
 
 
-def setclientid(verifier, client, address=b"127.0.0.1.8.1", ident=1):
-    """SETCLIENTID with the program 0x40000000, and an address over tcp."""
+def setclientid(verifier, client, address=b"127.0.0.1.3.232", ident=1):
+    """SETCLIENTID with the program 0x40000000, and an address over tcp, which is one where nobody listens if none is
+    given."""
     callback = words(0x40000000) + opaque(b"tcp") + opaque(address) + words(ident)
     return words(SETCLIENTID) + verifier + opaque(client) + callback
 

@@ -14,6 +14,9 @@ from messages import split
 LISTENING = re.compile(rb"listening on 127\.0\.0\.1:([0-9]+)\n")
 # The line behind it, which says what is served.
 SERVING = re.compile(rb"serving [0-9]+ files, lease [0-9]+ s, epoch [0-9]+\n")
+# The files that a server has without a document, by a policy with which it calls no client back: so that its journal has
+# an entry for each call, and for what its sweeps end, and no other.
+NO_CALLBACKS = os.path.join(os.path.dirname(os.path.abspath(__file__)), "../samples/no_callbacks.toml")
 # The seconds that a server has to begin or to end, and those in which a reply has to come, on however busy a machine.
 PATIENCE, REPLY_PATIENCE = 60, 20
 

@@ -3,10 +3,13 @@ import os
 import shutil
 import socket
 import subprocess
+import sys
 import time
 from contextlib import contextmanager
 
 HERE = os.path.dirname(os.path.abspath(__file__))
+sys.path.insert(0, os.path.join(HERE, ".."))
+from served import SERVING
 # The seconds that a server has to listen, or to end.
 PATIENCE = 30
 
@@ -47,8 +50,7 @@ class Counted:
     def serving(self, connections):
         """The port and the process's number."""
         words = [*self.words, "--listen", "127.0.0.1:0", "--connections", str(connections)]
-        process = subprocess.Popen(words, stdin=subprocess.DEVNULL, stdout=subprocess.DEVNULL, stderr=subprocess.PIPE,
-                                   text=True)
+        process = subprocess.Popen(words, stdin=subprocess.DEVNULL, stdout=subprocess.DEVNULL, stderr=subprocess.PIPE)
         try:
             yield self.port(process), process.pid
             self.expect_end(process)
@@ -56,16 +58,17 @@ class Counted:
             end(process)
 
     def port(self, process):
-        line = process.stderr.readline().strip()
+        line = process.stderr.readline().decode().strip()
         if not line.startswith("listening on 127.0.0.1:"):
             raise Failure(f"{self.name} says where it listens by the line: {line}")
         return int(line.rpartition(":")[2])
 
     def expect_end(self, process):
         try:
-            said = process.communicate(timeout=PATIENCE)[1].strip()
+            errors = process.communicate(timeout=PATIENCE)[1]
         except subprocess.TimeoutExpired:
             raise Failure(f"{self.name} doesn't end by itself") from None
+        said = SERVING.sub(b"", errors, count=1).decode().strip()
         if process.returncode != 0 or said:
             raise Failure(f"{self.name} ends with status {process.returncode}: {said}")
 

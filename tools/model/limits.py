@@ -31,7 +31,7 @@ def result(opnum, status=Status.OK, rest=b""):
 # A step is operations with the results that are wanted of them.
 
 def introduce(verifier, number):
-    callback = u32(7) + opaque(b"tcp") + opaque(b"127.0.0.1.8.1") + u32(1)
+    callback = u32(7) + opaque(b"tcp") + opaque(b"127.0.0.1.3.232") + u32(1)
     return [
         (u32(Opnum.SETCLIENTID) + u64(verifier) + opaque(b"c1") + callback,
          result(Opnum.SETCLIENTID, rest=u32(1, number) + u64(number))),

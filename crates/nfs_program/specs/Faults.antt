@@ -30,8 +30,9 @@ first_fault_of_workers [] = None
 first_fault_of_workers (worker ∷ rest) =
     option_or (fault_of_shift worker.shift) (first_fault_of_workers rest)
 
--- The fault of a run: that nobody swept, as no thread could be made for that; or else the first of a worker; or else that
--- of the journal's file. The first of these comes before all that a peer can bring about, so no peer can hide it.
+-- The fault of a run: that nobody swept or nobody called clients back, as no thread could be made for that; or else the
+-- first of a worker; or else that of the journal's file. The first of these comes before all that a peer can bring about,
+-- so no peer can hide it.
 abbrev pub fault_of_run : Bool → List WorkerAccount → Option Fault → Option Fault
 fault_of_run has_helpers workers filed =
     if has_helpers then option_or (first_fault_of_workers workers) filed else Some NoMemory
@@ -40,8 +41,8 @@ fault_of_run has_helpers workers filed =
 abbrev pub is_memory_refused : List WorkerAccount → Bool
 is_memory_refused = list_any (λ w. is_refused w.shift)
 
--- The fault of a run that goes on, in which no peer has a part: that nobody swept, or that memory or a thread was refused
--- for a worker; or else that of the journal's file.
+-- The fault of a run that goes on, in which no peer has a part: that memory or a thread was refused for a worker, for the
+-- sweeps or for callbacks; or else that of the journal's file.
 abbrev pub fault_of_ongoing_run : Bool → List WorkerAccount → Option Fault → Option Fault
 fault_of_ongoing_run has_helpers workers filed =
     if has_helpers then (if is_memory_refused workers then Some NoMemory else filed) else Some NoMemory

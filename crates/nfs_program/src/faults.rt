@@ -39,8 +39,8 @@ fn is_memory_refused(workers: &[WorkerAccount]) -> bool
     workers.iter().any(|worker| worker.shift.end.is_err())
 }
 
-/// The fault of a run: that nobody swept, since no thread could be made for that; or else the first of a worker, in the
-/// order of the list; or else that of the journal's file.
+/// The fault of a run: that nobody swept or nobody called clients back, since no thread could be made for that; or else
+/// the first of a worker, in the order of the list; or else that of the journal's file.
 pub(crate) fn run_fault(
     has_helpers: bool,
     workers: &[WorkerAccount],
@@ -55,8 +55,8 @@ pub(crate) fn run_fault(
     }
 }
 
-/// The fault of a run that goes on, of which none of its connections has a part: that nobody swept, or that memory or a
-/// thread was refused for a worker; or else that of the journal's file.
+/// The fault of a run that goes on, of which none of its connections has a part: that memory or a thread was refused for
+/// a worker, for the sweeps or for callbacks; or else that of the journal's file.
 pub(crate) fn ongoing_run_fault(
     has_helpers: bool,
     workers: &[WorkerAccount],

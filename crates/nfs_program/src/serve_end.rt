@@ -14,8 +14,9 @@ use std::sync::Wait;
 
 /// Ends a run of connections by what it left. The file of the core's journal is written, also after a
 /// fault, if there is a sink for it, by the memory of this buffer. Returns the program's exit status: 0, or 1 after a
-/// fault. If the run wasn't swept, the fault is that there was no memory for it; or else it is that of the first connection
-/// in the list that had one, or else that of the journal's file. It is reported by a line on `errors`.
+/// fault. If nobody swept or nobody called clients back, the fault is that there was no memory for it; or else it is that
+/// of the first connection in the list that had one, or else that of the journal's file. It is reported by a line on
+/// `errors`.
 pub fn end_run<E: Write, J: Sink>(
     buffer: &mut Vec<u8>,
     run: &RunEnd,
@@ -24,7 +25,7 @@ pub fn end_run<E: Write, J: Sink>(
 ) -> u8
     requires files { IfSome journal.old (λ sink. J.failures sink < 2 ^ 64 - 1) }
     // The file was seen to: memory for it was wanting only where the buffer had no room for a part of it. And the status is
-    // that of the run's fault: that it wasn't swept, or else the first of a connection, or else the file's.
+    // that of the run's fault: that it had no helpers, or else the first of a connection, or else the file's.
     ensures ended { (filed : Option Fault)
         × IsFiled (device_of_sink J.takes J.fails) J.failures journal.old journal.new
         run.now.core.journal filed
@@ -37,9 +38,9 @@ pub fn end_run<E: Write, J: Sink>(
     exit_status(errors, fault)
 }
 
-/// Ends a run that goes on, by what it left, likewise. What ended a connection is no fault of such a run: if it was swept,
-/// and memory for each worker was there, the fault is that of the journal's file. Where that file stands, the beginning of
-/// the journal is removed.
+/// Ends a run that goes on, by what it left, likewise. What ended a connection is no fault of such a run: if it had its
+/// helpers, and memory for each worker was there, the fault is that of the journal's file. Where that file stands, the
+/// beginning of the journal is removed.
 pub fn end_ongoing_run<R: Wait, E: Write + Drop, D: Draft + Drop, J: Sink>(
     buffer: &mut Vec<u8>,
     run: &RunEnd,

@@ -1,5 +1,5 @@
 //! The value that the lock guards, and what is done to it.
-ghost use Rattle.std.specs.Prelude.{◌≡◌, ◌↔◌, ◌+◌, ◌<◌, ◌≤◌, ◌++◌, ◌∷◌, [], ⊥, IfErr, IfNone, IfOk, IfSome, IsTrue, Ok, OnErr, OnOk, Option, None, Some, length, slice_get, vec_capacity, vec_len};
+ghost use Rattle.std.specs.Prelude.{◌≡◌, ◌↔◌, ◌+◌, ◌<◌, ◌≤◌, ◌++◌, ◌∷◌, [], IfErr, IfNone, IfOk, IfSome, IsTrue, Ok, OnErr, OnOk, Option, None, Some, length, slice_get, vec_capacity, vec_len};
 ghost use Rattle.std.specs.Option.{option_copied};
 ghost use Rattle.nfs_core.specs.Callbacks.{callback_of, has_delegation};
 ghost use Rattle.nfs_core.specs.Entered.{Answers, number_entered};
@@ -88,6 +88,18 @@ impl<N: Naming> Held<N> {
         ensures known { CanBeHeld N.start self.now }
     {
         self.leased.core.callback(client)
+    }
+
+    // Whether the client is live and is called back so.
+    fn is_called_by(&self, client: u32, callback: &Callback) -> bool
+        ensures called { IsTrue result
+            ↔ (callback_of client self.now.server ≡ Some callback.now) }
+        ensures known { CanBeHeld N.start self.now }
+    {
+        match self.callback(client) {
+            Some(found) => *found == *callback,
+            None => false,
+        }
     }
 
     /// Whether a client has the delegation that the stateid names, no matter its seqid.
@@ -295,23 +307,12 @@ pub fn mark_called_held<N: Naming>(
     ensures places { held.new.places ≡ held.old.places }
     ensures receipts { held.new.receipts ≡ held.old.receipts }
 {
-    recalls_are_left(held.core());
-    if !is_called_by(held.core(), client, callback) {
+    if !held.is_called_by(client, callback) {
         return Ok(None);
     }
     match mark_path_held(held, sender, client, up) {
         Ok(number) => Ok(Some(number)),
         Err(error) => Err(error),
-    }
-}
-
-// Whether the client is live and is called back so.
-fn is_called_by(core: &Core, client: u32, callback: &Callback) -> bool
-    ensures { IsTrue result ↔ (callback_of client core.now ≡ Some callback.now) }
-{
-    match core.callback(client) {
-        Some(found) => *found == *callback,
-        None => false,
     }
 }
 

@@ -1,5 +1,5 @@
 //! A hold of the lock of the shared state, as a value.
-ghost use Rattle.std.specs.Prelude.{◌≡◌, ◌+◌, ◌≤◌, ◌++◌, ◌∷◌, ◌↔◌, [], ⊥, IfErr, IfNone, IfOk, IfSome, IsNone, IsTrue, None, Ok, OnErr, OnOk, Option, Some, length};
+ghost use Rattle.std.specs.Prelude.{◌≡◌, ◌+◌, ◌≤◌, ◌++◌, ◌∷◌, ◌↔◌, [], IfErr, IfNone, IfOk, IfSome, IsNone, IsTrue, None, Ok, OnErr, OnOk, Option, Some, length};
 ghost use Rattle.std.specs.Option.{option_copied};
 ghost use Rattle.nfs_core.specs.Callbacks.{callback_of, has_delegation};
 ghost use Rattle.nfs_core.specs.Entered.{Answers, number_entered};

@@ -1,5 +1,5 @@
 //! The state that threads share, behind one lock.
-ghost use Rattle.std.specs.Prelude.{◌≡◌, ◌+◌, ◌<◌, ◌≤◌, ◌↔◌, ◌++◌, [], ⊥, IfOk, IfErr, IfSome, IfNone, IsNone, IsTrue, List, None, Ok, OnErr, OnOk, Some, length, map};
+ghost use Rattle.std.specs.Prelude.{◌≡◌, ◌+◌, ◌<◌, ◌≤◌, ◌↔◌, ◌++◌, [], IfOk, IfErr, IfSome, IfNone, IsNone, IsTrue, List, None, Ok, OnErr, OnOk, Some, length, map};
 ghost use Rattle.nfs_core.specs.Callbacks.{callback_of, has_delegation};
 ghost use Rattle.nfs_core.specs.PathMarking.{IsNotMarkedFor, path_of};
 ghost use Rattle.nfs_core.specs.Recalls.{AreRecallsOf};
@@ -41,6 +41,7 @@ use nfs_owners::ClientState;
 use nfs_state::Request;
 use nfs_xdr::{Callback, ClientId, Op, OpResult, Principal, Refusal, Stateid};
 use std::alloc::{AllocError, Global};
+use std::marker::Model;
 use std::sync::ledger::Share;
 use std::sync::{Mutex, Wait};
 
@@ -50,7 +51,18 @@ use std::sync::{Mutex, Wait};
 pub struct Shared<N: Naming> {
     held: Mutex<Held<N>>,
     queue: RecallQueue,
-    ghost named: { queue ≡ N.run.queue },
+}
+
+// Contracts see the queue's name, which is the run's.
+impl<N: Naming> Model for Shared<N> {
+    ghost use Rattle.std.specs.Prelude.{◌≡◌};
+    ghost use Rattle.atomic_table.specs.Seated.{TableId};
+
+    ghost Value = { TableId };
+
+    ghost view = { λ s. s.queue };
+
+    ghost invariant = { λ s. s.queue ≡ N.run.queue };
 }
 
 /// The shared state, and what the threads of a run need for it.

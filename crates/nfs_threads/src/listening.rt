@@ -39,8 +39,8 @@ use std::time::{Clock as Timer, Duration};
 /// Serves the next connections that come to the listener, as many as `connections` says, each in a thread of its own,
 /// and ends when all of them have ended. Meanwhile one more thread removes clients whose leases are over, and another one
 /// calls clients back. It returns the core as the connections left it, how each of them ended, and whether these two
-/// threads could be made: if not, the connections are served all the same. If memory is refused for the state, the core comes back;
-/// if it is for the workers, each of them ends for want of memory, and no connection is accepted.
+/// threads could be made: if not, the connections are served all the same. If memory is refused for the state, the core
+/// comes back; if it is for the workers, each of them ends for want of memory, and no connection is accepted.
 pub fn serve_on<R: Threads + Wait + Timer + Net<Listener = TcpListener, Stream = TcpStream> + Sync>(
     alloc: Global,
     rt: &R,

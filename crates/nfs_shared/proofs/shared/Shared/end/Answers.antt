@@ -1,11 +1,15 @@
-use Rattle.std.proofs.Common.{◌≡◌, ap, map, subst, sym, arith}
+use Rattle.std.proofs.Common.{◌≡◌, ◌∙◌, ◌++◌, List, ap, map, subst, sym, arith, append_assoc}
 use Rattle.nfs_shared.proofs.Ends.{all_apart, all_counted, all_stand}
 use Rattle.nfs_shared.proofs.Giving.{counted}
 use Rattle.nfs_shared.proofs.shared.Shared.end.Goals as goal
+use Rattle.nfs_core.specs.Recalls.{AreRecallsOf}
 use Rattle.nfs_core.specs.Server.{Server}
+use Rattle.nfs_rpc.specs.declared.recall.Recall.{Recall}
 use Rattle.nfs_shared.specs.Ends.{AllBegin, AllStand}
+use Rattle.nfs_shared.specs.Held.{waiting}
 use Rattle.nfs_shared.specs.Receipts.{calls_in}
 use Rattle.nfs_shared.specs.Roll.{list_of}
+use Rattle.nfs_shared.specs.Sender.{SenderView}
 
 pub returns-clause-stand : goal.returns-clause-stand
 returns-clause-stand g c =
@@ -31,3 +35,18 @@ returns-clause-counted g c =
     let whole : c.meet_each.new.rest.amount ≡ held.register.count.total = c.audit.ensures.whole (omega (arith, met.parts, c.held.invariant.3, c.requires.all)) in
     let same = counted es held.register.places.items (list_of held.register.writer) h.receipts h.places in
     omega (arith, ap (λ (s : Server). calls_in s.journal.entries) c.into_core.ensures, whole, met.amount, c.held.invariant.4, c.held.invariant.1.total, same, h.places, all)
+
+-- what was taken begins what was put, which begins the journal's recalls
+pub returns-clause-taken : goal.returns-clause-taken
+returns-clause-taken g c =
+    let held = c.held.inside in
+    let taken = c.sender.inside.pass.recalls in
+    let begins = c.settle.ensures in
+    let left : List Recall = waiting held.hand held.leased.core.recalls in
+    let same : taken ++ (begins.0 ++ left) ≡ held.put.recalls ++ left =
+    sym (append_assoc taken begins.0 left) ∙ ap (λ (rs : List Recall). rs ++ left) begins.1 in
+    let all : AreRecallsOf held.leased.core.journal (taken ++ (begins.0 ++ left)) =
+    subst (AreRecallsOf held.leased.core.journal) (sym same) c.held.invariant.0.queued in
+    let told : AreRecallsOf held.leased.core.journal (c.args.sender.taken ++ (begins.0 ++ left)) =
+    subst (λ (s : SenderView). AreRecallsOf held.leased.core.journal (s.taken ++ (begins.0 ++ left))) c.sender.view_is all in
+    (begins.0 ++ left, subst (λ (s : Server). AreRecallsOf s.journal (c.args.sender.taken ++ (begins.0 ++ left))) (sym c.into_core.ensures) told)
