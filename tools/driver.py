@@ -129,8 +129,8 @@ class Driver:
         return Revoked(*[self.word() for _ in Revoked._fields])
 
     def take_recall(self, xid):
-        """The record of the first recall that waits, with this xid; or nothing where none waits. Where threads share the
-        state it is the first in the queue, and no lock is held."""
+        """The record of the first recall that waits, with this xid; or nothing where none waits. Where threads share
+        the state it is the first in the queue, and no lock is held."""
         self.send(u32(TAKE, xid))
         return self.part()
 

@@ -49,11 +49,11 @@ def handle(node):
     return opaque(b"nfh1" + words(node))
 
 
-def setclientid(verifier, client):
-    """SETCLIENTID with the program 0x40000000, the address 127.0.0.1.3.232 over tcp, where nobody listens, and ident
-    1."""
-    address = opaque(b"tcp") + opaque(b"127.0.0.1.3.232")
-    return words(SETCLIENTID) + verifier + opaque(client) + words(0x40000000) + address + words(1)
+def setclientid(verifier, client, address=b"127.0.0.1.3.232", ident=1):
+    """SETCLIENTID with the program 0x40000000, and an address over tcp, which is one where nobody listens if none is
+    given."""
+    callback = words(0x40000000) + opaque(b"tcp") + opaque(address) + words(ident)
+    return words(SETCLIENTID) + verifier + opaque(client) + callback
 
 
 def given(epoch, number, confirm):

@@ -1,4 +1,5 @@
-"""A server whose state threads share behind a lock. Its recalls go into a queue, from which who sends them takes them."""
+"""A server whose state threads share behind a lock. Its recalls go into a queue, out of which they are taken by whoever
+sends them."""
 from dataclasses import dataclass
 
 from journal import Recorder
