@@ -7,7 +7,7 @@ use Rattle.nfs_core.specs.Server.{Enters, IsLawful, Server}
 use Rattle.nfs_leases.specs.BookOf.{IsBookOf}
 use Rattle.nfs_rpc.specs.declared.recall.Recall.{Recall}
 use Rattle.nfs_shared.specs.Held.{HeldView, IsHeld, Moves, waiting}
-use Rattle.nfs_leases.specs.PlainBook.{PlainBook, is_open_in, was_opened_in}
+use Rattle.nfs_leases.specs.PlainBook.{is_open_in, was_opened_in}
 use Rattle.nfs_shared.specs.Receipts.{calls_in, receipts_of}
 use Rattle.nfs_leases.specs.Visit.{Gains}
 use Rattle.nfs_shared.specs.declared.receipt.Receipt.{Receipt}

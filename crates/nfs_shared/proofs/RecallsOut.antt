@@ -1,5 +1,5 @@
 -- The recalls that left the core, and those that wait in it, after entries came.
-use Rattle.std.proofs.Common.{◌≡◌, ℕ, zero, suc, ◌+◌, ◌≤◌, List, [], ◌∷◌, ◌++◌, drop, length, sym, ap, ◌∙◌, subst, refl, arith, append_assoc, length-append, option_to_list}
+use Rattle.std.proofs.Common.{◌≡◌, ℕ, zero, suc, ◌≤◌, List, [], ◌∷◌, ◌++◌, drop, length, sym, ap, ◌∙◌, subst, refl, arith, append_assoc, option_to_list}
 use mathlib.Core.List.{IsPrefix}
 use Rattle.nfs_core.specs.Recalls.{AreLeftOf, AreOneList, AreRecallsOf, RecallsBegin, RecallsLeft}
 use Rattle.nfs_rpc.specs.declared.recall.Recall.{Recall}
