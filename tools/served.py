@@ -17,8 +17,18 @@ SERVING = re.compile(rb"serving [0-9]+ files, lease [0-9]+ s, epoch [0-9]+\n")
 # The files that a server has without a document, by a policy with which it calls no client back: so that its journal has
 # an entry for each call, and for what its sweeps end, and no other.
 NO_CALLBACKS = os.path.join(os.path.dirname(os.path.abspath(__file__)), "../samples/no_callbacks.toml")
+# The file by which a server of this program waits for the sockets of its callbacks.
+EPOLL = "anon_inode:[eventpoll]"
 # The seconds that a server has to begin or to end, and those in which a reply has to come, on however busy a machine.
 PATIENCE, REPLY_PATIENCE = 60, 20
+
+
+def link_of(entry):
+    """What a symbolic link leads to, or None where it is gone."""
+    try:
+        return os.readlink(entry)
+    except FileNotFoundError:
+        return None
 
 
 def is_silent(stream, seconds):
@@ -84,6 +94,19 @@ class Served:
 
     def is_running(self):
         return self.program.poll() is None
+
+    def has_caller(self, seconds=5):
+        """Of a server that runs: whether its thread that calls clients back has begun within so many seconds, and has
+        the one file that it always has open."""
+        until = time.monotonic() + seconds
+        while not (found := EPOLL in self.open_files()) and time.monotonic() < until:
+            time.sleep(0.01)
+        return found
+
+    def open_files(self):
+        """What it has open."""
+        with os.scandir(f"/proc/{self.program.pid}/fd") as files:
+            return [name for name in map(link_of, files) if name is not None]
 
     def processor_seconds(self):
         """Of a server that runs: what it has taken so far, in its own code and in the kernel, in whole ticks."""
