@@ -6,7 +6,7 @@ use nfs_core::Core;
 use nfs_threads::{WorkerAccount, serve_on};
 use nfs_tree::Tree;
 use std::alloc::Global;
-use std::net::{TcpListener, TcpStream};
+use std::net::{Net, TcpListener, TcpStream};
 use std::sync::Wait;
 use std::sync::atomic::AtomicUsize;
 use std::thread::Threads;
