@@ -87,7 +87,7 @@ impl Calls {
                 return;
             };
             if let Some((errand, up)) = line.take_owed() {
-                self.mark(client, errand, up, source);
+                self.mark_after(client, errand, up, source);
             }
         }
     }
@@ -144,11 +144,14 @@ impl Calls {
         let Some(line) = self.lines.line_mut(client) else {
             return;
         };
-        let is_awaited = match line.current() {
-            Some(errand) => errand.is_awaited(client, source),
-            None => true,
+        let Some(errand) = line.current() else {
+            return;
         };
-        if !is_awaited {
+        let (is_due, is_current) = (
+            errand.is_due(client, source),
+            errand.is_current(client, source),
+        );
+        if !is_due || !is_current && !line.use_check() {
             line.let_go();
             self.lines.tidy(client);
         }

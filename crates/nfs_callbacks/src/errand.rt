@@ -55,8 +55,8 @@ impl Errand {
         }
     }
 
-    /// Whether there is still reason to wait for the reply.
-    pub(crate) fn is_awaited<S: CallbackSource>(&self, client: u32, source: &mut S) -> bool {
-        source.has_callback(client, self.callback()) && self.is_due(client, source)
+    /// Whether the client is called back so, still.
+    pub(crate) fn is_current<S: CallbackSource>(&self, client: u32, source: &mut S) -> bool {
+        source.has_callback(client, self.callback())
     }
 }

@@ -17,6 +17,9 @@ use std::net::{Net, SocketAddr};
 // for.
 const PLACE_LEN: usize = 4_097;
 
+// For how many checks a call goes on that its client isn't awaited by, as it is called back otherwise by now.
+const CHECKS_LEFT: u32 = 10;
+
 // The bits of a fragment's header that are its length (RFC 5531, section 11).
 const FRAGMENT_LEN: u32 = 0x7fff_ffff;
 
@@ -87,6 +90,8 @@ pub(crate) struct Exchange {
     // How many these are.
     reply_len: usize,
     is_stalled: bool,
+    // For how many more checks it goes on where its client is called back otherwise.
+    checks_left: u32,
 }
 
 impl Model for Exchange {
@@ -145,7 +150,19 @@ impl Exchange {
             place,
             reply_len: 0,
             is_stalled: false,
+            checks_left: CHECKS_LEFT,
         })
+    }
+
+    /// Whether it goes on for now, though its client is called back otherwise: as often as it has checks left.
+    pub(crate) fn use_check(&mut self) -> bool
+        ensures { self.new ≡ self.old }
+    {
+        if self.checks_left == 0 {
+            return false;
+        }
+        self.checks_left -= 1;
+        true
     }
 
     /// Writes and reads what can be written and read at once.

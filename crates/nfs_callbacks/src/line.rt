@@ -137,6 +137,7 @@ impl Line {
     pub(crate) fn retry(&mut self)
         ensures waiting { WaitsAlike self.old self.new }
         ensures current { current_of self.new ≡ current_of self.old }
+        ensures tried { state_of self.new ≡ states.Refused → ⊥ }
     {
         if let Stage::Refused = self.stage {
             self.stage = Stage::Idle;
@@ -150,6 +151,17 @@ impl Line {
         match &self.stage {
             Stage::Calling(errand, _) => Some(errand),
             _ => None,
+        }
+    }
+
+    /// Whether the call that is under way goes on for now, though its client is called back otherwise.
+    pub(crate) fn use_check(&mut self) -> bool
+        ensures waiting { WaitsAlike self.old self.new }
+        ensures current { current_of self.new ≡ current_of self.old }
+    {
+        match &mut self.stage {
+            Stage::Calling(_, exchange) => exchange.use_check(),
+            _ => false,
         }
     }
 
