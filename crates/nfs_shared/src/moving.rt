@@ -20,6 +20,10 @@ pub(crate) fn move_held<N: Naming, R: Wait>(rt: &R, queue: &RecallQueue, held: &
     ensures moves { Moves held.old held.new }
     ensures moved { IsMoved held.new }
 {
+    // As in most holds: a look is all that it takes.
+    if held.waiting() == 0 {
+        return;
+    }
     for _ in rt.forever() {
         if !move_one(rt, queue, held) {
             return;
