@@ -11,6 +11,7 @@ use Rattle.nfs_leases.specs.PlainBook.{is_open_in, was_opened_in}
 use Rattle.nfs_shared.specs.Receipts.{calls_in, receipts_of}
 use Rattle.nfs_leases.specs.Visit.{Gains}
 use Rattle.nfs_shared.specs.declared.receipt.Receipt.{Receipt}
+use Rattle.nfs_shared.proofs.Prefixes.{prefix_self}
 use Rattle.nfs_shared.proofs.Receipts.{calls_in_call, calls_in_more, receipts_call, receipts_more}
 use Rattle.nfs_state.specs.State.{History}
 use Rattle.nfs_state.specs.Stored.{meaning}
@@ -93,19 +94,12 @@ held_moved old new was server places receipts agrees left same =
       receipts = receipts ∙ was.receipts ∙ (λ i. receipts_of 0 (sym journal i).entries (sym places i));
     }
 
-append_nil : (xs : List Recall) → xs ++ [] ≡ xs
-append_nil [] = refl
-append_nil (x ∷ xs) = ap (λ (ys : List Recall). x ∷ ys) (append_nil xs)
-
-pub prefix_same : (xs : List Recall) → IsPrefix xs xs
-prefix_same xs = ([], append_nil xs)
-
 pub prefix_more : (xs ys zs : List Recall) → IsPrefix xs ys → IsPrefix ys zs → IsPrefix xs zs
 prefix_more xs ys zs p q = (p.0 ++ q.0, sym (append_assoc xs p.0 q.0) ∙ ap (λ (l : List Recall). l ++ q.0) p.1 ∙ q.1)
 
 -- nothing went
 pub moves_none : (held : HeldView) → Moves held held
-moves_none held = record { others = refl; recalls = refl; put = prefix_same held.put }
+moves_none held = record { others = refl; recalls = refl; put = prefix_self held.put }
 
 -- and more went
 pub moves_more : (old mid new : HeldView) → Moves old mid → Moves mid new → Moves old new

@@ -1,5 +1,5 @@
 -- What the lock of the shared state guards, and what holds whenever the lock is free (`IsHeld`).
-use Rattle.std.specs.Prelude.{◌≡◌, ℕ, List, [], ◌++◌, Option, length, option_to_list}
+use Rattle.std.specs.Prelude.{◌≡◌, ℕ, List, [], ◌∷◌, ◌++◌, Option, length, option_to_list}
 use mathlib.Core.List.{IsPrefix}
 use mathlib.Core.Logic.{◌⊎◌}
 use Rattle.atomic_table.specs.Seated.{TableId}
@@ -89,6 +89,10 @@ pub record Moves (old new : HeldView) : Type 0 where
   pub recalls : new.put ++ waiting new.hand new.server.recalls
       ≡ old.put ++ waiting old.hand old.server.recalls
   pub put : IsPrefix old.put new.put
+
+-- one recall more was put
+abbrev pub HasOneMore : List Recall → List Recall → Type 0
+HasOneMore old new = (recall : Recall) × (new ≡ old ++ recall ∷ [])
 
 -- none waits, or the queue was full when it held all that was put and not taken
 abbrev pub IsMoved : HeldView → Type 0

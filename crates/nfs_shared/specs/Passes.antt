@@ -11,12 +11,9 @@ pub record PassView : Type 0 where
   -- what was put, or taken, by this pass, in order
   pub recalls : List Recall
 
--- with one recall more, and with more of them
+-- with one recall more
 abbrev pub with_recall : Recall → PassView → PassView
 with_recall recall pass = record pass { recalls = pass.recalls ++ recall ∷ [] }
-
-abbrev pub with_recalls : List Recall → PassView → PassView
-with_recalls recalls pass = record pass { recalls = pass.recalls ++ recalls }
 
 abbrev pub log_of : Pass Recall Log → Log
 log_of token = view token

@@ -4,6 +4,7 @@
 
 mod held;
 mod hold;
+mod limits;
 mod moving;
 mod naming;
 mod opened;
@@ -18,6 +19,7 @@ mod sweeper;
 
 pub use held::{Held, call_held, mark_called_held, mark_path_held, sweep_held};
 pub use hold::Hold;
+pub use limits::limit_of_queue;
 pub use naming::Naming;
 pub use opened::Opened;
 pub use recall_queue::{PutPass, RecallQueue, TakePass};

@@ -1,9 +1,9 @@
 //! How recalls go from the core into the queue, at the end of each hold of the lock.
 
-ghost use Rattle.std.specs.Prelude.{◌≡◌, ◌++◌, [], IfNone, IsFalse, None, option_to_list};
+ghost use Rattle.std.specs.Prelude.{◌≡◌, ◌++◌, [], IfNone, IsFalse, IsTrue, None, option_to_list};
 ghost use mathlib.Core.List.{IsPrefix};
 ghost use mathlib.Core.Logic.{◌⊎◌};
-ghost use Rattle.nfs_shared.specs.Held.{IsMoved, Moves, waiting};
+ghost use Rattle.nfs_shared.specs.Held.{HasOneMore, IsMoved, Moves, waiting};
 ghost use Rattle.nfs_shared.specs.RecallOrder.{WasFull};
 ghost use Rattle.nfs_shared.specs.declared.recall_queue.TheConstants.{CAPACITY};
 
@@ -36,6 +36,7 @@ pub(crate) fn move_held<N: Naming, R: Wait>(rt: &R, queue: &RecallQueue, held: &
 fn move_one<N: Naming, R: Wait>(rt: &R, queue: &RecallQueue, held: &mut Held<N>) -> bool
     requires queue { queue.now ≡ N.run.queue }
     ensures moves { Moves held.old held.new }
+    ensures one { IsTrue result → HasOneMore held.old.put held.new.put }
     ensures moved { IsFalse result → IsMoved held.new }
 {
     let moved = put_one(rt, queue, &mut held.put, &mut held.hand, &mut held.leased);
@@ -60,6 +61,7 @@ fn put_one<R: Wait>(
     ensures recalls { put.new.recalls ++ waiting hand.new leased.new.core.recalls
         ≡ put.old.recalls ++ waiting hand.old leased.old.core.recalls }
     ensures put { IsPrefix put.old.recalls put.new.recalls }
+    ensures one { IsTrue result → HasOneMore put.old.recalls put.new.recalls }
     ensures room { IsFalse result → (waiting hand.new leased.new.core.recalls ≡ [])
         ⊎ WasFull CAPACITY put.new.recalls }
 {
