@@ -1,0 +1,46 @@
+-- WRITE (RFC 7530, section 16.36): puts bytes into a file.
+use Rattle.std.specs.Prelude.{ℕ, ◌+◌, nat_lt, [], ◌∷◌, ◌++◌, length, Option, Some, Result, Ok, Err, if◌then◌else◌}
+use Rattle.nfs_forms.specs.declared.answer.Answer.TheVariants.{Done}
+use Rattle.nfs_forms.specs.declared.stable_how.StableHow.TheVariants.{FileSync}
+use Rattle.nfs_forms.specs.declared.status.Refusal.TheVariants as refusals
+use Rattle.nfs_forms.specs.declared.verifier.Verifier.{Verifier}
+use Rattle.nfs_operations.specs.declared.write.Write.{Write}
+use Rattle.nfs_operations.specs.declared.write.WriteOk.{WriteOk}
+use Rattle.nfs_rules.specs.Transfers.{file_for, refused}
+use Rattle.nfs_rules.specs.declared.decision.Decision.{Decision}
+use Rattle.nfs_rules.specs.declared.transfer.Transfer.TheVariants as transfers
+use Rattle.nfs_state.specs.Changes.{change_alone}
+use Rattle.nfs_state.specs.State.{State, History}
+use Rattle.nfs_state.specs.declared.change.Change.TheVariants.{Writes}
+use Rattle.nfs_state.specs.declared.request.Request.{Request}
+use Rattle.nfs_tree.specs.declared.limits.TheConstants.{FILE_LIMIT}
+use Rattle.nfs_xdr.specs.declared.op_result.OpResult.TheVariants as results
+use Rattle.xdr.specs.Form.{u32}
+
+-- What tells a client that the server was started anew, so that what wasn't on stable storage yet may be lost: the
+-- number of the server's run, and four zeros.
+abbrev pub verifier_of : ℕ → Verifier
+verifier_of epoch = record { 0 = u32.encoding epoch ++ 0 ∷ 0 ∷ 0 ∷ 0 ∷ [] }
+
+-- All bytes are written, and are on stable storage as far as this server has one, whatever was asked for.
+abbrev pub answer_of : History → Write → WriteOk
+answer_of journal args = record {
+  count = length args.data;
+  committed = FileSync;
+  verifier = verifier_of journal.epoch;
+}
+
+-- NFS4ERR_FBIG for bytes beyond the limit of a file, after all other refusals
+abbrev pub writing : History → Write → Result ℕ Decision → Decision
+writing journal args (Err decision) = decision
+writing journal args (Ok node) =
+    if nat_lt FILE_LIMIT (args.offset + length args.data) then refused transfers.Write refusals.FBig
+    else record {
+      answer = results.Write (Done (answer_of journal args));
+      effect = change_alone (Writes node args.offset);
+    }
+
+-- the rule of WRITE; there is always a decision
+abbrev pub rule : History → State → Request → Write → Option Decision
+rule journal state request args =
+    Some (writing journal args (file_for transfers.Write journal state request args.stateid))
