@@ -13,7 +13,7 @@ use Rattle.nfs_state.specs.Changes.{change_alone}
 use Rattle.nfs_state.specs.State.{State, History}
 use Rattle.nfs_state.specs.declared.change.Change.TheVariants.{Writes}
 use Rattle.nfs_state.specs.declared.request.Request.{Request}
-use Rattle.nfs_tree.specs.declared.limits.TheConstants.{FILE_LIMIT}
+use Rattle.nfs_tree.specs.declared.tree.TheConstants.{TEXT_LIMIT}
 use Rattle.nfs_xdr.specs.declared.op_result.OpResult.TheVariants as results
 use Rattle.xdr.specs.Form.{u32}
 
@@ -34,7 +34,7 @@ answer_of journal args = record {
 abbrev pub writing : History → Write → Result ℕ Decision → Decision
 writing journal args (Err decision) = decision
 writing journal args (Ok node) =
-    if nat_lt FILE_LIMIT (args.offset + length args.data) then refused transfers.Write refusals.FBig
+    if nat_lt TEXT_LIMIT (args.offset + length args.data) then refused transfers.Write refusals.FBig
     else record {
       answer = results.Write (Done (answer_of journal args));
       effect = change_alone (Writes node args.offset);
