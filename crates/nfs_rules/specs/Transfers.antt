@@ -2,7 +2,6 @@
 -- 9.1.6, 10.4.4, 16.23 and 16.36).
 use Rattle.std.specs.Prelude.{ℕ, Bool, true, false, not, ◌&&◌, Option, Some, None, Result, Ok, Err, if◌then◌else◌}
 use Rattle.nfs_forms.specs.Stateid.{is_special}
-use Rattle.nfs_forms.specs.declared.client_id.ClientId.{ClientId}
 use Rattle.nfs_forms.specs.declared.stateid.Stateid.{Stateid}
 use Rattle.nfs_forms.specs.declared.status.Refusal.{Refusal}
 use Rattle.nfs_forms.specs.declared.status.Refusal.TheVariants as refusals
@@ -21,7 +20,6 @@ use Rattle.nfs_share.specs.declared.delegation.DelegationKind.TheVariants as kin
 use Rattle.nfs_share.specs.declared.delegation.FileUse.TheVariants as uses
 use Rattle.nfs_share.specs.declared.modes.Modes.{Modes}
 use Rattle.nfs_share.specs.declared.open_state.OpenState.{OpenState}
-use Rattle.nfs_share.specs.declared.share.Share.{Share}
 use Rattle.nfs_state.specs.Changes.{change_alone}
 use Rattle.nfs_state.specs.State.{State, History}
 use Rattle.nfs_state.specs.declared.change.Change.TheVariants.{Nothing, Recalls}
@@ -83,20 +81,11 @@ permitted transfer journal state filehandle id =
     if is_special id then unless_denied transfer state node
     else if_allowed transfer journal state id node
 
--- Nobody: no client has number 0. What comes with a special stateid comes from nobody, and so from another client than
--- whoever has a delegation.
-abbrev pub nobody : ClientId
-nobody = record { epoch = 0; number = 0 }
-
--- It is in the way of a delegation as an open would be that has this access and denies nothing.
-abbrev pub share_for : Transfer → Share
-share_for transfer = record { access = mode_of transfer; deny = modes false false }
-
--- with a special stateid, a delegation of the file is in its way (section 10.4.4)
+-- With a special stateid, which is no client's, a delegation of the file is in its way (section 10.4.4).
 abbrev pub is_lent_out : Transfer → State → Stateid → ℕ → Bool
 is_lent_out transfer state id node =
     is_special id
-    && has_conflict nobody (uses.Open (share_for transfer)) (delegations_of node state.delegations)
+    && has_conflict (uses.Special (mode_of transfer)) (delegations_of node state.delegations)
 
 -- a refusal, which changes nothing
 abbrev pub refused : Transfer → Refusal → Decision
@@ -107,7 +96,7 @@ refused transfer refusal =
 abbrev pub delayed : Transfer → ℕ → ℕ → Decision
 delayed transfer moment node = record {
   answer = refusal_of (opnum_of transfer) refusals.Delay;
-  effect = change_alone (Recalls node nobody (share_for transfer) moment);
+  effect = change_alone (Recalls node (uses.Special (mode_of transfer)) moment);
 }
 
 -- the file, unless a delegation is in the way

@@ -7,9 +7,9 @@ ghost use Rattle.nfs_state.specs.Room.{state_of};
 use crate::decision::Decision;
 use crate::demand::Demand;
 use crate::stateids::{Found, target_of, verdict};
-use nfs_share::{DelegationKind, FileUse, Modes, OpenState, Share};
+use nfs_share::{DelegationKind, FileUse, Modes, OpenState};
 use nfs_state::{Change, Effect, Journal, Moment, Request, Store, Tables};
-use nfs_xdr::{ClientId, Opnum, Refusal, Stateid};
+use nfs_xdr::{Opnum, Refusal, Stateid};
 
 /// What is done with the bytes of a file, where a stateid allows it.
 #[derive(Clone, Copy, Debug, PartialEq, Eq)]
@@ -17,12 +17,6 @@ pub enum Transfer {
     Read,
     Write,
 }
-
-// Nobody: no client has number 0.
-const NOBODY: ClientId = ClientId {
-    epoch: 0,
-    number: 0,
-};
 
 impl Transfer {
     fn opnum(self) -> Opnum
@@ -41,16 +35,6 @@ impl Transfer {
         match self {
             Transfer::Read => Modes::READ,
             Transfer::Write => Modes::WRITE,
-        }
-    }
-
-    // It is in the way of a delegation as an open would be that has this access and denies nothing.
-    fn share(self) -> Share
-        ensures { result ≡ specs.share_for self }
-    {
-        Share {
-            access: self.mode(),
-            deny: Modes::NONE,
         }
     }
 
@@ -187,7 +171,7 @@ fn is_lent_out(tables: &Tables, transfer: Transfer, stateid: Stateid, node: u32)
     stateid.is_special()
         && tables
             .opens
-            .conflicts(node, NOBODY, FileUse::Open(transfer.share()))
+            .conflicts(node, FileUse::Special(transfer.mode()))
 }
 
 // What is in the way is called back at this moment.
@@ -198,8 +182,7 @@ fn delayed(transfer: Transfer, moment: Moment, node: u32) -> Decision
         answer: transfer.opnum().refusal(Refusal::Delay),
         effect: Effect::change_alone(Change::Recalls {
             node,
-            client: NOBODY,
-            share: transfer.share(),
+            file_use: FileUse::Special(transfer.mode()),
             moment,
         }),
     }
