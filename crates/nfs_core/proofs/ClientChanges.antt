@@ -186,7 +186,7 @@ opening_keeps journal state passage moment args (Err refusal) ruling is = ruled_
 opening_keeps journal state passage moment args (Ok o) ruling is =
     let client = args.owner.client in
     let P : Result Opening Ruling → Type 0 = λ r. Some ruling ≡ opening.ruling_of journal state passage args r → KeepsClients ruling.change in
-    cond_both (list_any (conflicts client (uses.Open o.share)) (delegations_of o.node state.delegations)) (Err (opening.delayed moment client o)) (Ok o) P
+    cond_both (list_any (conflicts (uses.Open client o.share)) (delegations_of o.node state.delegations)) (Err (opening.delayed moment client o)) (Ok o) P
     (λ _ same. ruled_keeps ruling _ same tt) (λ _ same. granted_keeps journal state passage args o ruling same) is
 
 -- LOCK and LOCKU

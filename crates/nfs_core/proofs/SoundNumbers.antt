@@ -19,7 +19,6 @@ use Rattle.nfs_share.specs.Opens as opens
 use Rattle.nfs_share.specs.declared.delegation.Delegation.{Delegation}
 use Rattle.nfs_share.specs.declared.delegation.DelegationKind.{DelegationKind}
 use Rattle.nfs_share.specs.declared.delegation.FileUse.{FileUse}
-use Rattle.nfs_share.specs.declared.delegation.FileUse.TheVariants as uses
 use Rattle.nfs_share.specs.declared.open_state.OpenState.{OpenState}
 use Rattle.nfs_share.specs.declared.share.Share.{Share}
 use Rattle.nfs_state.specs.Changes.{after, last_state_after, with_grant, with_open, with_owner_change, with_state_change, without_client}
@@ -146,9 +145,9 @@ pub recalled_number : (w : ℕ → ℕ) (moment : ℕ) (b : Bool) (d : Delegatio
 recalled_number w moment true d = cond_both (is_none d.recalled) (record d { recalled = Some moment }) d (λ x. w x.number ≡ w d.number) (λ _. refl) (λ _. refl)
 recalled_number w moment false d = refl
 
-recalls_weight : (w : ℕ → ℕ) (client : ClientId) (file_use : FileUse) (moment : ℕ) (ds : List Delegation) → sum_of (of_lent w) (with_recalls client file_use moment ds) ≡ sum_of (of_lent w) ds
-recalls_weight w client file_use moment ds =
-    sum_map (of_lent w) (λ d. cond (conflicts client file_use d) (with_recall moment d) d) (λ d. recalled_number w moment (conflicts client file_use d) d) ds
+recalls_weight : (w : ℕ → ℕ) (file_use : FileUse) (moment : ℕ) (ds : List Delegation) → sum_of (of_lent w) (with_recalls file_use moment ds) ≡ sum_of (of_lent w) ds
+recalls_weight w file_use moment ds =
+    sum_map (of_lent w) (λ d. cond (conflicts file_use d) (with_recall moment d) d) (λ d. recalled_number w moment (conflicts file_use d) d) ds
 
 -- A client is lost with all that it has.
 client_weight : (w : ℕ → ℕ) (client : ClientId) (old : State) → weight w (without_client client old) ≤ weight w old + 0
@@ -196,10 +195,10 @@ weight_changed w (changes.Locks node number change) old =
 weight_changed w (changes.Releases owner) old =
     omega (arith, sum_all_map (of_lock w) (locks.without (is_lock_of owner)) (locks_without w (is_lock_of owner)) old.locks)
 weight_changed w (changes.Expires client) old = client_weight w client old
-weight_changed w (changes.Recalls node client share moment) old =
+weight_changed w (changes.Recalls node file_use moment) old =
     let here = delegations_of node old.delegations in
-    let same = recalls_weight w client (uses.Open share) moment here in
-    omega (arith, sum_lent_set (of_lent w) 0 (with_recalls client (uses.Open share) moment here) node old.delegations (omega (arith, same)))
+    let same = recalls_weight w file_use moment here in
+    omega (arith, sum_lent_set (of_lent w) 0 (with_recalls file_use moment here) node old.delegations (omega (arith, same)))
 weight_changed w (changes.Returns node number) old =
     let here = delegations_of node old.delegations in
     let fewer = lent_without w (is_delegation_numbered number) here in

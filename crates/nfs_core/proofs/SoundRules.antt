@@ -285,7 +285,7 @@ grant_ready : (number : ℕ) (journal : History) (state : State) (op : Op) (args
     → IsSound state → is_live_in state.clients.confirmed args.owner.client ≡ true → IsFit state op (open_owner args.owner) passage
     → newcomer_of journal state args.owner.client op ≡ Nobody
     → is_refused args.owner o.share (opens_of o.node (before_own passage args.owner state).opens) ≡ false
-    → has_conflict args.owner.client (uses.Open o.share) (delegations_of o.node (before_own passage args.owner state).delegations) ≡ false
+    → has_conflict (uses.Open args.owner.client o.share) (delegations_of o.node (before_own passage args.owner state).delegations) ≡ false
     → Some ruling ≡ opening.ruling_of journal (before_own passage args.owner state) passage args (Ok o)
     → IsReady number state (decision_of passage (open_owner args.owner) (newcomer_of journal state args.owner.client op) ruling)
 grant_ready number journal state op args passage o ruling sound live fit nobody free apart rules =
@@ -338,7 +338,7 @@ ruling_ready number journal state op args passage directory moment ruling (Err r
 ruling_ready number journal state op args passage directory moment ruling (Ok o) sound live fit nobody is rules =
     let seen = before_own passage args.owner state in
     let client = args.owner.client in
-    let meets = has_conflict client (uses.Open o.share) (delegations_of o.node seen.delegations) in
+    let meets = has_conflict (uses.Open client o.share) (delegations_of o.node seen.delegations) in
     let delay = opening.delayed moment client o in
     elim (cases_Bool meets) [
       | inl there ↦

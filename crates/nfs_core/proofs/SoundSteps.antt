@@ -84,7 +84,7 @@ abbrev pub MayOpen : ℕ → OpenOwner → Share → Option DelegationKind → S
 MayOpen node owner share lent state =
     (is_refused owner share (opens_of node state.opens) ≡ false)
     × (has_open_place state owner node ≡ true)
-    × (has_conflict owner.client (uses.Open share) (delegations_of node state.delegations) ≡ false)
+    × (has_conflict (uses.Open owner.client share) (delegations_of node state.delegations) ≡ false)
     × (has_lending_place state (has_open state owner node) lent ≡ true)
     × CanLend node owner.client lent state
 
@@ -320,7 +320,7 @@ sound_changed law lock_law (changes.Expires client) old ready sound = record {
   single = single_left (is_of_client client.number) old.clients.confirmed sound.single;
   locks = locks_without_client lock_law client old.owners old.opens old.last_state old.locks sound.locks;
 }
-sound_changed law lock_law (changes.Recalls node client share moment) old ready sound = record {
+sound_changed law lock_law (changes.Recalls node file_use moment) old ready sound = record {
   live = sound.live;
   known = sound.known;
   compatible = sound.compatible;

@@ -228,7 +228,7 @@ opened_same passage journal state directory args moment now found is at =
 ruling_refuses : (state : State) (moment : ℕ) (client : ClientId) (r : Result Opening Refusal) (ruling : Ruling) → Err ruling ≡ opening_or_ruling state moment client r
     → ((refusal : Refusal) × (r ≡ Err refusal) × (ruling ≡ refused refusal)) ⊎ ((o : Opening) × (ruling ≡ delayed moment client o))
 ruling_refuses state moment client (Err refusal) ruling same = inl (refusal, refl, search same)
-ruling_refuses state moment client (Ok o) ruling same = inr (o, by (list_any (conflicts client (uses.Open o.share)) (delegations_of o.node state.delegations)) same)
+ruling_refuses state moment client (Ok o) ruling same = inr (o, by (list_any (conflicts (uses.Open client o.share)) (delegations_of o.node state.delegations)) same)
   where
     by : (b : Bool) → Err ruling ≡ (if b then Err (delayed moment client o) else Ok o) → ruling ≡ delayed moment client o
     by true same = search same
