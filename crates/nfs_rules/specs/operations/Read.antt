@@ -7,18 +7,17 @@ use Rattle.nfs_rules.specs.Transfers.{file_for}
 use Rattle.nfs_rules.specs.declared.decision.Decision.{Decision}
 use Rattle.nfs_rules.specs.declared.transfer.Transfer.TheVariants as transfers
 use Rattle.nfs_state.specs.Changes.{change_alone}
-use Rattle.nfs_state.specs.Files.{is_at_end, read_of}
-use Rattle.nfs_state.specs.State.{State, History, bytes_of, file_of}
+use Rattle.nfs_state.specs.Files.{bytes_of, file_of, read_of}
+use Rattle.nfs_state.specs.State.{State, History}
 use Rattle.nfs_state.specs.declared.change.Change.TheVariants.{Nothing}
 use Rattle.nfs_state.specs.declared.request.Request.{Request}
 use Rattle.nfs_xdr.specs.declared.op_result.OpResult.TheVariants as results
 
--- the bytes from the offset on, as many as are asked for and there are, and whether they come to the end of the file
+-- whether nothing comes after them (eof), and the bytes that are given of the node's file
 abbrev pub answer_of : State → Read → ℕ → ReadOk
 answer_of state args node =
-    let bytes = bytes_of (file_of state.files node) in
-    let data = read_of args.offset args.count bytes in
-    record { eof = is_at_end args.offset data bytes; data = data }
+    let part = read_of (bytes_of (file_of state.files node)) args.offset args.count in
+    record { eof = part.0; data = part.1 }
 
 abbrev pub reading : State → Read → Result ℕ Decision → Decision
 reading state args (Err decision) = decision
