@@ -3,6 +3,7 @@ the first difference in words, behind the name of the call: `, OPEN: status want
 
 What a server may choose has a kind of its own (CLIENTID, STATEID and others); a judge says what is the same value
 then."""
+import os
 from collections import namedtuple
 from itertools import zip_longest
 
@@ -223,8 +224,16 @@ def first_difference(wanted, got, judge):
                 continue
         left = "none" if want is None else judge.shown(want.kind, want.value)
         right = "none" if have is None else have.kind.show(have.value)
-        return f": {(want or have).what} wanted {left}, got {right}"
+        return f": {(want or have).what} wanted {left}, got {right}{place_behind(want, have)}"
     return None
+
+
+def place_behind(want, have):
+    """From which byte on two texts differ, where that isn't shown of them; or nothing."""
+    if want is None or have is None or want.kind != TEXT or have.kind != TEXT:
+        return ""
+    same = os.path.commonprefix([want.value, have.value])
+    return f", which differ from byte {len(same)} on" if len(same) >= SHOWN else ""
 
 
 def name_of(number):
