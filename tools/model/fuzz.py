@@ -43,6 +43,8 @@ BYTES = [*range(12), *range(LAST_BYTE - 11, LAST_BYTE + 1)]
 LAST = 2**32 - 1
 # Bytes that a record may have for the data of WRITEs, so that it isn't too long.
 DATA_ROOM = 150_000
+# The most letters of what came at a difference.
+LETTERS = 2000
 # What most operations of a run are.
 LOCKING, LENDING, WRITING = range(3)
 # What is counted besides the operations: delegations by their type, and entries of the journal.
@@ -444,10 +446,12 @@ def report(program, seed, row, way):
         print(line)
     outcome = run_row(row, way, WHOLE, path=program)
     if outcome.wrong is None:
-        print(f"  # The journal of the model\n  #   {journal.hex(' ', 4)}\n  # and of the program")
-        print(f"  #   {outcome.journal.hex(' ', 4)}")
+        print("  # The journal of the model (wanted) and of the program, round the first difference")
+        for line in rows.words_beside(journal, outcome.journal, "got"):
+            print(f"  #{line}")
     else:
-        print(f"  # The last step, of the program: {outcome.wrong.got}")
+        got = str(outcome.wrong.got)
+        print(f"  # The last step, of the program: {got[:LETTERS]}{' ..' * (len(got) > LETTERS)}")
 
 
 def tell(counts, runs, calls):
