@@ -17,7 +17,6 @@ use Rattle.nfs_owners.specs.StateOwner.{lock_owner, open_owner}
 use Rattle.nfs_share.specs.AllOpens.{opens_of, with_delegations, with_opens}
 use Rattle.nfs_share.specs.Delegations.{first_delegation, is_delegation_numbered, is_lent_to, with_recalls, without_lent}
 use Rattle.nfs_share.specs.declared.delegation.DelegationKind.{DelegationKind}
-use Rattle.nfs_share.specs.declared.delegation.FileUse.TheVariants as uses
 use Rattle.nfs_share.specs.declared.share.Share.{Share}
 use Rattle.nfs_share.specs.Opens.{after_downgrade, is_numbered, is_of_client, open_of, with_each, with_next_seqid, with_opening}
 use Rattle.nfs_share.specs.Opens as opens
@@ -123,9 +122,9 @@ with_state_change (changes.Releases owner) old = record old {
 with_state_change (changes.Expires client) old =
     let left = without_client client old in
     record left { clients = registry.without_client client.number old.clients }
--- what is in the way of an open is called back (RFC 7530, section 10.4.4)
-with_state_change (changes.Recalls node client share moment) old = record old {
-  delegations = with_delegations node (with_recalls client (uses.Open share) moment) old.delegations;
+-- what is in the way of a use of the file is called back (RFC 7530, section 10.4.4)
+with_state_change (changes.Recalls node file_use moment) old = record old {
+  delegations = with_delegations node (with_recalls file_use moment) old.delegations;
 }
 with_state_change (changes.Returns node number) old = record old {
   delegations = with_delegations node (without_lent (is_delegation_numbered number)) old.delegations;

@@ -16,6 +16,6 @@ live_change_of (changes.Begins node first) = Same
 live_change_of (changes.Locks node number change) = Same
 live_change_of (changes.Releases owner) = Same
 live_change_of (changes.Expires client) = Goes client.number
-live_change_of (changes.Recalls node client share moment) = Same
+live_change_of (changes.Recalls node file_use moment) = Same
 live_change_of (changes.Returns node number) = Same
 live_change_of (changes.MarksPath client path) = Same

@@ -10,6 +10,7 @@ use Rattle.nfs_state.specs.declared.tables.Tables.{Tables}
 use Rattle.nfs_state.specs.declared.owner_update.OwnerUpdate.{OwnerUpdate}
 use Rattle.nfs_state.specs.declared.owner_update.OwnerUpdate.TheVariants as updates
 use Rattle.nfs_state.specs.Kept.{CanBeKept, kept_in}
+use Rattle.nfs_state.specs.Files.{files_in}
 use Rattle.nfs_state.specs.Owners.{owner_of}
 use Rattle.nfs_owners.specs.Owner as owners
 use Rattle.nfs_locks.specs.AllLocks.{HasLockRoomAt, is_full_for, locks_of, stored_in}
@@ -33,7 +34,7 @@ stored_of tables = record {
   locks = stored_in tables.locks;
   delegations = delegations_in tables.opens;
   last_state = tables.numbers;
-  files = tables.files;
+  files = files_in tables.files;
 }
 
 -- the state that the tables represent
@@ -53,7 +54,7 @@ HasRoom (changes.Begins node first) tables = HasLockRoomAt node tables.locks
 HasRoom (changes.Locks node number change) tables = locks.HasRoomFor node number tables.locks
 HasRoom (changes.Releases owner) tables = ⊤
 HasRoom (changes.Expires client) tables = ⊤
-HasRoom (changes.Recalls node client share moment) tables = ⊤
+HasRoom (changes.Recalls node file_use moment) tables = ⊤
 HasRoom (changes.Returns node number) tables = ⊤
 HasRoom (changes.MarksPath client path) tables = ⊤
 

@@ -8,7 +8,7 @@ use crate::shortage::Shortage;
 use crate::stored_files::StoredFiles;
 use nfs_locks::{FirstLock, Locks};
 use nfs_owners::{ClientChange, ClientState, Clients, Numbers, OwnerRef, Owners, StateOwner};
-use nfs_share::{DelegationKind, FileUse, Opens, Share};
+use nfs_share::{DelegationKind, Opens, Share};
 use nfs_tree::Tree;
 use nfs_xdr::{ClientId, OpenOwner};
 use std::alloc::{AllocError, Global};
@@ -28,7 +28,8 @@ pub struct Tables {
 
 impl Tables {
     ghost use Rattle.std.specs.Option.{option_copied};
-    ghost use Rattle.nfs_state.specs.State.{change_of, file_of, has_state, record_has_state, size_of, History};
+    ghost use Rattle.nfs_state.specs.Files.{change_of, file_of, files_in, size_of};
+    ghost use Rattle.nfs_state.specs.State.{has_state, record_has_state, History};
     ghost use Rattle.nfs_state.specs.Kept.{Agrees, kept_by, owners_after, update_of};
     ghost use Rattle.nfs_state.specs.Changes.{with_grant, with_open, with_owner_change, with_state_change, without_client};
     ghost use Rattle.nfs_state.specs.Changes as changed_state;
@@ -66,11 +67,13 @@ impl Tables {
 
     /// How often the file of the node was changed, and how many bytes it has; both are 0 for a directory.
     pub fn change_and_size(&self, node: u32) -> (u64, u64)
-        ensures { result ≡
-            (change_of (file_of self.now.files node), size_of (file_of self.now.files node)) }
+        ensures { result ≡ (
+          change_of (file_of (files_in self.now.files) node),
+          size_of (file_of (files_in self.now.files) node),
+        ) }
     {
         match self.files.find(node) {
-            Some(file) => (file.change, file.bytes.as_slice().len() as u64),
+            Some(file) => (file.change(), file.size()),
             None => (0, 0),
         }
     }
@@ -273,12 +276,9 @@ impl Tables {
             }
             Change::Recalls {
                 node,
-                client,
-                share,
+                file_use,
                 moment,
-            } => self
-                .opens
-                .recall(node, client, FileUse::Open(share), moment),
+            } => self.opens.recall(node, file_use, moment),
             Change::Returns { node, number } => self.opens.give_back(node, number),
             Change::MarksPath { client, path } => self.clients.mark(client, path),
             Change::Confirms {
