@@ -1,5 +1,5 @@
 -- The lines that a look-up from some number on goes over.
-use Rattle.std.proofs.Common.{◌≡◌, ℕ, ◌<◌, ◌≤◌, ◌+◌, ◌∙◌, ◌&&◌, List, length, Bool, true, false, Option, Some, None, refl, sym, subst, ap, slice_index_or, arith, All, Bor, IsSomeAnd, ⊎_elim}
+use Rattle.std.proofs.Common.{◌≡◌, ℕ, ◌<◌, ◌≤◌, ◌+◌, ◌∙◌, ◌&&◌, List, length, true, false, Option, Some, None, refl, sym, subst, ap, slice_index_or, arith, All, Bor, IsSomeAnd, ⊎_elim}
 use Rattle.nfs_callbacks.specs.Lines.{state_in, state_of}
 use Rattle.nfs_callbacks.specs.declared.line.Line.{Line}
 use Rattle.nfs_callbacks.specs.declared.line.LineState.{LineState}
@@ -48,7 +48,7 @@ pub in_range : {X : Type 0} (start : Bound ℕ) (all : List (ℕ × X)) (number 
 in_range start all number value from found =
     let one = tells_apart exact_unsigned in
     let kept = lookup-filter-keys (is_at (nat_cmp number)) (range_contains nat_cmp start Unbounded) true
-        (λ key at. subst (λ n. range_contains nat_cmp start Unbounded n ≡ true) (one number key at) (within start number from)) all in
+    (λ key at. subst (λ n. range_contains nat_cmp start Unbounded n ≡ true) (one number key at) (within start number from)) all in
     Contains-from_lookup one number value (entries_between nat_cmp start Unbounded all) (kept ∙ found)
 
 -- the entries of a range come in the order of their numbers

@@ -165,7 +165,12 @@ fn ask_in_turns(rt: &HostRuntime, peer: &mut Peer) -> io::Result<[Option<(u32, u
     peer.round(rt);
     peer.round(rt);
     let checked = peer.toy.asked;
-    Ok([begun, checked, answer_next(rt, peer)?, answer_next(rt, peer)?])
+    Ok([
+        begun,
+        checked,
+        answer_next(rt, peer)?,
+        answer_next(rt, peer)?,
+    ])
 }
 
 // What delegations are asked about at last once the next call is answered.
@@ -184,7 +189,10 @@ fn no_room_for_marks(rt: HostRuntime) -> io::Result<()> {
     let result = probe_without_room(&rt, &mut peer);
     let (asked, is_marked) = (peer.toy.asked, !peer.toy.marks.is_empty());
     drop(peer);
-    assert_eq!(&rt; (result?, asked, is_marked), ((), Some((11u32, 11u32)), false));
+    assert_eq!(&rt;
+        (result?, asked, is_marked),
+        ((), Some((11u32, 11u32)), false)
+    );
     Ok(())
 }
 

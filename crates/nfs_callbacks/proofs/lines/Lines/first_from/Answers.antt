@@ -1,4 +1,4 @@
-use Rattle.std.proofs.Common.{◌≡◌, ℕ, ◌<◌, ◌≤◌, All, IfNone, List, Option, slice_index_or, arith, rules, subst, sym}
+use Rattle.std.proofs.Common.{◌≡◌, ℕ, ◌<◌, All, IfNone, List, Option, slice_index_or, arith, rules, subst, sym}
 use Rattle.std.proofs.lemmas.Grind.{common_steps}
 use Rattle.nfs_callbacks.proofs.Turns.{first_in, none_in, skipped_from}
 use Rattle.nfs_callbacks.specs.Lines.{state_for, state_of}
