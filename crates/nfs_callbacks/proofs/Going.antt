@@ -1,8 +1,8 @@
 -- An exchange that goes on.
-use Rattle.std.proofs.Common.{◌≡◌, List, ℕ, Bool, [], ◌++◌, true, false, refl, sym, subst, inl, ap, ◌+◌, take, drop, ◌∙◌, arith, append_assoc}
+use Rattle.std.proofs.Common.{◌≡◌, List, ℕ, Bool, [], ◌++◌, true, false, refl, sym, subst, inl, ap, ◌+◌, take, drop, ◌∙◌, arith, append_assoc, IsTrue, ◌↔◌, true≢false}
 use Rattle.std.proofs.lemmas.List.{append-nil}
 use Rattle.std.proofs.Math.Seq.{take-add}
-use Rattle.nfs_callbacks.specs.Exchanges.{ComesTo, Conversation, GoesOn, IsOutcome, IsVerdict}
+use Rattle.nfs_callbacks.specs.Exchanges.{ComesTo, Conversation, GoesOn, HasCome, HasNoReply, IsOutcome, IsVerdict}
 use Rattle.nfs_callbacks.specs.declared.exchange.Progress.{Progress}
 use Rattle.nfs_callbacks.specs.declared.exchange.Progress.TheVariants.{UnderWay, Stalled, Ended}
 use Rattle.nfs_rpc.specs.CallbackReply.{IsReply, OK, SaysOk}
@@ -49,6 +49,14 @@ outcome_of compound xid bytes Unfinished Stalled v e = tt
 outcome_of compound xid bytes Unfinished (Ended true) v e = absurd (e refl)
 outcome_of compound xid bytes Unfinished (Ended false) v e = λ message reply ok. v message reply
 outcome_of compound xid bytes Memory progress v e = subst (IsOutcome compound xid bytes) (sym e) tt
+
+-- an exchange that isn't over has no reply, unless it is stalled
+pub awaited_of : (c : Conversation) (progress : Progress) → HasCome c progress
+    → (IsTrue c.is_stalled ↔ (progress ≡ Stalled)) → ((up : Bool) → progress ≡ Ended up → ⊥)
+    → c.is_stalled ≡ false → HasNoReply c.reply
+awaited_of c UnderWay comes stalled over is = comes
+awaited_of c Stalled comes stalled over is = absurd (true≢false (sym (stalled.1 refl) ∙ is))
+awaited_of c (Ended up) comes stalled over is = absurd (over up refl)
 
 -- what was read follows what had been read
 pub read_more : (received n : ℕ) (old new : List ℕ) → take received new ≡ take received old

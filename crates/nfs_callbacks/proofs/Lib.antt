@@ -1,3 +1,4 @@
 pub mod Going
 pub mod Recalls
 pub mod Replies
+pub mod Turns

@@ -1,6 +1,6 @@
 -- The line of a client: the calls that wait, and what the line does.
-use Rattle.std.specs.Prelude.{◌≡◌, ℕ, Bool, List, [], ◌∷◌, ◌++◌, Option, Some, None, if◌then◌else◌}
-use Rattle.nfs_callbacks.specs.Exchanges.{Conversation, GoesOn, HasCome}
+use Rattle.std.specs.Prelude.{◌≡◌, ℕ, ◌<◌, ◌≤◌, Bool, false, List, [], ◌∷◌, ◌++◌, Option, Some, None, if◌then◌else◌}
+use Rattle.nfs_callbacks.specs.Exchanges.{Conversation, GoesOn, HasCome, HasNoReply}
 use Rattle.nfs_callbacks.specs.declared.exchange.Progress.TheVariants.{Ended}
 use Rattle.nfs_callbacks.specs.declared.errand.Errand.{Errand}
 use Rattle.nfs_callbacks.specs.declared.errand.Errand.TheVariants as errands
@@ -98,6 +98,13 @@ pub record Ends (old new : Line) (errand : Errand) (up : Bool) : Type 0 where
   pub comes : HasCome after (Ended up)
   pub stage : new.stage ≡ stages.Idle
 
+-- a call that is under way has no reply yet, unless it is stalled
+abbrev pub IsAwaited : Stage → Type 0
+IsAwaited (stages.Calling errand exchange) = exchange.is_stalled ≡ false → HasNoReply exchange.reply
+IsAwaited stages.Idle = Unit {0}
+IsAwaited stages.Refused = Unit {0}
+IsAwaited (stages.Owing errand up) = Unit {0}
+
 abbrev pub queue_in : Option Line → List Errand
 queue_in None = []
 queue_in (Some line) = line.queue.items
@@ -117,3 +124,15 @@ state_in (Some line) = state_of line
 -- what this client's line waits for
 abbrev pub state_for : ℕ → Lines → LineState
 state_for client lines = state_in (tree.get nat_cmp lines.lines client)
+
+-- The line of this client is the first one in this state behind the client `after`, by the numbers: none is between
+-- them. Where it isn't behind, no such line is, and it is the first of all.
+pub record IsNextIn (wanted : LineState) (after : ℕ) (lines : Lines) (client : ℕ) : Type 0 where
+  pub state : state_for client lines ≡ wanted
+  pub behind : (other : ℕ) → state_for other lines ≡ wanted → after < other
+      → (after < client) × (client ≤ other)
+  pub again : (other : ℕ) → state_for other lines ≡ wanted → client ≤ after → client ≤ other
+
+-- no line is in this state
+abbrev pub IsNowhere : LineState → Lines → Type 0
+IsNowhere wanted lines = (client : ℕ) → state_for client lines ≡ wanted → ⊥

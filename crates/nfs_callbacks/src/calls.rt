@@ -86,7 +86,8 @@ impl Calls {
             let Some(line) = self.lines.line_mut(client) else {
                 return;
             };
-            if let Some((errand, up)) = line.take_owed() {
+            if line.state() == LineState::Owing {
+                let (errand, up) = line.take_owed();
                 self.mark_after(client, errand, up, source);
             }
         }
@@ -118,14 +119,17 @@ impl Calls {
     ) {
         match source.mark(client, errand.callback(), up) {
             Ok(()) => {}
-            Err(MarkError::Later) => {
-                if let Some(line) = self.lines.line_mut(client) {
-                    line.owe(errand, up);
-                }
-            }
+            Err(MarkError::Later) => self.owe(client, errand, up),
             Err(MarkError::Never) => self.can_mark = false,
         }
         self.lines.tidy(client);
+    }
+
+    fn owe(&mut self, client: u32, errand: Errand, up: bool) {
+        match self.lines.line_mut(client) {
+            Some(line) if line.is_idle() => line.owe(errand, up),
+            _ => {}
+        }
     }
 
     /// Lets go calls under way that aren't awaited any more. So many are looked at, behind those of the last time.

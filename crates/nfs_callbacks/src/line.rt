@@ -1,6 +1,6 @@
-ghost use Rattle.std.specs.Prelude.{◌≡◌, [], ◌≤◌, IfErr, IfNone, IfSome, OnErr, OnOk, option_copied};
+ghost use Rattle.std.specs.Prelude.{◌≡◌, [], ◌≤◌, IfErr, IfNone, IfSome, IsSome, IsTrue, OnErr, OnOk, Some, option_copied, ◌↔◌};
 ghost use Rattle.std.specs.VecDeque.{deque_capacity, deque_len};
-ghost use Rattle.nfs_callbacks.specs.Lines.{Ends, BeginsFirst, Gains, Loses, WaitsAlike, current_of, first_of, owed_of, state_of, without_null};
+ghost use Rattle.nfs_callbacks.specs.Lines.{Ends, BeginsFirst, Gains, IsAwaited, Loses, WaitsAlike, current_of, first_of, owed_of, state_of, without_null};
 ghost use Rattle.nfs_callbacks.specs.declared.line.LineState.TheVariants as states;
 ghost use Rattle.nfs_callbacks.specs.declared.line.Stage.TheVariants as stages;
 
@@ -17,13 +17,13 @@ pub(crate) enum LineState {
     Empty,
     /// Its turn, to begin its first call.
     Ready,
-    /// The next look, to try again: the system refused it a socket.
+    /// The next round, to try again: the system refused it a socket.
     Refused,
     /// The connection of its call.
     UnderWay,
     /// The next look, to go on with its call.
     Stalled,
-    /// The next look, to mark the client's path.
+    /// The next round, to mark the client's path.
     Owing,
 }
 
@@ -31,7 +31,7 @@ pub(crate) enum LineState {
 #[derive(Drop)]
 enum Stage {
     Idle,
-    // In this look the system refused it a socket.
+    // The system refused it a socket since the last round.
     Refused,
     // A call is under way.
     Calling(Errand, Exchange),
@@ -125,15 +125,16 @@ impl Line {
         }
     }
 
-    /// The system refused it a socket in this look.
+    /// The system refused it a socket for its first call.
     pub(crate) fn refuse(&mut self)
+        requires { state_of self.old ≡ states.Ready }
         ensures stage { self.new.stage ≡ stages.Refused }
         ensures waiting { WaitsAlike self.old self.new }
     {
         self.stage = Stage::Refused;
     }
 
-    /// The next look has come, after one in which the system refused it a socket.
+    /// The time has come to try again, where the system refused it a socket.
     pub(crate) fn retry(&mut self)
         ensures waiting { WaitsAlike self.old self.new }
         ensures current { current_of self.new ≡ current_of self.old }
@@ -169,6 +170,7 @@ impl Line {
     pub(crate) fn advance(&mut self) -> Option<(Errand, bool)>
         ensures some { IfSome result (λ e. Ends self.old self.new e.0 e.1) }
         ensures none { IfNone result (current_of self.new ≡ current_of self.old) }
+        ensures told { IfNone result (IsAwaited self.new.stage) }
         ensures waiting { WaitsAlike self.old self.new }
     {
         let Stage::Calling(_, exchange) = &mut self.stage else {
@@ -185,14 +187,23 @@ impl Line {
 
     /// Lets go the call that is under way.
     pub(crate) fn let_go(&mut self)
+        requires { IsSome (current_of self.old) }
         ensures stage { self.new.stage ≡ stages.Idle }
         ensures waiting { WaitsAlike self.old self.new }
     {
         self.leave_stage();
     }
 
+    /// Whether no call is under way, and none is over after which the path is still to be marked.
+    pub(crate) fn is_idle(&self) -> bool
+        ensures { IsTrue result ↔ (self.now.stage ≡ stages.Idle) }
+    {
+        matches!(self.stage, Stage::Idle)
+    }
+
     /// The path is still to be marked, after this call.
     pub(crate) fn owe(&mut self, errand: Errand, up: bool)
+        requires { self.old.stage ≡ stages.Idle }
         ensures stage { self.new.stage ≡ stages.Owing errand up }
         ensures waiting { WaitsAlike self.old self.new }
     {
@@ -200,13 +211,15 @@ impl Line {
     }
 
     /// Takes out the call after which the path is still to be marked, with whether it reached the client.
-    pub(crate) fn take_owed(&mut self) -> Option<(Errand, bool)>
-        ensures owed { result ≡ owed_of self.old }
+    pub(crate) fn take_owed(&mut self) -> (Errand, bool)
+        requires { state_of self.old ≡ states.Owing }
+        ensures owed { owed_of self.old ≡ Some result }
+        ensures stage { self.new.stage ≡ stages.Idle }
         ensures waiting { WaitsAlike self.old self.new }
     {
         match self.leave_stage() {
-            Stage::Owing(errand, up) => Some((errand, up)),
-            _ => None,
+            Stage::Owing(errand, up) => (errand, up),
+            _ => unreachable!(),
         }
     }
 

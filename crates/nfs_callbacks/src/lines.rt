@@ -1,5 +1,8 @@
-ghost use Rattle.std.specs.Prelude.{◌≡◌, ◌≢◌, ◌∷◌, ◌++◌, [], ℕ, IfErr, IfSome, OnErr, OnOk};
-ghost use Rattle.nfs_callbacks.specs.Lines.{recalls_at, recalls_in, state_for, queue_at};
+ghost use Rattle.std.specs.BTreeMap.Range.{IsFromStart};
+ghost use Rattle.std.specs.Ordering.{nat_cmp};
+ghost use Rattle.std.specs.Prelude.{◌≡◌, ◌≢◌, ◌≤◌, ◌∷◌, ◌++◌, [], ℕ, IfErr, IfNone, IfSome, OnErr, OnOk};
+ghost use Rattle.nfs_callbacks.specs.Lines.{IsNextIn, IsNowhere, recalls_at, recalls_in, state_for, queue_at};
+ghost use Rattle.nfs_callbacks.specs.declared.line.LineState.TheVariants as states;
 
 use crate::errand::Errand;
 use crate::line::{Line, LineState};
@@ -73,7 +76,8 @@ impl Lines {
 
     /// Forgets the client's line where it is empty.
     pub(crate) fn tidy(&mut self, client: u32)
-        ensures { (other : ℕ) → queue_at other self.new ≡ queue_at other self.old }
+        ensures waiting { (other : ℕ) → queue_at other self.new ≡ queue_at other self.old }
+        ensures states { (other : ℕ) → state_for other self.new ≡ state_for other self.old }
     {
         if self.state(client) == LineState::Empty {
             self.lines.remove(&client);
@@ -91,7 +95,9 @@ impl Lines {
     /// The client whose line is the first one in this state behind that of the client `after`, and from the least
     /// number again after the greatest.
     pub(crate) fn next(&self, after: u32, state: LineState) -> Option<u32>
-        ensures { IfSome result (λ client. state_for client self.now ≡ state) }
+        requires { state ≢ states.Empty }
+        ensures some { IfSome result (IsNextIn state after self.now) }
+        ensures none { IfNone result (IsNowhere state self.now) }
     {
         match self.first_from(Bound::Excluded(after), state) {
             None => self.first_from(Bound::Unbounded, state),
@@ -99,8 +105,15 @@ impl Lines {
         }
     }
 
+    // The client whose line is the first one in this state from there on.
     fn first_from(&self, start: Bound<u32>, state: LineState) -> Option<u32>
-        ensures { IfSome result (λ client. state_for client self.now ≡ state) }
+        requires { state ≢ states.Empty }
+        ensures some { IfSome result (λ client. state_for client self.now ≡ state) }
+        ensures within { IfSome result (IsFromStart nat_cmp start) }
+        ensures first { IfSome result (λ client. (other : ℕ) → IsFromStart nat_cmp start other
+            → state_for other self.now ≡ state → client ≤ other) }
+        ensures none { IfNone result ((other : ℕ) → IsFromStart nat_cmp start other
+            → state_for other self.now ≡ state → ⊥) }
     {
         let mut rest = self.lines.range((start, Bound::Unbounded));
         let (client, _) = rest.find(|(_, line)| line.state() == state)?;

@@ -1,3 +1,4 @@
 mod calls;
+mod memory;
 mod peer;
 mod toy;

@@ -139,3 +139,74 @@ fn answer_late(rt: &HostRuntime, peer: &mut Peer) -> io::Result<(u32, u32)> {
     peer.look(rt);
     Ok(call)
 }
+
+/// At most 512 calls are under way. Where one ends, the client behind the one whose call was begun last is called next,
+/// and then those of lower numbers. Checks go on behind the call that was checked last, 64 in a round.
+#[test]
+fn many_at_once(rt: HostRuntime) -> io::Result<()> {
+    let mut peer = Peer::new(&rt)?;
+    let asked = ask_in_turns(&rt, &mut peer);
+    let count = peer.toy.marks.len();
+    drop(peer);
+    let wanted = [(1u32, 512u32), (1, 128), (513, 513), (1_001, 1_001)].map(Some);
+    assert_eq!(&rt; (asked?, count), (wanted, 2));
+    Ok(())
+}
+
+// What delegations are asked about: as calls are begun, in two rounds, and after the end of one call and of another.
+fn ask_in_turns(rt: &HostRuntime, peer: &mut Peer) -> io::Result<[Option<(u32, u32)>; 4]> {
+    let addr = peer.address(rt)?;
+    for client in 1..=513 {
+        peer.toy.recall(rt.alloc(), client, client, addr.as_str())?;
+    }
+    peer.toy.recall(rt.alloc(), 1, 1_001, addr.as_str())?;
+    peer.round(rt);
+    let begun = peer.toy.asked;
+    peer.round(rt);
+    peer.round(rt);
+    let checked = peer.toy.asked;
+    Ok([
+        begun,
+        checked,
+        answer_next(rt, peer)?,
+        answer_next(rt, peer)?,
+    ])
+}
+
+// What delegations are asked about at last once the next call is answered.
+fn answer_next(rt: &HostRuntime, peer: &mut Peer) -> io::Result<Option<(u32, u32)>> {
+    let stream = peer.accept(rt)?;
+    let call = read_recall(&stream)?;
+    write_reply(&stream, call.0, &ACCEPTED)?;
+    peer.look(rt);
+    Ok(peer.toy.asked)
+}
+
+/// Once a mark finds no room for good, it is dropped, and no more clients are probed.
+#[test]
+fn no_room_for_marks(rt: HostRuntime) -> io::Result<()> {
+    let mut peer = Peer::new(&rt)?;
+    let result = probe_without_room(&rt, &mut peer);
+    let (asked, is_marked) = (peer.toy.asked, !peer.toy.marks.is_empty());
+    drop(peer);
+    assert_eq!(&rt;
+        (result?, asked, is_marked),
+        ((), Some((11u32, 11u32)), false)
+    );
+    Ok(())
+}
+
+fn probe_without_room(rt: &HostRuntime, peer: &mut Peer) -> io::Result<()> {
+    peer.toy.recall(rt.alloc(), 1, 11, "127.0.0.1.8")?;
+    peer.toy.refusal = Some(MarkError::Never);
+    peer.round(rt);
+    peer.toy.refusal = None;
+    let callback = callback_at(rt.alloc(), "127.0.0.1.8")?;
+    peer.toy.unknown = Some(Probe {
+        client: 3,
+        callback,
+    });
+    peer.round(rt);
+    peer.round(rt);
+    Ok(())
+}

@@ -40,7 +40,7 @@ impl Peer {
         Ok(Peer {
             listener,
             caller: Caller::new(rt.alloc(), rt)?,
-            toy: Toy::new(rt.alloc()),
+            toy: Toy::new(rt.alloc())?,
         })
     }
 
@@ -61,6 +61,11 @@ impl Peer {
     pub(super) fn look(&mut self, rt: &HostRuntime) {
         self.caller
             .look(rt, &mut self.toy, Duration::from_millis(10));
+    }
+
+    /// Has the caller look once without a wait, so that it is time for a round.
+    pub(super) fn round(&mut self, rt: &HostRuntime) {
+        self.caller.look(rt, &mut self.toy, Duration::ZERO);
     }
 
     /// The next connection, if there is one, once the call was sent.

@@ -16,17 +16,20 @@ pub(super) struct Toy {
     pub(super) refusal: Option<MarkError>,
     /// The marks that were made: the client, and whether its path is up.
     pub(super) marks: Vec<(u32, bool)>,
+    /// The first and the last of the delegations that it was asked about last, whose numbers follow each other.
+    pub(super) asked: Option<(u32, u32)>,
 }
 
 impl Toy {
-    pub(super) fn new(alloc: Global) -> Toy {
-        Toy {
+    pub(super) fn new(alloc: Global) -> Result<Toy, AllocError> {
+        Ok(Toy {
             recalls: VecDeque::new(alloc),
             unknown: None,
             is_held: true,
             refusal: None,
-            marks: Vec::new(alloc),
-        }
+            marks: Vec::with_capacity(alloc, 16)?,
+            asked: None,
+        })
     }
 
     /// A recall of a client's delegation, which is told at this universal address.
@@ -86,7 +89,12 @@ impl CallbackSource for Toy {
         true
     }
 
-    fn has_delegation(&mut self, _recall: &Recall) -> bool {
+    fn has_delegation(&mut self, recall: &Recall) -> bool {
+        let number = recall.stateid.number;
+        self.asked = match self.asked {
+            Some((first, last)) if last.checked_add(1) == Some(number) => Some((first, number)),
+            _ => Some((number, number)),
+        };
         self.is_held
     }
 
