@@ -17,7 +17,7 @@ use Rattle.nfs_xdr.specs.declared.op_result.OpResult.TheVariants as results
 abbrev pub answer_of : State → Read → ℕ → ReadOk
 answer_of state args node =
     let part = read_of (bytes_of (file_of state.files node)) args.offset args.count in
-    record { eof = part.0; data = part.1 }
+    record { eof = part.0; bytes = part.1 }
 
 abbrev pub reading : State → Read → Result ℕ Decision → Decision
 reading state args (Err decision) = decision

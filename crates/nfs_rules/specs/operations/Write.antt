@@ -25,7 +25,7 @@ verifier_of epoch = record { 0 = u32.encoding epoch ++ 0 ∷ 0 ∷ 0 ∷ 0 ∷ [
 -- All bytes are written, and are on stable storage as far as this server has one, whatever was asked for.
 abbrev pub answer_of : History → Write → WriteOk
 answer_of journal args = record {
-  count = length args.data;
+  count = length args.bytes;
   committed = FileSync;
   verifier = verifier_of journal.epoch;
 }
@@ -34,7 +34,7 @@ answer_of journal args = record {
 abbrev pub writing : History → Write → Result ℕ Decision → Decision
 writing journal args (Err decision) = decision
 writing journal args (Ok node) =
-    if nat_lt TEXT_LIMIT (args.offset + length args.data) then refused transfers.Write refusals.FBig
+    if nat_lt TEXT_LIMIT (args.offset + length args.bytes) then refused transfers.Write refusals.FBig
     else record {
       answer = results.Write (Done (answer_of journal args));
       effect = change_alone (Writes node args.offset);

@@ -38,9 +38,9 @@ fn read(alloc: Global, tables: &Tables, node: u32, args: &Read) -> Result<ReadOk
     ensures answer { IfOk result (λ ok. ok ≡ answer_of (state_of tables.now) args.now node) }
     ensures short { IfOk result (λ ok. IsShort (OpResult.Read (Answer.Done ok))) }
 {
-    let (eof, data) = tables.files.read(node, args.offset, args.count);
+    let (eof, bytes) = tables.files.read(node, args.offset, args.count);
     Ok(ReadOk {
         eof,
-        data: SharedBytes::copy_of(alloc, data)?,
+        bytes: SharedBytes::copy_of(alloc, bytes)?,
     })
 }

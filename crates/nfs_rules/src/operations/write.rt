@@ -1,4 +1,5 @@
-ghost use Rattle.std.specs.Prelude.{◌≡◌};
+ghost use Rattle.std.specs.Prelude.{◌≡◌, ◌+◌, ◌<◌, ◌^◌, length, nat_lt};
+ghost use Rattle.nfs_tree.specs.declared.tree.TheConstants.{TEXT_LIMIT};
 ghost use Rattle.nfs_rules.specs.Deciding.{Decides};
 ghost use Rattle.nfs_rules.specs.operations.Write.{answer_of, rule, verifier_of};
 ghost use Rattle.nfs_state.specs.Room.{state_of};
@@ -30,4 +31,32 @@ pub(super) fn decide(store: &Store, request: &Request, args: &Write) -> Result<D
             offset: args.offset,
         }),
     })
+}
+
+// Whether the bytes would end behind the last that a file may have.
+fn is_too_long(args: &Write) -> bool
+    ensures { result ≡ nat_lt TEXT_LIMIT (args.now.offset + length args.now.bytes) }
+{
+    let len = args.bytes.as_slice().len();
+    len > TEXT_LIMIT || args.offset > (TEXT_LIMIT - len) as u64
+}
+
+// All bytes are written, and are on stable storage as far as this server has one.
+fn answer_of(journal: &Journal, args: &Write) -> WriteOk
+    requires { length args.now.bytes < 2 ^ 32 }
+    ensures { result ≡ answer_of journal.now.history args.now }
+{
+    WriteOk {
+        count: args.bytes.as_slice().len() as u32,
+        committed: StableHow::FileSync,
+        verifier: verifier_of(journal.epoch()),
+    }
+}
+
+// The number of the server's run, and four zeros.
+fn verifier_of(epoch: u32) -> Verifier
+    ensures { result ≡ verifier_of epoch }
+{
+    let [a, b, c, d] = epoch.to_be_bytes();
+    Verifier([a, b, c, d, 0, 0, 0, 0])
 }
