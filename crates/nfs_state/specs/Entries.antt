@@ -1,5 +1,5 @@
 -- Requests and answers as the journal records them.
-use Rattle.std.specs.Prelude.{◌≡◌, ◌≢◌, ℕ, ◌<◌, nat_lt, Bool, true, ◌&&◌, [], ◌∷◌, ◌++◌, Option, Some, None, IfSome}
+use Rattle.std.specs.Prelude.{◌≡◌, ◌≢◌, ℕ, ◌<◌, nat_lt, Bool, true, ◌&&◌, List, [], ◌∷◌, ◌++◌, Option, Some, None, IfSome}
 use Rattle.nfs_forms.specs.declared.principal.Principal.{Principal}
 use Rattle.nfs_forms.specs.declared.status.Refusal.TheVariants.{Resource}
 use Rattle.nfs_state.specs.State.{History}
@@ -50,6 +50,17 @@ call_of (entries.Call call) = Some call
 call_of (entries.Expire expire) = None
 call_of (entries.Revoke revoke) = None
 call_of (entries.Path path) = None
+
+-- the bytes that an operation writes to a file: no operation does yet
+abbrev pub data_of : Op → List ℕ
+data_of op = []
+
+-- the bytes that the operation of an entry writes
+abbrev pub data_in : Entry → List ℕ
+data_in (entries.Call call) = data_of call.request.op
+data_in (entries.Expire expire) = []
+data_in (entries.Revoke revoke) = []
+data_in (entries.Path path) = []
 
 -- the journal with one more entry at the end
 abbrev pub with_entry : Entry → History → History

@@ -18,4 +18,5 @@ live_change_of (changes.Releases owner) = Same
 live_change_of (changes.Expires client) = Goes client.number
 live_change_of (changes.Recalls node file_use moment) = Same
 live_change_of (changes.Returns node number) = Same
+live_change_of (changes.Writes node offset) = Same
 live_change_of (changes.MarksPath client path) = Same

@@ -31,6 +31,11 @@ pub enum Change {
         node: u32,
         number: u32,
     },
+    /// What the entry's WRITE writes comes into the node's file at this offset. The bytes stand in the entry.
+    Writes {
+        node: u32,
+        offset: u64,
+    },
     /// Whether callbacks reach the client with this number.
     MarksPath {
         client: u32,
@@ -87,6 +92,7 @@ impl Change {
             | Change::Opens { .. }
             | Change::Recalls { .. }
             | Change::Returns { .. }
+            | Change::Writes { .. }
             | Change::MarksPath { .. }
             | Change::Confirms { .. }
             | Change::Downgrades { .. }
