@@ -13,6 +13,7 @@ use Rattle.nfs_xdr.specs.OpResult as results
 use Rattle.nfs_xdr.specs.OpResult.{refusal_of}
 use Rattle.nfs_xdr.specs.Short.{IsShort}
 use Rattle.nfs_xdr.specs.declared.op.Op.{Op}
+use Rattle.nfs_xdr.specs.declared.op.Op.TheVariants as ops
 use Rattle.nfs_xdr.specs.declared.op_result.OpResult.{OpResult}
 
 -- NFS4ERR_RESOURCE as the operation's result
@@ -51,8 +52,9 @@ call_of (entries.Expire expire) = None
 call_of (entries.Revoke revoke) = None
 call_of (entries.Path path) = None
 
--- the bytes that an operation writes to a file: no operation does yet
+-- the bytes that an operation writes to a file: those of a WRITE
 abbrev pub data_of : Op → List ℕ
+data_of (ops.Write args) = args.bytes
 data_of op = []
 
 -- the bytes that the operation of an entry writes

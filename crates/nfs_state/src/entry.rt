@@ -76,7 +76,10 @@ impl Entry {
 fn data_of(op: &Op) -> &[u8]
     ensures { result.now ≡ data_of op.now }
 {
-    &[]
+    match op {
+        Op::Write(args) => args.bytes.as_slice(),
+        _ => &[],
+    }
 }
 
 impl Call {
