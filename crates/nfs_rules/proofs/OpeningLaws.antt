@@ -22,7 +22,7 @@ use Rattle.nfs_rules.specs.operations.OpenGrant.{ok_answer, opened}
 use Rattle.nfs_state.specs.Places as places
 use Rattle.nfs_state.specs.declared.tables.Tables.{Tables}
 use Rattle.nfs_state.specs.Owners.{owner_of, without_owner}
-use Rattle.nfs_state.specs.Entries.{IsSendable}
+use Rattle.nfs_state.specs.Entries.{IsSendable, data_of}
 use Rattle.nfs_state.specs.declared.request.Request.{Request}
 use Rattle.nfs_state.specs.Room.{IsWithinLimits, state_of}
 use Rattle.nfs_state.specs.Stored.{known_owner}
