@@ -3,6 +3,7 @@ use Rattle.std.proofs.Common.{◌≡◌, ◌≢◌, ◌<◌, ◌≤◌, Option, 
 use Rattle.std.specs.Prelude.{Bool, true, false, ◌&&◌, IfNone, IfOk, IfSome, IsErrOf, IsFalse, IsTrue, is_some, not, option_map}
 use Rattle.std.proofs.lemmas.Bool.{both_ways, cond_both, lt-ltb, ltb-true}
 use Rattle.nfs_core.proofs.Journals.{decides_something}
+use Rattle.nfs_core.proofs.Transferring.{each_read, each_write}
 use Rattle.nfs_core.proofs.SoundSequences.{some_equal}
 use Rattle.nfs_core.specs.Expiry.{IsNotEndedFor}
 use Rattle.nfs_core.specs.PathMarking.{IsNotMarkedFor}
@@ -144,6 +145,12 @@ plain_owner (ops.SetclientidConfirm args) journal old request decision is = ap (
 plain_owner (ops.Lockt args) journal old request decision is = tests old args decision (lockt.lockt_file journal old request.filehandle args) is
 plain_owner (ops.ReleaseLockowner args) journal old request decision is =
     ap (λ (d : Decision). d.effect.owner) (some_equal decision (release.decision_of old args) is) ∙ releases old args
+plain_owner (ops.Read args) journal old request decision is =
+    let P : Decision → Type 0 = λ d. d.effect.owner ≡ owner_changes.Nothing in
+    ap (λ (d : Decision). d.effect.owner) (some_equal decision _ is) ∙ each_read P journal old request args (λ refusal. refl) (λ node. refl) (λ node. refl)
+plain_owner (ops.Write args) journal old request decision is =
+    let P : Decision → Type 0 = λ d. d.effect.owner ≡ owner_changes.Nothing in
+    ap (λ (d : Decision). d.effect.owner) (some_equal decision _ is) ∙ each_write P journal old request args (λ refusal. refl) (λ node. refl) (λ node. refl)
 plain_owner op journal old request decision is = absurd cc
 
 -- so owners may keep what is decided

@@ -27,3 +27,4 @@ pub mod SoundSequences
 pub mod SoundSteps
 pub mod SoundTargets
 pub mod Storing
+pub mod Transferring

@@ -98,16 +98,20 @@ pub record Laws : Type 0 where
   pub runs : FirstRuns
 
 holds_after : Laws → (number : ℕ) (entry : Entry) (effect : Effect) (old : State) → IsEffectReady number old effect → Holds old → Holds (after number entry effect old)
-holds_after laws number entry effect old ready holds = record {
-  sound = sound_after laws.opens laws.locks number entry effect old ready holds.sound;
-  numbered = numbered_after number entry effect old holds.numbered;
-  ones = ones_changed effect.change (with_owner_change effect.owner number old) ready.1 (ones_owned effect.owner number old holds.ones);
-  delegations = delegations_changed laws.apart laws.single effect.change (with_owner_change effect.owner number old) ready.1
-      (sound_owner laws.opens effect.owner number old ready.0 holds.sound) (delegations_owned laws.apart effect.owner number old holds.delegations);
-  order = order_after number entry effect old holds.numbered holds.order;
-  singles = singles_after effect.change (with_owner_change effect.owner number old) ready.1 (singles_owned effect.owner number old holds.singles);
-  within = limits_changed laws.runs effect.change (with_owner_change effect.owner number old) ready.1 (limits_owned effect.owner number old ready.0 holds.within);
-}
+holds_after laws number entry effect old ready holds =
+    let mid = with_owner_change effect.owner number old in
+    let changed = with_state_change effect.change mid in
+    let files = files_after (data_in entry) effect.change changed.files in
+    record {
+      sound = sound_after laws.opens laws.locks number entry effect old ready holds.sound;
+      numbered = numbered_after number entry effect old holds.numbered;
+      ones = ones_written files changed (ones_changed effect.change mid ready.1 (ones_owned effect.owner number old holds.ones));
+      delegations = delegations_written files changed (delegations_changed laws.apart laws.single effect.change mid ready.1
+      (sound_owner laws.opens effect.owner number old ready.0 holds.sound) (delegations_owned laws.apart effect.owner number old holds.delegations));
+      order = order_after number entry effect old holds.numbered holds.order;
+      singles = singles_after effect.change mid ready.1 (singles_owned effect.owner number old holds.singles);
+      within = limits_written files changed (limits_changed laws.runs effect.change mid ready.1 (limits_owned effect.owner number old ready.0 holds.within));
+    }
 
 pub holds_step : Laws → (journal : History) (old : State) (entry : Entry) (new : State) → Step journal old entry new → Holds old → Holds new
 holds_step laws journal old entry new step holds =

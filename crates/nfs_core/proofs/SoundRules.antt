@@ -33,6 +33,7 @@ use Rattle.nfs_state.specs.Changes.{change_alone, with_owner_change}
 use Rattle.nfs_rules.specs.Refusing.{◌>>=◌}
 use Rattle.nfs_rules.specs.Stateids.{any_open, as_open, confirmed_open, verdict}
 use Rattle.nfs_state.specs.State.{State, History, record_has_state}
+use Rattle.nfs_core.proofs.Transferring.{each_read, each_write}
 use Rattle.nfs_core.proofs.SafeLists.{all_always, all_find, all_none, all_weaken, found_last, found_some}
 use Rattle.nfs_core.proofs.Sound.{AreSingle, HasSameClient, HasRecord, IsOnlyOf, IsSound, is_live_in, is_record_of, same_client_self, same_name_self}
 use Rattle.nfs_core.proofs.SoundLocking.{lock_ready, lock_sequenced, locku_ready, stateid_of}
@@ -441,4 +442,8 @@ ruled_ready number journal state (ops.Locku args) request d same sound is =
     (locku_ready number journal state request.op args request sound same) d is
 ruled_ready number journal state (ops.ReleaseLockowner args) request d same sound is =
     as_decided number state d _ is (release_ready number state args)
+ruled_ready number journal state (ops.Read args) request d same sound is =
+    as_decided number state d _ is (each_read (IsReady number state) journal state request args (λ refusal. (tt, tt)) (λ node. (tt, tt)) (λ node. (tt, tt)))
+ruled_ready number journal state (ops.Write args) request d same sound is =
+    as_decided number state d _ is (each_write (IsReady number state) journal state request args (λ refusal. (tt, tt)) (λ node. (tt, tt)) (λ node. (tt, tt)))
 ruled_ready number journal state op request d same sound is = absurd cc

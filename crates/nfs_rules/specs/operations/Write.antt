@@ -30,15 +30,19 @@ answer_of journal args = record {
   verifier = verifier_of journal.epoch;
 }
 
+-- the bytes come into the node's file at the offset
+abbrev pub written : History → Write → ℕ → Decision
+written journal args node = record {
+  answer = results.Write (Done (answer_of journal args));
+  effect = change_alone (Writes node args.offset);
+}
+
 -- NFS4ERR_FBIG for bytes beyond the limit of a file, after all other refusals
 abbrev pub writing : History → Write → Result ℕ Decision → Decision
 writing journal args (Err decision) = decision
 writing journal args (Ok node) =
     if nat_lt TEXT_LIMIT (args.offset + length args.bytes) then refused transfers.Write refusals.FBig
-    else record {
-      answer = results.Write (Done (answer_of journal args));
-      effect = change_alone (Writes node args.offset);
-    }
+    else written journal args node
 
 -- the rule of WRITE; there is always a decision
 abbrev pub rule : History → State → Request → Write → Option Decision
