@@ -8,7 +8,8 @@ use Rattle.nfs_state.specs.declared.entry.Entry.TheVariants as entries
 use Rattle.nfs_core.specs.Lawful.{Leads, Lawful}
 use Rattle.nfs_core.specs.Safe.{HasKnownLocker, HasKnownOwner, HasLiveClient, HasLiveLocker, IsSafe, KeepsLimits, StandsUnderOpen, bears}
 use Rattle.nfs_rules.specs.entries.Expire.{client_of}
-use Rattle.nfs_state.specs.Changes.{after, with_owner_change}
+use Rattle.nfs_state.specs.Changes.{after, files_after, with_owner_change, with_state_change}
+use Rattle.nfs_state.specs.Entries.{data_in}
 use Rattle.nfs_state.specs.State.{State, History, empty_server}
 use Rattle.nfs_core.specs.Step.{Allows, Step}
 use Rattle.nfs_state.specs.Entries.{with_entry}
@@ -16,12 +17,12 @@ use Rattle.nfs_core.proofs.SafeFiles.{locks_at}
 use Rattle.nfs_core.proofs.SafeLists.{all_replicate, all_weaken, any_found}
 use Rattle.nfs_core.proofs.Sound.{AreNumbered, HasSoundLocks, IsKnownIn, IsLockerKnownIn, IsSound, StandsUnder, OpensStay}
 use Rattle.nfs_core.proofs.SoundClients.{HasSingles, alone, are_records, one_of_client, singles_after, singles_empty, singles_owned}
-use Rattle.nfs_core.proofs.SoundDelegations.{HasSoundDelegations, StayApart, StaySingle, delegations_changed, delegations_empty, delegations_owned}
-use Rattle.nfs_core.proofs.SoundLimits.{FirstRuns, limits_changed, limits_empty, limits_owned}
+use Rattle.nfs_core.proofs.SoundDelegations.{HasSoundDelegations, StayApart, StaySingle, delegations_changed, delegations_empty, delegations_owned, delegations_written}
+use Rattle.nfs_core.proofs.SoundLimits.{FirstRuns, limits_changed, limits_empty, limits_owned, limits_written}
 use Rattle.nfs_core.proofs.SoundLocks.{LocksStay}
 use Rattle.nfs_core.proofs.SoundNumbers.{HasNumbers, numbered_after, numbered_empty, numbers_differ, numbers_given}
 use Rattle.nfs_core.proofs.SoundOrder.{HasOrder, order_after, order_empty}
-use Rattle.nfs_core.proofs.SoundOwners.{HasOnes, ones_changed, ones_empty, ones_owned}
+use Rattle.nfs_core.proofs.SoundOwners.{HasOnes, ones_changed, ones_empty, ones_owned, ones_written}
 use Rattle.nfs_core.proofs.SoundRules.{ruled_ready}
 use Rattle.nfs_core.proofs.SoundSequences.{live_owner}
 use Rattle.nfs_core.proofs.SoundSteps.{IsEffectReady, sound_after, sound_owner}
