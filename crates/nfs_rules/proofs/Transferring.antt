@@ -16,7 +16,7 @@ use Rattle.nfs_rules.specs.operations.Lockt.{place_of}
 use Rattle.nfs_rules.proofs.Sendable.{file_place_other, refused_if_other, then_other, verdict_other}
 use Rattle.nfs_rules.proofs.Sequencing.{refusal_sendable}
 use Rattle.nfs_share.specs.AllOpens.{opens_of}
-use Rattle.nfs_share.specs.Opens.{denies}
+use Rattle.nfs_share.specs.Opens.{is_denied}
 use Rattle.nfs_state.specs.Entries.{IsSendable, data_of}
 use Rattle.nfs_state.specs.Room.{HasOwnerPlace, IsWithinLimits}
 use Rattle.nfs_state.specs.State.{State, History}
@@ -35,7 +35,7 @@ file_in_other journal filehandle =
 
 denied_other : (transfer : Transfer) (state : State) (node : ℕ) → IsOther (unless_denied transfer state node)
 denied_other transfer state node =
-    refused_if_other (denies (mode_of transfer) (opens_of node state.opens)) refusals.Locked node (λ e. cc)
+    refused_if_other (is_denied (mode_of transfer) (opens_of node state.opens)) refusals.Locked node (λ e. cc)
 
 allowed_other : (transfer : Transfer) (journal : History) (state : State) (id : Stateid) (node : ℕ) → IsOther (if_allowed transfer journal state id node)
 allowed_other transfer journal state id node =

@@ -14,7 +14,7 @@ use Rattle.nfs_rules.specs.operations.Lockt.{place_of}
 use Rattle.nfs_share.specs.AllOpens.{delegations_of, opens_of}
 use Rattle.nfs_share.specs.Delegations.{has_conflict}
 use Rattle.nfs_share.specs.Modes.{contains, modes}
-use Rattle.nfs_share.specs.Opens.{denies, open_with_number, share_of}
+use Rattle.nfs_share.specs.Opens.{is_denied, open_with_number, share_of}
 use Rattle.nfs_share.specs.declared.delegation.DelegationKind.{DelegationKind}
 use Rattle.nfs_share.specs.declared.delegation.DelegationKind.TheVariants as kinds
 use Rattle.nfs_share.specs.declared.delegation.FileUse.TheVariants as uses
@@ -47,7 +47,7 @@ file_in journal filehandle =
 -- A special stateid stands for no state, so that it is judged by the opens of all: NFS4ERR_LOCKED where one denies it.
 abbrev pub unless_denied : Transfer → State → ℕ → Result ℕ Refusal
 unless_denied transfer state node =
-    refused_if (denies (mode_of transfer) (opens_of node state.opens)) refusals.Locked node
+    refused_if (is_denied (mode_of transfer) (opens_of node state.opens)) refusals.Locked node
 
 -- the open, as it is now, has access for it
 abbrev pub has_access : Transfer → Option OpenState → Bool

@@ -1,5 +1,5 @@
 -- WRITE (RFC 7530, section 16.36): puts bytes into a file.
-use Rattle.std.specs.Prelude.{ℕ, ◌+◌, nat_lt, [], ◌∷◌, ◌++◌, length, Option, Some, Result, Ok, Err, if◌then◌else◌}
+use Rattle.std.specs.Prelude.{ℕ, ◌+◌, ◌==◌, nat_lt, [], ◌∷◌, ◌++◌, length, Option, Some, Result, Ok, Err, if◌then◌else◌}
 use Rattle.nfs_forms.specs.declared.answer.Answer.TheVariants.{Done}
 use Rattle.nfs_forms.specs.declared.stable_how.StableHow.TheVariants.{FileSync}
 use Rattle.nfs_forms.specs.declared.status.Refusal.TheVariants as refusals
@@ -11,7 +11,8 @@ use Rattle.nfs_rules.specs.declared.decision.Decision.{Decision}
 use Rattle.nfs_rules.specs.declared.transfer.Transfer.TheVariants as transfers
 use Rattle.nfs_state.specs.Changes.{change_alone}
 use Rattle.nfs_state.specs.State.{State, History}
-use Rattle.nfs_state.specs.declared.change.Change.TheVariants.{Writes}
+use Rattle.nfs_state.specs.declared.change.Change.{Change}
+use Rattle.nfs_state.specs.declared.change.Change.TheVariants.{Nothing, Writes}
 use Rattle.nfs_state.specs.declared.request.Request.{Request}
 use Rattle.nfs_tree.specs.declared.tree.TheConstants.{TEXT_LIMIT}
 use Rattle.nfs_xdr.specs.declared.op_result.OpResult.TheVariants as results
@@ -30,11 +31,14 @@ answer_of journal args = record {
   verifier = verifier_of journal.epoch;
 }
 
--- the bytes come into the node's file at the offset
+-- The bytes come into the node's file at the offset; without bytes nothing changes.
+abbrev pub change_by : Write → ℕ → Change
+change_by args node = if length args.bytes == 0 then Nothing else Writes node args.offset
+
 abbrev pub written : History → Write → ℕ → Decision
 written journal args node = record {
   answer = results.Write (Done (answer_of journal args));
-  effect = change_alone (Writes node args.offset);
+  effect = change_alone (change_by args node);
 }
 
 -- NFS4ERR_FBIG for bytes beyond the limit of a file, after all other refusals

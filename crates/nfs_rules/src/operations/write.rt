@@ -1,7 +1,7 @@
 ghost use Rattle.std.specs.Prelude.{◌≡◌, ◌+◌, ◌<◌, ◌^◌, length, nat_lt};
 ghost use Rattle.nfs_tree.specs.declared.tree.TheConstants.{TEXT_LIMIT};
 ghost use Rattle.nfs_rules.specs.Deciding.{Decides};
-ghost use Rattle.nfs_rules.specs.operations.Write.{answer_of, rule, verifier_of};
+ghost use Rattle.nfs_rules.specs.operations.Write.{answer_of, change_by, rule, verifier_of};
 ghost use Rattle.nfs_state.specs.Room.{state_of};
 
 use crate::decision::Decision;
@@ -26,11 +26,21 @@ pub(super) fn decide(store: &Store, request: &Request, args: &Write) -> Result<D
     }
     Ok(Decision {
         answer: OpResult::Write(Answer::Done(answer_of(&store.journal, args))),
-        effect: Effect::change_alone(Change::Writes {
-            node,
-            offset: args.offset,
-        }),
+        effect: Effect::change_alone(change_by(args, node)),
     })
+}
+
+// The bytes come into the node's file at the offset; without bytes nothing changes.
+fn change_by(args: &Write, node: u32) -> Change
+    ensures { result ≡ change_by args.now node }
+{
+    if args.bytes.as_slice().is_empty() {
+        return Change::Nothing;
+    }
+    Change::Writes {
+        node,
+        offset: args.offset,
+    }
 }
 
 // Whether the bytes would end behind the last that a file may have.
