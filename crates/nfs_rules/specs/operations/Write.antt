@@ -16,12 +16,12 @@ use Rattle.nfs_state.specs.declared.change.Change.TheVariants.{Nothing, Writes}
 use Rattle.nfs_state.specs.declared.request.Request.{Request}
 use Rattle.nfs_tree.specs.declared.tree.TheConstants.{TEXT_LIMIT}
 use Rattle.nfs_xdr.specs.declared.op_result.OpResult.TheVariants as results
-use Rattle.xdr.specs.Form.{u32}
+use Rattle.xdr.specs.Writing.{written_u32}
 
 -- What tells a client that the server was started anew, so that what wasn't on stable storage yet may be lost: the
 -- number of the server's run, and four zeros.
 abbrev pub verifier_of : ℕ → Verifier
-verifier_of epoch = record { 0 = u32.encoding epoch ++ 0 ∷ 0 ∷ 0 ∷ 0 ∷ [] }
+verifier_of epoch = record { 0 = written_u32 epoch ++ 0 ∷ 0 ∷ 0 ∷ 0 ∷ [] }
 
 -- All bytes are written, and are on stable storage as far as this server has one, whatever was asked for.
 abbrev pub answer_of : History → Write → WriteOk

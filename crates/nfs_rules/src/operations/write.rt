@@ -64,9 +64,11 @@ fn answer_of(journal: &Journal, args: &Write) -> WriteOk
 }
 
 // The number of the server's run, and four zeros.
+#[tactic(auto, unfolding(xdr::specs::Writing::written_number))]
 fn verifier_of(epoch: u32) -> Verifier
     ensures { result ≡ verifier_of epoch }
 {
-    let [a, b, c, d] = epoch.to_be_bytes();
-    Verifier([a, b, c, d, 0, 0, 0, 0])
+    let mut verifier = [0; 8];
+    verifier[..4].copy_from_slice(&epoch.to_be_bytes());
+    Verifier(verifier)
 }
