@@ -1,12 +1,11 @@
 -- What is decided of a READ or a WRITE that isn't made can be sent.
-use Rattle.std.proofs.Common.{◌≡◌, ◌≢◌, ℕ, Bool, true, false, Option, Some, None, Result, Ok, Err, refl, ap, subst, sym}
+use Rattle.std.proofs.Common.{◌≡◌, ◌≢◌, ℕ, Bool, true, false, Option, Result, Ok, Err, ap, subst, sym}
 use Rattle.std.specs.Prelude.{⊤, not, if◌then◌else◌}
 use Rattle.nfs_forms.specs.Stateid.{is_special}
 use Rattle.nfs_forms.specs.declared.stateid.Stateid.{Stateid}
 use Rattle.nfs_forms.specs.declared.status.Refusal.{Refusal}
 use Rattle.nfs_forms.specs.declared.status.Refusal.TheVariants as refusals
 use Rattle.nfs_rules.specs.Deciding.{IsOther}
-use Rattle.nfs_rules.specs.Refusing.{◌>>=◌, refused_if}
 use Rattle.nfs_rules.specs.Stateids.{any_state, verdict}
 use Rattle.nfs_rules.specs.Transfers.{allows, delayed, file_for, file_in, if_allowed, is_lent_out, mode_of, permitted, refused, unless_denied, unless_lent}
 use Rattle.nfs_rules.specs.Transfers as transfers
