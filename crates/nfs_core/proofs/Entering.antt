@@ -242,7 +242,7 @@ expiry_next journal old expire effect below expiry = record {
   allowed = expiry;
   fits = record {
     kept = ap (λ (e : Effect). e.owner) expiry.removal;
-    numbers = subst (λ (e : Effect). IsWithinNumbers e.change old) (sym expiry.removal) tt;
+    numbers = subst (λ (e : Effect). IsWithinNumbers [] e.change old) (sym expiry.removal) tt;
     place = subst (λ (e : Effect). HasOwnerPlace e.owner old) (sym expiry.removal) tt;
   };
 }
@@ -259,7 +259,7 @@ pub expiry_memory : (journal : History) (old : State) (expire : Expire) (effect 
 expiry_memory journal old expire effect tables expiry = record {
   kept = refl;
   owner = subst (λ (e : Effect). HasOwnerRoom e.owner tables) (sym expiry.removal) tt;
-  change = subst (λ (e : Effect). HasRoom e.change tables) (sym expiry.removal) tt;
+  change = subst (λ (e : Effect). HasRoom [] e.change tables) (sym expiry.removal) tt;
 }
 
 -- a delegation's end may come next
@@ -269,7 +269,7 @@ revocation_next journal old revoke effect below revocation = record {
   allowed = revocation;
   fits = record {
     kept = ap (λ (e : Effect). e.owner) revocation.removal;
-    numbers = subst (λ (e : Effect). IsWithinNumbers e.change old) (sym revocation.removal) tt;
+    numbers = subst (λ (e : Effect). IsWithinNumbers [] e.change old) (sym revocation.removal) tt;
     place = subst (λ (e : Effect). HasOwnerPlace e.owner old) (sym revocation.removal) tt;
   };
 }
@@ -284,7 +284,7 @@ pub revocation_memory : (journal : History) (old : State) (revoke : Revoke) (eff
 revocation_memory journal old revoke effect tables revocation = record {
   kept = refl;
   owner = subst (λ (e : Effect). HasOwnerRoom e.owner tables) (sym revocation.removal) tt;
-  change = subst (λ (e : Effect). HasRoom e.change tables) (sym revocation.removal) tt;
+  change = subst (λ (e : Effect). HasRoom [] e.change tables) (sym revocation.removal) tt;
 }
 
 -- a mark of a client's path may come next
@@ -294,7 +294,7 @@ path_next journal old path effect below mark = record {
   allowed = mark;
   fits = record {
     kept = ap (λ (e : Effect). e.owner) mark.mark;
-    numbers = subst (λ (e : Effect). IsWithinNumbers e.change old) (sym mark.mark) tt;
+    numbers = subst (λ (e : Effect). IsWithinNumbers [] e.change old) (sym mark.mark) tt;
     place = subst (λ (e : Effect). HasOwnerPlace e.owner old) (sym mark.mark) tt;
   };
 }
@@ -311,5 +311,5 @@ pub path_memory : (journal : History) (old : State) (path : Path) (effect : Effe
 path_memory journal old path effect tables mark = record {
   kept = refl;
   owner = subst (λ (e : Effect). HasOwnerRoom e.owner tables) (sym mark.mark) tt;
-  change = subst (λ (e : Effect). HasRoom e.change tables) (sym mark.mark) tt;
+  change = subst (λ (e : Effect). HasRoom [] e.change tables) (sym mark.mark) tt;
 }
