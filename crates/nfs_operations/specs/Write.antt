@@ -1,6 +1,6 @@
--- WRITE (RFC 7530, section 16.36): its arguments are a stateid, bytes, where in the file they go, and how much has to be
--- in stable storage before the answer; its result is how many were written, how much is in stable storage, and a
--- verifier of this start of the server.
+-- WRITE (RFC 7530, section 16.36): its arguments are a stateid, bytes, where in the file they go, and how much of them
+-- has to be in stable storage before the answer; its result is how many were written, how much is in stable storage,
+-- and a verifier of this start of the server.
 use Rattle.std.proofs.Common.{refl}
 use Rattle.nfs_operations.specs.declared.write.Write.{Write}
 use Rattle.nfs_operations.specs.declared.write.WriteOk.{WriteOk}
