@@ -3,6 +3,7 @@ the first difference in words, behind the name of the call: `, OPEN: status want
 
 What a server may choose has a kind of its own (CLIENTID, STATEID and others); a judge says what is the same value
 then."""
+import os
 from collections import namedtuple
 from itertools import zip_longest
 
@@ -11,7 +12,7 @@ import messages  # It makes the model's modules known.
 import rows
 import wire
 from wire import Opnum, Reader, Status, Unreadable, split_records
-from words import STATUS_NAMES, is_shown_as_text, number_word
+from words import SHOWN, STATUS_NAMES, is_shown_as_text, number_word
 
 # How a value is read, and how it is shown; and whether it is a server's choice: none (False), one that stays what it
 # was at first (NAMED), one that is for nothing else either (DISTINCT), or one that may be anything (FREE).
@@ -31,9 +32,9 @@ OPERATION_NAMES = {number: name for name, number in rows.NAMES.items()
 # Kinds.
 
 def show_bytes(value):
-    if is_shown_as_text(value):
-        return f'"{value.decode()}"'
-    return f"hex:{value.hex()}" if len(value) <= 64 else f"{len(value)} bytes, hex:{value[:64].hex()}.."
+    first = value[:SHOWN]
+    shown = f'"{first.decode()}"' if is_shown_as_text(first) else f"hex:{first.hex()}"
+    return shown if len(value) <= SHOWN else f"{len(value)} bytes, {shown}.."
 
 
 def show_words(value):
@@ -76,6 +77,7 @@ CONFIRM = Kind("confirm value", lambda reader: reader.fixed(8), show_long, NAMED
 STATEID = Kind("stateid", lambda reader: reader.fixed(12), show_words, DISTINCT)
 HANDLE = Kind("filehandle", Reader.opaque, show_words, DISTINCT)
 FILEID = Kind("fileid", Reader.u64, str, DISTINCT)
+VERIFIER = Kind("verifier", lambda reader: reader.fixed(8), show_words, NAMED)
 CHANGE = Kind("change", Reader.u64, str, FREE)
 ATOMIC = Kind("atomic", Reader.u32, str, FREE)
 REST = Kind("bytes", lambda reader: reader.fixed(len(reader.data) - reader.at), show_bytes, False)
@@ -110,6 +112,8 @@ RESTS = {
     (Opnum.LOCK, Status.DENIED): OF_DENIAL,
     (Opnum.LOCKT, Status.DENIED): OF_DENIAL,
     (Opnum.OPEN, Status.OK): OF_OPEN,
+    (Opnum.READ, Status.OK): [("eof", NUMBER), ("data", TEXT)],
+    (Opnum.WRITE, Status.OK): [("count", NUMBER), ("committed", NUMBER), ("verifier", VERIFIER)],
     (Opnum.SETCLIENTID, Status.OK): [("clientid", CLIENTID), ("confirm value", CONFIRM)],
     (Opnum.SETCLIENTID, Status.CLID_INUSE): [("netid", TEXT), ("address", TEXT)],
     **{(opnum, Status.OK): OF_STATE for opnum in (Opnum.CLOSE, Opnum.LOCK, Opnum.LOCKU, Opnum.OPEN_CONFIRM,
@@ -220,8 +224,16 @@ def first_difference(wanted, got, judge):
                 continue
         left = "none" if want is None else judge.shown(want.kind, want.value)
         right = "none" if have is None else have.kind.show(have.value)
-        return f": {(want or have).what} wanted {left}, got {right}"
+        return f": {(want or have).what} wanted {left}, got {right}{place_behind(want, have)}"
     return None
+
+
+def place_behind(want, have):
+    """From which byte on two texts differ, where that isn't shown of them; or nothing."""
+    if want is None or have is None or want.kind != TEXT or have.kind != TEXT:
+        return ""
+    same = os.path.commonprefix([want.value, have.value])
+    return f", which differ from byte {len(same)} on" if len(same) >= SHOWN else ""
 
 
 def name_of(number):

@@ -50,9 +50,9 @@ class Told(Server):
         self.state = number + 1
         return Result(Status(entry.answer.status), entry.answer.rest)
 
-    def run_next(self, call, handles, is_full, is_refused):
+    def run_next(self, call, handles, room, is_refused):
         self.is_stale = is_refused
-        return super().run_next(call, handles, is_full, False)
+        return super().run_next(call, handles, room, False)
 
     def renew(self, arguments):
         """By a state behind the entry of the last receipt, and not behind that of the next one. What comes after it is

@@ -9,7 +9,8 @@ from statistics import median
 
 HERE = os.path.dirname(os.path.abspath(__file__))
 OURS, THEIRS, ECHO = "nfs4state", "nfs-ganesha", "echo"
-NAMES = {"null": "NULL", "getattr": "GETATTR", "renew": "RENEW", "open": "OPEN+CLOSE", "lock": "LOCK+LOCKU"}
+NAMES = {"null": "NULL", "getattr": "GETATTR", "renew": "RENEW", "open": "OPEN+CLOSE", "lock": "LOCK+LOCKU",
+         "read": "READ 4 KiB", "write": "WRITE 4 KiB"}
 
 # How many times the calls a second of nfs-ganesha are wanted, by connections and calls under way on each.
 OPENS_AND_LOCKS = {(1, 1): 2, (1, 16): 5, (4, 1): 2.4, (4, 16): 6}
@@ -72,7 +73,7 @@ class Cell:
         return self.connections, self.under_way
 
     def least_rate(self):
-        return LEAST_RATES[self.workload].get(self.pair())
+        return LEAST_RATES.get(self.workload, {}).get(self.pair())
 
     def most_processor(self):
         return MOST_PROCESSOR.get(self.workload, {}).get(self.under_way)

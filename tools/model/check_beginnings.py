@@ -10,9 +10,10 @@ import threading
 import time
 
 from entries import Expire, NotJournal, entry_bytes
-from journal import Growing, head_bytes, journal_bytes
+from journal import Growing, Recorder, head_bytes, journal_bytes
 from journal_cases import sample, small, with_words
-from wire import u32
+from tree import Tree
+from wire import Opnum, Read, Stateid, Write, u32
 from words import line_of
 
 TOOLS = os.path.join(os.path.dirname(os.path.abspath(__file__)), "..")
@@ -105,8 +106,8 @@ def run(tool, *words):
     return ran.returncode, ran.stdout, ran.stderr
 
 
-def shown(journal):
-    return [f"{number}: {line_of(entry, journal.tree)}" for number, entry in enumerate(journal.entries)]
+def shown(journal, is_whole=False):
+    return [f"{number}: {line_of(entry, journal.tree, is_whole)}" for number, entry in enumerate(journal.entries)]
 
 
 class Room:
@@ -151,6 +152,32 @@ def try_shown(room):
     early = f"fault: not a journal: {HEAD_ENDS}\n"
     room.expect("show_journal", ["--lawful", room.path("head.part")], [], 1, early)
     room.expect("show_journal", ["--save", saved, room.path("head.part")], [], 1, early)
+
+
+def try_data(room):
+    """Of more than 64 bytes of a file the first are shown, but with --whole: in refusals and in answers."""
+    server = Recorder(Tree())
+    nobody, place = Stateid(0, 0, 0, 0), 'moment 0, AUTH_NONE, file "/a": '
+    for data, offset in ((b"a" * 64, 0), (b"b" * 65, 0), (b"c" * 70000, 0), (bytes(66), 2**32)):
+        server.apply(Opnum.WRITE, Write(nobody, offset, 2, data), 1, (0, 0))
+    server.apply(Opnum.READ, Read(nobody, 0, 99), 1, (0, 0))
+    head, written = f"{place}WRITE 0 0 0 0 u64:", " -> WRITE NFS4_OK"
+    text_a, text_b, text_c = (f'"{letter * 64}"' for letter in "abc")
+    lines = [f"0: {head}0 2 {text_a}{written} 64 2 1 0", f"1: {head}0 2 {text_b} .. (65 bytes){written} 65 2 1 0",
+             f"2: {head}0 2 {text_c} .. (70000 bytes) -> WRITE NFS4ERR_FBIG",
+             f"3: {head}4294967296 2 hex:{'00' * 64} .. (66 bytes) -> WRITE NFS4ERR_FBIG",
+             f"4: {place}READ 0 0 0 0 u64:0 99 -> READ NFS4_OK 1 {text_b} .. (65 bytes)"]
+    whole = [lines[0], lines[1].replace(f"{text_b} .. (65 bytes)", f'"{"b" * 65}"'),
+             lines[2].replace(f"{text_c} .. (70000 bytes)", f'"{"c" * 70000}"'),
+             lines[3].replace(f"hex:{'00' * 64} .. (66 bytes)", f"66{' 0x00000000' * 17}"),
+             lines[4].replace(f"{text_b} .. (65 bytes)", f'"{"b" * 65}"')]
+    path = room.put("data", journal_bytes(server.journal()))
+    room.expect("show_journal", [path], lines)
+    room.expect("show_journal", ["--whole", path], whole)
+    many = " bytes add up to {}, and a file has 65536 at most (RULES: WRITE)"
+    reasons = ["    offset 0 and 70000" + many.format(70000), "    offset 4294967296 and 66" + many.format(2**32 + 66)]
+    for words, of in (([], lines), (["--whole"], whole)):
+        room.expect("explain", [*words, path], [of[2], reasons[0], of[3], reasons[1]])
 
 
 def try_explained(room):
@@ -245,6 +272,6 @@ def check_beginnings():
     wrong = check_cuts("three entries", small(), 1) + check_cuts("all operations", sample(), 11) + check_faults()
     with tempfile.TemporaryDirectory() as folder:
         room = Room(folder)
-        for attempt in (try_shown, try_explained, try_follow):
+        for attempt in (try_shown, try_data, try_explained, try_follow):
             attempt(room)
         return wrong + room.wrong

@@ -63,7 +63,7 @@ def wrong_words(journal):
     """The lines of entries whose words spell other bytes than the entry has."""
     for entry in calls_of(journal):
         head = u32(entry.opnum) + ARGUMENT_BYTES[entry.opnum](entry.arguments)
-        sent, got = rows.spelled(operation_words(entry)), rows.spelled(answer_words(entry.answer))
+        sent, got = rows.spelled(operation_words(entry, True)), rows.spelled(answer_words(entry.answer, True))
         if (sent, got) != (head, answer_bytes(entry.answer)):
             yield f"words that spell other bytes: {line_of(entry, journal.tree)}"
 

@@ -1,9 +1,8 @@
 #!/usr/bin/env python3
 """check_rows.py FOLDER|FILE.rows..: runs rows through the model, and compares its replies with those that the rows want.
 
-Rows are left out where the model can't judge them: those that use an operation that gets a rule later. The status is 1
-where a row differs, or a file can't be read; and where a row without orders would get something else from a server that
-finds nobody at the callback addresses: over TCP it calls there at any time."""
+The status is 1 where a row differs, or a file can't be read; and where a row without orders would get something else
+from a server that finds nobody at the callback addresses: over TCP it calls there at any time."""
 import sys
 
 sys.dont_write_bytecode = True
@@ -29,14 +28,13 @@ class Unreached(Server):
 
 
 def run(row, kind=Server):
-    """For each connection what it gets: bytes, the fault that ends it, and what came of the orders meanwhile. And what
-    has no rule yet."""
+    """For each connection what it gets: bytes, the fault that ends it, and what came of the orders meanwhile."""
     try:
         tree = Tree(DEFAULT if row.document is None else row.document)
     except Refused as refused:
-        return [(b"", f"tree refused ({refused.args[0]})", [])], set()
+        return [(b"", f"tree refused ({refused.args[0]})", [])]
     server = kind(tree, row.lease, row.epoch)
-    return [converse(server, connection) for connection in row.connections], server.unknown
+    return [converse(server, connection) for connection in row.connections]
 
 
 def converse(server, connection):
@@ -103,7 +101,7 @@ def report(row, connection, got):
 
 
 def main(paths):
-    agreed = differ = left_out = unread = 0
+    agreed = differ = unread = 0
     try:
         files = [file for path in paths for file in rows.files_of(path)]
     except OSError as error:
@@ -116,22 +114,17 @@ def main(paths):
             unread += 1
             continue
         for row in found:
-            got, unknown = run(row)
-            if unknown:
-                print(f"{row.file}:{row.line}: left out, as the model has no {', '.join(sorted(unknown))}: {row.name}")
-                left_out += 1
-                continue
+            got = run(row)
             wrong = [place for place, connection in enumerate(row.connections)
                      if got[place:place + 1] != [wanted_of(connection)]]
             if wrong:
                 report(row, row.connections[wrong[0]], got[wrong[0]])
-            elif not row.is_ordering and run(row, Unreached)[0] != got:
+            elif not row.is_ordering and run(row, Unreached) != got:
                 print(f"{row.file}:{row.line}: it wants a delegation of a client that may have been called in vain: "
                       f"{row.name}")
                 wrong = [0]
             agreed, differ = agreed + (not wrong), differ + bool(wrong)
-    print(f"check_rows: {agreed} rows agree with the model, {differ} differ, {left_out} left out, "
-          f"{unread} files not read")
+    print(f"check_rows: {agreed} rows agree with the model, {differ} differ, {unread} files not read")
     return 1 if differ or unread or not agreed else 0
 
 

@@ -37,7 +37,7 @@ class Delegating:
     def delegations_of_others(self, client, file):
         return [it for it in self.delegations if it.file == file and it.client != client]
 
-    # In OPEN.
+    # In OPEN; and in READ and WRITE, which have the access of an open that denies nothing.
 
     def expect_claimed(self, stateid, client, file):
         """CLAIM_DELEGATE_CUR names a delegation of the client on the file that is opened (section 16.16)."""
@@ -46,9 +46,9 @@ class Delegating:
             raise Refusal(Status.BAD_STATEID)
         expect_seqid(stateid, found)
 
-    def expect_none_in_the_way(self, client, file, share):
-        """No delegation of another client bars an open with this share; those that do are called back."""
-        barring = [it for it in self.delegations_of_others(client, file) if bars(it.kind, share)]
+    def expect_none_in_the_way(self, held, share):
+        """None of these delegations bars an open with this share; those that do are called back."""
+        barring = [it for it in held if bars(it.kind, share)]
         self.recall(barring)
         if barring:
             raise Refusal(Status.DELAY)

@@ -12,8 +12,8 @@ from wire import (CLAIM_DELEGATE_CUR, CLAIM_PREVIOUS, EXCLUSIVE4, NewLocker, OPE
 
 MOMENT_LIMIT = 2**40
 
-# The statuses that an answer may have: the server's, and those that it gets with READ and WRITE (FBIG, LOCKED).
-STATUSES = set(Status) | {27, 10012}
+# The statuses that an answer may have.
+STATUSES = set(Status)
 
 # A request with its answer: when it came, who sent it, and the current filehandle's node, or None.
 Call = namedtuple("Call", "moment principal filehandle opnum arguments answer")
@@ -120,9 +120,11 @@ ARGUMENT_BYTES = {
     Opnum.OPEN: open_bytes,
     Opnum.OPEN_CONFIRM: lambda a: u32(*a.stateid, a.seqid),
     Opnum.OPEN_DOWNGRADE: lambda a: u32(*a.stateid, a.seqid, a.access, a.deny),
+    Opnum.READ: lambda a: u32(*a.stateid) + u64(a.offset) + u32(a.count),
     Opnum.RELEASE_LOCKOWNER: lambda a: owner_bytes(a.owner),
     Opnum.SETCLIENTID: setclientid_bytes,
     Opnum.SETCLIENTID_CONFIRM: lambda a: u32(a.epoch, a.client) + u64(a.confirm),
+    Opnum.WRITE: lambda a: u32(*a.stateid) + u64(a.offset) + u32(a.stable) + opaque(a.data),
 }
 
 
@@ -177,6 +179,10 @@ RESTS = {
     (Opnum.OPEN, Status.OK): read_open_answer,
     (Opnum.OPEN_CONFIRM, Status.OK): read_stateid,
     (Opnum.OPEN_DOWNGRADE, Status.OK): read_stateid,
+    # The end of the file, and as many bytes as there are; and how many were written, how safe they are by
+    # stable_how4, and the verifier.
+    (Opnum.READ, Status.OK): lambda r: (r.one_of(2), r.file_bytes()),
+    (Opnum.WRITE, Status.OK): lambda r: (r.u32(), r.one_of(3), r.u32(), r.u32()),
     (Opnum.SETATTR, Status.NOTSUPP): lambda r: r.fixed_words(0),
     (Opnum.SETCLIENTID, Status.OK): lambda r: (r.u32(), r.u32(), r.u64()),
     (Opnum.SETCLIENTID, Status.CLID_INUSE): lambda r: (r.opaque(), r.opaque()),

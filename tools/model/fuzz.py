@@ -3,12 +3,13 @@
 orders: sweeps, marks of paths, revocations, and recalls that are taken. Replies, outcomes and the journal are compared
 with the model's, until so many LOCKs and LOCKUs were OK.
 
-Each run is one server and one connection. In half of the runs most operations are LOCK, LOCKU and LOCKT, of a few lock
-owners of two clients, at the first and the last bytes; in the others most are OPEN, CLOSE and DELEGRETURN of three
-clients, which get delegations and are called back. The other operations that ask the state come too. Each operation is
-made when the model comes to it, so that most of them name what is there by then; some are a little off, and some are an
-earlier one again. At a difference the steps that lead to it are printed as a row, without those that it needs not, and
-the status is 1."""
+Each run is one server and one connection. In a third of the runs most operations are LOCK, LOCKU and LOCKT, of a few
+lock owners of two clients, at the first and the last bytes; in another third most are OPEN, CLOSE and DELEGRETURN of
+three clients, which get delegations and are called back; and in the last READ and WRITE, by special stateids and by
+those of what these clients have, at the first bytes, round the size, and at the most that a file has. The other
+operations with a rule come too. Each operation is made when the model comes to it, so that most of them name what is
+there by then; some are a little off, and some are an earlier one again. At a difference the steps that lead to it are
+printed as a row, without those that it needs not, and the status is 1."""
 import argparse
 import multiprocessing
 import os
@@ -29,7 +30,7 @@ from ranges import ALL_ONES, LAST_BYTE
 from rows import Mark, Part, Pending, Probe, Revoke, Row, Sweep, Take
 from running import WHOLE, run as run_row
 from states import Delegation, LockState, handle_of, next_sequence_id
-from tree import DEFAULT, Tree
+from tree import DEFAULT, TEXT_LIMIT, Tree
 from wire import Opnum, Status, opaque, u32, u64
 
 NAMES = [b"a", b"b", b"d", b"c", b"e", b"", b"x" * 256]
@@ -40,6 +41,12 @@ LOCK_OWNERS = [b"x", b"y", b"xa", b"A"]
 # The ends of ranges.
 BYTES = [*range(12), *range(LAST_BYTE - 11, LAST_BYTE + 1)]
 LAST = 2**32 - 1
+# Bytes that a record may have for the data of WRITEs, so that it isn't too long.
+DATA_ROOM = 150_000
+# The most letters of what came at a difference.
+LETTERS = 2000
+# What most operations of a run are.
+LOCKING, LENDING, WRITING = range(3)
 # What is counted besides the operations: delegations by their type, and entries of the journal.
 LENT = {1: "delegations for reading", 2: "delegations for writing"}
 WHAT = {Expire: "clients removed", Revocation: "delegations revoked", Path: "paths marked"}
@@ -87,18 +94,27 @@ class Caller:
     """Makes calls and orders from what the server beside it has."""
 
     def __init__(self, seed):
-        self.chance, self.is_lending = random.Random(seed), seed % 2 == 1
+        self.chance, self.kind = random.Random(seed), seed % 3
         self.document, self.lease = document_of(self.chance), self.chance.choice([90, 90, 90, 20, 2])
         # A state that threads share isn't told all orders.
         self.way = SHARED if seed % 8 > 5 else ALONE
         self.server, self.steps, self.again, self.moment = self.new_server(), [], [], 0
-        self.clients = CLIENTS if self.is_lending else CLIENTS[:2]
+        # The call that is made.
+        self.drawn = None
+        self.clients = CLIENTS[:2] if self.kind == LOCKING else CLIENTS
         locks = {self.lock: 36, self.locku: 18, self.lockt: 24, self.repeat: 6, self.open: 5, self.release_lockowner: 3,
-                 self.close: 2, self.open_downgrade: 2, self.open_confirm: 1, self.delegreturn: 1}
+                 self.close: 2, self.open_downgrade: 2, self.open_confirm: 1, self.delegreturn: 1, self.read: 1,
+                 self.write: 1}
         lends = {self.open: 40, self.close: 24, self.delegreturn: 8, self.open_downgrade: 4, self.repeat: 4,
-                 self.open_confirm: 1, self.lock: 2, self.locku: 1, self.lockt: 2, self.release_lockowner: 1}
-        self.makers = (lends if self.is_lending else locks) | {
-            self.on_tree: 1, self.getattr: 1, self.setclientid: 0.3, self.setclientid_confirm: 0.3, self.renew: 0.3}
+                 self.open_confirm: 1, self.lock: 2, self.locku: 1, self.lockt: 2, self.release_lockowner: 1,
+                 self.read: 3, self.write: 3}
+        writes = {self.read: 30, self.write: 30, self.open: 14, self.close: 8, self.delegreturn: 6, self.lock: 4,
+                  self.open_downgrade: 3, self.locku: 2, self.release_lockowner: 1, self.open_confirm: 1,
+                  self.lockt: 1, self.repeat: 1, self.getattr: 4}
+        self.makers = {LOCKING: locks, LENDING: lends, WRITING: writes}[self.kind]
+        often = {self.on_tree: 1, self.getattr: 1, self.setclientid: 0.3, self.setclientid_confirm: 0.3,
+                 self.renew: 0.3}
+        self.makers = often | self.makers
 
     def new_server(self):
         return Counting(Tree(self.document), self.lease)
@@ -108,7 +124,8 @@ class Caller:
 
     def next_step(self):
         """Another call, or an order."""
-        self.steps.append(self.next_order() if self.is_rare(0.15 if self.is_lending else 0.02) else self.next_call())
+        share = 0.02 if self.kind == LOCKING else 0.15
+        self.steps.append(self.next_order() if self.is_rare(share) else self.next_call())
 
     def next_order(self):
         client, late = self.a_client(), self.moment + self.chance.choice([0, 1, self.lease, self.lease + 1])
@@ -125,11 +142,11 @@ class Caller:
         if calls and self.is_rare(0.04):
             sent = self.chance.choice(calls[-4:])
             return self.part(sent, self.server.reply(sent[4:]))
-        xid, count = len(calls) + 1, self.chance.choice([1, 2, 4, 8, 24, 64] if not self.is_lending else [1, 2, 4, 8])
+        xid, count = len(calls) + 1, self.chance.choice([1, 2, 4, 8] if self.kind == LENDING else [1, 2, 4, 8, 24, 64])
         uid = self.chance.choice([None] * 20 + [0, 5])
         credential = u32(0, 0) if uid is None else u32(1, 20) + u32(0, 0, uid, 0, 0)
         head = u32(xid, 0, 2, wire.NFS4_PROGRAM, 4, 1) + credential + u32(0, 0) + u32(0, 0, count)
-        drawn = Drawn(self.next_operations)
+        drawn = self.drawn = Drawn(self.next_operations)
         principal = (0, 0) if uid is None else (1, uid)
         results = self.server.run_compound(wire.CompoundCall(xid, principal, b"", 0, count, drawn), frozenset())
         rest = [u32(Opnum.PUTROOTFH)] * (count - len(drawn.operations))
@@ -146,7 +163,7 @@ class Caller:
         """An operation, mostly after one that gives it a filehandle."""
         if len(self.live()) < len(self.clients) and self.is_rare(0.6):
             return self.setclientid() + self.confirm_of_client()
-        if len(self.server.opens) < (2 if self.is_lending else 4) and self.is_rare(0.5):
+        if len(self.server.opens) < (4 if self.kind == LOCKING else 2) and self.is_rare(0.5):
             return self.open()
         makers = list(self.makers)
         return self.chance.choices(makers, self.makers.values())[0]()
@@ -230,7 +247,7 @@ class Caller:
         owner = (1, self.a_client(), name)
         known = self.server.open_owners.get(owner)
         seqid = next_sequence_id(known.kept.seqid) if known else self.chance.choice([0, 5, LAST])
-        access = self.chance.choice([3] * 10 + [1] * (12 if self.is_lending else 4) + [2] * 4 + [0, 4])
+        access = self.chance.choice([3] * 10 + [1] * (4 if self.kind == LOCKING else 12) + [2] * 4 + [0, 4])
         deny = self.chance.choice([0] * 30 + [1, 2, 2, 3, 4])
         how = self.chance.choice([u32(0)] * 20 + [u32(1, 0, 0, 0), u32(1, 1, 0, 0), u32(1, 2, 0, 0), u32(2)])
         claims = [u32(2) + self.state(self.server.delegations)[1]] * (4 if self.server.delegations else 1)
@@ -265,6 +282,40 @@ class Caller:
         called = [it for it in self.server.delegations if it.recalled is not None]
         file, stateid, _ = self.state(self.server.delegations if self.is_rare(0.3) else called)
         return self.handle(file) + [u32(Opnum.DELEGRETURN) + stateid]
+
+    # The bytes of files.
+
+    def io_state(self):
+        """A file, and a stateid by which it is read or written: a special one, or one of what there is."""
+        if self.is_rare(0.35):
+            special = self.chance.choice([[0] * 4] * 6 + [[LAST] * 4] * 3 + [[1, 0, 0, 0], [0, LAST, LAST, LAST]])
+            return self.chance.choice(FILES), u32(*special)
+        kinds = [self.server.opens, self.server.lock_states, self.server.delegations]
+        file, stateid, _ = self.state(self.chance.choice([found for found in kinds if found] or [[]]))
+        return file, stateid
+
+    def offset(self, file):
+        """Mostly within the file or near its ends, or the most that it may have; seldom far."""
+        size = len(self.server.text_of(file))
+        base = self.chance.choice([0] * 8 + [size] * 8 + [self.chance.randint(0, size)] * 4 + [TEXT_LIMIT, 2**64 - 1])
+        return min(max(0, base + self.chance.choice([0, 0, 0, 1, -1, 2, -2, 9])), 2**64 - 1)
+
+    def read(self):
+        file, stateid = self.io_state()
+        count = self.chance.choice([0, 1, 5, 64, self.chance.randint(0, 400)] * 3 + [65535, 65536, 65537, LAST])
+        return self.handle(file) + [u32(Opnum.READ) + stateid + u64(self.offset(file)) + u32(count)]
+
+    def write(self):
+        file, stateid = self.io_state()
+        head = u32(Opnum.WRITE) + stateid + u64(self.offset(file))
+        return self.handle(file) + [head + u32(self.chance.choice([0, 1, 2] * 30 + [3])) + opaque(self.file_bytes())]
+
+    def file_bytes(self):
+        """Mostly a few; seldom as many as a file may have, or one more."""
+        count = self.chance.choice([0, 1, 2, 3, 4, 5, 9, self.chance.randint(0, 300)])
+        if self.is_rare(0.01) and len(self.drawn.data) < DATA_ROOM:
+            count = self.chance.choice([TEXT_LIMIT - 1, TEXT_LIMIT, TEXT_LIMIT + 1, self.chance.randint(0, TEXT_LIMIT)])
+        return self.chance.randbytes(count)
 
     # Byte-range locks.
 
@@ -395,10 +446,12 @@ def report(program, seed, row, way):
         print(line)
     outcome = run_row(row, way, WHOLE, path=program)
     if outcome.wrong is None:
-        print(f"  # The journal of the model\n  #   {journal.hex(' ', 4)}\n  # and of the program")
-        print(f"  #   {outcome.journal.hex(' ', 4)}")
+        print("  # The journal of the model (wanted) and of the program, round the first difference")
+        for line in rows.words_beside(journal, outcome.journal, "got"):
+            print(f"  #{line}")
     else:
-        print(f"  # The last step, of the program: {outcome.wrong.got}")
+        got = str(outcome.wrong.got)
+        print(f"  # The last step, of the program: {got[:LETTERS]}{' ..' * (len(got) > LETTERS)}")
 
 
 def tell(counts, runs, calls):

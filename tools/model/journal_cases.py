@@ -20,6 +20,7 @@ CALLBACK = Callback(0x40000000, b"tcp", b"127.0.0.1.8.1", 1)
 NOBODY, SOMEBODY = (0, 0), (1, 500)
 OWNER, LOCKER, OTHER = OpenOwner(1, 1, b"A"), LockOwner(1, 1, b"x"), LockOwner(1, 1, b"yy")
 OPENED, LOCKED = Stateid(1, 1, 1, 1), Stateid(1, 1, 1, 2)
+NOTHING, EVERYTHING = Stateid(0, 0, 0, 0), Stateid(LAST, LAST, LAST, LAST)
 NO_CREATE, EXCLUSIVE = Openhow(0, None, None), Openhow(1, 2, bytes(8))
 BY_NAME, FILE = Claim(0, b"a", None), 1
 
@@ -53,9 +54,25 @@ def calls():
     # Names that not all can be shown as texts.
     for name in (b"", b" #", b"a*b", b'"', b"\n", b"\xff", b"\xc3\xa9"):
         yield Opnum.RELEASE_LOCKOWNER, wire.ReleaseLockowner(LockOwner(1, 1, name)), None
+    yield from calls_on_bytes(opened)
     yield Opnum.OPEN_DOWNGRADE, wire.OpenDowngrade(opened, 9, 3, 0), FILE
     yield Opnum.GETATTR, wire.Getattr((0x00100012, 7)), FILE
     yield Opnum.GETATTR, wire.Getattr(()), None
+
+
+def calls_on_bytes(opened):
+    """READ and WRITE: of texts and of other bytes, few and many, by special stateids and by that of an open."""
+    texts = (b"", b"!", b"\0\xff", b'a "quote"', b"t" * 64, b"t" * 65, bytes(range(256)))
+    for stable, text in enumerate(texts):
+        yield Opnum.WRITE, wire.Write(opened, 5, stable % 3, text), FILE
+        yield Opnum.READ, wire.Read(NOTHING, 5, len(text)), FILE
+    yield Opnum.WRITE, wire.Write(EVERYTHING, 10, 2, b"x"), FILE + 1
+    yield Opnum.READ, wire.Read(EVERYTHING, 0, LAST), FILE + 1
+    yield Opnum.READ, wire.Read(opened, 2**64 - 1, 0), FILE
+    yield Opnum.READ, wire.Read(opened, 0, 1), None
+    yield Opnum.READ, wire.Read(opened, 0, 1), FILE + 2
+    yield Opnum.WRITE, wire.Write(opened, 2**64 - 1, 0, b"x"), FILE
+    yield Opnum.WRITE, wire.Write(LOCKED, 0, 0, b"x"), FILE
 
 
 def open_by(server, client, seqid, access=3, name=b"a"):
@@ -127,11 +144,20 @@ def small():
     return server.journal()
 
 
-# Files written out, in words of four bytes: of a server with the one empty file b, of `small`, and of the entries that
-# are no calls.
+# Files written out, in words of four bytes: of a server with the one empty file b, also after it was written and read;
+# of `small`; and of the entries that are no calls.
 
 NO_ENTRY = """4e46534a 524e3031 00000001 0000005a 00000002 00000000
     00000001 00000000 00000001 00000001 62000000 00000000 00000000"""
+OF_BYTES = """4e46534a 524e3031 00000007 0000005a 00000002 00000000
+    00000001 00000000 00000001 00000001 62000000 00000000
+    00000002
+    00000001 00000000 00000005 00000000 00000000 00000001 00000001
+    00000026 00000000 00000000 00000000 00000000 00000000 00000008 00000000 00000001 78000000
+    00000026 00000000 00000001 00000002 00000007 00000000
+    00000001 00000000 00000005 00000000 00000000 00000001 00000001
+    00000019 ffffffff ffffffff ffffffff ffffffff 00000000 00000000 00000014
+    00000019 00000000 00000001 00000009 00000000 00000000 78000000"""
 THREE_ENTRIES = """4e46534a 524e3031 00000001 0000005a 00000002 00000000
     00000004
     00000000 00000001 00000001 61000000 00000005 68656c6c 6f000000
@@ -149,9 +175,21 @@ THREE_ENTRIES = """4e46534a 524e3031 00000001 0000005a 00000002 00000000
     00000024 00000001 00000001 00000000 00000001 00000024 00000000"""
 
 
+def of_bytes():
+    """A WRITE behind the end of the one file b, and a READ of all."""
+    tree = Tree("")
+    tree.nodes = [ROOT, file(0, b"b")]
+    server = Recorder(tree, epoch=7)
+    server.moment = 5
+    server.apply(Opnum.WRITE, wire.Write(NOTHING, 8, 0, b"x"), FILE, NOBODY)
+    server.apply(Opnum.READ, wire.Read(EVERYTHING, 0, 20), FILE, NOBODY)
+    return server.journal()
+
+
 def written_out():
     """What the model writes, and what it should."""
     yield file_of([], [file(0, b"b")]), NO_ENTRY
+    yield journal_bytes(of_bytes()), OF_BYTES
     yield journal_bytes(small()), THREE_ENTRIES
     data = file_of([Expire(1, 100, 191), Revoke(2, 2**32), Path(3, 1), Path(4, 0)], [])
     yield data, """4e46534a 524e3031 00000001 0000005a 00000002 00000000 00000000 00000004
@@ -250,7 +288,7 @@ def broken_operations():
     """The number of an operation, and arguments that can't be read."""
     data, begin = journal_bytes(small()), len(head_bytes(small())) + 4 + 28
     without = {Opnum.ACCESS, Opnum.GETFH, Opnum.LOOKUP, Opnum.PUTFH, Opnum.PUTROOTFH, Opnum.RESTOREFH, Opnum.SAVEFH,
-               Opnum.SETATTR, Opnum.ILLEGAL, 0, 2, 7, 25, 30, 38, 40}
+               Opnum.SETATTR, Opnum.ILLEGAL, 0, 2, 7, 26, 30, 37, 40}
     for number in sorted(without):
         yield f"operation {number}", with_words(data, begin, number), "an operation that makes no entry"
     lock, lockt = wire.Lock(2, 0, 0, 9, NewLocker(8, OPENED, 1, LOCKER)), wire.Lockt(2, 0, 9, LOCKER)
@@ -263,6 +301,9 @@ def broken_operations():
         yield f"OPEN with {how}", asked(*opening(1, how)[:2]), "a number that isn't " + wrong
     for claim, wrong in ((Claim(4, b"a", None), "0 to 3"), (Claim(1, None, 3), "0 to 2")):
         yield f"OPEN with {claim}", asked(*opening(1, NO_CREATE, claim)[:2]), "a number that isn't " + wrong
+    for stable in (3, LAST):
+        written = asked(Opnum.WRITE, wire.Write(OPENED, 0, stable, b"x"))
+        yield f"WRITE of stable {stable}", written, "a number that isn't 0 to 2"
     long = wire.ReleaseLockowner(LockOwner(1, 1, bytes(1025)))
     yield "an owner of 1,025 bytes", asked(Opnum.RELEASE_LOCKOWNER, long), "more than 1024 bytes"
     for count in (1, 2**31, LAST):
@@ -278,7 +319,18 @@ def broken_answers():
         yield f"an answer to {number}", answered(Answer(number, Status.OK, b"")), "an answer to no operation"
     for status in (1, 5, 10006, 10045, 2**32 - 1):
         yield f"status {status}", answered(Answer(Opnum.LOCKT, status, b"")), "no status"
-    yield "READ with OK", answered(Answer(25, Status.OK, b"")), none
+    yield "READDIR with OK", answered(Answer(26, Status.OK, b"")), none
+    early = "it ends too early"
+    for rest in (b"", u32(0), u32(0, 1), u32(0, 2**31)):
+        yield f"READ with OK and {len(rest)} bytes", answered(Answer(Opnum.READ, Status.OK, rest)), early
+    for rest in (b"", u32(1, 2, 1)):
+        yield f"WRITE with OK and {len(rest)} bytes", answered(Answer(Opnum.WRITE, Status.OK, rest)), early
+    yield "eof 2", answered(Answer(Opnum.READ, Status.OK, u32(2, 0))), "a number that isn't 0 to 1"
+    padded = u32(1, 1) + b"x\0\0\1"
+    yield "padding of READ", answered(Answer(Opnum.READ, Status.OK, padded)), "padding that isn't zero"
+    for committed in (3, LAST):
+        rest = u32(1, committed, 1, 0)
+        yield f"committed {committed}", answered(Answer(Opnum.WRITE, Status.OK, rest)), "a number that isn't 0 to 2"
     yield "SETATTR with a bitmap", answered(Answer(Opnum.SETATTR, Status.NOTSUPP, u32(1, 0))), OTHER_WORDS
     for number in (0, 5):
         yield f"a report of type {number}", answered(report(Opnum.LOCK, number)), "a number that isn't 1 to 4"
@@ -396,8 +448,11 @@ def whole_files():
     # Answers that can be read, though no rule gives them to a LOCKT.
     answers = [open_answer(delegation(kind)) for kind in range(3)]
     answers += [report(Opnum.LOCK, 3), report(Opnum.LOCKT, 4), Answer(Opnum.ILLEGAL, Status.OK, b"")]
-    answers += [Answer(25, Status.NOTSUPP, b""), Answer(Opnum.SETATTR, Status.NOTSUPP, u32(0))]
-    answers += [Answer(Opnum.LOCKT, status, b"") for status in (27, 10008, 10012, Status.CLID_INUSE)]
+    # READ brings as many bytes as there are, whatever a file may have.
+    answers += [Answer(Opnum.READ, Status.OK, u32(0) + opaque(bytes(count))) for count in (0, 1, 65536, 65537, 70000)]
+    answers += [Answer(Opnum.WRITE, Status.OK, u32(LAST, committed, LAST, LAST)) for committed in range(3)]
+    answers += [Answer(26, Status.NOTSUPP, b""), Answer(Opnum.SETATTR, Status.NOTSUPP, u32(0))]
+    answers += [Answer(Opnum.LOCKT, status, b"") for status in (Status.FBIG, Status.DELAY, Status.LOCKED, Status.CLID_INUSE)]
     for answer in answers:
         yield f"the answer {answer}", answered(answer)
 
@@ -428,6 +483,7 @@ def verdicts():
     late[-1] = Expire(1, MOMENT_LIMIT - 91, MOMENT_LIMIT - 1)
     yield "an expiry at the last moment, at the edge", file_of(late), wrong(3)
     yield "an expiry before it was seen", file_of([*entries, Expire(1, 200, 100)]), wrong(3)
+    yield from verdicts_on_bytes()
     yield from verdicts_on_paths(entries)
     yield from verdicts_on_revocations()
     yield "moments that go down", file_of([entries[0]._replace(moment=5), *entries[1:]]), "lawful: 3 entries"
@@ -445,6 +501,29 @@ def verdicts():
     yield "a wrong answer, and a byte after the last entry", file_of(wrong_first) + b"\0", NOT_JOURNAL
     outside = [*wrong_first, entries[2]._replace(filehandle=5)]
     yield "a wrong answer, and a node that isn't there later", file_of(outside), NOT_JOURNAL
+
+
+def verdicts_on_bytes():
+    """Of `hello`, which is read, gets a byte more, and is read again; and of more than a file has."""
+    server = Recorder(Tree())
+    for opnum, arguments in ((Opnum.READ, wire.Read(NOTHING, 0, LAST)), (Opnum.WRITE, wire.Write(NOTHING, 5, 0, b"!")),
+                             (Opnum.READ, wire.Read(NOTHING, 0, LAST)), (Opnum.GETATTR, wire.Getattr((0x18,)))):
+        server.apply(opnum, arguments, FILE, NOBODY)
+    first, written, second, attributes = entries = server.recorded
+    yield "a file that is read and written", file_of(entries), "lawful: 4 entries"
+    yield "a file that is read before it is written", file_of([first, second]), wrong(1)
+    yield "attributes before it is written", file_of([first, attributes]), wrong(1)
+    yield "a file that is written, and read as before", file_of([written, first]), wrong(1)
+    yield "a change too many", file_of([written, *entries]), wrong(1)
+    yield "attributes after two changes", file_of([written, written, attributes]), wrong(2)
+    rests = {"no end": u32(0) + opaque(b"hello"), "a byte fewer": u32(1) + opaque(b"hell"),
+             "a byte more": u32(1) + opaque(b"hello!"), "70,000 bytes": u32(1) + opaque(bytes(70000))}
+    for name, rest in rests.items():
+        yield f"a READ with {name}", file_of([with_rest(first, rest)]), wrong(0)
+    rests = {"another count": u32(2, 2, 1, 0), "UNSTABLE4": u32(1, 0, 1, 0), "another epoch": u32(1, 2, 2, 0),
+             "another verifier": u32(1, 2, 1, 1)}
+    for name, rest in rests.items():
+        yield f"a WRITE with {name}", file_of([with_rest(written, rest)]), wrong(0)
 
 
 def verdicts_on_paths(entries):

@@ -6,7 +6,7 @@ server that may have been refused memory. Sections are those of RFC 7530.
 
 Each operation renews the lease that it has to, and `Server.sweep` ends those that are over. Who has a delegation is
 called back by a recall, which waits until `Server.take_recall` takes it; `Server.revoke` takes a delegation that isn't
-given back, and `Server.mark_path` says whether a client can be called. There are no READ and WRITE yet.
+given back, and `Server.mark_path` says whether a client can be called.
 """
 import copy
 from dataclasses import dataclass, field
@@ -14,17 +14,22 @@ from dataclasses import dataclass, field
 import wire
 from delegations import Delegating
 from ranges import READ_MODE, Ranges, denial, length_of
-from states import (ClientRecord, DOWN, FULL, Kept, LockState, NOT_DUE, NOT_LIVE, OpenState, Owner, Refusal, Request,
+from states import (ClientRecord, DOWN, Delegation, FULL, Kept, LockState, NOT_DUE, NOT_LIVE, OpenState, Owner, Refusal, Request,
                     Result, UNKNOWN, UP, Unchanged, answer, closed_by, conflict, contains, expect_filehandle,
                     expect_range, expect_runs, expect_seqid, expect_share, handle_of, is_first_lock,
                     is_lawful_downgrade, is_special, mode_of, next_seqid, next_sequence_id, replay, sequence_id_of,
                     stateid_of)
-from tree import Tree
-from wire import (CLAIM_DELEGATE_CUR, CLAIM_DELEGATE_PREV, CLAIM_PREVIOUS, CompoundCall, EXCLUSIVE4, GUARDED4,
-                  NewLocker, OPEN4_CREATE, OPEN_DELEGATE_NONE, Opnum, READ, Status, WRITE, u32, u64)
+from tree import TEXT_LIMIT, Tree
+from wire import (BOTH, CLAIM_DELEGATE_CUR, CLAIM_DELEGATE_PREV, CLAIM_PREVIOUS, CompoundCall, EXCLUSIVE4, FILE_SYNC4,
+                  GUARDED4, NewLocker, OPEN4_CREATE, OPEN_DELEGATE_NONE, OPEN_DELEGATE_WRITE, Opnum, READ, Status,
+                  WRITE, u32, u64)
 
 OPERATIONS_LIMIT = 64
+# The bytes that the reply's record has to have left for an operation to be run, READ aside.
 ANSWER_ROOM = 2048
+READ_ROOM = 67584
+# The most bytes that a READ gives.
+READ_LIMIT = 65536
 RPC_HEAD = 24
 NAME_LIMIT = 255
 ADDRESS_LIMIT = 128
@@ -42,17 +47,16 @@ NOT_COUNTED = {Status.STALE_CLIENTID, Status.STALE_STATEID, Status.BAD_STATEID, 
 # The operations that ask the state, and so make an entry of the journal.
 STATEFUL = {Opnum.GETATTR, Opnum.SETCLIENTID, Opnum.SETCLIENTID_CONFIRM, Opnum.OPEN, Opnum.OPEN_CONFIRM,
             Opnum.OPEN_DOWNGRADE, Opnum.CLOSE, Opnum.LOCK, Opnum.LOCKT, Opnum.LOCKU, Opnum.RELEASE_LOCKOWNER,
-            Opnum.DELEGRETURN}
+            Opnum.DELEGRETURN, Opnum.READ, Opnum.WRITE}
 # The operations that renew the lease of the client which a clientid among their arguments names (section 9.5).
 # SETCLIENTID and its confirmation never do.
 RENEWING_BY_CLIENTID = {Opnum.OPEN, Opnum.LOCKT, Opnum.RELEASE_LOCKOWNER, Opnum.RENEW}
 # Those that renew the lease of the client which their stateid names.
 RENEWING_BY_STATEID = {Opnum.OPEN_CONFIRM, Opnum.OPEN_DOWNGRADE, Opnum.CLOSE, Opnum.LOCK, Opnum.LOCKU,
-                       Opnum.DELEGRETURN}
+                       Opnum.DELEGRETURN, Opnum.READ, Opnum.WRITE}
 SEQUENCED = {Opnum.OPEN, Opnum.OPEN_CONFIRM, Opnum.OPEN_DOWNGRADE, Opnum.CLOSE, Opnum.LOCK, Opnum.LOCKU}
-
-# Operations of NFSv4.0 that get a rule later: rows that use them are not for this model yet.
-TO_COME = {wire.OTHER_OPERATIONS[name]: name for name in ("READ", "WRITE")}
+# Those that work on a file or a node, by the current filehandle, and belong to no owner.
+OF_NODE = {Opnum.GETATTR, Opnum.LOCKT, Opnum.DELEGRETURN, Opnum.READ, Opnum.WRITE}
 
 
 @dataclass(frozen=True)
@@ -97,8 +101,9 @@ class Server(Delegating):
     last_confirm: int = 0
     # When each live client's lease was opened or renewed last, by the client's number.
     renewals: dict = field(default_factory=dict)
-    # What was met that is to come.
-    unknown: set = field(default_factory=set)
+    # Of the files that were written, by their numbers: their bytes by now, and how many WRITEs changed them.
+    texts: dict = field(default_factory=dict)
+    changes: dict = field(default_factory=dict)
 
     # Connections and COMPOUND (section 15.2).
 
@@ -140,14 +145,15 @@ class Server(Delegating):
         head = RPC_HEAD + 8 + len(wire.opaque(call.tag))
         while status == Status.OK and len(results) < call.count:
             length = head + sum(len(result) for result in results)
-            is_full = length + ANSWER_ROOM > wire.RECORD_LIMIT
-            number, result = self.run_next(call, handles, is_full, len(results) in refused)
+            room = wire.RECORD_LIMIT - length
+            number, result = self.run_next(call, handles, room, len(results) in refused)
             results.append(u32(number, result.status) + result.rest)
             status = result.status
         return u32(status) + wire.opaque(call.tag) + u32(len(results)) + b"".join(results)
 
-    def run_next(self, call, handles, is_full, is_refused):
-        """Reads the next operation and runs it: its number, and its answer."""
+    def run_next(self, call, handles, room, is_refused):
+        """Reads the next operation and runs it, if the reply's record has room for so many bytes more as it may take:
+        its number, and its answer."""
         try:
             number = call.operations.u32()
         except wire.Unreadable:
@@ -159,7 +165,7 @@ class Server(Delegating):
             arguments = wire.ARGUMENTS[opnum](call.operations)
         except wire.Unreadable:
             return opnum, Result(Status.BADXDR)
-        if is_full:
+        if room < (READ_ROOM if opnum == Opnum.READ else ANSWER_ROOM):
             return opnum, Result(Status.RESOURCE)
         self.renew_by(opnum, arguments)
         if opnum == Opnum.RENEW:
@@ -172,8 +178,6 @@ class Server(Delegating):
         return opnum, result
 
     def without_rule(self, number):
-        if number in TO_COME:
-            self.unknown.add(TO_COME[number])
         if not 3 <= number <= 39:
             return Opnum.ILLEGAL, Result(Status.OP_ILLEGAL)
         return number, Result(Status.NOTSUPP, u32(0) if number == Opnum.SETATTR else b"")
@@ -249,7 +253,7 @@ class Server(Delegating):
             return Result(Status.RESOURCE)
         if opnum in SEQUENCED:
             result = self.sequenced(Request(opnum, arguments, filehandle))
-        elif opnum in (Opnum.GETATTR, Opnum.LOCKT, Opnum.DELEGRETURN):
+        elif opnum in OF_NODE:
             result = answer(lambda: self.rule_of(opnum)(arguments, filehandle))
         elif opnum == Opnum.RELEASE_LOCKOWNER:
             result = answer(lambda: self.release_lockowner(arguments))
@@ -271,10 +275,9 @@ class Server(Delegating):
         return wire.bitmap(mask) + wire.opaque(b"".join(values[number] for number in asked))
 
     def attributes(self, node):
-        is_file = self.tree.is_file(node)
-        size = len(self.tree.nodes[node].text)
+        is_file, size, change = self.tree.is_file(node), len(self.text_of(node)), self.changes.get(node, 0)
         return {
-            0: wire.bitmap([0x00180FFF]), 1: u32(1 if is_file else 2), 2: u32(0), 3: u64(0), 4: u64(size),
+            0: wire.bitmap([0x00180FFF]), 1: u32(1 if is_file else 2), 2: u32(0), 3: u64(change), 4: u64(size),
             5: u32(0), 6: u32(0), 7: u32(0), 8: u64(1) + u64(0), 9: u32(1), 10: u32(self.lease), 11: u32(0),
             19: wire.opaque(handle_of(node)), 20: u64(node + 1),
         }
@@ -446,7 +449,7 @@ class Server(Delegating):
         return next((it for it in self.states() if (it.client, it.number) == (stateid.client, stateid.number)), None)
 
     def state_of(self, kind, stateid, file):
-        """The state of this kind that the stateid names on the file, but for its seqid."""
+        """The state of this kind, or of one of these, that the stateid names on the file, but for its seqid."""
         found = self.looked_up(stateid)
         if not isinstance(found, kind) or found.file != file:
             raise Refusal(Status.BAD_STATEID)
@@ -569,7 +572,7 @@ class Server(Delegating):
             self.expect_claimed(arguments.claim.delegation, owner.client, file)
         if any(it.file == file and it.owner != owner and conflict(it.share(), share) for it in self.opens):
             raise Refusal(Status.SHARE_DENIED)
-        self.expect_none_in_the_way(owner.client, file, share)
+        self.expect_none_in_the_way(self.delegations_of_others(owner.client, file), share)
         is_confirmed = owner in self.open_owners
         kind = self.kind_given(arguments, file) if is_confirmed else OPEN_DELEGATE_NONE
         is_new = not any((it.owner, it.file) == (owner, file) for it in self.opens)
@@ -637,6 +640,57 @@ class Server(Delegating):
         self.opens = [it for it in self.opens if it is not found]
         self.lock_states = [it for it in self.lock_states if it.open is not found]
         return self.answer_stateid(found)
+
+    # The bytes of files (sections 9.1.4.3 and 9.1.6).
+
+    def text_of(self, node):
+        """The bytes of a file by now; those of a directory are none."""
+        return self.texts.get(node, self.tree.nodes[node].text)
+
+    def read(self, arguments, file):
+        """Section 16.23."""
+        self.expect_access(arguments.stateid, file, READ)
+        text, begin = self.text_of(file), arguments.offset
+        data = text[begin:begin + min(arguments.count, READ_LIMIT)]
+        return u32(begin + len(data) >= len(text)) + wire.opaque(data)
+
+    def write(self, arguments, file):
+        """Section 16.36. Whatever is asked, the bytes are as safe as they will be."""
+        self.expect_access(arguments.stateid, file, WRITE)
+        begin, data = arguments.offset, arguments.data
+        if begin + len(data) > TEXT_LIMIT:
+            raise Refusal(Status.FBIG)
+        if data:
+            text = self.text_of(file).ljust(begin, b"\0")
+            self.texts[file] = text[:begin] + data + text[begin + len(data):]
+            self.changes[file] = self.changes.get(file, 0) + 1
+        return u32(len(data), FILE_SYNC4) + u32(self.epoch, 0)
+
+    def expect_access(self, stateid, file, wanted):
+        """The file may be read, or written, by whoever has this stateid."""
+        expect_filehandle(file)
+        if not self.tree.is_file(file):
+            raise Refusal(Status.ISDIR)
+        if is_special(stateid):
+            self.expect_access_of_nobody(file, wanted)
+        elif self.access_by(stateid, file) & wanted == 0:
+            raise Refusal(Status.OPENMODE)
+
+    def expect_access_of_nobody(self, file, wanted):
+        """No open denies it; and it is in the way of no delegation, whoever has that, as an open of nobody would be."""
+        if any(it.file == file and it.share()[1] & wanted for it in self.opens):
+            raise Refusal(Status.LOCKED)
+        self.expect_none_in_the_way([it for it in self.delegations if it.file == file], (wanted, 0))
+
+    def access_by(self, stateid, file):
+        """What the open may do to the file that the stateid names, or whose lock state it does; or the delegation."""
+        found = self.state_of((OpenState, LockState, Delegation), stateid, file)
+        if isinstance(found, OpenState) and not self.open_owners[found.owner].is_confirmed:
+            raise Refusal(Status.BAD_STATEID)
+        expect_seqid(stateid, found)
+        if isinstance(found, Delegation):
+            return BOTH if found.kind == OPEN_DELEGATE_WRITE else READ
+        return (found.open if isinstance(found, LockState) else found).share()[0]
 
     # Byte-range locks (sections 9.1 to 9.3).
 

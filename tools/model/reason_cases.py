@@ -4,11 +4,12 @@ from journal import Recorder
 from journal_cases import CALLBACK, LAST, NO_CREATE, NOBODY, SOMEBODY
 from tree import DEFAULT, Tree
 from wire import (Claim, Close, Delegreturn, Getattr, KnownLocker, Lock, LockOwner, Lockt, Locku, NewLocker, Open,
-                  OpenConfirm, OpenDowngrade, OpenOwner, Openhow, Opnum, ReleaseLockowner, Setclientid,
-                  SetclientidConfirm, Stateid)
+                  OpenConfirm, OpenDowngrade, OpenOwner, Openhow, Opnum, Read, ReleaseLockowner, Setclientid,
+                  SetclientidConfirm, Stateid, Write)
 
 ROOT, FILE, OTHER_FILE, DIRECTORY = 0, 1, 2, 3
 ALL = 2**64 - 1
+ZEROS, ONES = Stateid(0, 0, 0, 0), Stateid(LAST, LAST, LAST, LAST)
 OWNERS, STATEIDS, CLIENT_IDS, RANGES, DELEGATIONS = (
     "Owners and sequenced operations", "Stateids", "Client ids", "Byte-range locks", "Delegations")
 OPEN_A = 'open of file "/a" by open owner "A" of client 1'
@@ -64,6 +65,12 @@ class Story:
 
     def give_back(self, stateid, because=None, filehandle=FILE):
         self.call(Opnum.DELEGRETURN, Delegreturn(stateid), because, filehandle)
+
+    def read(self, stateid, because=None, filehandle=FILE):
+        self.call(Opnum.READ, Read(stateid, 0, 5), because, filehandle)
+
+    def write(self, stateid, because=None, filehandle=FILE, offset=0):
+        self.call(Opnum.WRITE, Write(stateid, offset, 2, b"bytes"), because, filehandle)
 
     def expire(self, client, now=91):
         self.server.expire(client, 0, now)
@@ -283,6 +290,81 @@ def locks():
     return story
 
 
+def bytes_of_files():
+    """READ and WRITE by special stateids, and by those of opens and lock states."""
+    story, second = begun("bytes of files"), state(1, 2)
+    missing = ("no filehandle is current: no operation before it in its COMPOUND made one so", "COMPOUND")
+    directory = 'the current filehandle is that of directory "/d", and no file\'s'
+    for ask, heading in ((story.read, "READ"), (story.write, "WRITE")):
+        for stateid in (ZEROS, second):
+            ask(stateid, missing, None)
+            ask(stateid, (directory, heading), DIRECTORY)
+        ask(ZEROS)
+        ask(second)
+        ask(second._replace(epoch=2), ("the stateid is of epoch 2, and this server's is 1", STATEIDS))
+        ask(second._replace(client=5), ("the stateid is one of client 5, which was never given", STATEIDS))
+        ask(state(7), ("state 7 was never given", STATEIDS))
+        place = f'the stateid is that of state 1, an {OPEN_A}, and the current filehandle that of file "/b"'
+        ask(second, (place, STATEIDS), OTHER_FILE)
+        stands = "state 1 has seqid 2 since entry 3 (OPEN_CONFIRM), and the stateid has the "
+        ask(state(1), (stands + "earlier 1", STATEIDS))
+        ask(state(1, 3), (stands + "later 3", STATEIDS))
+    story.write(second, ("offset 65532 and 5 bytes add up to 65537, and a file has 65536 at most", "WRITE"),
+                offset=65532)
+    story.write(second, offset=65531)
+    # Entries 30 to 33: state 2 is B's open of `b`, which writes and denies READ; and then state 3, a lock of it.
+    entry = story.server.entries
+    story.open(1, owner=b"B", access=2, deny=1, name=b"b")
+    unconfirmed = (f'open owner "B" of client 1 isn\'t confirmed: it has opened the file in entry {entry}, and no '
+                   "OPEN_CONFIRM has followed")
+    story.read(state(2), (unconfirmed, STATEIDS), OTHER_FILE)
+    denies = f'open owner "B" of client 1 denies READ of file "/b" since entry {entry}'
+    story.read(ZEROS, (denies + " (it isn't confirmed, which makes no difference here)", "READ"), OTHER_FILE)
+    story.write(ONES, filehandle=OTHER_FILE)
+    story.confirm(2, state(2), filehandle=OTHER_FILE)
+    story.read(ONES, (denies, "READ"), OTHER_FILE)
+    access = 'READ takes access to READ, and state 2, an open of file "/b" by open owner "B" of client 1, has access'
+    story.read(state(2, 2), (f"{access} to WRITE alone", "READ"), OTHER_FILE)
+    story.lock_first(3, state(2, 2), 1, filehandle=OTHER_FILE)
+    story.read(state(3), (f"{access} to WRITE alone", "READ"), OTHER_FILE)
+    story.write(state(3), filehandle=OTHER_FILE)
+    story.expire(1)
+    gone = f"client 1 was removed by entry {story.server.entries - 1}, as its lease was over"
+    story.read(state(3), (gone, STATEIDS), OTHER_FILE)
+    story.write(second, (gone, STATEIDS))
+    return story
+
+
+def bytes_of_lent_files():
+    """READ and WRITE by delegations, and by special stateids beside them."""
+    story = lent("bytes of lent files")
+    story.write(state(2))
+    story.read(state(2))
+    bars = (f"state 2, {A_DELEGATION} to client 1 since entry 4 (OPEN), keeps out READs and WRITEs by a special "
+            "stateid, whoever sends them, and ")
+    story.read(ZEROS, (bars + "is called back now", DELEGATIONS))
+    story.write(ONES, (bars + "was called back by entry 9 (READ)", DELEGATIONS))
+    story.tell(f"client 1 gets state 4, {TO_READ}")
+    story.open(4, None, access=1, name=b"b")
+    # Theirs are the opens 3 and 5, with the delegations 4 and 6.
+    story.open(1, owner=b"B", access=1, client=2, name=b"b")
+    story.confirm(2, state(5, client=2), filehandle=OTHER_FILE)
+    story.tell(f"client 2 gets state 6, {TO_READ}")
+    story.open(3, None, b"B", 1, client=2, name=b"b")
+    story.read(ZEROS, filehandle=OTHER_FILE)
+    mode = f"WRITE takes access to WRITE, and the stateid is that of state 6, {TO_READ} to client 2"
+    story.write(state(6, client=2), (mode, "WRITE"), OTHER_FILE)
+    bars = "keeps out WRITEs by a special stateid, whoever sends them, and is called back now"
+    both = (f"state 4, {TO_READ} to client 1 since entry 11 (OPEN), {bars}; state 6, {TO_READ} to client 2 since entry "
+            f"14 (OPEN), {bars}")
+    story.write(ZEROS, (both, DELEGATIONS), OTHER_FILE)
+    story.tell(f"client 1 gives back state 2, {A_DELEGATION}; it was called back by entry 9 (READ), at 0")
+    story.give_back(state(2))
+    ended = f"state 2, {A_DELEGATION} to client 1, was ended by entry 18 (DELEGRETURN)"
+    story.write(state(2), (ended, STATEIDS))
+    return story
+
+
 A_DELEGATION, TO_READ = 'a delegation of file "/a" for writing', 'a delegation of file "/b" for reading'
 
 
@@ -425,5 +507,6 @@ def clients_with_delegations():
 
 
 def stories():
-    return [stateids(), ends(), clients(), sequence_ids(), opens(), shares(), many_shares(), locks(), delays(),
+    return [stateids(), ends(), clients(), sequence_ids(), opens(), shares(), many_shares(), locks(),
+            bytes_of_files(), bytes_of_lent_files(), delays(),
             many_delays(), delegation_stateids(), ends_of_delegations(), clients_with_delegations()]

@@ -11,10 +11,11 @@ from entries import Call, Expire, Revoke
 from events import Events
 from history import History
 from journal import states
-from model import JOURNAL_LIMIT, NAME_LIMIT, SEQUENCED
+from model import JOURNAL_LIMIT, NAME_LIMIT, OF_NODE, SEQUENCED
 from ranges import LAST_BYTE, READ_MODE, denial, range_of
 from states import (Delegation, LockState, OpenState, Request, closed_by, conflict, is_lawful_downgrade, is_special,
                     mode_of, next_sequence_id, replay, sequence_id_of, stateid_of)
+from tree import TEXT_LIMIT
 from wire import (BOTH, CLAIM_DELEGATE_CUR, CLAIM_DELEGATE_PREV, CLAIM_PREVIOUS, EXCLUSIVE4, GUARDED4, NewLocker,
                   OPEN4_CREATE, OPEN_DELEGATE_WRITE, OpenOwner, Opnum, READ, Status, WRITE)
 from words import opaque_words, place_words, principal_words, purpose_of
@@ -90,7 +91,7 @@ class Causes:
     def of_call(self, call):
         if call.opnum in SEQUENCED:
             return self.of_sequenced(Request(call.opnum, call.arguments, call.filehandle))
-        if call.opnum in (Opnum.GETATTR, Opnum.LOCKT, Opnum.DELEGRETURN):
+        if call.opnum in OF_NODE:
             return self.rule_of(call.opnum)(call.arguments, call.filehandle)
         return self.rule_of(call.opnum)(call.arguments, call.principal)
 
@@ -189,10 +190,12 @@ class Causes:
         return Reason(Status.BAD_STATEID, text, STATEIDS)
 
     def of_stateid(self, stateid, kind, file, of_unconfirmed=False):
-        """What is wrong with a stateid that is to name a state of this kind on the file, from its number on."""
+        """What is wrong with a stateid that is to name a state of this kind, or of one of these, on the file, from its
+        number on."""
         yield from self.of_state(stateid, kind, file)
         found, server = self.server.looked_up(stateid), self.server
-        if kind is OpenState and not of_unconfirmed and not server.open_owners[found.owner].is_confirmed:
+        is_open = isinstance(found, OpenState)
+        if is_open and not of_unconfirmed and not server.open_owners[found.owner].is_confirmed:
             text = (f"{owner_words(found.owner)} isn't confirmed: it has opened the file in entry "
                     f"{server.begun[found.number]}, and no OPEN_CONFIRM has followed")
             yield Reason(Status.BAD_STATEID, text, STATEIDS)
@@ -292,11 +295,13 @@ class Causes:
             yield Reason(Status.NOTSUPP, "CLAIM_DELEGATE_PREV isn't supported", "OPEN")
         yield from self.of_share(arguments, "OPEN")
         yield from self.of_file_name(arguments, directory)
-        file = self.server.tree.child(directory, claim.name)
+        server = self.server
+        file = server.tree.child(directory, claim.name)
         if claim.kind == CLAIM_DELEGATE_CUR:
             yield from self.of_claimed(claim.delegation, arguments.owner.client, file)
         yield from self.of_other_opens(arguments, file)
-        yield from self.of_delegations(arguments, file)
+        share, others = (arguments.access, arguments.deny), server.delegations_of_others(arguments.owner.client, file)
+        yield from self.of_delegations(others, share, self.barred_open_words)
 
     def of_file_name(self, arguments, directory):
         """What is wrong with the name that an OPEN has."""
@@ -334,20 +339,20 @@ class Causes:
             yield Reason(Status.BAD_STATEID, text, "OPEN")
         yield from self.of_stateid(stateid, Delegation, file)
 
-    def of_delegations(self, arguments, file):
-        """Delegations of other clients that are in the way of the OPEN."""
-        share = arguments.access, arguments.deny
-        held = [it for it in self.server.delegations_of_others(arguments.owner.client, file) if bars(it.kind, share)]
-        if held:
-            texts = [self.barring_words(it) for it in sorted(held, key=lambda it: it.number)]
-            yield Reason(Status.DELAY, listed(texts), DELEGATIONS)
+    def of_delegations(self, held, share, barred_words):
+        """Those of these delegations that are in the way of an access and a deny."""
+        barring = sorted((it for it in held if bars(it.kind, share)), key=lambda it: it.number)
+        if barring:
+            yield Reason(Status.DELAY, listed([self.barring_words(it, barred_words) for it in barring]), DELEGATIONS)
 
-    def barring_words(self, held):
+    def barred_open_words(self, held):
+        if held.kind == OPEN_DELEGATE_WRITE:
+            return "keeps out any open of another client"
+        return "keeps out opens of other clients that write or deny READ"
+
+    def barring_words(self, held, barred_words):
         """How a delegation is in the way, and since when it is called back."""
-        barred = "keeps out any open of another client"
-        if held.kind != OPEN_DELEGATE_WRITE:
-            barred = "keeps out opens of other clients that write or deny READ"
-        since = self.server.recalled.get(held.number)
+        barred, since = barred_words(held), self.server.recalled.get(held.number)
         called = "is called back now" if since is None else f"was called back by {self.entry_words(since)}"
         begun = self.entry_words(self.server.begun[held.number])
         return f"{self.state_words(held)} since {begun}, {barred}, and {called}"
@@ -443,6 +448,55 @@ class Causes:
     def of_locku(self, arguments, file):
         yield from self.of_stateid(arguments.stateid, LockState, file)
         yield from self.of_range(arguments)
+
+    # The bytes of files.
+
+    def of_read(self, arguments, file):
+        return self.of_access(arguments.stateid, file, READ, "READ")
+
+    def of_write(self, arguments, file):
+        yield from self.of_access(arguments.stateid, file, WRITE, "WRITE")
+        end = arguments.offset + len(arguments.data)
+        if end > TEXT_LIMIT:
+            text = (f"offset {arguments.offset} and {len(arguments.data)} bytes add up to {end}, and a file has "
+                    f"{TEXT_LIMIT} at most")
+            yield Reason(Status.FBIG, text, "WRITE")
+
+    def of_access(self, stateid, file, wanted, heading):
+        """What is wrong with a stateid by which a file is to be read, or written."""
+        yield from self.of_filehandle(file)
+        if not self.server.tree.is_file(file):
+            text = f"the current filehandle is that of {self.place_words(file)}, and no file's"
+            yield Reason(Status.ISDIR, text, heading)
+        if is_special(stateid):
+            yield from self.of_access_of_nobody(file, wanted, heading)
+            return
+        yield from self.of_stateid_client(stateid)
+        yield from self.of_stateid(stateid, (OpenState, LockState, Delegation), file)
+        yield from self.of_own_access(self.server.looked_up(stateid), wanted, heading)
+
+    def of_access_of_nobody(self, file, wanted, heading):
+        opens = [it for it in self.server.opens if it.file == file and it.share()[1] & wanted]
+        if opens:
+            yield Reason(Status.LOCKED, listed([self.share_words(it, (wanted, 0)) for it in opens]), heading)
+        held = [it for it in self.server.delegations if it.file == file]
+        yield from self.of_delegations(held, (wanted, 0), self.barred_special_words)
+
+    def barred_special_words(self, held):
+        operations = "READs and WRITEs" if held.kind == OPEN_DELEGATE_WRITE else "WRITEs"
+        return f"keeps out {operations} by a special stateid, whoever sends them"
+
+    def of_own_access(self, found, wanted, heading):
+        """A state that doesn't give this access."""
+        if isinstance(found, Delegation):
+            access = BOTH if found.kind == OPEN_DELEGATE_WRITE else READ
+            text = f"the stateid is that of {self.state_words(found)}"
+        else:
+            opened = found.open if isinstance(found, LockState) else found
+            access = opened.share()[0]
+            text = f"{self.state_words(opened)}, has access to {MODES[access]} alone"
+        if access & wanted == 0:
+            yield Reason(Status.OPENMODE, f"{heading} takes access to {MODES[wanted]}, and {text}", heading)
 
     # The others.
 

@@ -25,9 +25,9 @@ class Tracer(Recorder):
         self.steps = []
         return super().run_compound(call, refused)
 
-    def run_next(self, call, handles, is_full, is_refused):
+    def run_next(self, call, handles, room, is_refused):
         begin = call.operations.at
-        number, result = super().run_next(call, handles, is_full, is_refused)
+        number, result = super().run_next(call, handles, room, is_refused)
         self.steps.append(step_words(number, call.operations.data[begin + 4:call.operations.at], result))
         return number, result
 

@@ -20,12 +20,14 @@ class Status(IntEnum):
     NOTDIR = 20
     ISDIR = 21
     INVAL = 22
+    FBIG = 27
     NAMETOOLONG = 63
     BADHANDLE = 10001
     NOTSUPP = 10004
     DELAY = 10008
     DENIED = 10010
     EXPIRED = 10011
+    LOCKED = 10012
     SHARE_DENIED = 10015
     CLID_INUSE = 10017
     RESOURCE = 10018
@@ -60,12 +62,14 @@ class Opnum(IntEnum):
     OPEN_DOWNGRADE = 21
     PUTFH = 22
     PUTROOTFH = 24
+    READ = 25
     RENEW = 30
     RESTOREFH = 31
     SAVEFH = 32
     SETATTR = 34
     SETCLIENTID = 35
     SETCLIENTID_CONFIRM = 36
+    WRITE = 38
     RELEASE_LOCKOWNER = 39
     ILLEGAL = 10044
 
@@ -73,13 +77,12 @@ class Opnum(IntEnum):
 # The other operations of RFC 7531, which have no rule in the model.
 OTHER_OPERATIONS = {
     "COMMIT": 5, "CREATE": 6, "DELEGPURGE": 7, "LINK": 11, "LOOKUPP": 16, "NVERIFY": 17, "OPENATTR": 19,
-    "PUTPUBFH": 23, "READ": 25, "READDIR": 26, "READLINK": 27, "REMOVE": 28, "RENAME": 29, "SECINFO": 33, "VERIFY": 37,
-    "WRITE": 38}
+    "PUTPUBFH": 23, "READDIR": 26, "READLINK": 27, "REMOVE": 28, "RENAME": 29, "SECINFO": 33, "VERIFY": 37}
 # Its other statuses, which this server doesn't give.
 OTHER_STATUSES = {
-    "PERM": 1, "IO": 5, "NXIO": 6, "XDEV": 18, "FBIG": 27, "NOSPC": 28, "ROFS": 30, "MLINK": 31, "NOTEMPTY": 66,
+    "PERM": 1, "IO": 5, "NXIO": 6, "XDEV": 18, "NOSPC": 28, "ROFS": 30, "MLINK": 31, "NOTEMPTY": 66,
     "DQUOT": 69, "STALE": 70, "BAD_COOKIE": 10003, "TOOSMALL": 10005, "SERVERFAULT": 10006, "BADTYPE": 10007,
-    "SAME": 10009, "LOCKED": 10012, "GRACE": 10013, "FHEXPIRED": 10014, "WRONGSEC": 10016, "MOVED": 10019,
+    "SAME": 10009, "GRACE": 10013, "FHEXPIRED": 10014, "WRONGSEC": 10016, "MOVED": 10019,
     "NOT_SAME": 10027, "LOCK_RANGE": 10028, "SYMLINK": 10029, "LEASE_MOVED": 10031, "ATTRNOTSUPP": 10032,
     "RECLAIM_BAD": 10034, "RECLAIM_CONFLICT": 10035, "BADOWNER": 10039, "BADCHAR": 10040, "BADNAME": 10041,
     "BAD_RANGE": 10042, "LOCK_NOTSUPP": 10043, "DEADLOCK": 10045, "FILE_OPEN": 10046, "ADMIN_REVOKED": 10047,
@@ -117,6 +120,10 @@ class Reader:
         value = self.fixed(length)
         self.fixed(-length % 4)
         return value
+
+    def file_bytes(self):
+        """Bytes of a file, as an operation brings them: as many as there are."""
+        return self.opaque()
 
     def one_of(self, count, first=0):
         """One of so many numbers from the first on: a bool, or an enumeration."""
@@ -173,6 +180,7 @@ READ_LT, WRITE_LT, READW_LT, WRITEW_LT = 1, 2, 3, 4
 OPEN4_NOCREATE, OPEN4_CREATE = 0, 1
 UNCHECKED4, GUARDED4, EXCLUSIVE4 = 0, 1, 2
 CLAIM_NULL, CLAIM_PREVIOUS, CLAIM_DELEGATE_CUR, CLAIM_DELEGATE_PREV = 0, 1, 2, 3
+UNSTABLE4, DATA_SYNC4, FILE_SYNC4 = 0, 1, 2
 
 
 def read_stateid(reader):
@@ -230,12 +238,14 @@ OpenConfirm = namedtuple("OpenConfirm", "stateid seqid")
 OpenDowngrade = namedtuple("OpenDowngrade", "stateid seqid access deny")
 Putfh = namedtuple("Putfh", "filehandle")
 Putrootfh = namedtuple("Putrootfh", "")
+Read = namedtuple("Read", "stateid offset count")
 ReleaseLockowner = namedtuple("ReleaseLockowner", "owner")
 Renew = namedtuple("Renew", "epoch client")
 Restorefh = namedtuple("Restorefh", "")
 Savefh = namedtuple("Savefh", "")
 Setclientid = namedtuple("Setclientid", "verifier id callback")
 SetclientidConfirm = namedtuple("SetclientidConfirm", "epoch client confirm")
+Write = namedtuple("Write", "stateid offset stable data")
 
 
 def read_open(reader):
@@ -263,11 +273,13 @@ ARGUMENTS = {
     Opnum.OPEN_DOWNGRADE: lambda r: OpenDowngrade(read_stateid(r), r.u32(), r.u32(), r.u32()),
     Opnum.PUTFH: lambda r: Putfh(r.opaque(FILEHANDLE_LIMIT)),
     Opnum.PUTROOTFH: lambda r: Putrootfh(),
+    Opnum.READ: lambda r: Read(read_stateid(r), r.u64(), r.u32()),
     Opnum.RENEW: lambda r: Renew(r.u32(), r.u32()),
     Opnum.RESTOREFH: lambda r: Restorefh(),
     Opnum.SAVEFH: lambda r: Savefh(),
     Opnum.SETCLIENTID: read_setclientid,
     Opnum.SETCLIENTID_CONFIRM: lambda r: SetclientidConfirm(r.u32(), r.u32(), r.u64()),
+    Opnum.WRITE: lambda r: Write(read_stateid(r), r.u64(), r.one_of(3), r.file_bytes()),
     Opnum.RELEASE_LOCKOWNER: lambda r: ReleaseLockowner(read_lock_owner(r)),
 }
 

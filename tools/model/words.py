@@ -1,4 +1,5 @@
-"""Entries of a journal as text, with operations and answers in the words of rows (crates/rows/README.md)."""
+"""Entries of a journal as text, with operations and answers in the words of rows (crates/rows/README.md). Of the bytes
+of files that READ and WRITE bring only the first are shown, where there are many, unless they are wanted whole."""
 import rows
 import wire
 from entries import ARGUMENT_BYTES, Call, Expire, RESTS, Revoke, delegation_given
@@ -8,14 +9,16 @@ STATUS_NAMES = {number: name for name, number in rows.NAMES.items() if name.star
 FLAVOR_NAMES = {wire.AUTH_NONE: "AUTH_NONE", wire.AUTH_SYS: "AUTH_SYS"}
 # Numbers up to this one are shown as decimals.
 DECIMAL_LIMIT = 65535
+# So many bytes of a file are shown.
+SHOWN = 64
 
 
 class WordReader(wire.Reader):
-    """Takes values, and has the words of all that it took."""
+    """Takes values, and has the words of all that it took; of a file's bytes those of all, or of the first."""
 
-    def __init__(self, data):
+    def __init__(self, data, is_whole=False):
         super().__init__(data)
-        self.words = []
+        self.words, self.is_whole = [], is_whole
 
     def taken(self, words_of, take, *limits):
         """Takes a value, and puts its words in place of those of its parts."""
@@ -36,6 +39,10 @@ class WordReader(wire.Reader):
     def opaque(self, limit=2**32 - 1):
         return self.taken(opaque_words, super().opaque, limit)
 
+    def file_bytes(self):
+        words_of = opaque_words if self.is_whole else shortened_words
+        return self.taken(words_of, super().opaque)
+
     def fixed_words(self, *words):
         for _ in words:
             self.u32()
@@ -53,6 +60,14 @@ def opaque_words(value):
     return [number_word(len(value))] + [f"0x{data[at:at + 4].hex()}" for at in range(4, len(data), 4)]
 
 
+def shortened_words(value):
+    """The same; of many bytes the first, and how many there are."""
+    if len(value) <= SHOWN:
+        return opaque_words(value)
+    first = value[:SHOWN]
+    return [f'"{first.decode()}"' if is_shown_as_text(first) else f"hex:{first.hex()}", "..", f"({len(value)} bytes)"]
+
+
 def is_shown_as_text(value):
     try:
         text = value.decode()
@@ -61,22 +76,22 @@ def is_shown_as_text(value):
     return text.isprintable() and '"' not in text
 
 
-def words_read(read, data):
-    """The words of what is read of these bytes, which are read whole."""
-    reader = WordReader(data)
+def words_read(read, data, is_whole=False):
+    """The words of what is read of these bytes, which are read to their end."""
+    reader = WordReader(data, is_whole)
     read(reader)
     return reader.words
 
 
-def operation_words(call):
+def operation_words(call, is_whole=False):
     data = ARGUMENT_BYTES[call.opnum](call.arguments)
-    return " ".join([call.opnum.name] + words_read(wire.ARGUMENTS[call.opnum], data))
+    return " ".join([call.opnum.name] + words_read(wire.ARGUMENTS[call.opnum], data, is_whole))
 
 
-def answer_words(answer):
+def answer_words(answer, is_whole=False):
     name = Opnum(answer.number).name if answer.number in set(Opnum) else str(answer.number)
     read = RESTS.get((answer.number, answer.status))
-    rest = words_read(read, answer.rest) if read else []
+    rest = words_read(read, answer.rest, is_whole) if read else []
     return " ".join([name, STATUS_NAMES[answer.status]] + rest)
 
 
@@ -97,11 +112,12 @@ def place_words(node, tree):
     return " ".join([kind] + opaque_words(b"/" + b"/".join(names)))
 
 
-def line_of(entry, tree):
+def line_of(entry, tree, is_whole=False):
     """An entry as a line."""
     if isinstance(entry, Call):
         head = f"moment {entry.moment}, {principal_words(entry.principal)}, {place_words(entry.filehandle, tree)}"
-        return f"{head}: {operation_words(entry)} -> {answer_words(entry.answer)}{remark_on(entry)}"
+        words = f"{operation_words(entry, is_whole)} -> {answer_words(entry.answer, is_whole)}"
+        return f"{head}: {words}{remark_on(entry)}"
     if isinstance(entry, Expire):
         return f"client {entry.client} expires, seen at {entry.seen}, now {entry.now}"
     if isinstance(entry, Revoke):
@@ -120,7 +136,7 @@ def remark_on(call):
     if given is not None:
         kind, stateid = given
         return f"  # gives client {stateid.client} state {stateid.number}, a delegation for {purpose_of(kind)}"
-    if (call.opnum, call.answer.status) == (Opnum.OPEN, Status.DELAY):
+    if call.answer.status == Status.DELAY:
         return "  # the delegations in its way are called back"
     if (call.opnum, call.answer.status) == (Opnum.DELEGRETURN, Status.OK):
         return f"  # client {call.arguments.stateid.client} gives state {call.arguments.stateid.number} back"

@@ -8,6 +8,8 @@ mod delegations;
 #[cfg(test)]
 mod encoding;
 #[cfg(test)]
+mod file_bytes;
+#[cfg(test)]
 mod stateids;
 #[cfg(test)]
 mod unsent;

@@ -3,6 +3,7 @@ use Rattle.std.proofs.Common.{◌≡◌, inl, inr, ℕ, Bool, true, false, Optio
 use Rattle.std.specs.Prelude.{⊤, ◌&&◌, ◌==◌, is_some, not, IfSome, option_and_then, option_map, if◌then◌else◌}
 use Rattle.std.specs.List.{AllByRecursion, list_any}
 use Rattle.std.proofs.lemmas.Bool.{and_parts, cond-false, cond_both, eq-eqb, eqb-true, false_from_ne_true}
+use Rattle.nfs_core.proofs.Transferring.{each_read, each_write}
 use Rattle.nfs_core.proofs.SafeLists.{all_always, all_find, found_some}
 use Rattle.nfs_core.proofs.Sound.{equal_clients, same_client_self}
 use Rattle.nfs_core.proofs.SoundClients.{EachRecord, HasSameId, HasSingles}
@@ -186,7 +187,7 @@ opening_keeps journal state passage moment args (Err refusal) ruling is = ruled_
 opening_keeps journal state passage moment args (Ok o) ruling is =
     let client = args.owner.client in
     let P : Result Opening Ruling → Type 0 = λ r. Some ruling ≡ opening.ruling_of journal state passage args r → KeepsClients ruling.change in
-    cond_both (list_any (conflicts client (uses.Open o.share)) (delegations_of o.node state.delegations)) (Err (opening.delayed moment client o)) (Ok o) P
+    cond_both (list_any (conflicts (uses.Open client o.share)) (delegations_of o.node state.delegations)) (Err (opening.delayed moment client o)) (Ok o) P
     (λ _ same. ruled_keeps ruling _ same tt) (λ _ same. granted_keeps journal state passage args o ruling same) is
 
 -- LOCK and LOCKU
@@ -367,4 +368,10 @@ ruled_for journal state (ops.ReleaseLockowner args) request d singles is =
 ruled_for journal state (ops.Delegreturn args) request d singles is =
     keeps_for journal.epoch state.clients (ops.Delegreturn args) d.effect.change
     (decided_keeps d _ is (returning_keeps (delegreturn.delegation_at journal state request.filehandle args)))
+ruled_for journal state (ops.Read args) request d singles is =
+    decided_for journal.epoch state.clients (ops.Read args) d _ is
+    (each_read (λ e. IsFor journal.epoch state.clients (ops.Read args) e.effect.change) journal state request args (λ refusal. tt) (λ node. tt) (λ node. tt))
+ruled_for journal state (ops.Write args) request d singles is =
+    decided_for journal.epoch state.clients (ops.Write args) d _ is
+    (each_write (λ e. IsFor journal.epoch state.clients (ops.Write args) e.effect.change) journal state request args (λ refusal. tt) (λ node. tt) tt (λ node. tt))
 ruled_for journal state op request d singles is = absurd cc

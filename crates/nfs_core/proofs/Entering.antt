@@ -1,8 +1,9 @@
 -- Which entries may come next, and which may not, by what is decided.
-use Rattle.std.proofs.Common.{◌≡◌, ◌≢◌, ◌<◌, ◌≤◌, Option, Some, None, Result, Ok, Err, ℕ, length, refl, ap, ◌∙◌, arith, subst, sym}
+use Rattle.std.proofs.Common.{◌≡◌, ◌≢◌, ◌<◌, ◌≤◌, [], Option, Some, None, Result, Ok, Err, ℕ, length, refl, ap, ◌∙◌, arith, subst, sym}
 use Rattle.std.specs.Prelude.{Bool, true, false, ◌&&◌, IfNone, IfOk, IfSome, IsErrOf, IsFalse, IsTrue, is_some, not, option_map}
 use Rattle.std.proofs.lemmas.Bool.{both_ways, cond_both, lt-ltb, ltb-true}
 use Rattle.nfs_core.proofs.Journals.{decides_something}
+use Rattle.nfs_core.proofs.Transferring.{each_read, each_write}
 use Rattle.nfs_core.proofs.SoundSequences.{some_equal}
 use Rattle.nfs_core.specs.Expiry.{IsNotEndedFor}
 use Rattle.nfs_core.specs.PathMarking.{IsNotMarkedFor}
@@ -144,6 +145,12 @@ plain_owner (ops.SetclientidConfirm args) journal old request decision is = ap (
 plain_owner (ops.Lockt args) journal old request decision is = tests old args decision (lockt.lockt_file journal old request.filehandle args) is
 plain_owner (ops.ReleaseLockowner args) journal old request decision is =
     ap (λ (d : Decision). d.effect.owner) (some_equal decision (release.decision_of old args) is) ∙ releases old args
+plain_owner (ops.Read args) journal old request decision is =
+    let P : Decision → Type 0 = λ d. d.effect.owner ≡ owner_changes.Nothing in
+    ap (λ (d : Decision). d.effect.owner) (some_equal decision _ is) ∙ each_read P journal old request args (λ refusal. refl) (λ node. refl) (λ node. refl)
+plain_owner (ops.Write args) journal old request decision is =
+    let P : Decision → Type 0 = λ d. d.effect.owner ≡ owner_changes.Nothing in
+    ap (λ (d : Decision). d.effect.owner) (some_equal decision _ is) ∙ each_write P journal old request args (λ refusal. refl) (λ node. refl) refl (λ node. refl)
 plain_owner op journal old request decision is = absurd cc
 
 -- so owners may keep what is decided
@@ -235,7 +242,7 @@ expiry_next journal old expire effect below expiry = record {
   allowed = expiry;
   fits = record {
     kept = ap (λ (e : Effect). e.owner) expiry.removal;
-    numbers = subst (λ (e : Effect). IsWithinNumbers e.change old) (sym expiry.removal) tt;
+    numbers = subst (λ (e : Effect). IsWithinNumbers [] e.change old) (sym expiry.removal) tt;
     place = subst (λ (e : Effect). HasOwnerPlace e.owner old) (sym expiry.removal) tt;
   };
 }
@@ -252,7 +259,7 @@ pub expiry_memory : (journal : History) (old : State) (expire : Expire) (effect 
 expiry_memory journal old expire effect tables expiry = record {
   kept = refl;
   owner = subst (λ (e : Effect). HasOwnerRoom e.owner tables) (sym expiry.removal) tt;
-  change = subst (λ (e : Effect). HasRoom e.change tables) (sym expiry.removal) tt;
+  change = subst (λ (e : Effect). HasRoom [] e.change tables) (sym expiry.removal) tt;
 }
 
 -- a delegation's end may come next
@@ -262,7 +269,7 @@ revocation_next journal old revoke effect below revocation = record {
   allowed = revocation;
   fits = record {
     kept = ap (λ (e : Effect). e.owner) revocation.removal;
-    numbers = subst (λ (e : Effect). IsWithinNumbers e.change old) (sym revocation.removal) tt;
+    numbers = subst (λ (e : Effect). IsWithinNumbers [] e.change old) (sym revocation.removal) tt;
     place = subst (λ (e : Effect). HasOwnerPlace e.owner old) (sym revocation.removal) tt;
   };
 }
@@ -277,7 +284,7 @@ pub revocation_memory : (journal : History) (old : State) (revoke : Revoke) (eff
 revocation_memory journal old revoke effect tables revocation = record {
   kept = refl;
   owner = subst (λ (e : Effect). HasOwnerRoom e.owner tables) (sym revocation.removal) tt;
-  change = subst (λ (e : Effect). HasRoom e.change tables) (sym revocation.removal) tt;
+  change = subst (λ (e : Effect). HasRoom [] e.change tables) (sym revocation.removal) tt;
 }
 
 -- a mark of a client's path may come next
@@ -287,7 +294,7 @@ path_next journal old path effect below mark = record {
   allowed = mark;
   fits = record {
     kept = ap (λ (e : Effect). e.owner) mark.mark;
-    numbers = subst (λ (e : Effect). IsWithinNumbers e.change old) (sym mark.mark) tt;
+    numbers = subst (λ (e : Effect). IsWithinNumbers [] e.change old) (sym mark.mark) tt;
     place = subst (λ (e : Effect). HasOwnerPlace e.owner old) (sym mark.mark) tt;
   };
 }
@@ -304,5 +311,5 @@ pub path_memory : (journal : History) (old : State) (path : Path) (effect : Effe
 path_memory journal old path effect tables mark = record {
   kept = refl;
   owner = subst (λ (e : Effect). HasOwnerRoom e.owner tables) (sym mark.mark) tt;
-  change = subst (λ (e : Effect). HasRoom e.change tables) (sym mark.mark) tt;
+  change = subst (λ (e : Effect). HasRoom [] e.change tables) (sym mark.mark) tt;
 }

@@ -1,6 +1,7 @@
 pub mod ClientChanges
 pub mod DueDelegations
 pub mod Entering
+pub mod FileChanges
 pub mod Journals
 pub mod LiveClients
 pub mod LiveLaws
@@ -27,3 +28,4 @@ pub mod SoundSequences
 pub mod SoundSteps
 pub mod SoundTargets
 pub mod Storing
+pub mod Transferring

@@ -30,6 +30,7 @@ use Rattle.nfs_share.specs.declared.delegation.FileUse.TheVariants as uses
 use Rattle.nfs_share.specs.declared.open_state.OpenState.{OpenState}
 use Rattle.nfs_share.specs.declared.share.Share.{Share}
 use Rattle.nfs_state.specs.Changes.{with_open, with_owner_change, with_state_change}
+use Rattle.nfs_state.specs.Files.{FileState}
 use Rattle.nfs_state.specs.State.{State, empty_server}
 use Rattle.nfs_state.specs.declared.change.Change.{Change}
 use Rattle.nfs_state.specs.declared.change.Change.TheVariants as changes
@@ -41,20 +42,20 @@ use Rattle.nfs_tree.specs.declared.node.Node.{Node}
 -- the laws by which opens and delegations stay apart
 pub record StayApart : Type 0 where
   pub try_open : (owner : OpenOwner) (share : Share) (number : ℕ) (opens : List OpenState) (lent : List Delegation) → AreApart opens lent
-      → IsFalse (has_conflict owner.client (uses.Open share) lent) → AreApart (with_opening owner share number opens) lent
+      → IsFalse (has_conflict (uses.Open owner.client share) lent) → AreApart (with_opening owner share number opens) lent
   pub advance : (test : OpenState → Bool) (opens : List OpenState) (lent : List Delegation) → AreApart opens lent → AreApart (with_each test with_next_seqid opens) lent
   pub downgrade : (test : OpenState → Bool) (share : Share) (opens : List OpenState) (lent : List Delegation) → AreApart opens lent
       → AreApart (with_each test (after_downgrade share) opens) lent
   pub removal : (test : OpenState → Bool) (opens : List OpenState) (lent : List Delegation) → AreApart opens lent → AreApart (without test opens) lent
-  pub recall : (client : ClientId) (file_use : FileUse) (moment : ℕ) (opens : List OpenState) (lent : List Delegation) → AreApart opens lent
-      → AreApart opens (with_recalls client file_use moment lent)
+  pub recall : (file_use : FileUse) (moment : ℕ) (opens : List OpenState) (lent : List Delegation) → AreApart opens lent
+      → AreApart opens (with_recalls file_use moment lent)
   pub give_back : (test : Delegation → Bool) (opens : List OpenState) (lent : List Delegation) → AreApart opens lent → AreApart opens (without_lent test lent)
   pub lend : (client : ClientId) (kind : DelegationKind) (number : ℕ) (opens : List OpenState) (lent : List Delegation) → AreApart opens lent
       → IsTrue (can_delegate client kind opens lent) → AreApart opens (lent ++ first_delegation client kind number ∷ [])
 
 -- the laws by which no client gets two delegations of a file
 pub record StaySingle : Type 0 where
-  pub recall : (client : ClientId) (file_use : FileUse) (moment : ℕ) (lent : List Delegation) → OneEach lent → OneEach (with_recalls client file_use moment lent)
+  pub recall : (file_use : FileUse) (moment : ℕ) (lent : List Delegation) → OneEach lent → OneEach (with_recalls file_use moment lent)
   pub give_back : (test : Delegation → Bool) (lent : List Delegation) → OneEach lent → OneEach (without_lent test lent)
   pub lend : (client : ClientId) (kind : DelegationKind) (number : ℕ) (opens : List OpenState) (lent : List Delegation) → OneEach lent
       → IsTrue (can_delegate client kind opens lent) → OneEach (lent ++ first_delegation client kind number ∷ [])
@@ -128,10 +129,10 @@ recalled_client : (P : ClientId → Type 0) (moment : ℕ) (b : Bool) (d : Deleg
 recalled_client P moment true d h = cond_both (is_none d.recalled) (record d { recalled = Some moment }) d (λ x. P x.client) (λ _. h) (λ _. h)
 recalled_client P moment false d h = h
 
-recalls_live : (client : ClientId) (file_use : FileUse) (moment : ℕ) (records : List ClientRecord) (ds : List Delegation) → AllByRecursion (IsOfLive records) ds → AllByRecursion (IsOfLive records) (with_recalls client file_use moment ds)
-recalls_live client file_use moment records ds h =
-    all_map (IsOfLive records) (IsOfLive records) (λ d. cond (conflicts client file_use d) (with_recall moment d) d)
-    (λ d k. recalled_client (λ c. is_live_in records c ≡ true) moment (conflicts client file_use d) d k) ds h
+recalls_live : (file_use : FileUse) (moment : ℕ) (records : List ClientRecord) (ds : List Delegation) → AllByRecursion (IsOfLive records) ds → AllByRecursion (IsOfLive records) (with_recalls file_use moment ds)
+recalls_live file_use moment records ds h =
+    all_map (IsOfLive records) (IsOfLive records) (λ d. cond (conflicts file_use d) (with_recall moment d) d)
+    (λ d k. recalled_client (λ c. is_live_in records c ≡ true) moment (conflicts file_use d) d k) ds h
 
 returns_live : (test : Delegation → Bool) (records : List ClientRecord) (ds : List Delegation) → AllByRecursion (IsOfLive records) ds → AllByRecursion (IsOfLive records) (without_lent test ds)
 returns_live test records ds h = all_filter (IsOfLive records) (IsOfLive records) (λ d. not (test d)) (λ d k _. k) ds h
@@ -188,14 +189,14 @@ none_pushed : {X : Type 0} (p : X → Bool) (xs : List X) (x : X) → list_any p
 none_pushed p xs x none fails = list_any-append p xs (x ∷ []) ∙ ap (λ b. b || (p x || false)) none ∙ ap (λ b. b || false) fails
 
 -- no delegation of the client's own is in its way
-own_apart : (client : ClientId) (file_use : FileUse) (kind : DelegationKind) (number : ℕ) (ds : List Delegation) → has_conflict client file_use ds ≡ false
-    → has_conflict client file_use (ds ++ first_delegation client kind number ∷ []) ≡ false
-own_apart client file_use kind number ds none =
+own_apart : (client : ClientId) (share : Share) (kind : DelegationKind) (number : ℕ) (ds : List Delegation) → has_conflict (uses.Open client share) ds ≡ false
+    → has_conflict (uses.Open client share) (ds ++ first_delegation client kind number ∷ []) ≡ false
+own_apart client share kind number ds none =
     let new = first_delegation client kind number in
-    none_pushed (conflicts client file_use) ds new none (ap (λ b. not b && is_in_way kind file_use) (same_client_self client))
+    none_pushed (conflicts (uses.Open client share)) ds new none (ap (λ b. not b && is_in_way kind (uses.Open client share)) (same_client_self client))
 
 opened_sound : StayApart → (node : ℕ) (owner : OpenOwner) (share : Share) (number : ℕ) (opens : List (List OpenState)) (lent : List (List Delegation))
-    → has_conflict owner.client (uses.Open share) (delegations_of node lent) ≡ false → AreApartIn opens lent → AreApartIn (with_opens node (with_opening owner share number) opens) lent
+    → has_conflict (uses.Open owner.client share) (delegations_of node lent) ≡ false → AreApartIn opens lent → AreApartIn (with_opens node (with_opening owner share number) opens) lent
 opened_sound law node owner share number opens lent free apart =
     apart_opens node (with_opening owner share number) opens lent
     (λ here. law.try_open owner share number (opens_of node opens) (delegations_of node lent) here free) apart
@@ -214,8 +215,8 @@ delegations_granted law single node owner share (Some kind) old live may h =
     let here = delegations_of node old.delegations in
     let lend : List Delegation → List Delegation = λ ds. ds ++ new ∷ [] in
     let delegations = with_delegations node lend old.delegations in
-    let free = lists_where_set (λ ds. has_conflict client (uses.Open share) ds ≡ false) node node old.delegations (lend here) may.2
-    (λ _. own_apart client (uses.Open share) kind number here may.2) in
+    let free = lists_where_set (λ ds. has_conflict (uses.Open client share) ds ≡ false) node node old.delegations (lend here) may.2
+    (λ _. own_apart client share kind number here may.2) in
     let apart = apart_lent node lend old.opens old.delegations (λ k. law.lend client kind number (opens_of node old.opens) here k may.4) h.apart in
     record {
       apart = opened_sound law node owner share (old.last_state + 1) old.opens delegations free apart;
@@ -251,12 +252,12 @@ delegations_changed law single (changes.Expires goes) old ready sound h =
     let left = without_client_sound law single goes old (filter (λ r. not (is_record_of_client goes.number r)) old.clients.confirmed)
     (λ client others live. live_without goes old.clients.confirmed client ready.1 others live) h in
     record { apart = left.0; single = left.1; live = left.2 }
-delegations_changed law single (changes.Recalls node client share moment) old ready sound h =
-    let recall : List Delegation → List Delegation = with_recalls client (uses.Open share) moment in
+delegations_changed law single (changes.Recalls node file_use moment) old ready sound h =
+    let recall : List Delegation → List Delegation = with_recalls file_use moment in
     record {
-      apart = apart_lent node recall old.opens old.delegations (λ k. law.recall client (uses.Open share) moment (opens_of node old.opens) (delegations_of node old.delegations) k) h.apart;
-      single = set_lists OneEach none_each recall (λ ds k. single.recall client (uses.Open share) moment ds k) node old.delegations h.single;
-      live = set_lists (AllByRecursion (IsOfLive old.clients.confirmed)) tt recall (recalls_live client (uses.Open share) moment old.clients.confirmed) node old.delegations h.live;
+      apart = apart_lent node recall old.opens old.delegations (λ k. law.recall file_use moment (opens_of node old.opens) (delegations_of node old.delegations) k) h.apart;
+      single = set_lists OneEach none_each recall (λ ds k. single.recall file_use moment ds k) node old.delegations h.single;
+      live = set_lists (AllByRecursion (IsOfLive old.clients.confirmed)) tt recall (recalls_live file_use moment old.clients.confirmed) node old.delegations h.live;
     }
 delegations_changed law single (changes.Returns node number) old ready sound h =
     let give_back : List Delegation → List Delegation = without_lent (is_delegation_numbered number) in
@@ -273,6 +274,10 @@ delegations_changed law single (changes.MarksPath client path) old ready sound h
 }
 delegations_changed law single change old ready sound h = record { apart = h.apart; single = h.single; live = h.live }
 
+-- The files' bytes are no part of it.
+pub delegations_written : (files : List FileState) (old : State) → HasSoundDelegations old → HasSoundDelegations (record old { files = files })
+delegations_written files old h = record { apart = h.apart; single = h.single; live = h.live }
+
 -- A server to which no client has come has none.
 
 none_at : (count node : ℕ) → delegations_of node (replicate count []) ≡ []
@@ -283,7 +288,7 @@ none_at (suc count) (suc node) = none_at count node
 apart_of_none : (opens : List OpenState) → AreApart opens []
 apart_of_none opens = (none_in opens, tt)
   where
-    none_in : (xs : List OpenState) → AllByRecursion (λ o. has_conflict o.owner.client (uses.Open (share_of o)) [] ≡ false) xs
+    none_in : (xs : List OpenState) → AllByRecursion (λ o. has_conflict (uses.Open o.owner.client (share_of o)) [] ≡ false) xs
     none_in [] = tt
     none_in (x ∷ xs) = (refl, none_in xs)
 

@@ -19,10 +19,11 @@ use Rattle.nfs_share.specs.Opens as opens
 use Rattle.nfs_share.specs.declared.delegation.Delegation.{Delegation}
 use Rattle.nfs_share.specs.declared.delegation.DelegationKind.{DelegationKind}
 use Rattle.nfs_share.specs.declared.delegation.FileUse.{FileUse}
-use Rattle.nfs_share.specs.declared.delegation.FileUse.TheVariants as uses
 use Rattle.nfs_share.specs.declared.open_state.OpenState.{OpenState}
 use Rattle.nfs_share.specs.declared.share.Share.{Share}
-use Rattle.nfs_state.specs.Changes.{after, last_state_after, with_grant, with_open, with_owner_change, with_state_change, without_client}
+use Rattle.nfs_state.specs.Entries.{data_in}
+use Rattle.nfs_state.specs.Files.{FileState}
+use Rattle.nfs_state.specs.Changes.{after, files_after, last_state_after, with_grant, with_open, with_owner_change, with_state_change, without_client}
 use Rattle.nfs_state.specs.Room.{HasGivenNumbers}
 use Rattle.nfs_state.specs.State.{State, empty_server}
 use Rattle.nfs_state.specs.declared.change.Change.{Change}
@@ -146,9 +147,9 @@ pub recalled_number : (w : ℕ → ℕ) (moment : ℕ) (b : Bool) (d : Delegatio
 recalled_number w moment true d = cond_both (is_none d.recalled) (record d { recalled = Some moment }) d (λ x. w x.number ≡ w d.number) (λ _. refl) (λ _. refl)
 recalled_number w moment false d = refl
 
-recalls_weight : (w : ℕ → ℕ) (client : ClientId) (file_use : FileUse) (moment : ℕ) (ds : List Delegation) → sum_of (of_lent w) (with_recalls client file_use moment ds) ≡ sum_of (of_lent w) ds
-recalls_weight w client file_use moment ds =
-    sum_map (of_lent w) (λ d. cond (conflicts client file_use d) (with_recall moment d) d) (λ d. recalled_number w moment (conflicts client file_use d) d) ds
+recalls_weight : (w : ℕ → ℕ) (file_use : FileUse) (moment : ℕ) (ds : List Delegation) → sum_of (of_lent w) (with_recalls file_use moment ds) ≡ sum_of (of_lent w) ds
+recalls_weight w file_use moment ds =
+    sum_map (of_lent w) (λ d. cond (conflicts file_use d) (with_recall moment d) d) (λ d. recalled_number w moment (conflicts file_use d) d) ds
 
 -- A client is lost with all that it has.
 client_weight : (w : ℕ → ℕ) (client : ClientId) (old : State) → weight w (without_client client old) ≤ weight w old + 0
@@ -196,14 +197,15 @@ weight_changed w (changes.Locks node number change) old =
 weight_changed w (changes.Releases owner) old =
     omega (arith, sum_all_map (of_lock w) (locks.without (is_lock_of owner)) (locks_without w (is_lock_of owner)) old.locks)
 weight_changed w (changes.Expires client) old = client_weight w client old
-weight_changed w (changes.Recalls node client share moment) old =
+weight_changed w (changes.Recalls node file_use moment) old =
     let here = delegations_of node old.delegations in
-    let same = recalls_weight w client (uses.Open share) moment here in
-    omega (arith, sum_lent_set (of_lent w) 0 (with_recalls client (uses.Open share) moment here) node old.delegations (omega (arith, same)))
+    let same = recalls_weight w file_use moment here in
+    omega (arith, sum_lent_set (of_lent w) 0 (with_recalls file_use moment here) node old.delegations (omega (arith, same)))
 weight_changed w (changes.Returns node number) old =
     let here = delegations_of node old.delegations in
     let fewer = lent_without w (is_delegation_numbered number) here in
     omega (arith, sum_lent_set (of_lent w) 0 (without_lent (is_delegation_numbered number) here) node old.delegations (omega (arith, fewer)))
+weight_changed w (changes.Writes node offset) old = omega arith
 weight_changed w (changes.MarksPath client path) old = omega arith
 
 -- A delegation that is lent adds the number after that.
@@ -277,10 +279,17 @@ numbered_owned change number old h n =
     subst (λ last. IsOnce last n (weight (is_one n) (with_owner_change change number old))) (sym (last_owned change number old))
     (once_less old.last_state n (weight (is_one n) old) (weight (is_one n) (with_owner_change change number old)) (weight_owned (is_one n) change number old) (h n))
 
+-- The files' bytes are no part of it.
+numbered_written : (files : List FileState) (old : State) → HasNumbers old → HasNumbers (record old { files = files })
+unfolding HasNumbers
+numbered_written files old h = h
+
 -- an entry with any effect
 pub numbered_after : (number : ℕ) (entry : Entry) (effect : Effect) (old : State) → HasNumbers old → HasNumbers (after number entry effect old)
 numbered_after number entry effect old h =
-    numbered_changed effect.change (with_owner_change effect.owner number old) (numbered_owned effect.owner number old h)
+    let changed = with_state_change effect.change (with_owner_change effect.owner number old) in
+    numbered_written (files_after (data_in entry) effect.change changed.files) changed
+    (numbered_changed effect.change (with_owner_change effect.owner number old) (numbered_owned effect.owner number old h))
 
 pub numbered_empty : (nodes : List Node) → HasNumbers (empty_server nodes)
 unfolding HasNumbers

@@ -6,13 +6,11 @@ use Rattle.nfs_core.proofs.SafeFiles.{lists_at, set_lists}
 use Rattle.nfs_core.proofs.SafeLists.{all_map, all_replicate, all_set}
 use Rattle.nfs_core.proofs.SafeOrder.{filter_in_order, map_in_order, push_in_order}
 use Rattle.nfs_core.proofs.SoundNumbers.{HasNumbers, given_numbers, numbered_before, numbered_owned, numbers_given, recalled_number}
-use Rattle.nfs_forms.specs.declared.client_id.ClientId.{ClientId}
 use Rattle.nfs_owners.specs.declared.clients.client_change.ClientChange.TheVariants as client_changes
 use Rattle.nfs_share.specs.AllOpens.{delegations_of}
 use Rattle.nfs_share.specs.Delegations.{IsAboveLent, StandInOrder, conflicts, first_delegation, is_delegation_numbered, is_lent_to, with_recall, with_recalls, without_lent}
 use Rattle.nfs_share.specs.declared.delegation.Delegation.{Delegation}
 use Rattle.nfs_share.specs.declared.delegation.FileUse.{FileUse}
-use Rattle.nfs_share.specs.declared.delegation.FileUse.TheVariants as uses
 use Rattle.nfs_state.specs.Changes.{after, with_open, with_owner_change, with_state_change}
 use Rattle.nfs_state.specs.State.{State, empty_server}
 use Rattle.nfs_state.specs.declared.change.Change.{Change}
@@ -33,10 +31,10 @@ left_in_order : (test : Delegation → Bool) (ds : List Delegation) → StandInO
 left_in_order test ds h = filter_in_order (λ d. not (test d)) ds h
 
 -- some are called back
-recalled_in_order : (client : ClientId) (file_use : FileUse) (moment : ℕ) (ds : List Delegation) → StandInOrder ds → StandInOrder (with_recalls client file_use moment ds)
-recalled_in_order client file_use moment ds h =
-    map_in_order (λ d. cond (conflicts client file_use d) (with_recall moment d) d)
-    (λ d. recalled_number (λ n. n) moment (conflicts client file_use d) d) ds h
+recalled_in_order : (file_use : FileUse) (moment : ℕ) (ds : List Delegation) → StandInOrder ds → StandInOrder (with_recalls file_use moment ds)
+recalled_in_order file_use moment ds h =
+    map_in_order (λ d. cond (conflicts file_use d) (with_recall moment d) d)
+    (λ d. recalled_number (λ n. n) moment (conflicts file_use d) d) ds h
 
 -- an operation's own change
 order_changed : (change : Change) (old : State) → HasNumbers old → HasOrder old → HasOrder (with_state_change change old)
@@ -55,9 +53,9 @@ order_changed (changes.Opens node owner share (Some kind)) old numbered h =
     (push_in_order new (delegations_of node old.delegations) above (lists_at StandInOrder tt node old.delegations h))
 order_changed (changes.Expires client) old numbered h =
     all_map StandInOrder StandInOrder (without_lent (is_lent_to client)) (λ ds k. left_in_order (is_lent_to client) ds k) old.delegations h
-order_changed (changes.Recalls node client share moment) old numbered h =
-    let recall : List Delegation → List Delegation = with_recalls client (uses.Open share) moment in
-    set_lists StandInOrder tt recall (λ ds k. recalled_in_order client (uses.Open share) moment ds k) node old.delegations h
+order_changed (changes.Recalls node file_use moment) old numbered h =
+    let recall : List Delegation → List Delegation = with_recalls file_use moment in
+    set_lists StandInOrder tt recall (λ ds k. recalled_in_order file_use moment ds k) node old.delegations h
 order_changed (changes.Returns node number) old numbered h =
     let give_back : List Delegation → List Delegation = without_lent (is_delegation_numbered number) in
     set_lists StandInOrder tt give_back (λ ds k. left_in_order (is_delegation_numbered number) ds k) node old.delegations h

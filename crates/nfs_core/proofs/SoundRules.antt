@@ -33,6 +33,7 @@ use Rattle.nfs_state.specs.Changes.{change_alone, with_owner_change}
 use Rattle.nfs_rules.specs.Refusing.{◌>>=◌}
 use Rattle.nfs_rules.specs.Stateids.{any_open, as_open, confirmed_open, verdict}
 use Rattle.nfs_state.specs.State.{State, History, record_has_state}
+use Rattle.nfs_core.proofs.Transferring.{each_read, each_write}
 use Rattle.nfs_core.proofs.SafeLists.{all_always, all_find, all_none, all_weaken, found_last, found_some}
 use Rattle.nfs_core.proofs.Sound.{AreSingle, HasSameClient, HasRecord, IsOnlyOf, IsSound, is_live_in, is_record_of, same_client_self, same_name_self}
 use Rattle.nfs_core.proofs.SoundLocking.{lock_ready, lock_sequenced, locku_ready, stateid_of}
@@ -285,7 +286,7 @@ grant_ready : (number : ℕ) (journal : History) (state : State) (op : Op) (args
     → IsSound state → is_live_in state.clients.confirmed args.owner.client ≡ true → IsFit state op (open_owner args.owner) passage
     → newcomer_of journal state args.owner.client op ≡ Nobody
     → is_refused args.owner o.share (opens_of o.node (before_own passage args.owner state).opens) ≡ false
-    → has_conflict args.owner.client (uses.Open o.share) (delegations_of o.node (before_own passage args.owner state).delegations) ≡ false
+    → has_conflict (uses.Open args.owner.client o.share) (delegations_of o.node (before_own passage args.owner state).delegations) ≡ false
     → Some ruling ≡ opening.ruling_of journal (before_own passage args.owner state) passage args (Ok o)
     → IsReady number state (decision_of passage (open_owner args.owner) (newcomer_of journal state args.owner.client op) ruling)
 grant_ready number journal state op args passage o ruling sound live fit nobody free apart rules =
@@ -338,7 +339,7 @@ ruling_ready number journal state op args passage directory moment ruling (Err r
 ruling_ready number journal state op args passage directory moment ruling (Ok o) sound live fit nobody is rules =
     let seen = before_own passage args.owner state in
     let client = args.owner.client in
-    let meets = has_conflict client (uses.Open o.share) (delegations_of o.node seen.delegations) in
+    let meets = has_conflict (uses.Open client o.share) (delegations_of o.node seen.delegations) in
     let delay = opening.delayed moment client o in
     elim (cases_Bool meets) [
       | inl there ↦
@@ -441,4 +442,8 @@ ruled_ready number journal state (ops.Locku args) request d same sound is =
     (locku_ready number journal state request.op args request sound same) d is
 ruled_ready number journal state (ops.ReleaseLockowner args) request d same sound is =
     as_decided number state d _ is (release_ready number state args)
+ruled_ready number journal state (ops.Read args) request d same sound is =
+    as_decided number state d _ is (each_read (IsReady number state) journal state request args (λ refusal. (tt, tt)) (λ node. (tt, tt)) (λ node. (tt, tt)))
+ruled_ready number journal state (ops.Write args) request d same sound is =
+    as_decided number state d _ is (each_write (IsReady number state) journal state request args (λ refusal. (tt, tt)) (λ node. (tt, tt)) (tt, tt) (λ node. (tt, tt)))
 ruled_ready number journal state op request d same sound is = absurd cc

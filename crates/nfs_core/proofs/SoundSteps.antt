@@ -10,8 +10,10 @@ use Rattle.nfs_state.specs.declared.entry.Entry.{Entry}
 use Rattle.nfs_state.specs.declared.owner_change.OwnerChange.{OwnerChange}
 use Rattle.nfs_state.specs.declared.owner_change.OwnerChange.TheVariants as owner_changes
 use Rattle.nfs_state.specs.Owners.{KnownOwner, has_name, is_confirmed, with_confirmation, with_kept_entry, with_record, without_owner}
-use Rattle.nfs_state.specs.Changes.{after, last_state_after, with_grant, with_open, with_owner_change, with_state_change}
+use Rattle.nfs_state.specs.Changes.{after, files_after, last_state_after, with_grant, with_open, with_owner_change, with_state_change}
 use Rattle.nfs_state.specs.Changes as state_changes
+use Rattle.nfs_state.specs.Entries.{data_in}
+use Rattle.nfs_state.specs.Files.{FileState}
 use Rattle.nfs_state.specs.Places.{has_state_place}
 use Rattle.nfs_state.specs.State.{State}
 use Rattle.nfs_core.proofs.SafeFiles.{lists_at, set_lists}
@@ -84,7 +86,7 @@ abbrev pub MayOpen : ℕ → OpenOwner → Share → Option DelegationKind → S
 MayOpen node owner share lent state =
     (is_refused owner share (opens_of node state.opens) ≡ false)
     × (has_open_place state owner node ≡ true)
-    × (has_conflict owner.client (uses.Open share) (delegations_of node state.delegations) ≡ false)
+    × (has_conflict (uses.Open owner.client share) (delegations_of node state.delegations) ≡ false)
     × (has_lending_place state (has_open state owner node) lent ≡ true)
     × CanLend node owner.client lent state
 
@@ -320,7 +322,7 @@ sound_changed law lock_law (changes.Expires client) old ready sound = record {
   single = single_left (is_of_client client.number) old.clients.confirmed sound.single;
   locks = locks_without_client lock_law client old.owners old.opens old.last_state old.locks sound.locks;
 }
-sound_changed law lock_law (changes.Recalls node client share moment) old ready sound = record {
+sound_changed law lock_law (changes.Recalls node file_use moment) old ready sound = record {
   live = sound.live;
   known = sound.known;
   compatible = sound.compatible;
@@ -334,6 +336,7 @@ sound_changed law lock_law (changes.Returns node number) old ready sound = recor
   single = sound.single;
   locks = sound.locks;
 }
+sound_changed law lock_law (changes.Writes node offset) old ready sound = sound
 sound_changed law lock_law (changes.MarksPath client path) old ready sound = record {
   live = live_marked client path old.clients.confirmed old.owners sound.live;
   known = sound.known;
@@ -342,8 +345,20 @@ sound_changed law lock_law (changes.MarksPath client path) old ready sound = rec
   locks = sound.locks;
 }
 
+-- The files' bytes are no part of it.
+sound_written : (files : List FileState) (old : State) → IsSound old → IsSound (record old { files = files })
+sound_written files old sound = record {
+  live = sound.live;
+  known = sound.known;
+  compatible = sound.compatible;
+  single = sound.single;
+  locks = sound.locks;
+}
+
 -- an entry keeps the state sound
 pub sound_after : OpensStay → LocksStay → (number : ℕ) (entry : Entry) (effect : Effect) (old : State) → IsEffectReady number old effect → IsSound old → IsSound (after number entry effect old)
 sound_after law lock_law number entry effect old ready sound =
-    sound_changed law lock_law effect.change (with_owner_change effect.owner number old) ready.1
-    (sound_owner law effect.owner number old ready.0 sound)
+    let changed = with_state_change effect.change (with_owner_change effect.owner number old) in
+    sound_written (files_after (data_in entry) effect.change changed.files) changed
+    (sound_changed law lock_law effect.change (with_owner_change effect.owner number old) ready.1
+    (sound_owner law effect.owner number old ready.0 sound))

@@ -1,4 +1,5 @@
 -- What a decision and its effect need of a core's store follows from what always holds of the store.
+use Rattle.nfs_core.proofs.FileChanges.{Lawful-changes}
 use Rattle.nfs_core.proofs.Journals.{Lawful-confirm, Lawful-state}
 use Rattle.nfs_core.proofs.SoundNumbers.{given_numbers}
 use Rattle.nfs_core.specs.Following.{StoreAgrees}
@@ -16,6 +17,7 @@ store_agrees is_safe store lawful agrees =
     record {
       confirms = Lawful-confirm journal state lawful;
       states = Lawful-state journal state lawful;
+      changes = Lawful-changes journal state lawful;
       given = given_numbers state (is_safe journal state lawful).numbers_given;
       owners = agrees;
     }

@@ -1,5 +1,6 @@
 -- What may come next in a journal, as it is judged before it is entered.
-use Rattle.std.specs.Prelude.{◌<◌, ◌≤◌, ◌*◌, IsTrue, length, Some}
+use Rattle.std.specs.Prelude.{ℕ, ◌<◌, ◌≤◌, ◌*◌, IsTrue, List, length, Some}
+use Rattle.std.specs.List.{AllByRecursion}
 use Rattle.nfs_core.specs.Expiry.{MayEnd}
 use Rattle.nfs_core.specs.Server.{Server}
 use Rattle.nfs_core.specs.Step.{Allows}
@@ -17,6 +18,7 @@ use Rattle.nfs_state.specs.declared.request.Request.{Request}
 use Rattle.nfs_state.specs.declared.shortage.Shortage.{Shortage}
 use Rattle.nfs_state.specs.declared.shortage.Shortage.TheVariants as shortages
 use Rattle.nfs_state.specs.Entries.{can_be_asked}
+use Rattle.nfs_state.specs.Files.{FileState}
 use Rattle.nfs_state.specs.Room.{Fits, HasGivenNumbers, state_of}
 use Rattle.nfs_state.specs.State.{State, History}
 use Rattle.nfs_state.specs.Store.{OwnersAgree}
@@ -24,14 +26,21 @@ use Rattle.nfs_state.specs.Stored.{meaning}
 use Rattle.nfs_state.specs.declared.store.Store.{Store}
 use Rattle.nfs_tree.specs.Tree.{node_count}
 
+-- no file was changed more often than so many times
+abbrev pub HaveFewChanges : ℕ → List FileState → Type 0
+HaveFewChanges number files = AllByRecursion (λ f. f.change ≤ number) files
+
 -- What is stored agrees with the journal as far as a decision and its effect need it: no more confirm values were given
 -- out than the journal has entries, and of numbers of states no more than two an entry; each state has a number that was
--- given; and what is stored for each owner is what its entry has.
+-- given; no file was changed more often than the journal has entries; and what is stored for each owner is what its
+-- entry has.
 pub record StoreAgrees (store : Store) : Type 0 where
   pub confirms : store.tables.clients.registry.last_confirm
       ≤ length store.journal.history.entries
   pub states : store.tables.numbers ≤ 2 * length store.journal.history.entries
   pub given : HasGivenNumbers (state_of store.tables)
+  pub changes : HaveFewChanges (length store.journal.history.entries)
+      (state_of store.tables).files
   pub owners : OwnersAgree store
 
 -- the request can be asked of a server with the journal's tree

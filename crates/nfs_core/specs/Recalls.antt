@@ -4,14 +4,13 @@ use Rattle.std.specs.List.{AllPairs, filter_map}
 use mathlib.Core.List.{IsPrefix}
 use Rattle.nfs_core.specs.Lawful.{Lawful}
 use Rattle.nfs_core.specs.Step.{Allows}
-use Rattle.nfs_core.specs.declared.recalling.OpenWish.{OpenWish}
 use Rattle.nfs_owners.specs.Registry.{Registry, record_of, record_state}
 use Rattle.nfs_owners.specs.declared.client_record.ClientState.{ClientState}
 use Rattle.nfs_rpc.specs.declared.recall.Recall.{Recall}
 use Rattle.nfs_share.specs.AllOpens.{delegations_of}
 use Rattle.nfs_share.specs.Delegations.{conflicts, delegation_stateid}
 use Rattle.nfs_share.specs.declared.delegation.Delegation.{Delegation}
-use Rattle.nfs_share.specs.declared.delegation.FileUse.TheVariants as uses
+use Rattle.nfs_share.specs.declared.delegation.FileUse.{FileUse}
 use Rattle.nfs_state.specs.Changes.{after}
 use Rattle.nfs_state.specs.Entries.{call_of, with_entry}
 use Rattle.nfs_state.specs.State.{History, State, empty_server}
@@ -21,9 +20,9 @@ use Rattle.nfs_state.specs.declared.effect.Effect.{Effect}
 use Rattle.nfs_state.specs.declared.entry.Entry.{Entry}
 use Rattle.nfs_tree.specs.Tree.{handle_of}
 
--- The delegation is in the way of the open, and wasn't called back before.
-abbrev pub is_called_back : OpenWish → Delegation → Bool
-is_called_back wish d = conflicts wish.client (uses.Open wish.share) d && is_none d.recalled
+-- The delegation is in the way of this use of the file, and wasn't called back before.
+abbrev pub is_called_back : FileUse → Delegation → Bool
+is_called_back file_use d = conflicts file_use d && is_none d.recalled
 
 -- the recall of a delegation of the node's file, as its client's record says how to call it back
 abbrev pub recall_to : ℕ → Delegation → ClientState → Recall
@@ -34,28 +33,27 @@ recall_to node d client = record {
   handle = handle_of node;
 }
 
--- the recall of a delegation, where it is called back for this open, and its client is live
-abbrev pub recall_for : OpenWish → Registry → Delegation → Option Recall
-recall_for wish clients d =
-    if is_called_back wish d
-    then option_map (recall_to wish.node d) (record_state (record_of d.client clients))
+-- the recall of a delegation of the node's file, where it is called back for this use, and its client is live
+abbrev pub recall_for : ℕ → FileUse → Registry → Delegation → Option Recall
+recall_for node file_use clients d =
+    if is_called_back file_use d
+    then option_map (recall_to node d) (record_state (record_of d.client clients))
     else None
 
--- the recalls for this open, in the order of the file's delegations
-abbrev pub recalls_for : OpenWish → State → List Recall
-recalls_for wish old =
-    filter_map (recall_for wish old.clients) (delegations_of wish.node old.delegations)
+-- the recalls for this use of the node's file, in the order of its delegations
+abbrev pub recalls_for : ℕ → FileUse → State → List Recall
+recalls_for node file_use old =
+    filter_map (recall_for node file_use old.clients) (delegations_of node old.delegations)
 
 -- The recalls that a change makes in this state. In a state that a journal leads to, a file's delegations stand in the
 -- order of their numbers, and so do these recalls, as the law `recalls_rise` says.
 abbrev pub recalls_by : Change → State → List Recall
-recalls_by (changes.Recalls node client share moment) old =
-    recalls_for (record { node = node; client = client; share = share }) old
+recalls_by (changes.Recalls node file_use moment) old = recalls_for node file_use old
 recalls_by change old = []
 
 -- the change calls nothing back
 abbrev pub CallsNothingBack : Change → Type 0
-CallsNothingBack (changes.Recalls node client share moment) = ⊥
+CallsNothingBack (changes.Recalls node file_use moment) = ⊥
 CallsNothingBack change = ⊤
 
 -- Starting in the state old with this journal, the entries make these recalls, in the order of the entries.
@@ -97,10 +95,6 @@ no_recalls = record { taken = 0; pending = [] }
 -- with these at the end
 abbrev pub with_more : List Recall → RecallsLeft → RecallsLeft
 with_more more left = record left { pending = left.pending ++ more }
-
--- this is the first of those that are left
-abbrev pub IsFirst : Recall → RecallsLeft → Type 0
-IsFirst recall left = (rest : List Recall) × (left.pending ≡ recall ∷ rest)
 
 -- What is left are the journal's recalls without those that were taken, which come first.
 abbrev pub AreLeftOf : History → RecallsLeft → Type 0

@@ -6,7 +6,7 @@ ghost use Rattle.nfs_core.specs.Entered.{IsEntered};
 ghost use Rattle.nfs_core.specs.Step.{HasNoAnswer};
 ghost use Rattle.nfs_core.specs.Server.{AreAlike, server_of};
 ghost use Rattle.nfs_state.specs.Entries.{IsSendable, entry_of};
-ghost use Rattle.nfs_state.specs.Room.{HasGivenNumbers, state_of};
+ghost use Rattle.nfs_state.specs.Room.{state_of};
 ghost use Rattle.nfs_state.specs.Store.{OwnersAgree};
 
 use crate::Entered;
@@ -52,8 +52,7 @@ fn enter_decided(
 ) -> Result<(OpResult, Entered), Shortage>
     requires next { IsNext held.old.store.journal.history (state_of held.old.store.tables)
         (entry_of request decision.answer) decision.effect }
-    requires given { HasGivenNumbers (state_of held.old.store.tables) }
-    requires owners { OwnersAgree held.old.store }
+    requires stored { StoreAgrees held.old.store }
     ensures answer { IfOk result (λ r. r.0 ≡ decision.answer) }
     ensures entered { IfOk result (λ r. IsEntered (server_of held.old) (server_of held.new)
         (entry_of request r.0) r.1) }

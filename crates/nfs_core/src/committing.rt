@@ -1,8 +1,8 @@
 ghost use Rattle.std.specs.Prelude.{◌≡◌, ◌<◌, ◌≤◌, IfErr, IfOk, IsOk, OnErr};
-ghost use Rattle.nfs_core.specs.Following.{IsNext};
+ghost use Rattle.nfs_core.specs.Following.{IsNext, StoreAgrees};
 ghost use Rattle.nfs_core.specs.Recalls.{CallsNothingBack};
 ghost use Rattle.nfs_core.specs.Server.{AreAlike, Enters, server_of};
-ghost use Rattle.nfs_state.specs.Room.{HasGivenNumbers, TakesNoMemory, state_of};
+ghost use Rattle.nfs_state.specs.Room.{TakesNoMemory, state_of};
 ghost use Rattle.nfs_state.specs.Store.{OwnersAgree};
 
 use crate::holdings::Holdings;
@@ -20,8 +20,7 @@ pub(crate) fn commit(
 ) -> Result<u32, Shortage>
     requires next { IsNext held.old.store.journal.history (state_of held.old.store.tables)
         entry effect }
-    requires given { HasGivenNumbers (state_of held.old.store.tables) }
-    requires owners { OwnersAgree held.old.store }
+    requires stored { StoreAgrees held.old.store }
     ensures entered { IfOk result (λ number.
         (enters : Enters (server_of held.old) (server_of held.new) entry number)
         × (enters.2.effect ≡ effect)) }

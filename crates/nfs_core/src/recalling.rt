@@ -1,6 +1,6 @@
 //! The recalls that an entry makes.
 
-ghost use Rattle.std.specs.Prelude.{◌≡◌, ◌++◌, [], IfOk, IsOk, OnOk, option_map};
+ghost use Rattle.std.specs.Prelude.{◌≡◌, ◌++◌, [], IfOk, IsOk, OnOk};
 ghost use Rattle.std.specs.Option.{option_to_list};
 ghost use Rattle.nfs_core.specs.Recalls.{CallsNothingBack, is_called_back, recall_for, recall_to, recalls_by, recalls_for};
 ghost use Rattle.nfs_state.specs.Room.{state_of};
@@ -8,19 +8,10 @@ ghost use Rattle.nfs_state.specs.Room.{state_of};
 use nfs_forms::FileHandle;
 use nfs_owners::{ClientState, Clients};
 use nfs_rpc::Recall;
-use nfs_share::{Delegation, FileUse, Share};
+use nfs_share::{Delegation, FileUse};
 use nfs_state::{Change, Store};
 use nfs_tree::Tree;
-use nfs_xdr::ClientId;
 use std::alloc::{AllocError, Global};
-
-/// An open of a node's file by a client, for a share.
-#[derive(Clone, Copy)]
-struct OpenWish {
-    node: u32,
-    client: ClientId,
-    share: Share,
-}
 
 /// The recalls that the change makes in what is stored.
 pub(crate) fn recalls_by(
@@ -34,34 +25,26 @@ pub(crate) fn recalls_by(
     ensures ready { CallsNothingBack change.now → IsOk result }
 {
     match change {
-        Change::Recalls {
-            node,
-            client,
-            share,
-            ..
-        } => recalls_for(
-            alloc,
-            store,
-            OpenWish {
-                node: *node,
-                client: *client,
-                share: *share,
-            },
-        ),
+        Change::Recalls { node, file_use, .. } => recalls_for(alloc, store, *node, *file_use),
         _ => Ok(Vec::new(alloc)),
     }
 }
 
-// The recalls for this open.
-fn recalls_for(alloc: Global, store: &Store, wish: OpenWish) -> Result<Vec<Recall>, AllocError>
+// The recalls for this use of the node's file.
+fn recalls_for(
+    alloc: Global,
+    store: &Store,
+    node: u32,
+    file_use: FileUse,
+) -> Result<Vec<Recall>, AllocError>
     ensures { IfOk result (λ recalls.
-        recalls.items ≡ recalls_for wish (state_of store.now.tables)) }
+        recalls.items ≡ recalls_for node file_use (state_of store.now.tables)) }
 {
     let mut recalls = Vec::new(alloc);
-    for lent in store.tables.opens.delegations_of(wish.node) {
+    for lent in store.tables.opens.delegations_of(node) {
         push_some(
             &mut recalls,
-            recall_for(alloc, wish, &store.tables.clients, lent)?,
+            recall_for(alloc, node, file_use, &store.tables.clients, lent)?,
         )?;
     }
     Ok(recalls)
@@ -76,29 +59,30 @@ fn push_some(recalls: &mut Vec<Recall>, recall: Option<Recall>) -> Result<(), Al
     Ok(())
 }
 
-// The recall of the delegation, where it is called back for this open, and its client is live.
+// The recall of the delegation, where it is called back for this use, and its client is live.
 fn recall_for(
     alloc: Global,
-    wish: OpenWish,
+    node: u32,
+    file_use: FileUse,
     clients: &Clients,
     lent: &Delegation,
 ) -> Result<Option<Recall>, AllocError>
-    ensures { IfOk result (λ recall. recall ≡ recall_for wish clients.now.registry lent.now) }
+    ensures { IfOk result (λ recall. recall ≡ recall_for node file_use clients.now.registry lent.now) }
 {
-    if !is_called_back(wish, lent) {
+    if !is_called_back(file_use, lent) {
         return Ok(None);
     }
     match clients.of(lent.client) {
-        Some(client) => Ok(Some(recall_to(alloc, wish.node, lent, client)?)),
+        Some(client) => Ok(Some(recall_to(alloc, node, lent, client)?)),
         None => Ok(None),
     }
 }
 
-// Whether the delegation is in the way of the open, and wasn't called back before.
-fn is_called_back(wish: OpenWish, lent: &Delegation) -> bool
-    ensures { result ≡ is_called_back wish lent.now }
+// Whether the delegation is in the way of this use of the file, and wasn't called back before.
+fn is_called_back(file_use: FileUse, lent: &Delegation) -> bool
+    ensures { result ≡ is_called_back file_use lent.now }
 {
-    lent.conflicts(wish.client, FileUse::Open(wish.share)) && lent.recalled.is_none()
+    lent.conflicts(file_use) && lent.recalled.is_none()
 }
 
 // The recall of a delegation of the node's file, as its client's record says how to call it back.

@@ -14,6 +14,7 @@ pub mod Fattr
 pub mod ChangeInfo
 pub mod DelegationType
 pub mod OpenDelegation
+pub mod StableHow
 pub mod CreateHow
 pub mod OpenHow
 pub mod Claim

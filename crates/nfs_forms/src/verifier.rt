@@ -2,9 +2,9 @@ ghost use Rattle.nfs_forms.specs.Verifier as forms;
 ghost use Rattle.xdr.specs.Reading.{Answers};
 
 use std::alloc::Global;
-use xdr::{Wire, WireError, read_fixed};
+use xdr::{Measure, Wire, WireError, read_fixed};
 
-/// Eight bytes that distinguish one start of a client from another (verifier4).
+/// Eight bytes that distinguish one start of a client, or of the server, from another (verifier4).
 #[derive(Clone, Copy, Debug, PartialEq, Eq)]
 pub struct Verifier(pub [u8; 8]);
 
@@ -22,5 +22,12 @@ impl Wire for Verifier {
     #[tactic(auto, unfolding(crate::specs::Verifier::verifier))]
     fn write(&self, out: &mut Vec<u8>) -> Result<(), WireError> {
         self.0.write(out)
+    }
+}
+
+impl Measure for Verifier {
+    #[tactic(auto, unfolding(crate::specs::Verifier::verifier))]
+    fn written_len(&self) -> usize {
+        8
     }
 }

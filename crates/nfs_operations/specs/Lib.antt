@@ -12,9 +12,11 @@ pub mod OpenConfirm
 pub mod OpenDowngrade
 pub mod Putfh
 pub mod Putrootfh
+pub mod Read
 pub mod ReleaseLockowner
 pub mod Renew
 pub mod Restorefh
 pub mod Savefh
 pub mod Setclientid
 pub mod SetclientidConfirm
+pub mod Write

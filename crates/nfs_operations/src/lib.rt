@@ -17,11 +17,13 @@ pub mod open_confirm;
 pub mod open_downgrade;
 pub mod putfh;
 pub mod putrootfh;
+pub mod read;
 pub mod release_lockowner;
 pub mod renew;
 pub mod restorefh;
 pub mod savefh;
 pub mod setclientid;
 pub mod setclientid_confirm;
+pub mod write;
 
 pub use limits::limit_of_ids;

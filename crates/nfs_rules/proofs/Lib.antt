@@ -1,5 +1,6 @@
 pub mod Sendable
 pub mod Sequenced
+pub mod Transferring
 pub mod Sequencing
 pub mod OpeningLaws
 pub mod Uniqueness

@@ -39,7 +39,7 @@ use Rattle.nfs_xdr.specs.OpResult.{refusal_of}
 use Rattle.nfs_xdr.specs.Short.{HasShortName}
 
 -- a test that doesn't refuse with NFS4ERR_RESOURCE, and what comes after it
-refused_if_other : {A : Type 0} (test : Bool) (refusal : Refusal) (a : A) → refusal ≢ refusals.Resource → IsOther (refused_if test refusal a)
+pub refused_if_other : {A : Type 0} (test : Bool) (refusal : Refusal) (a : A) → refusal ≢ refusals.Resource → IsOther (refused_if test refusal a)
 refused_if_other true refusal a other = other
 refused_if_other false refusal a other = tt
 
@@ -143,7 +143,7 @@ pub locking_refusal : (journal : History) (state : State) (node : ℕ) (args : L
 locking_refusal journal state node args refusal same = subst IsOther (sym same) (locking_other journal state node args args.locker)
 
 -- nor is a refusal of the delegation that a DELEGRETURN gives back, or of the file that a LOCKT asks about
-file_place_other : (filehandle : Option ℕ) → IsOther (place_of filehandle)
+pub file_place_other : (filehandle : Option ℕ) → IsOther (place_of filehandle)
 file_place_other None = λ e. cc
 file_place_other (Some node) = tt
 

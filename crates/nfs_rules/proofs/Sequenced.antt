@@ -115,7 +115,7 @@ is_done (Some ruling) = is_ok_status (status_of ruling.answer)
 ruling_place : (journal : History) (state : State) (moment : ℕ) (args : Open) (found : Result Opening Refusal) (ruling : Ruling) → Some ruling ≡ ruling_of journal state passages.Begins args (opening_or_ruling state moment args.owner.client found) → is_ok_status (status_of ruling.answer) ≡ true → length state.owners < OWNER_LIMIT
 ruling_place journal state moment args (Err refusal) ruling same ok = let never : false ≡ true = sym (ap is_done same) ∙ ok in absurd cc
 ruling_place journal state moment args (Ok o) ruling same ok =
-    by (list_any (conflicts args.owner.client (uses.Open o.share)) (delegations_of o.node state.delegations)) same
+    by (list_any (conflicts (uses.Open args.owner.client o.share)) (delegations_of o.node state.delegations)) same
   where
     by : (b : Bool) → Some ruling ≡ ruling_of journal state passages.Begins args (if b then Err (delayed moment args.owner.client o) else Ok o) → length state.owners < OWNER_LIMIT
     by true same = let never : false ≡ true = sym (ap is_done same) ∙ ok in absurd cc

@@ -5,6 +5,7 @@ pub mod Sequences
 pub mod Judging
 pub mod Lending
 pub mod Locking
+pub mod Transfers
 pub mod operations
 pub mod Deciding
 pub mod Finding

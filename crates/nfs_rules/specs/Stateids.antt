@@ -109,7 +109,7 @@ abbrev pub verdict : Demand → ℕ → State → Stateid → Result Found Refus
 verdict demand epoch state id = verdict_on demand state id (target_of epoch state id)
 
 -- What the operations demand that work on one kind of state: an open whose owner is confirmed, an open of any owner, a
--- lock state, a delegation, each of this node's file.
+-- lock state, a delegation, each of this node's file; or any of these, as READ and WRITE do.
 abbrev pub confirmed_open : ℕ → Demand
 confirmed_open node = record {
   node = node;
@@ -138,6 +138,15 @@ abbrev pub delegation : ℕ → Demand
 delegation node = record {
   node = node;
   kinds = record { opens = false; locks = false; delegations = true };
+  also_unconfirmed = false;
+  client = None;
+}
+
+-- any state of the node's file, an open only of a confirmed owner
+abbrev pub any_state : ℕ → Demand
+any_state node = record {
+  node = node;
+  kinds = record { opens = true; locks = true; delegations = true };
   also_unconfirmed = false;
   client = None;
 }

@@ -11,9 +11,11 @@ use Rattle.nfs_rules.specs.operations.Locku as locku
 use Rattle.nfs_rules.specs.operations.Open as opening
 use Rattle.nfs_rules.specs.operations.OpenConfirm as open_confirm
 use Rattle.nfs_rules.specs.operations.OpenDowngrade as open_downgrade
+use Rattle.nfs_rules.specs.operations.Read as read
 use Rattle.nfs_rules.specs.operations.ReleaseLockowner as release
 use Rattle.nfs_rules.specs.operations.Setclientid as setclientid
 use Rattle.nfs_rules.specs.operations.SetclientidConfirm as confirm
+use Rattle.nfs_rules.specs.operations.Write as write
 use Rattle.nfs_rules.specs.Sequences.{IsSequenced, Own, requester_of_open, requester_of_stateid}
 use Rattle.nfs_state.specs.State.{State, History}
 use Rattle.nfs_xdr.specs.Names.{Names, Opener, Owned, names_of}
@@ -29,9 +31,11 @@ pub mod Open
 pub mod OpenGrant
 pub mod OpenConfirm
 pub mod OpenDowngrade
+pub mod Read
 pub mod ReleaseLockowner
 pub mod Setclientid
 pub mod SetclientidConfirm
+pub mod Write
 
 -- the own rule of a sequenced operation
 abbrev pub own_of : Op → History → State → Own
@@ -55,6 +59,10 @@ IsPlain (ops.SetclientidConfirm args) journal state request decision =
     decision ≡ confirm.rule journal state request args
 IsPlain (ops.Lockt args) journal state request decision =
     lockt.IsRuled journal state request.filehandle args decision
+IsPlain (ops.Read args) journal state request decision =
+    decision ≡ read.rule journal state request args
+IsPlain (ops.Write args) journal state request decision =
+    decision ≡ write.rule journal state request args
 IsPlain (ops.ReleaseLockowner args) journal state request decision =
     decision ≡ release.rule state args
 IsPlain op journal state request decision = decision ≡ None

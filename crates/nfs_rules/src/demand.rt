@@ -1,5 +1,5 @@
 ghost use Rattle.std.specs.Prelude.{◌≡◌};
-ghost use Rattle.nfs_rules.specs.Stateids.{any_open, confirmed_open, delegation, delegation_of, lock_state};
+ghost use Rattle.nfs_rules.specs.Stateids.{any_open, any_state, confirmed_open, delegation, delegation_of, lock_state};
 
 use nfs_xdr::ClientId;
 
@@ -81,6 +81,22 @@ impl Demand {
             kinds: Kinds {
                 opens: false,
                 locks: false,
+                delegations: true,
+            },
+            also_unconfirmed: false,
+            client: None,
+        }
+    }
+
+    /// An open of the node's file whose owner is confirmed, a lock state or a delegation of it.
+    pub(crate) fn any_state(node: u32) -> Demand
+        ensures { result ≡ any_state node }
+    {
+        Demand {
+            node,
+            kinds: Kinds {
+                opens: true,
+                locks: true,
                 delegations: true,
             },
             also_unconfirmed: false,

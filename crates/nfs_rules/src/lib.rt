@@ -14,6 +14,7 @@ mod passage;
 mod ruling;
 mod sequence;
 mod stateids;
+mod transfer;
 mod turn;
 
 pub use decision::Decision;
@@ -26,3 +27,4 @@ pub use opening::Opening;
 pub use operations::decide;
 pub use passage::Passage;
 pub use ruling::Ruling;
+pub use transfer::Transfer;

@@ -17,10 +17,12 @@ mod locku;
 mod open;
 mod open_confirm;
 mod open_downgrade;
+mod read;
 mod release_lockowner;
 mod sequenced;
 mod setclientid;
 mod setclientid_confirm;
+mod write;
 
 use crate::decision::Decision;
 use crate::sequence::{requester_of_open, requester_of_target};
@@ -70,6 +72,8 @@ fn decide_plain(alloc: Global, store: &Store, request: &Request) -> Result<Decis
         Op::Setclientid(args) => setclientid::decide(store, request, args),
         Op::SetclientidConfirm(args) => setclientid_confirm::decide(alloc, store, request, args),
         Op::Lockt(args) => lockt::decide(store, request, args),
+        Op::Read(args) => read::decide(alloc, store, request, args),
+        Op::Write(args) => write::decide(store, request, args),
         Op::ReleaseLockowner(args) => release_lockowner::decide(&store.tables, args),
         _ => unreachable!(),
     }

@@ -4,7 +4,6 @@ use Rattle.std.specs.Prelude.{Option, IsTrue, ◌==◌, ◌||◌, cond, filter, 
 use Rattle.std.specs.List.{AllByRecursion, Contains, list_any}
 use Rattle.std.proofs.lemmas.Bool.{cond_both, eqb-false, eqb-true, false_from_ne_true, false≢true, leb-false, leb-true, true_from_ne_false}
 use Rattle.std.proofs.lemmas.Map.Entries.{option_filter}
-use Rattle.nfs_forms.specs.declared.client_id.ClientId.{ClientId}
 use Rattle.nfs_share.specs.Delegations.{IsAboveLent, IsNextDueOf, StandInOrder, conflicts, is_due_from, with_recall, with_recalls}
 use Rattle.nfs_share.specs.declared.delegation.Delegation.{Delegation}
 use Rattle.nfs_share.specs.declared.delegation.FileUse.{FileUse}
@@ -37,16 +36,16 @@ map_in_order change (d ∷ ds) same h = (
   map_in_order change ds same h.1,
 )
 
-same_number : (client : ClientId) (file_use : FileUse) (moment : ℕ) (d : Delegation)
-    → (cond (conflicts client file_use d) (with_recall moment d) d).number ≡ d.number
-same_number client file_use moment d =
-    cond_both (conflicts client file_use d) (with_recall moment d) d (λ e. e.number ≡ d.number)
+same_number : (file_use : FileUse) (moment : ℕ) (d : Delegation)
+    → (cond (conflicts file_use d) (with_recall moment d) d).number ≡ d.number
+same_number file_use moment d =
+    cond_both (conflicts file_use d) (with_recall moment d) d (λ e. e.number ≡ d.number)
     (λ _. cond_both (is_none d.recalled) (record d { recalled = Some moment }) d (λ e. e.number ≡ d.number) (λ _. refl) (λ _. refl)) (λ _. refl)
 
-pub recalls_in_order : (client : ClientId) (file_use : FileUse) (moment : ℕ) (ds : List Delegation) → StandInOrder ds
-    → StandInOrder (with_recalls client file_use moment ds)
-recalls_in_order client file_use moment ds h =
-    map_in_order (λ d. cond (conflicts client file_use d) (with_recall moment d) d) ds (same_number client file_use moment) h
+pub recalls_in_order : (file_use : FileUse) (moment : ℕ) (ds : List Delegation) → StandInOrder ds
+    → StandInOrder (with_recalls file_use moment ds)
+recalls_in_order file_use moment ds h =
+    map_in_order (λ d. cond (conflicts file_use d) (with_recall moment d) d) ds (same_number file_use moment) h
 
 -- and with one at the end whose number is above all
 pub push_in_order : (ds : List Delegation) (d : Delegation) → IsAboveLent d.number ds → StandInOrder ds → StandInOrder (ds ++ d ∷ [])

@@ -12,28 +12,35 @@ use Rattle.nfs_share.specs.declared.delegation.FileUse.TheVariants as uses
 use Rattle.nfs_share.specs.declared.open_state.OpenState.{OpenState}
 use Rattle.nfs_share.specs.Opens.{is_of_client, share_of}
 
--- What a delegation of a kind is in the way of, beside what another client does with the file:
+-- What a delegation of a kind is in the way of. Of another client's uses of the file, and of those by a special stateid:
 --
---                     another client's open                      its read delegation    its write delegation
---   read delegation   where it may write, or denies reading      no                     yes
---   write delegation  yes                                        yes                    yes
+--                     open                                    read delegation   write delegation   READ   WRITE
+--   read delegation   where it may write, or denies reading   no                yes                no     yes
+--   write delegation  yes                                     yes               yes                yes    yes
 abbrev pub is_in_way : DelegationKind → FileUse → Bool
 is_in_way kinds.Write file_use = true
-is_in_way kinds.Read (uses.Open share) = share.access.write || share.deny.read
-is_in_way kinds.Read (uses.Delegation kinds.Read) = false
-is_in_way kinds.Read (uses.Delegation kinds.Write) = true
+is_in_way kinds.Read (uses.Open client share) = share.access.write || share.deny.read
+is_in_way kinds.Read (uses.Delegation client kinds.Read) = false
+is_in_way kinds.Read (uses.Delegation client kinds.Write) = true
+is_in_way kinds.Read (uses.Special modes) = modes.write
 
 -- the client has the delegation
 abbrev pub is_lent_to : ClientId → Delegation → Bool
 is_lent_to client d = is_same_client d.client client
 
--- the delegation of another client is in the way of this use by the client
-abbrev pub conflicts : ClientId → FileUse → Delegation → Bool
-conflicts client file_use d = not (is_lent_to client d) && is_in_way d.kind file_use
+-- The client that uses the file so has the delegation. A special stateid is no client's.
+abbrev pub is_of_user : FileUse → Delegation → Bool
+is_of_user (uses.Open client share) d = is_lent_to client d
+is_of_user (uses.Delegation client kind) d = is_lent_to client d
+is_of_user (uses.Special modes) d = false
 
--- a delegation of another client is in the way of this use by the client
-abbrev pub has_conflict : ClientId → FileUse → List Delegation → Bool
-has_conflict client file_use ds = list_any (conflicts client file_use) ds
+-- The delegation is in the way of this use of the file. It never is for the client that has it.
+abbrev pub conflicts : FileUse → Delegation → Bool
+conflicts file_use d = not (is_of_user file_use d) && is_in_way d.kind file_use
+
+-- a delegation is in the way of this use of the file
+abbrev pub has_conflict : FileUse → List Delegation → Bool
+has_conflict file_use ds = list_any (conflicts file_use) ds
 
 -- the delegation's stateid has this number
 abbrev pub is_delegation_numbered : ℕ → Delegation → Bool
@@ -77,10 +84,10 @@ is_due_from from lease now d = nat_le from d.number && is_due lease now d
 abbrev pub with_recall : ℕ → Delegation → Delegation
 with_recall moment d = if is_none d.recalled then record d { recalled = Some moment } else d
 
--- The delegations after the call back of each that is in the way of this use by the client.
-abbrev pub with_recalls : ClientId → FileUse → ℕ → List Delegation → List Delegation
-with_recalls client file_use moment ds =
-    map (λ d. if conflicts client file_use d then with_recall moment d else d) ds
+-- The delegations after the call back of each that is in the way of this use of the file.
+abbrev pub with_recalls : FileUse → ℕ → List Delegation → List Delegation
+with_recalls file_use moment ds =
+    map (λ d. if conflicts file_use d then with_recall moment d else d) ds
 
 -- the delegations without those that pass the test
 abbrev pub without_lent : (Delegation → Bool) → List Delegation → List Delegation
@@ -94,14 +101,15 @@ first_delegation client kind number =
 -- A delegation of this kind to the client would be in the way of an open of another client.
 abbrev pub bars : ClientId → DelegationKind → List OpenState → Bool
 bars client kind opens =
-    list_any (λ o. not (is_of_client client o) && is_in_way kind (uses.Open (share_of o))) opens
+    list_any (λ o. not (is_of_client client o)
+    && is_in_way kind (uses.Open o.owner.client (share_of o))) opens
 
 -- A delegation of this kind to the client would be in no open's way, and no delegation is in its way. The client has no
 -- other of the file.
 abbrev pub can_delegate : ClientId → DelegationKind → List OpenState → List Delegation → Bool
 can_delegate client kind opens ds =
     not (bars client kind opens) && not (has_delegation client ds)
-    && not (has_conflict client (uses.Delegation kind) ds)
+    && not (has_conflict (uses.Delegation client kind) ds)
 
 -- each delegation has a lower number than those that come after it
 abbrev pub StandInOrder : List Delegation → Type 0

@@ -21,8 +21,8 @@ AllAreCompatible opens =
 -- No delegation is in the way of an open of another client, nor of a delegation of another client.
 abbrev pub AreApart : List OpenState → List Delegation → Type 0
 AreApart opens ds =
-    AllByRecursion (λ o. IsFalse (has_conflict o.owner.client (uses.Open (share_of o)) ds)) opens
-    × AllByRecursion (λ d. IsFalse (has_conflict d.client (uses.Delegation d.kind) ds)) ds
+    AllByRecursion (λ o. IsFalse (has_conflict (uses.Open o.owner.client (share_of o)) ds)) opens
+    × AllByRecursion (λ d. IsFalse (has_conflict (uses.Delegation d.client d.kind) ds)) ds
 
 -- no client has two of the delegations
 abbrev pub OneEach : List Delegation → Type 0

@@ -31,10 +31,10 @@ abbrev pub IsWhyNotOpened : OpenOwner → Share → FileOpens → ShareError →
 IsWhyNotOpened owner share file errors.Denied = IsTrue (is_refused owner share file.opens)
 IsWhyNotOpened owner share file errors.Invalid = ⊥
 IsWhyNotOpened owner share file (errors.Held held) = IsFalse (is_refused owner share file.opens)
-    × IsTrue (has_conflict owner.client (uses.Open share) file.delegations)
-    × (held.items ≡ filter (conflicts owner.client (uses.Open share)) file.delegations)
+    × IsTrue (has_conflict (uses.Open owner.client share) file.delegations)
+    × (held.items ≡ filter (conflicts (uses.Open owner.client share)) file.delegations)
 IsWhyNotOpened owner share file errors.Memory = IsFalse (is_refused owner share file.opens)
-    × (IsTrue (has_conflict owner.client (uses.Open share) file.delegations)
+    × (IsTrue (has_conflict (uses.Open owner.client share) file.delegations)
     ⊎ ((file.room ≡ 0) × (open_of owner file.opens ≡ None)))
 
 -- When each error answers that a client asks for a delegation: it would be in the way of another client's open; or else
@@ -46,9 +46,9 @@ IsWhyNotLent client kind file errors.Invalid = IsFalse (bars client kind file.op
     × IsTrue (has_delegation client file.delegations)
 IsWhyNotLent client kind file (errors.Held held) = IsFalse (bars client kind file.opens)
     × IsFalse (has_delegation client file.delegations)
-    × IsTrue (has_conflict client (uses.Delegation kind) file.delegations)
-    × (held.items ≡ filter (conflicts client (uses.Delegation kind)) file.delegations)
+    × IsTrue (has_conflict (uses.Delegation client kind) file.delegations)
+    × (held.items ≡ filter (conflicts (uses.Delegation client kind)) file.delegations)
 IsWhyNotLent client kind file errors.Memory = IsFalse (bars client kind file.opens)
     × IsFalse (has_delegation client file.delegations)
-    × (IsTrue (has_conflict client (uses.Delegation kind) file.delegations)
+    × (IsTrue (has_conflict (uses.Delegation client kind) file.delegations)
     ⊎ (file.lending_room ≡ 0))

@@ -4,7 +4,7 @@ ghost use Rattle.nfs_share.specs.Opens.{with_next_seqid, after_downgrade, is_num
 ghost use Rattle.nfs_share.specs.Delegations.{with_recalls};
 
 use crate::{Delegation, FileUse, OpenState, Share};
-use nfs_forms::{ClientId, Moment, OpenOwner};
+use nfs_forms::{Moment, OpenOwner};
 
 /// Adds the share to the owner's open.
 pub(crate) fn join_each(opens: &mut Vec<OpenState>, owner: &OpenOwner, share: Share)
@@ -63,25 +63,19 @@ fn downgrade_in(opens: &mut [OpenState], number: u32, share: Share)
     }
 }
 
-/// Calls back the delegations of other clients that are in the way of this use by the client.
-pub(crate) fn recall_each(
-    delegations: &mut Vec<Delegation>,
-    client: ClientId,
-    file_use: FileUse,
-    moment: Moment,
-)
-    ensures items { delegations.new.items
-        ≡ with_recalls client file_use moment delegations.old.items }
+/// Calls back the delegations that are in the way of this use of the file.
+pub(crate) fn recall_each(delegations: &mut Vec<Delegation>, file_use: FileUse, moment: Moment)
+    ensures items { delegations.new.items ≡ with_recalls file_use moment delegations.old.items }
     ensures capacity { vec_capacity delegations.new ≡ vec_capacity delegations.old }
 {
-    recall_in(delegations, client, file_use, moment);
+    recall_in(delegations, file_use, moment);
 }
 
-fn recall_in(delegations: &mut [Delegation], client: ClientId, file_use: FileUse, moment: Moment)
-    ensures { delegations.new ≡ with_recalls client file_use moment delegations.old }
+fn recall_in(delegations: &mut [Delegation], file_use: FileUse, moment: Moment)
+    ensures { delegations.new ≡ with_recalls file_use moment delegations.old }
 {
     for lent in delegations.iter_mut() {
-        if lent.conflicts(client, file_use) {
+        if lent.conflicts(file_use) {
             lent.recall(moment);
         }
     }

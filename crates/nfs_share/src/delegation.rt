@@ -1,7 +1,7 @@
 ghost use Rattle.std.specs.Prelude.{◌≡◌};
-ghost use Rattle.nfs_share.specs.Delegations.{conflicts, delegation_stateid, first_delegation, is_due, is_due_from, is_in_way, is_lent_to, is_stateid_of_delegation, with_recall};
+ghost use Rattle.nfs_share.specs.Delegations.{conflicts, delegation_stateid, first_delegation, is_due, is_due_from, is_in_way, is_lent_to, is_of_user, is_stateid_of_delegation, with_recall};
 
-use crate::Share;
+use crate::{Modes, Share};
 use nfs_forms::{ClientId, Moment, Stateid};
 
 /// What a delegation lets its client do without asking the server (RFC 7530, section 10.4).
@@ -13,11 +13,15 @@ pub enum DelegationKind {
     Write,
 }
 
-/// What a client does with a file, or asks to: an open with this share, or a delegation.
+/// What is done with a file, or asked to be, and which client does it.
 #[derive(Clone, Copy, Debug)]
 pub enum FileUse {
-    Open(Share),
-    Delegation(DelegationKind),
+    /// The client opens it for this share.
+    Open(ClientId, Share),
+    /// The client has a delegation of it.
+    Delegation(ClientId, DelegationKind),
+    /// A special stateid reads or writes it, as these modes say. It is no client's (RFC 7530, section 9.1.4.3).
+    Special(Modes),
 }
 
 /// A delegation of a file: its client need not ask the server for opens and locks, until the server calls it back
@@ -33,14 +37,17 @@ pub struct Delegation {
 }
 
 impl DelegationKind {
-    /// Whether a delegation of this kind is in the way of what another client does with the file.
+    /// Whether a delegation of this kind to somebody else is in the way of this use of the file.
     pub fn is_in_way_of(self, file_use: FileUse) -> bool
         ensures { result ≡ is_in_way self file_use }
     {
         match (self, file_use) {
             (DelegationKind::Write, _) => true,
-            (DelegationKind::Read, FileUse::Open(share)) => share.access.write || share.deny.read,
-            (DelegationKind::Read, FileUse::Delegation(kind)) => kind == DelegationKind::Write,
+            (DelegationKind::Read, FileUse::Open(_, share)) => {
+                share.access.write || share.deny.read
+            }
+            (DelegationKind::Read, FileUse::Delegation(_, kind)) => kind == DelegationKind::Write,
+            (DelegationKind::Read, FileUse::Special(modes)) => modes.write,
         }
     }
 }
@@ -83,11 +90,21 @@ impl Delegation {
         self.is_of_client(stateid.client) && self.number == stateid.number
     }
 
-    /// Whether the delegation is another client's, and in the way of this use by the client.
-    pub fn conflicts(&self, client: ClientId, file_use: FileUse) -> bool
-        ensures { result ≡ conflicts client file_use self.now }
+    /// Whether the client that uses the file so has the delegation.
+    pub fn is_of_user(&self, file_use: FileUse) -> bool
+        ensures { result ≡ is_of_user file_use self.now }
     {
-        !self.is_of_client(client) && self.kind.is_in_way_of(file_use)
+        match file_use {
+            FileUse::Open(client, _) | FileUse::Delegation(client, _) => self.is_of_client(client),
+            FileUse::Special(_) => false,
+        }
+    }
+
+    /// Whether the delegation is in the way of this use of the file.
+    pub fn conflicts(&self, file_use: FileUse) -> bool
+        ensures { result ≡ conflicts file_use self.now }
+    {
+        !self.is_of_user(file_use) && self.kind.is_in_way_of(file_use)
     }
 
     /// Whether the delegation was called back more than a lease ago.

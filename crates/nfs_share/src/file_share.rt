@@ -150,7 +150,7 @@ impl FileShare {
         ensures denied { IsErrOf result ShareError.Denied
             ↔ IsTrue (is_refused owner share self.old.opens) }
         ensures free { OnOk result (
-            IsFalse (has_conflict owner.client (uses.Open share) self.old.delegations)) }
+            IsFalse (has_conflict (uses.Open owner.client share) self.old.delegations)) }
         ensures why { IfErr result (IsWhyNotOpened owner share self.old) }
         ensures err { OnErr result (self.new ≡ self.old) }
         ensures delegations { self.new.delegations ≡ self.old.delegations }
@@ -160,22 +160,22 @@ impl FileShare {
         if self.refuses(&owner, share) {
             return Err(ShareError::Denied);
         }
-        self.check_free(owner.client, FileUse::Open(share))?;
+        self.check_free(FileUse::Open(owner.client, share))?;
         if self.open_of(&owner).is_none() {
             self.opens.reserve(1)?;
         }
         Ok(self.grant(owner, share, number))
     }
 
-    // Is `Ok` where no delegation of another client is in the way of this use by the client.
-    fn check_free(&self, client: ClientId, file_use: FileUse) -> Result<(), ShareError>
-        ensures ok { OnOk result (IsFalse (has_conflict client file_use self.now.delegations)) }
+    // Is `Ok` where no delegation is in the way of this use of the file.
+    fn check_free(&self, file_use: FileUse) -> Result<(), ShareError>
+        ensures ok { OnOk result (IsFalse (has_conflict file_use self.now.delegations)) }
         ensures why { IfErr result (λ e.
-            IsTrue (has_conflict client file_use self.now.delegations)
-            × IsHeldFor (filter (conflicts client file_use) self.now.delegations) e) }
+            IsTrue (has_conflict file_use self.now.delegations)
+            × IsHeldFor (filter (conflicts file_use) self.now.delegations) e) }
     {
-        if self.conflicts(client, file_use) {
-            return Err(ShareError::Held(self.conflicting(client, file_use)?));
+        if self.conflicts(file_use) {
+            return Err(ShareError::Held(self.conflicting(file_use)?));
         }
         Ok(())
     }
@@ -352,13 +352,11 @@ impl FileShare {
             .any(|lent| lent.is_of_client(client))
     }
 
-    /// Whether a delegation of another client is in the way of this use by the client.
-    pub fn conflicts(&self, client: ClientId, file_use: FileUse) -> bool
-        ensures { result ≡ has_conflict client file_use self.now.delegations }
+    /// Whether a delegation is in the way of this use of the file.
+    pub fn conflicts(&self, file_use: FileUse) -> bool
+        ensures { result ≡ has_conflict file_use self.now.delegations }
     {
-        self.delegations
-            .iter()
-            .any(|lent| lent.conflicts(client, file_use))
+        self.delegations.iter().any(|lent| lent.conflicts(file_use))
     }
 
     /// The delegations of other clients that are in the way of an open of the client with this share.
@@ -368,26 +366,22 @@ impl FileShare {
         share: Share,
     ) -> Result<Vec<Delegation>, AllocError>
         ensures ok { IfOk result (λ found. found.items
-            ≡ filter (conflicts client (uses.Open share)) self.now.delegations) }
-        ensures none { IsFalse (has_conflict client (uses.Open share) self.now.delegations)
+            ≡ filter (conflicts (uses.Open client share)) self.now.delegations) }
+        ensures none { IsFalse (has_conflict (uses.Open client share) self.now.delegations)
             → IsOk result }
     {
-        self.conflicting(client, FileUse::Open(share))
+        self.conflicting(FileUse::Open(client, share))
     }
 
-    // The delegations of other clients that are in the way of this use by the client.
-    fn conflicting(
-        &self,
-        client: ClientId,
-        file_use: FileUse,
-    ) -> Result<Vec<Delegation>, AllocError>
+    // The delegations that are in the way of this use of the file.
+    fn conflicting(&self, file_use: FileUse) -> Result<Vec<Delegation>, AllocError>
         ensures ok { IfOk result (λ found. found.items
-            ≡ filter (conflicts client file_use) self.now.delegations) }
-        ensures none { IsFalse (has_conflict client file_use self.now.delegations) → IsOk result }
+            ≡ filter (conflicts file_use) self.now.delegations) }
+        ensures none { IsFalse (has_conflict file_use self.now.delegations) → IsOk result }
     {
         let mut found = Vec::new(*self.delegations.allocator());
         for lent in self.delegations.iter() {
-            if lent.conflicts(client, file_use) {
+            if lent.conflicts(file_use) {
                 found.push(*lent)?;
             }
         }
@@ -399,7 +393,8 @@ impl FileShare {
         ensures { result ≡ bars client kind self.now.opens }
     {
         self.opens.iter().any(|open| {
-            !open.is_of_client(client) && kind.is_in_way_of(FileUse::Open(open.share()))
+            !open.is_of_client(client)
+                && kind.is_in_way_of(FileUse::Open(open.owner.client, open.share()))
         })
     }
 
@@ -410,7 +405,7 @@ impl FileShare {
     {
         !self.bars(client, kind)
             && !self.has_delegation(client)
-            && !self.conflicts(client, FileUse::Delegation(kind))
+            && !self.conflicts(FileUse::Delegation(client, kind))
     }
 
     /// Of the delegations that are due and have no number below `from`, the one with the least, if there is one.
@@ -462,7 +457,7 @@ impl FileShare {
         if self.has_delegation(client) {
             return Err(ShareError::Invalid);
         }
-        self.check_free(client, FileUse::Delegation(kind))?;
+        self.check_free(FileUse::Delegation(client, kind))?;
         self.delegations.reserve(1)?;
         Ok(self.lend(client, kind, number))
     }
@@ -490,14 +485,14 @@ impl FileShare {
         stateid
     }
 
-    /// Calls back the delegations of other clients that are in the way of this use by the client: those that weren't
-    /// called back before have this moment from now on.
-    pub fn recall(&mut self, client: ClientId, file_use: FileUse, moment: Moment)
+    /// Calls back the delegations that are in the way of this use of the file: those that weren't called back before
+    /// have this moment from now on.
+    pub fn recall(&mut self, file_use: FileUse, moment: Moment)
         ensures { self.new ≡ record self.old {
-          delegations = with_recalls client file_use moment self.old.delegations;
+          delegations = with_recalls file_use moment self.old.delegations;
         } }
     {
-        recall_each(&mut self.delegations, client, file_use, moment);
+        recall_each(&mut self.delegations, file_use, moment);
     }
 
     /// DELEGRETURN (RFC 7530, section 16.6): removes the delegation with this number, if there is one.

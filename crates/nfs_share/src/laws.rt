@@ -32,7 +32,7 @@ pub fn opens_stay_compatible()
 pub fn delegations_stay_apart()
     ensures try_open { (owner : OpenOwner) (share : Share) (number : ℕ)
         (opens : List OpenState) (lent : List Delegation) → AreApart opens lent →
-        IsFalse (has_conflict owner.client (uses.Open share) lent) →
+        IsFalse (has_conflict (uses.Open owner.client share) lent) →
         AreApart (with_opening owner share number opens) lent }
     ensures advance { (test : OpenState → Bool) (opens : List OpenState)
         (lent : List Delegation) → AreApart opens lent →
@@ -42,9 +42,9 @@ pub fn delegations_stay_apart()
         AreApart (with_each test (after_downgrade share) opens) lent }
     ensures removal { (test : OpenState → Bool) (opens : List OpenState)
         (lent : List Delegation) → AreApart opens lent → AreApart (without test opens) lent }
-    ensures recall { (client : ClientId) (file_use : FileUse) (moment : ℕ)
+    ensures recall { (file_use : FileUse) (moment : ℕ)
         (opens : List OpenState) (lent : List Delegation) → AreApart opens lent →
-        AreApart opens (with_recalls client file_use moment lent) }
+        AreApart opens (with_recalls file_use moment lent) }
     ensures give_back { (test : Delegation → Bool) (opens : List OpenState)
         (lent : List Delegation) → AreApart opens lent → AreApart opens (without_lent test lent) }
     ensures lend { (client : ClientId) (kind : DelegationKind) (number : ℕ)
@@ -56,9 +56,9 @@ pub fn delegations_stay_apart()
 /// If no client has two of the delegations, this stays so: when they are called back, when some are removed, and when
 /// one is lent that may be.
 pub fn delegations_stay_single()
-    ensures recall { (client : ClientId) (file_use : FileUse) (moment : ℕ)
+    ensures recall { (file_use : FileUse) (moment : ℕ)
         (lent : List Delegation) → OneEach lent →
-        OneEach (with_recalls client file_use moment lent) }
+        OneEach (with_recalls file_use moment lent) }
     ensures give_back { (test : Delegation → Bool) (lent : List Delegation) → OneEach lent →
         OneEach (without_lent test lent) }
     ensures lend { (client : ClientId) (kind : DelegationKind) (number : ℕ)

@@ -4,9 +4,9 @@ ghost use Rattle.std.specs.Option.{option_copied};
 ghost use Rattle.nfs_share.specs.AllOpens.{HasLendingRoomAt, HasRoomAt, IsAboveAllLent, IsNewestAt, IsNextDue, at_node, delegation_count, delegation_named_in, delegation_numbered_in, delegations_in, delegations_of, lent_at, lesser_at, named_in, open_count, opens_in, opens_of, with_delegations, with_opens};
 ghost use Rattle.nfs_share.specs.Delegations.{can_delegate, first_delegation, has_conflict, has_delegation, is_delegation_numbered, is_lent_to, is_stateid_of_delegation, with_recalls, without_lent};
 ghost use Rattle.nfs_share.specs.OpenFound.{delegation_seen, open_seen};
-ghost use Rattle.nfs_share.specs.Opens.{after_downgrade, is_numbered, is_of, is_of_client, is_refused, is_stateid_of, open_of, open_with_number, with_each, with_next_seqid, with_opening, without};
+ghost use Rattle.nfs_share.specs.Opens.{after_downgrade, is_denied, is_numbered, is_of, is_of_client, is_refused, is_stateid_of, open_of, open_with_number, with_each, with_next_seqid, with_opening, without};
 
-use crate::{Delegation, DelegationKind, FileShare, FileUse, OpenState, Share};
+use crate::{Delegation, DelegationKind, FileShare, FileUse, Modes, OpenState, Share};
 use nfs_forms::{ClientId, Moment, OpenOwner, Stateid};
 use std::alloc::{AllocError, Global};
 use std::marker::Model;
@@ -96,6 +96,16 @@ impl Opens {
     {
         match self.files.get(node as usize) {
             Some(file) => file.refuses(owner, share),
+            None => false,
+        }
+    }
+
+    /// Whether an open of the node's file denies one of these modes.
+    pub fn denies(&self, node: u32, modes: Modes) -> bool
+        ensures { result ≡ is_denied modes (opens_of node (opens_in self.now)) }
+    {
+        match self.files.get(node as usize) {
+            Some(file) => file.denies(modes),
             None => false,
         }
     }
@@ -283,13 +293,12 @@ impl Opens {
         has_delegation_in(&self.files, client)
     }
 
-    /// Whether a delegation of the node's file to another client is in the way of this use by the client.
-    pub fn conflicts(&self, node: u32, client: ClientId, file_use: FileUse) -> bool
-        ensures { result
-            ≡ has_conflict client file_use (delegations_of node (delegations_in self.now)) }
+    /// Whether a delegation of the node's file is in the way of this use of it.
+    pub fn conflicts(&self, node: u32, file_use: FileUse) -> bool
+        ensures { result ≡ has_conflict file_use (delegations_of node (delegations_in self.now)) }
     {
         match self.files.get(node as usize) {
-            Some(file) => file.conflicts(client, file_use),
+            Some(file) => file.conflicts(file_use),
             None => false,
         }
     }
@@ -360,19 +369,18 @@ impl Opens {
         }
     }
 
-    /// Calls back the delegations of the node's file that are in the way of this use by the client: those that weren't
-    /// called back before have this moment from now on.
-    pub fn recall(&mut self, node: u32, client: ClientId, file_use: FileUse, moment: Moment)
+    /// Calls back the delegations of the node's file that are in the way of this use of it: those that weren't called
+    /// back before have this moment from now on.
+    pub fn recall(&mut self, node: u32, file_use: FileUse, moment: Moment)
         ensures delegations { delegations_in self.new
-            ≡ with_delegations node (with_recalls client file_use moment)
-            (delegations_in self.old) }
+            ≡ with_delegations node (with_recalls file_use moment) (delegations_in self.old) }
         ensures opens { opens_in self.new ≡ opens_in self.old }
         ensures room { (at : ℕ) → HasLendingRoomAt at self.old → HasLendingRoomAt at self.new }
         ensures opening { (at : ℕ) → HasRoomAt at self.old → HasRoomAt at self.new }
     {
         let node = node as usize;
         if node < self.files.len() {
-            self.files[node].recall(client, file_use, moment);
+            self.files[node].recall(file_use, moment);
         }
     }
 

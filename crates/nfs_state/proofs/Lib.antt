@@ -1,3 +1,4 @@
+pub mod FileChanges
 pub mod KeptOwners
 pub mod OpenedFiles
 pub mod StoredOwners

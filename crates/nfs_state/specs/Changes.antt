@@ -1,6 +1,6 @@
 -- What an entry of the journal changes in the state: first what it means for an owner, then the operation's own change,
 -- and then what the entry tells of that.
-use Rattle.std.specs.Prelude.{ℕ, ◌+◌, Bool, not, [], ◌∷◌, ◌++◌, filter, map, Option, Some, None, is_some, if◌then◌else◌}
+use Rattle.std.specs.Prelude.{ℕ, ◌+◌, Bool, not, List, [], ◌∷◌, ◌++◌, filter, map, Option, Some, None, is_some, if◌then◌else◌}
 use Rattle.nfs_forms.specs.ClientId.{is_same_client}
 use Rattle.nfs_forms.specs.OpenOwner.{is_same_owner}
 use Rattle.nfs_forms.specs.declared.client_id.ClientId.{ClientId}
@@ -17,10 +17,11 @@ use Rattle.nfs_owners.specs.StateOwner.{lock_owner, open_owner}
 use Rattle.nfs_share.specs.AllOpens.{opens_of, with_delegations, with_opens}
 use Rattle.nfs_share.specs.Delegations.{first_delegation, is_delegation_numbered, is_lent_to, with_recalls, without_lent}
 use Rattle.nfs_share.specs.declared.delegation.DelegationKind.{DelegationKind}
-use Rattle.nfs_share.specs.declared.delegation.FileUse.TheVariants as uses
 use Rattle.nfs_share.specs.declared.share.Share.{Share}
 use Rattle.nfs_share.specs.Opens.{after_downgrade, is_numbered, is_of_client, open_of, with_each, with_next_seqid, with_opening}
 use Rattle.nfs_share.specs.Opens as opens
+use Rattle.nfs_state.specs.Entries.{data_in}
+use Rattle.nfs_state.specs.Files.{FileState, with_bytes}
 use Rattle.nfs_state.specs.Owners.{with_confirmation, with_kept_entry, with_record, without_owner}
 use Rattle.nfs_state.specs.State.{State}
 use Rattle.nfs_state.specs.declared.change.Change.{Change}
@@ -123,13 +124,15 @@ with_state_change (changes.Releases owner) old = record old {
 with_state_change (changes.Expires client) old =
     let left = without_client client old in
     record left { clients = registry.without_client client.number old.clients }
--- what is in the way of an open is called back (RFC 7530, section 10.4.4)
-with_state_change (changes.Recalls node client share moment) old = record old {
-  delegations = with_delegations node (with_recalls client (uses.Open share) moment) old.delegations;
+-- what is in the way of a use of the file is called back (RFC 7530, section 10.4.4)
+with_state_change (changes.Recalls node file_use moment) old = record old {
+  delegations = with_delegations node (with_recalls file_use moment) old.delegations;
 }
 with_state_change (changes.Returns node number) old = record old {
   delegations = with_delegations node (without_lent (is_delegation_numbered number)) old.delegations;
 }
+-- what comes into the file stands in the entry
+with_state_change (changes.Writes node offset) old = old
 with_state_change (changes.MarksPath client path) old =
     record old { clients = with_mark client path old.clients }
 
@@ -137,10 +140,18 @@ with_state_change (changes.MarksPath client path) old =
 abbrev pub change_alone : Change → Effect
 change_alone change = record { owner = Nothing; change = change }
 
--- The state after what the entry itself tells of its change, beyond what the change has: no change needs any of that
--- yet.
+-- the files after a change for which these bytes are to be written
+abbrev pub files_after : List ℕ → Change → List FileState → List FileState
+files_after block (changes.Writes node offset) files = with_bytes node offset block files
+files_after block change files = files
+
+-- The state after what the entry itself tells of its change, beyond what the change has: the bytes that its operation
+-- writes.
+abbrev pub with_written : List ℕ → Change → State → State
+with_written block change old = record old { files = files_after block change old.files }
+
 abbrev pub with_entry_told : Entry → Change → State → State
-with_entry_told entry change old = old
+with_entry_told entry change old = with_written (data_in entry) change old
 
 -- The state after this entry, with this number, where it has this effect: first what it means for the owners, then the
 -- change, and then what the entry tells of the change.

@@ -1,5 +1,5 @@
 -- Requests and answers as the journal records them.
-use Rattle.std.specs.Prelude.{◌≡◌, ◌≢◌, ℕ, ◌<◌, nat_lt, Bool, true, ◌&&◌, [], ◌∷◌, ◌++◌, Option, Some, None, IfSome}
+use Rattle.std.specs.Prelude.{◌≡◌, ◌≢◌, ℕ, ◌<◌, nat_lt, Bool, true, ◌&&◌, List, [], ◌∷◌, ◌++◌, Option, Some, None, IfSome}
 use Rattle.nfs_forms.specs.declared.principal.Principal.{Principal}
 use Rattle.nfs_forms.specs.declared.status.Refusal.TheVariants.{Resource}
 use Rattle.nfs_state.specs.State.{History}
@@ -13,6 +13,7 @@ use Rattle.nfs_xdr.specs.OpResult as results
 use Rattle.nfs_xdr.specs.OpResult.{refusal_of}
 use Rattle.nfs_xdr.specs.Short.{IsShort}
 use Rattle.nfs_xdr.specs.declared.op.Op.{Op}
+use Rattle.nfs_xdr.specs.declared.op.Op.TheVariants as ops
 use Rattle.nfs_xdr.specs.declared.op_result.OpResult.{OpResult}
 
 -- NFS4ERR_RESOURCE as the operation's result
@@ -50,6 +51,18 @@ call_of (entries.Call call) = Some call
 call_of (entries.Expire expire) = None
 call_of (entries.Revoke revoke) = None
 call_of (entries.Path path) = None
+
+-- the bytes that an operation writes to a file: those of a WRITE
+abbrev pub data_of : Op → List ℕ
+data_of (ops.Write args) = args.bytes
+data_of op = []
+
+-- the bytes that the operation of an entry writes
+abbrev pub data_in : Entry → List ℕ
+data_in (entries.Call call) = data_of call.request.op
+data_in (entries.Expire expire) = []
+data_in (entries.Revoke revoke) = []
+data_in (entries.Path path) = []
 
 -- the journal with one more entry at the end
 abbrev pub with_entry : Entry → History → History

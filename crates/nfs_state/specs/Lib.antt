@@ -1,4 +1,5 @@
 pub mod Owners
+pub mod Files
 pub mod State
 pub mod Journal
 pub mod Lease

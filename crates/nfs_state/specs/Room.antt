@@ -1,5 +1,5 @@
 -- What the tables store, and the memory and the numbers that a change of them needs.
-use Rattle.std.specs.Prelude.{◌≡◌, ◌≢◌, ◌<◌, ◌+◌, ◌-◌, ◌^◌, ⊤, None, Bool, IsFalse, IsTrue, is_some, length}
+use Rattle.std.specs.Prelude.{◌≡◌, ◌≢◌, ◌<◌, ◌≤◌, ℕ, ◌+◌, ◌-◌, ◌^◌, ⊤, None, Bool, List, IsFalse, IsTrue, is_some, length}
 use Rattle.nfs_state.specs.declared.change.Change.{Change}
 use Rattle.nfs_state.specs.declared.change.Change.TheVariants as changes
 use Rattle.nfs_state.specs.declared.effect.Effect.{Effect}
@@ -10,6 +10,8 @@ use Rattle.nfs_state.specs.declared.tables.Tables.{Tables}
 use Rattle.nfs_state.specs.declared.owner_update.OwnerUpdate.{OwnerUpdate}
 use Rattle.nfs_state.specs.declared.owner_update.OwnerUpdate.TheVariants as updates
 use Rattle.nfs_state.specs.Kept.{CanBeKept, kept_in}
+use Rattle.nfs_state.specs.Entries.{data_in}
+use Rattle.nfs_state.specs.Files.{HasFileRoom, files_in}
 use Rattle.nfs_state.specs.Owners.{owner_of}
 use Rattle.nfs_owners.specs.Owner as owners
 use Rattle.nfs_locks.specs.AllLocks.{HasLockRoomAt, is_full_for, locks_of, stored_in}
@@ -23,6 +25,7 @@ use Rattle.nfs_state.specs.Stored.{Stored, meaning}
 use Rattle.nfs_owners.specs.ClientRoom.{FitsRecords, HasNumbersFor, HasRoomFor}
 use Rattle.nfs_share.specs.AllOpens.{HasLendingRoomAt, HasRoomAt, delegations_in, opens_in}
 use Rattle.nfs_share.specs.AllOpens as opens
+use Rattle.nfs_tree.specs.declared.tree.TheConstants.{TEXT_LIMIT}
 
 -- what the tables store, no matter how much room they have
 abbrev pub stored_of : Tables → Stored
@@ -33,29 +36,31 @@ stored_of tables = record {
   locks = stored_in tables.locks;
   delegations = delegations_in tables.opens;
   last_state = tables.numbers;
-  files = tables.files;
+  files = files_in tables.files;
 }
 
 -- the state that the tables represent
 abbrev pub state_of : Tables → State
 state_of tables = meaning (stored_of tables)
 
--- the change takes no memory
-abbrev pub HasRoom : Change → Tables → Type 0
-HasRoom changes.Nothing tables = ⊤
-HasRoom (changes.Clients change) tables = HasRoomFor change tables.clients
-HasRoom (changes.Opens node owner share lent) tables =
+-- the change takes no memory where these bytes are to be written
+abbrev pub HasRoom : List ℕ → Change → Tables → Type 0
+HasRoom block changes.Nothing tables = ⊤
+HasRoom block (changes.Clients change) tables = HasRoomFor change tables.clients
+HasRoom block (changes.Opens node owner share lent) tables =
     HasRoomAt node tables.opens × (lent ≢ None → HasLendingRoomAt node tables.opens)
-HasRoom (changes.Confirms node number owner) tables = ⊤
-HasRoom (changes.Downgrades node number share) tables = ⊤
-HasRoom (changes.Closes node number) tables = ⊤
-HasRoom (changes.Begins node first) tables = HasLockRoomAt node tables.locks
-HasRoom (changes.Locks node number change) tables = locks.HasRoomFor node number tables.locks
-HasRoom (changes.Releases owner) tables = ⊤
-HasRoom (changes.Expires client) tables = ⊤
-HasRoom (changes.Recalls node client share moment) tables = ⊤
-HasRoom (changes.Returns node number) tables = ⊤
-HasRoom (changes.MarksPath client path) tables = ⊤
+HasRoom block (changes.Confirms node number owner) tables = ⊤
+HasRoom block (changes.Downgrades node number share) tables = ⊤
+HasRoom block (changes.Closes node number) tables = ⊤
+HasRoom block (changes.Begins node first) tables = HasLockRoomAt node tables.locks
+HasRoom block (changes.Locks node number change) tables = locks.HasRoomFor node number tables.locks
+HasRoom block (changes.Releases owner) tables = ⊤
+HasRoom block (changes.Expires client) tables = ⊤
+HasRoom block (changes.Recalls node file_use moment) tables = ⊤
+HasRoom block (changes.Returns node number) tables = ⊤
+HasRoom block (changes.Writes node offset) tables =
+    HasFileRoom node (offset + length block) tables.files
+HasRoom block (changes.MarksPath client path) tables = ⊤
 
 -- what the entry means for an owner takes no memory
 abbrev pub HasOwnerRoom : OwnerChange → Tables → Type 0
@@ -94,7 +99,7 @@ IsNewcomer name state = IsFalse (is_known name state) × (length state.owners < 
 pub record TakesNoMemory (entry : Entry) (effect : Effect) (tables : Tables) : Type 0 where
   pub kept : kept_in entry ≡ None
   pub owner : HasOwnerRoom effect.owner tables
-  pub change : HasRoom effect.change tables
+  pub change : HasRoom (data_in entry) effect.change tables
 
 -- What is known of the owners before the entry: one that keeps it or starts anew is known; one that is recorded isn't,
 -- and there is a place for it.
@@ -110,16 +115,17 @@ HasOwnerPlace (owner_changes.Restarts name) state = IsTrue (is_known (open_owner
 HasOwnerPlace (owner_changes.Drops name) state = ⊤
 
 -- The next client number and confirm value that the change uses exist, and the next state numbers, two for an OPEN;
--- a client's record that it adds fits those that are there, and the runs of a lock state aren't too many after it. (How
--- many states there may be is judged by the rules.)
-abbrev pub IsWithinLimits : Change → State → Type 0
-IsWithinLimits (changes.Clients change) state =
+-- a client's record that it adds fits those that are there, the runs of a lock state aren't too many after it, and the
+-- bytes that are to be written end within the limit of a file. (How many states there may be is judged by the rules.)
+abbrev pub IsWithinLimits : List ℕ → Change → State → Type 0
+IsWithinLimits block (changes.Clients change) state =
     HasNumbersFor change state.clients × FitsRecords change state.clients
-IsWithinLimits (changes.Opens node owner share lent) state = state.last_state < 2 ^ 32 - 2
-IsWithinLimits (changes.Begins node first) state = state.last_state < 2 ^ 32 - 1
-IsWithinLimits (changes.Locks node number change) state =
+IsWithinLimits block (changes.Opens node owner share lent) state = state.last_state < 2 ^ 32 - 2
+IsWithinLimits block (changes.Begins node first) state = state.last_state < 2 ^ 32 - 1
+IsWithinLimits block (changes.Locks node number change) state =
     IsFalse (is_full_for number change (locks_of node state.locks))
-IsWithinLimits change state = ⊤
+IsWithinLimits block (changes.Writes node offset) state = offset + length block ≤ TEXT_LIMIT
+IsWithinLimits block change state = ⊤
 
 -- each open, each lock state and each delegation has a number that was given: at most the last
 pub record HasGivenNumbers (state : State) : Type 0 where
@@ -131,5 +137,5 @@ pub record HasGivenNumbers (state : State) : Type 0 where
 -- left, and there is a place for an owner that it records.
 pub record Fits (entry : Entry) (effect : Effect) (state : State) : Type 0 where
   pub kept : CanBeKept (kept_in entry) effect.owner
-  pub numbers : IsWithinLimits effect.change state
+  pub numbers : IsWithinLimits (data_in entry) effect.change state
   pub place : HasOwnerPlace effect.owner state

@@ -1,12 +1,12 @@
 -- The state that the rules of the operations refer to, and the journal of its changes.
-use Rattle.std.specs.Prelude.{ℕ, zero, suc, Bool, false, ◌==◌, ◌||◌, List, [], ◌∷◌, ◌++◌, length, find, replicate, Option, Some, None}
+use Rattle.std.specs.Prelude.{ℕ, zero, suc, Bool, false, ◌||◌, List, [], ◌∷◌, ◌++◌, replicate, Option, Some, None}
 use Rattle.std.specs.List.{list_any}
 use Rattle.nfs_forms.specs.declared.client_id.ClientId.{ClientId}
 use Rattle.nfs_owners.specs.declared.client_record.ClientState.{ClientState}
 use Rattle.nfs_state.specs.declared.entry.Entry.{Entry}
 use Rattle.nfs_owners.specs.Registry.{Registry, no_clients}
 use Rattle.nfs_state.specs.Owners.{KnownOwner}
-use Rattle.nfs_state.specs.declared.stored_file.StoredFile.{StoredFile}
+use Rattle.nfs_state.specs.Files.{FileState, first_file}
 use Rattle.nfs_share.specs.declared.open_state.OpenState.{OpenState}
 use Rattle.nfs_share.specs.declared.delegation.Delegation.{Delegation}
 use Rattle.nfs_share.specs.Delegations.{is_lent_to}
@@ -29,33 +29,20 @@ pub record State : Type 0 where
   -- the number that was given to a state last; 0 before the first
   pub last_state : ℕ
   -- ordered by the numbers of their nodes
-  pub files : List StoredFile
+  pub files : List FileState
 
 -- the file of the node with this number before any client changes it, if the node has a text
-abbrev pub initial_file : ℕ → Option (List ℕ) → List StoredFile
+abbrev pub initial_file : ℕ → Option (List ℕ) → List FileState
 initial_file node None = []
-initial_file node (Some text) = record { node = node; bytes = text; change = 0 } ∷ []
+initial_file node (Some text) = first_file node text ∷ []
 
 -- the files among the nodes with lower numbers
-abbrev pub files_below : List Node → ℕ → List StoredFile
+abbrev pub files_below : List Node → ℕ → List FileState
 files_below nodes zero = []
 files_below nodes (suc node) = files_below nodes node ++ initial_file node (text_of nodes node)
 
-abbrev pub initial_files : List Node → List StoredFile
+abbrev pub initial_files : List Node → List FileState
 initial_files nodes = files_below nodes (node_count nodes)
-
--- the file of a node, if it has one
-abbrev pub file_of : List StoredFile → ℕ → Option StoredFile
-file_of files node = find (λ f. f.node == node) files
-
--- how often a file was changed, and how many bytes it has; both are 0 for a directory
-abbrev pub change_of : Option StoredFile → ℕ
-change_of None = 0
-change_of (Some f) = f.change
-
-abbrev pub size_of : Option StoredFile → ℕ
-size_of None = 0
-size_of (Some f) = length f.bytes
 
 -- a server with these nodes to which no client has come
 abbrev pub empty_server : List Node → State

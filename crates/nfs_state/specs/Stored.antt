@@ -1,6 +1,6 @@
 -- What the server stores, and the state that it represents.
 use Rattle.std.specs.Prelude.{ℕ, List, [], map, replicate}
-use Rattle.nfs_state.specs.declared.stored_file.StoredFile.{StoredFile}
+use Rattle.nfs_state.specs.Files.{FileState}
 use Rattle.nfs_state.specs.Owners.{KnownOwner}
 use Rattle.nfs_state.specs.State.{State, initial_files}
 use Rattle.nfs_owners.specs.declared.owner.Owner.{Owner}
@@ -24,7 +24,7 @@ pub record Stored : Type 0 where
   -- the number that was given to a state last
   pub last_state : ℕ
   -- ordered by the numbers of their nodes
-  pub files : List StoredFile
+  pub files : List FileState
 
 -- an owner without what is kept for it, which its entry has
 abbrev pub known_owner : Owner → KnownOwner

@@ -2,7 +2,7 @@ use nfs_forms::{LockOwner, Moment};
 use nfs_locks::FirstLock;
 use nfs_owners::{ClientChange, LiveChange, PathMark};
 use nfs_ranges::Piece;
-use nfs_share::{DelegationKind, Share};
+use nfs_share::{DelegationKind, FileUse, Share};
 use nfs_xdr::{ClientId, OpenOwner};
 
 /// What an entry changes in the state, besides what its entry means for an owner.
@@ -20,17 +20,21 @@ pub enum Change {
         share: Share,
         delegation: Option<DelegationKind>,
     },
-    /// What is in the way of an open of the node's file by this client, for this share, is called back at this moment.
+    /// The delegations that are in the way of this use of the node's file are called back at this moment.
     Recalls {
         node: u32,
-        client: ClientId,
-        share: Share,
+        file_use: FileUse,
         moment: Moment,
     },
     /// The delegation of the node's file with this number is given back, or revoked.
     Returns {
         node: u32,
         number: u32,
+    },
+    /// What the entry's WRITE writes comes into the node's file at this offset. The bytes stand in the entry.
+    Writes {
+        node: u32,
+        offset: u64,
     },
     /// Whether callbacks reach the client with this number.
     MarksPath {
@@ -88,6 +92,7 @@ impl Change {
             | Change::Opens { .. }
             | Change::Recalls { .. }
             | Change::Returns { .. }
+            | Change::Writes { .. }
             | Change::MarksPath { .. }
             | Change::Confirms { .. }
             | Change::Downgrades { .. }

@@ -1,6 +1,7 @@
 ghost use Rattle.std.specs.Prelude.{◌≡◌, ◌<◌, ◌≤◌, IfErr, IfOk, IsOk, OnErr, OnOk, length};
 ghost use Rattle.nfs_state.specs.Changes.{after};
 ghost use Rattle.nfs_state.specs.Entries.{with_entry};
+ghost use Rattle.nfs_state.specs.Files.{CanChange};
 ghost use Rattle.nfs_state.specs.Kept.{Agrees, kept_in, owners_after, update_by};
 ghost use Rattle.nfs_state.specs.Room.{Fits, HasGivenNumbers, TakesNoMemory, state_of, stored_of};
 ghost use Rattle.nfs_state.specs.State.{History};
@@ -27,6 +28,7 @@ pub fn commit_entry(
     requires below { length store.old.journal.history.entries < JOURNAL_LIMIT }
     requires fits { Fits entry effect (state_of store.old.tables) }
     requires given { HasGivenNumbers (state_of store.old.tables) }
+    requires changes { CanChange (state_of store.old.tables).files }
     requires kept { OwnersAgree store.old }
     ensures number { IfOk result (λ n. n ≡ length store.old.journal.history.entries) }
     ensures entry { OnOk result
@@ -57,6 +59,7 @@ fn make_changes(
 ) -> Result<(), Shortage>
     requires fits { Fits entry.now effect (state_of tables.old) }
     requires given { HasGivenNumbers (state_of tables.old) }
+    requires changes { CanChange (state_of tables.old).files }
     ensures state { OnOk result (state_of tables.new
         ≡ after number entry.now effect (state_of tables.old)) }
     ensures kept { OnOk result ((journal : History) → Agrees journal (owners_after
@@ -69,9 +72,10 @@ fn make_changes(
     if effect.is_nothing() {
         return Ok(());
     }
-    tables.make_room(alloc, &effect.change, &effect.owner)?;
+    let block = entry.written();
+    tables.make_room(alloc, &effect.change, &effect.owner, block)?;
     let update = OwnerUpdate::of(effect.owner, entry)?;
     tables.commit_owner(update, number);
-    tables.commit(effect.change);
+    tables.commit(effect.change, block);
     Ok(())
 }

@@ -1,4 +1,4 @@
-ghost use Rattle.std.specs.Prelude.{◌≡◌, ◌<◌, ◌≤◌, ◌+◌, ◌-◌, ◌^◌, IfErr, IfOk, IsOk, IsTrue, OnOk, Some, map};
+ghost use Rattle.std.specs.Prelude.{ℕ, List, ◌≡◌, ◌<◌, ◌≤◌, ◌+◌, ◌-◌, ◌^◌, IfErr, IfOk, IsOk, IsTrue, OnOk, Some, map};
 
 use crate::change::Change;
 use crate::limits::STATE_LIMIT;
@@ -8,7 +8,7 @@ use crate::shortage::Shortage;
 use crate::stored_files::StoredFiles;
 use nfs_locks::{FirstLock, Locks};
 use nfs_owners::{ClientChange, ClientState, Clients, Numbers, OwnerRef, Owners, StateOwner};
-use nfs_share::{DelegationKind, FileUse, Opens, Share};
+use nfs_share::{DelegationKind, Opens, Share};
 use nfs_tree::Tree;
 use nfs_xdr::{ClientId, OpenOwner};
 use std::alloc::{AllocError, Global};
@@ -28,9 +28,10 @@ pub struct Tables {
 
 impl Tables {
     ghost use Rattle.std.specs.Option.{option_copied};
-    ghost use Rattle.nfs_state.specs.State.{change_of, file_of, has_state, record_has_state, size_of, History};
+    ghost use Rattle.nfs_state.specs.Files.{CanChange, change_of, file_of, files_in, size_of};
+    ghost use Rattle.nfs_state.specs.State.{has_state, record_has_state, History};
     ghost use Rattle.nfs_state.specs.Kept.{Agrees, kept_by, owners_after, update_of};
-    ghost use Rattle.nfs_state.specs.Changes.{with_grant, with_open, with_owner_change, with_state_change, without_client};
+    ghost use Rattle.nfs_state.specs.Changes.{with_grant, with_open, with_owner_change, with_state_change, with_written, without_client};
     ghost use Rattle.nfs_state.specs.Changes as changed_state;
     ghost use Rattle.nfs_state.specs.Room.{IsWithinLimits, HasGivenNumbers, HasOwnerPlace, HasOwnerRoom, HasRoom, HasUpdateRoom, CanKeep, state_of, stored_of};
     ghost use Rattle.nfs_state.specs.declared.owner_change.OwnerChange.{OwnerChange};
@@ -66,11 +67,13 @@ impl Tables {
 
     /// How often the file of the node was changed, and how many bytes it has; both are 0 for a directory.
     pub fn change_and_size(&self, node: u32) -> (u64, u64)
-        ensures { result ≡
-            (change_of (file_of self.now.files node), size_of (file_of self.now.files node)) }
+        ensures { result ≡ (
+          change_of (file_of (files_in self.now.files) node),
+          size_of (file_of (files_in self.now.files) node),
+        ) }
     {
         match self.files.find(node) {
-            Some(file) => (file.change, file.bytes.as_slice().len() as u64),
+            Some(file) => (file.change(), file.size()),
             None => (0, 0),
         }
     }
@@ -125,19 +128,22 @@ impl Tables {
         self.opens.has_place_without(owner, self.places_left())
     }
 
-    /// Makes room for the change, and for what the entry means for an owner. Fails for want of memory alone, and never
-    /// where there is room already.
+    /// Makes room for the change, with the block that is to be written, and for what the entry means for an owner.
+    /// Fails for want of memory alone, and never where there is room already.
     pub(crate) fn make_room(
         &mut self,
         alloc: Global,
         change: &Change,
         owner: &OwnerChange,
+        block: &[u8],
     ) -> Result<(), Shortage>
+        requires numbers { IsWithinLimits block.now change.now (state_of self.old) }
         requires place { HasOwnerPlace owner.now (state_of self.old) }
         ensures same { stored_of self.new ≡ stored_of self.old }
-        ensures room { OnOk result (HasRoom change.now self.new × HasOwnerRoom owner.now self.new) }
-        ensures ready { HasRoom change.now self.old → HasOwnerRoom owner.now self.old
-            → IsOk result }
+        ensures room { OnOk result (
+            HasRoom block.now change.now self.new × HasOwnerRoom owner.now self.new) }
+        ensures ready { HasRoom block.now change.now self.old
+            → HasOwnerRoom owner.now self.old → IsOk result }
         ensures memory { IfErr result (λ e. e ≡ Shortage.Memory) }
     {
         self.make_owner_room(owner)?;
@@ -155,6 +161,9 @@ impl Tables {
             }
             Change::Begins { node, .. } => self.locks.reserve(alloc, *node)?,
             Change::Locks { node, number, .. } => self.locks.reserve_change(*node, *number)?,
+            Change::Writes { node, offset } => {
+                self.files.reserve(*node, *offset as usize + block.len())?
+            }
             Change::Nothing
             | Change::Confirms { .. }
             | Change::Downgrades { .. }
@@ -174,7 +183,8 @@ impl Tables {
         ensures same { stored_of self.new ≡ stored_of self.old }
         ensures room { OnOk result (HasOwnerRoom change.now self.new) }
         ensures ready { HasOwnerRoom change.now self.old → IsOk result }
-        ensures others { (other : Change) → HasRoom other self.old → HasRoom other self.new }
+        ensures others { (block : List ℕ) (other : Change)
+            → HasRoom block other self.old → HasRoom block other self.new }
         ensures memory { IfErr result (λ e. e ≡ Shortage.Memory) }
     {
         match change {
@@ -200,7 +210,8 @@ impl Tables {
             → state_of self.new ≡ state_of self.old }
         ensures owners { self.new.owners.owners
             ≡ owners_after update number self.old.owners.owners }
-        ensures room { (change : Change) → HasRoom change self.old → HasRoom change self.new }
+        ensures room { (block : List ℕ) (change : Change)
+            → HasRoom block change self.old → HasRoom block change self.new }
     {
         match update {
             OwnerUpdate::Nothing => {}
@@ -223,7 +234,8 @@ impl Tables {
         ensures stored { stored_of self.new ≡ record (stored_of self.old) {
           owners = kept_by keeping number self.old.owners.owners;
         } }
-        ensures room { (change : Change) → HasRoom change self.old → HasRoom change self.new }
+        ensures room { (block : List ℕ) (change : Change)
+            → HasRoom block change self.old → HasRoom block change self.new }
         ensures known { (other : StateOwner)
             → IsTrue (is_known keeping.owner self.old.owners.owners)
             → CanKeep other self.old.owners → CanKeep other self.new.owners }
@@ -237,7 +249,8 @@ impl Tables {
           owners = without_owner (open_owner name.now) self.old.owners.owners;
           opens = map (without (is_of name.now)) (opens_in self.old.opens);
         } }
-        ensures room { (change : Change) → HasRoom change self.old → HasRoom change self.new }
+        ensures room { (block : List ℕ) (change : Change)
+            → HasRoom block change self.old → HasRoom block change self.new }
         ensures owner_room { self.old.owners.room ≤ self.new.owners.room }
         ensures owner_places { (other : StateOwner)
             → IsTrue (has_place other self.old.owners.owners)
@@ -247,12 +260,14 @@ impl Tables {
         self.opens.remove_owner(name);
     }
 
-    /// Makes the change, for which there has to be room. It takes no memory.
-    pub(crate) fn commit(&mut self, change: Change)
-        requires room { HasRoom change self.old }
-        requires numbers { IsWithinLimits change (state_of self.old) }
+    /// Makes the change, with the block that is to be written. There has to be room for it, and it takes no memory.
+    pub(crate) fn commit(&mut self, change: Change, block: &[u8])
+        requires room { HasRoom block.now change self.old }
+        requires numbers { IsWithinLimits block.now change (state_of self.old) }
         requires given { HasGivenNumbers (state_of self.old) }
-        ensures state { state_of self.new ≡ with_state_change change (state_of self.old) }
+        requires changes { CanChange (files_in self.old.files) }
+        ensures state { state_of self.new
+            ≡ with_written block.now change (with_state_change change (state_of self.old)) }
         ensures kept { (journal : History)
             → Agrees journal self.old.owners.owners → Agrees journal self.new.owners.owners }
     {
@@ -273,13 +288,11 @@ impl Tables {
             }
             Change::Recalls {
                 node,
-                client,
-                share,
+                file_use,
                 moment,
-            } => self
-                .opens
-                .recall(node, client, FileUse::Open(share), moment),
+            } => self.opens.recall(node, file_use, moment),
             Change::Returns { node, number } => self.opens.give_back(node, number),
+            Change::Writes { node, offset } => self.files.write(node, offset, block),
             Change::MarksPath { client, path } => self.clients.mark(client, path),
             Change::Confirms {
                 node,

@@ -27,11 +27,13 @@ op_case opnums.OpenConfirm = case of.OpenConfirm.arguments ops.OpenConfirm
 op_case opnums.OpenDowngrade = case of.OpenDowngrade.arguments ops.OpenDowngrade
 op_case opnums.Putfh = case of.Putfh.arguments ops.Putfh
 op_case opnums.Putrootfh = case of.Putrootfh.arguments (λ v. ops.Putrootfh)
+op_case opnums.Read = case of.Read.arguments ops.Read
 op_case opnums.Renew = case of.Renew.arguments ops.Renew
 op_case opnums.Restorefh = case of.Restorefh.arguments (λ v. ops.Restorefh)
 op_case opnums.Savefh = case of.Savefh.arguments (λ v. ops.Savefh)
 op_case opnums.Setclientid = case of.Setclientid.arguments ops.Setclientid
 op_case opnums.SetclientidConfirm = case of.SetclientidConfirm.arguments ops.SetclientidConfirm
+op_case opnums.Write = case of.Write.arguments ops.Write
 op_case opnums.ReleaseLockowner = case of.ReleaseLockowner.arguments ops.ReleaseLockowner
 op_case (opnums.Unsupported o) = no_case
 op_case opnums.Illegal = no_case
@@ -55,11 +57,13 @@ row_of (ops.OpenConfirm v) = row opnums.OpenConfirm v
 row_of (ops.OpenDowngrade v) = row opnums.OpenDowngrade v
 row_of (ops.Putfh v) = row opnums.Putfh v
 row_of ops.Putrootfh = row opnums.Putrootfh tt
+row_of (ops.Read v) = row opnums.Read v
 row_of (ops.Renew v) = row opnums.Renew v
 row_of ops.Restorefh = row opnums.Restorefh tt
 row_of ops.Savefh = row opnums.Savefh tt
 row_of (ops.Setclientid v) = row opnums.Setclientid v
 row_of (ops.SetclientidConfirm v) = row opnums.SetclientidConfirm v
+row_of (ops.Write v) = row opnums.Write v
 row_of (ops.ReleaseLockowner v) = row opnums.ReleaseLockowner v
 
 abbrev pub opnum_of : Op → Opnum

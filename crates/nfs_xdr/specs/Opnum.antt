@@ -21,7 +21,6 @@ number_of_unsupported without.Lookupp = 16
 number_of_unsupported without.Nverify = 17
 number_of_unsupported without.Openattr = 19
 number_of_unsupported without.Putpubfh = 23
-number_of_unsupported without.Read = 25
 number_of_unsupported without.Readdir = 26
 number_of_unsupported without.Readlink = 27
 number_of_unsupported without.Remove = 28
@@ -29,7 +28,6 @@ number_of_unsupported without.Rename = 29
 number_of_unsupported without.Secinfo = 33
 number_of_unsupported without.Setattr = 34
 number_of_unsupported without.Verify = 37
-number_of_unsupported without.Write = 38
 
 -- an operation's row in the list: its number, and what it works on
 abbrev pub row_of : Opnum → ℕ × Class
@@ -47,11 +45,13 @@ row_of op.OpenConfirm = (20, OnState)
 row_of op.OpenDowngrade = (21, OnState)
 row_of op.Putfh = (22, OnTree)
 row_of op.Putrootfh = (24, OnTree)
+row_of op.Read = (25, OnState)
 row_of op.Renew = (30, OnLeases)
 row_of op.Restorefh = (31, OnTree)
 row_of op.Savefh = (32, OnTree)
 row_of op.Setclientid = (35, OnState)
 row_of op.SetclientidConfirm = (36, OnState)
+row_of op.Write = (38, OnState)
 row_of op.ReleaseLockowner = (39, OnState)
 row_of (op.Unsupported o) = (number_of_unsupported o, OnNothing)
 row_of op.Illegal = (10044, OnNothing)
@@ -74,8 +74,10 @@ is_of_tree OnState = false
 is_of_tree OnLeases = false
 is_of_tree OnNothing = false
 
--- No result of the operation is longer than this.
+-- No result of the operation is longer than this. READ's has the bytes of a whole file, of which there are at most
+-- 65,536.
 abbrev pub answer_limit : Opnum → ℕ
+answer_limit op.Read = 67_572
 answer_limit o = 2_036
 
 -- the room that has to be left in the reply for the operation to be run: that of its result, and of a refusal of the

@@ -9,6 +9,7 @@ use Rattle.nfs_forms.specs.declared.fattr.Fattr.{Fattr}
 use Rattle.nfs_forms.specs.declared.lock_denied.LockDenied.{LockDenied}
 use Rattle.nfs_forms.specs.declared.open_owner.TheConstants.{OWNER_NAME_LIMIT}
 use Rattle.nfs_operations.specs.declared.«open».OpenOk.{OpenOk}
+use Rattle.nfs_operations.specs.declared.read.ReadOk.{ReadOk}
 use Rattle.nfs_xdr.specs.declared.op_result.OpResult.{OpResult}
 use Rattle.nfs_xdr.specs.declared.op_result.OpResult.TheVariants as results
 
@@ -24,6 +25,10 @@ HasShortName denied = length denied.owner.name ≤ OWNER_NAME_LIMIT
 -- OPEN: no attributes were set
 abbrev pub SetsNothing : OpenOk → Type 0
 SetsNothing answer = answer.attrset ≡ []
+
+-- READ: no more bytes than a file can have
+abbrev pub AreFewBytes : ReadOk → Type 0
+AreFewBytes answer = length answer.bytes ≤ 65_536
 
 -- NFS4ERR_CLID_INUSE: both parts of the address are short
 abbrev pub IsShortAddress : Address → Type 0
@@ -46,5 +51,6 @@ IsShort (results.Getattr a) = IsShortAnswer AreFewAttributes Any Any a
 IsShort (results.Lock a) = IsShortAnswer Any HasShortName Any a
 IsShort (results.Lockt a) = IsShortAnswer Any HasShortName Any a
 IsShort (results.Open a) = IsShortAnswer SetsNothing Any Any a
+IsShort (results.Read a) = IsShortAnswer AreFewBytes Any Any a
 IsShort (results.Setclientid a) = IsShortAnswer Any Any IsShortAddress a
 IsShort r = ⊤

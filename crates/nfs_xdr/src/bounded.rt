@@ -1,18 +1,21 @@
 //! The law that results fit their forms, and that none is longer than its operation's limit.
 
-ghost use Rattle.std.specs.Prelude.{ℕ, ◌+◌, ◌^◌, ◌<◌, ◌≤◌, length};
+ghost use Rattle.std.specs.Prelude.{◌≡◌, ℕ, ◌+◌, ◌^◌, ◌<◌, ◌≤◌, length};
 ghost use Rattle.nfs_xdr.specs.Opnum.{answer_limit};
 ghost use Rattle.nfs_xdr.specs.OpResult.{op_result, opnum_of};
-ghost use Rattle.nfs_xdr.specs.Short.{Any, AreFewAttributes, HasShortName, IsShort, IsShortAddress, IsShortAnswer, SetsNothing};
+ghost use Rattle.nfs_xdr.specs.Short.{Any, AreFewAttributes, AreFewBytes, HasShortName, IsShort, IsShortAddress, IsShortAnswer, SetsNothing};
 
 use crate::op_result::of_answer;
 use crate::opnum::each_operation;
 use crate::{
-    Address, Answer, ClientId, Fattr, FileHandle, LockDenied, OpResult, OpenDelegation, Stateid,
+    Address, Answer, ClientId, Fattr, FileHandle, LockDenied, OpResult, OpenDelegation, StableHow,
+    Stateid, Verifier,
 };
 use nfs_operations::access::AccessBits;
 use nfs_operations::open::OpenOk;
+use nfs_operations::read::ReadOk;
 use nfs_operations::setclientid_confirm::SetclientidConfirm;
+use nfs_operations::write::WriteOk;
 use xdr::Wire;
 
 /// The data of an answer: it fits its form, and is at most so many bytes long, if what its type doesn't bound is short.
@@ -63,6 +66,30 @@ impl Bounded for u64 {
 
 fn is_u64(number: u64)
     ensures { number < 2 ^ 64 }
+{}
+
+impl Bounded for StableHow {
+    ghost most = { 4 };
+
+    ghost IsShort = { Any };
+
+    #[tactic(auto, unfolding(nfs_forms::specs::StableHow::stable_how, xdr::specs::Writing::written_number))]
+    fn fits(&self) {}
+}
+
+impl Bounded for Verifier {
+    ghost most = { 8 };
+
+    ghost IsShort = { Any };
+
+    #[tactic(auto, unfolding(nfs_forms::specs::Verifier::verifier))]
+    fn fits(&self) {
+        are_eight(self.0);
+    }
+}
+
+fn are_eight(bytes: [u8; 8])
+    ensures { length bytes ≡ 8 }
 {}
 
 impl Bounded for ClientId {
@@ -172,6 +199,28 @@ impl Bounded for OpenOk {
         self.change.after.fits();
         self.rflags.fits();
         self.delegation.fits();
+    }
+}
+
+impl Bounded for ReadOk {
+    ghost most = { 65_548 };
+
+    ghost IsShort = { AreFewBytes };
+
+    #[tactic(auto, unfolding(nfs_operations::specs::Read::read_ok, xdr::specs::Writing::written_opaque, xdr::specs::Writing::written_number))]
+    fn fits(&self) {}
+}
+
+impl Bounded for WriteOk {
+    ghost most = { 16 };
+
+    ghost IsShort = { Any };
+
+    #[tactic(auto, unfolding(nfs_operations::specs::Write::write_ok))]
+    fn fits(&self) {
+        self.count.fits();
+        self.committed.fits();
+        self.verifier.fits();
     }
 }
 

@@ -54,6 +54,8 @@ impl Op {
             Op::ReleaseLockowner(args) => Names::Client(args.owner.client),
             Op::Renew(args) => Names::Client(args.client),
             Op::Delegreturn(args) => Names::State(args.stateid),
+            Op::Read(args) => Names::State(args.stateid),
+            Op::Write(args) => Names::State(args.stateid),
             Op::Access(_)
             | Op::Getattr(_)
             | Op::Getfh

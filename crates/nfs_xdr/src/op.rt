@@ -1,4 +1,4 @@
-ghost use Rattle.std.specs.Prelude.{◌≡◌, ◌≢◌, MatchBool};
+ghost use Rattle.std.specs.Prelude.{◌≡◌};
 ghost use Rattle.nfs_xdr.specs.Op as ops;
 ghost use Rattle.nfs_xdr.specs.Op.{op_case, opnum_of};
 ghost use Rattle.xdr.specs.Reading.{Gives};
@@ -67,30 +67,23 @@ pub enum Op {
     OpenDowngrade(of::open_downgrade::Arguments),
     Putfh(of::putfh::Arguments),
     Putrootfh,
+    Read(of::read::Arguments),
     Renew(of::renew::Arguments),
     Restorefh,
     Savefh,
     Setclientid(of::setclientid::Arguments),
     SetclientidConfirm(of::setclientid_confirm::Arguments),
+    Write(of::write::Arguments),
     ReleaseLockowner(of::release_lockowner::Arguments),
 }
+
+const _: () = prove!(size_of::<Op>() == 128);
 
 impl Op {
     pub fn opnum(&self) -> Opnum
         ensures { result ≡ opnum_of self.now }
     {
         each_operation!(opnum_of_op self)
-    }
-
-    /// Whether the other is the same operation with the same arguments.
-    pub fn is_same(&self, other: &Op) -> bool
-        ensures { MatchBool result (self.now ≡ other.now) (self.now ≢ other.now) }
-    {
-        match (self, other) {
-            (Op::Open(open), Op::Open(other)) => open.is_same(other),
-            (Op::Lock(lock), Op::Lock(other)) => lock.is_same(other),
-            _ => self == other,
-        }
     }
 
     /// Whether the operation works on the state, so that every answer except NFS4ERR_RESOURCE is an entry of the

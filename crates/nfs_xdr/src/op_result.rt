@@ -1,7 +1,7 @@
 ghost use Rattle.std.specs.Prelude.{◌≡◌, ◌≤◌, length};
 ghost use Rattle.nfs_xdr.specs.OpResult as results;
 ghost use Rattle.nfs_xdr.specs.declared.opnum.Opnum.TheVariants as opnums;
-ghost use Rattle.nfs_xdr.specs.Opnum.{opnum};
+ghost use Rattle.nfs_xdr.specs.Opnum.{answer_limit, opnum};
 ghost use Rattle.nfs_xdr.specs.OpResult.{opnum_of, refusal_of, result_case, status_of, unsupported_answer};
 ghost use Rattle.xdr.specs.Reading.{Gives};
 ghost use Rattle.xdr.specs.Form.{◌and◌};
@@ -119,17 +119,21 @@ pub enum OpResult {
     OpenDowngrade(of::open_downgrade::Outcome),
     Putfh(of::putfh::Outcome),
     Putrootfh(of::putrootfh::Outcome),
+    Read(of::read::Outcome),
     Renew(of::renew::Outcome),
     Restorefh(of::restorefh::Outcome),
     Savefh(of::savefh::Outcome),
     Setclientid(of::setclientid::Outcome),
     SetclientidConfirm(of::setclientid_confirm::Outcome),
+    Write(of::write::Outcome),
     ReleaseLockowner(of::release_lockowner::Outcome),
     /// NFS4ERR_NOTSUPP, the result of an operation that this server doesn't implement.
     Unsupported(Unsupported),
     /// The result for an operation that doesn't exist.
     Illegal(Answer<()>),
 }
+
+const _: () = prove!(size_of::<OpResult>() == 120);
 
 // By hand, since a copy is equal to its result for any operation; what `derive` says takes each apart.
 impl Clone for OpResult {
@@ -177,6 +181,7 @@ impl Opnum {
         ensures value { result ≡ refusal_of self refusal }
         ensures form { results.op_result.Fits result }
         ensures short { length (results.op_result.encoding result) ≤ 12 }
+        ensures limit { length (results.op_result.encoding result) ≤ answer_limit self }
     {
         each_operation!(refusal_of_opnum self, refusal)
     }

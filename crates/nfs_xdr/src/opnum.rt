@@ -2,7 +2,7 @@
 
 ghost use Rattle.std.specs.Prelude.{◌≡◌};
 ghost use Rattle.nfs_xdr.specs.Opnum as opnums;
-ghost use Rattle.nfs_xdr.specs.Opnum.{class_of, number_of, number_of_unsupported, opnum_of, room_of};
+ghost use Rattle.nfs_xdr.specs.Opnum.{answer_limit, class_of, number_of, number_of_unsupported, opnum_of, room_of};
 ghost use Rattle.xdr.specs.Reading.{Answers};
 
 use std::alloc::Global;
@@ -26,9 +26,11 @@ macro_rules! each_operation {
                 OpenConfirm = 20 OnState,
                 OpenDowngrade = 21 OnState,
                 Putfh = 22 OnTree,
+                Read = 25 OnState,
                 Renew = 30 OnLeases,
                 Setclientid = 35 OnState,
                 SetclientidConfirm = 36 OnState,
+                Write = 38 OnState,
                 ReleaseLockowner = 39 OnState,
             ]
             [
@@ -55,7 +57,6 @@ pub enum Unsupported {
     Nverify = 17,
     Openattr = 19,
     Putpubfh = 23,
-    Read = 25,
     Readdir = 26,
     Readlink = 27,
     Remove = 28,
@@ -63,7 +64,6 @@ pub enum Unsupported {
     Secinfo = 33,
     Setattr = 34,
     Verify = 37,
-    Write = 38,
 }
 
 impl Unsupported {
@@ -91,11 +91,13 @@ pub enum Opnum {
     OpenDowngrade,
     Putfh,
     Putrootfh,
+    Read,
     Renew,
     Restorefh,
     Savefh,
     Setclientid,
     SetclientidConfirm,
+    Write,
     ReleaseLockowner,
     /// An operation that this server doesn't implement.
     Unsupported(Unsupported),
@@ -164,7 +166,7 @@ pub const OPNUMS: [Opnum; 38] = [
     Opnum::Putfh,
     Opnum::Unsupported(Unsupported::Putpubfh),
     Opnum::Putrootfh,
-    Opnum::Unsupported(Unsupported::Read),
+    Opnum::Read,
     Opnum::Unsupported(Unsupported::Readdir),
     Opnum::Unsupported(Unsupported::Readlink),
     Opnum::Unsupported(Unsupported::Remove),
@@ -177,7 +179,7 @@ pub const OPNUMS: [Opnum; 38] = [
     Opnum::Setclientid,
     Opnum::SetclientidConfirm,
     Opnum::Unsupported(Unsupported::Verify),
-    Opnum::Unsupported(Unsupported::Write),
+    Opnum::Write,
     Opnum::ReleaseLockowner,
     Opnum::Illegal,
 ];
@@ -206,11 +208,22 @@ impl Opnum {
         each_operation!(class_of_opnum self)
     }
 
-    /// The room that has to be left in the reply for the operation to be run.
+    // No result of the operation is longer than this.
+    fn answer_limit(self) -> usize
+        ensures { result ≡ answer_limit self }
+    {
+        match self {
+            Opnum::Read => 67_572,
+            _ => 2_036,
+        }
+    }
+
+    /// The room that has to be left in the reply for the operation to be run: that of its result, and of a refusal of
+    /// the next operation.
     pub fn room(self) -> usize
         ensures { result ≡ room_of self }
     {
-        2_048
+        self.answer_limit() + 12
     }
 }
 

@@ -1,12 +1,40 @@
-//! Whether two results are the same.
+//! Whether two operations, or two results, are the same.
 
 ghost use Rattle.std.specs.Prelude.{◌≡◌, ◌≢◌, MatchBool};
 
 use crate::opnum::each_operation;
-use crate::{Address, Answer, Fattr, FileHandle, LockDenied, OpResult, Stateid};
+use crate::{Address, Answer, Bitmap, Fattr, FileHandle, LockDenied, Op, OpResult, Stateid};
 use nfs_operations::access::AccessBits;
-use nfs_operations::open::OpenOk;
+use nfs_operations::close::Close;
+use nfs_operations::delegreturn::Delegreturn;
+use nfs_operations::lock::Lock;
+use nfs_operations::lockt::Lockt;
+use nfs_operations::locku::Locku;
+use nfs_operations::open::{Open, OpenOk};
+use nfs_operations::open_confirm::OpenConfirm;
+use nfs_operations::open_downgrade::OpenDowngrade;
+use nfs_operations::read::{Read, ReadOk};
+use nfs_operations::release_lockowner::ReleaseLockowner;
+use nfs_operations::renew::Renew;
+use nfs_operations::setclientid::Setclientid;
 use nfs_operations::setclientid_confirm::SetclientidConfirm;
+use nfs_operations::write::{Write, WriteOk};
+use xdr::Bytes;
+
+// Matches two operations, and compares their arguments if they are one.
+macro_rules! is_same_op {
+    (
+        [$($With:ident = $n:literal $c:ident,)*]
+        [$($Without:ident = $m:literal $d:ident,)*]
+        $op:expr, $other:expr
+    ) => {
+        match ($op, $other) {
+            $((Op::$With(args), Op::$With(other)) => args.is_same(other),)*
+            $((Op::$Without, Op::$Without) => true,)*
+            _ => false,
+        }
+    };
+}
 
 // Matches two results, and compares the answers inside them if they are of one operation.
 macro_rules! is_same_answer {
@@ -25,6 +53,15 @@ macro_rules! is_same_answer {
     };
 }
 
+impl Op {
+    /// Whether the other is the same operation with the same arguments.
+    pub fn is_same(&self, other: &Op) -> bool
+        ensures { MatchBool result (self.now ≡ other.now) (self.now ≢ other.now) }
+    {
+        each_operation!(is_same_op self, other)
+    }
+}
+
 impl OpResult {
     /// Whether the other is the same result of the same operation.
     pub fn is_same(&self, other: &OpResult) -> bool
@@ -34,7 +71,8 @@ impl OpResult {
     }
 }
 
-/// The data of an answer, which can be compared with other data of the same answer.
+/// The arguments of an operation, or the data of an answer, which can be compared with others of the same operation or
+/// answer.
 trait Same {
     fn is_same(&self, other: &Self) -> bool
         ensures { MatchBool result (self.now ≡ other.now) (self.now ≢ other.now) };
@@ -58,36 +96,6 @@ impl Same for () {
     }
 }
 
-impl Same for AccessBits {
-    fn is_same(&self, other: &AccessBits) -> bool {
-        self == other
-    }
-}
-
-impl Same for Address {
-    fn is_same(&self, other: &Address) -> bool {
-        self == other
-    }
-}
-
-impl Same for Fattr {
-    fn is_same(&self, other: &Fattr) -> bool {
-        self == other
-    }
-}
-
-impl Same for FileHandle {
-    fn is_same(&self, other: &FileHandle) -> bool {
-        self == other
-    }
-}
-
-impl Same for LockDenied {
-    fn is_same(&self, other: &LockDenied) -> bool {
-        self == other
-    }
-}
-
 impl Same for OpenOk {
     fn is_same(&self, other: &OpenOk) -> bool {
         self.stateid == other.stateid
@@ -98,14 +106,50 @@ impl Same for OpenOk {
     }
 }
 
-impl Same for SetclientidConfirm {
-    fn is_same(&self, other: &SetclientidConfirm) -> bool {
-        self == other
+impl Same for Lock {
+    fn is_same(&self, other: &Lock) -> bool {
+        self.is_same(other)
     }
 }
 
-impl Same for Stateid {
-    fn is_same(&self, other: &Stateid) -> bool {
-        self == other
+impl Same for Open {
+    fn is_same(&self, other: &Open) -> bool {
+        self.is_same(other)
     }
 }
+
+macro_rules! same_where_equal {
+    ($($Type:ty),* $(,)?) => {
+        $(impl Same for $Type {
+            fn is_same(&self, other: &$Type) -> bool {
+                self == other
+            }
+        })*
+    };
+}
+
+same_where_equal!(
+    u32,
+    AccessBits,
+    Address,
+    Bitmap,
+    Bytes,
+    Close,
+    Delegreturn,
+    Fattr,
+    FileHandle,
+    LockDenied,
+    Lockt,
+    Locku,
+    OpenConfirm,
+    OpenDowngrade,
+    Read,
+    ReadOk,
+    ReleaseLockowner,
+    Renew,
+    Setclientid,
+    SetclientidConfirm,
+    Stateid,
+    Write,
+    WriteOk,
+);

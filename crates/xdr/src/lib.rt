@@ -9,6 +9,7 @@ mod many;
 mod measure;
 mod opaque;
 mod sequence;
+mod shared_bytes;
 mod wire;
 mod wire_error;
 
@@ -23,5 +24,6 @@ pub use many::{read_few, read_many, write_many};
 pub use measure::Measure;
 pub use opaque::Opaque;
 pub use sequence::Sequence;
+pub use shared_bytes::SharedBytes;
 pub use wire::Wire;
 pub use wire_error::WireError;

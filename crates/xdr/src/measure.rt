@@ -2,7 +2,7 @@ ghost use Rattle.std.specs.Prelude.{◌≡◌, ◌≤◌, ◌^◌, length};
 ghost use Rattle.xdr.specs.Form.{Form};
 
 use crate::basic::padding_of;
-use crate::{Bytes, Opaque, Wire};
+use crate::{Bytes, Opaque, SharedBytes, Wire};
 
 /// A type whose values know how many bytes they take when written.
 pub trait Measure: Wire {
@@ -33,6 +33,14 @@ impl Measure for u64 {
 }
 
 impl Measure for Bytes {
+    #[tactic(auto, unfolding(crate::specs::Writing::written_opaque, crate::specs::Writing::written_number))]
+    fn written_len(&self) -> usize {
+        let len = self.as_slice().len();
+        4 + len + padding_of(len)
+    }
+}
+
+impl Measure for SharedBytes {
     #[tactic(auto, unfolding(crate::specs::Writing::written_opaque, crate::specs::Writing::written_number))]
     fn written_len(&self) -> usize {
         let len = self.as_slice().len();

@@ -11,7 +11,7 @@ use crate::basic::{
 };
 use crate::fields::write_two;
 use crate::many::{read_many, write_many};
-use crate::{Bytes, Opaque, Sequence, WireError};
+use crate::{Bytes, Opaque, Sequence, SharedBytes, WireError};
 use std::alloc::Global;
 
 /// A type that has a form on the wire, by which it is read and written.
@@ -102,6 +102,19 @@ impl Wire for Bytes {
     fn read(alloc: Global, bytes: &[u8]) -> Result<(Bytes, &[u8]), WireError> {
         let (value, rest) = read_opaque(bytes, crate::NO_LIMIT)?;
         Ok((Bytes::copy_of(alloc, value)?, rest))
+    }
+
+    fn write(&self, out: &mut Vec<u8>) -> Result<(), WireError> {
+        write_opaque(out, self.as_slice(), crate::NO_LIMIT)
+    }
+}
+
+impl Wire for SharedBytes {
+    ghost form = { forms.opaque NO_LIMIT };
+
+    fn read(alloc: Global, bytes: &[u8]) -> Result<(SharedBytes, &[u8]), WireError> {
+        let (value, rest) = read_opaque(bytes, crate::NO_LIMIT)?;
+        Ok((SharedBytes::copy_of(alloc, value)?, rest))
     }
 
     fn write(&self, out: &mut Vec<u8>) -> Result<(), WireError> {

@@ -73,6 +73,13 @@ pub fn close(connection: &mut Connection, open: &mut Open) -> Outcome<()> {
     Ok(())
 }
 
+/// Writes these bytes by the open, and answers the verifier.
+pub fn write(connection: &mut Connection, open: &mut Open, offset: u64, bytes: &[u8]) -> Outcome<u64> {
+    let Open { stateid, file, .. } = open;
+    let put = |out: &mut Vec<u8>| put_write(out, stateid, offset, bytes);
+    ask_of(connection, file, put, |results| judge_write(results, bytes.len() as u32))
+}
+
 /// An operation with the file current, and what is told by its result.
 fn ask_of<T>(
     connection: &mut Connection,

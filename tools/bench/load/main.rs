@@ -1,6 +1,7 @@
 //! Sends a load to a server of NFSv4.0 and judges every reply: HELP in options.rs says how. It needs no crates:
 //!     rustc -O --edition 2021 -o load tools/bench/load/main.rs
 
+mod blocks;
 mod client;
 mod connection;
 mod drive;
@@ -59,7 +60,7 @@ fn drive_all(
     connections: &mut [Connection],
     workloads: &mut [Box<dyn Workload>],
 ) -> Outcome<Vec<u32>> {
-    let (start, calls) = (Barrier::new(connections.len()), options.calls / connections.len() as u64);
+    let (start, calls) = (Barrier::new(connections.len()), options.calls() / connections.len() as u64);
     let drive = |connection, workload: &mut Box<dyn Workload>| {
         start.wait();
         let end = Instant::now() + Duration::from_secs_f64(options.seconds);

@@ -12,9 +12,11 @@ const OPEN: u32 = 18;
 const OPEN_CONFIRM: u32 = 20;
 const PUTFH: u32 = 22;
 const PUTROOTFH: u32 = 24;
+const READ: u32 = 25;
 const RENEW: u32 = 30;
 const SETCLIENTID: u32 = 35;
 const SETCLIENTID_CONFIRM: u32 = 36;
+const WRITE: u32 = 38;
 
 /// Type, change and size.
 const ATTRIBUTES: u32 = 0x1a;
@@ -22,6 +24,7 @@ const DIRECTORY: u32 = 2;
 const READ_AND_WRITE: u32 = 3;
 const WRITE_LOCK: u32 = 2;
 const ASKS_TO_CONFIRM: u32 = 2;
+const FILE_SYNC: u32 = 2;
 
 /// A sequenced request's owner: its name, and the sequence id of its next request.
 #[derive(Clone)]
@@ -159,6 +162,22 @@ pub fn put_unlock(out: &mut Vec<u8>, range: Range, stateid: &Stateid, seqid: u32
     out.put_long(range.length);
 }
 
+pub fn put_read(out: &mut Vec<u8>, stateid: &Stateid, offset: u64, count: u32) {
+    out.put_word(READ);
+    out.extend_from_slice(stateid);
+    out.put_long(offset);
+    out.put_word(count);
+}
+
+/// WRITE that is to be safe at once.
+pub fn put_write(out: &mut Vec<u8>, stateid: &Stateid, offset: u64, bytes: &[u8]) {
+    out.put_word(WRITE);
+    out.extend_from_slice(stateid);
+    out.put_long(offset);
+    out.put_word(FILE_SYNC);
+    out.put_opaque(bytes);
+}
+
 // What has to come back.
 
 /// The beginning of a COMPOUND's reply: all of so many operations succeeded.
@@ -266,6 +285,28 @@ pub fn judge_next_lock(reply: &mut Reader, last: &Stateid) -> Outcome<Stateid> {
 pub fn judge_unlock(reply: &mut Reader, last: &Stateid) -> Outcome<Stateid> {
     judge(reply, LOCKU)?;
     judge_next(reply, last)
+}
+
+/// These bytes, and whether the file ends behind them.
+pub fn judge_read(reply: &mut Reader, bytes: &[u8]) -> Outcome<()> {
+    judge(reply, READ)?;
+    let end = reply.word()?;
+    let got = reply.opaque()?;
+    if end > 1 {
+        Err(format!("the end of the file is {end}, and no bool"))
+    } else if got != bytes {
+        Err(format!("a READ has {} bytes, and not those that were written", got.len()))
+    } else {
+        Ok(())
+    }
+}
+
+/// The verifier of a WRITE, of which all bytes are safe.
+pub fn judge_write(reply: &mut Reader, count: u32) -> Outcome<u64> {
+    judge(reply, WRITE)?;
+    reply.expect("the number of bytes written", count)?;
+    reply.expect("how safe they are", FILE_SYNC)?;
+    reply.long()
 }
 
 /// The stateid of the same state, with the next seqid.

@@ -1,6 +1,7 @@
 //! The workloads. A slot is a chain of calls, each sent when the one before it was answered; slots don't share owners,
 //! since an owner has one request under way at a time.
 
+use crate::blocks::Blocks;
 use crate::client::{close, introduce, Client, Open};
 use crate::connection::{Connection, COMPOUND, NULL};
 use crate::drive::SLOT_BITS;
@@ -195,7 +196,7 @@ impl Workload for LockUnlock {
     }
 }
 
-pub const WORKLOADS: [&str; 5] = ["null", "getattr", "renew", "open", "lock"];
+pub const WORKLOADS: [&str; 7] = ["null", "getattr", "renew", "open", "lock", "read", "write"];
 
 /// What the connections of a load do.
 pub struct Plan {
@@ -204,9 +205,16 @@ pub struct Plan {
     pub creates: bool,
     pub slots: usize,
     pub pairs: Option<u64>,
+    /// How many bytes a READ or WRITE has.
+    pub length: usize,
 }
 
 impl Plan {
+    /// Whether each call has bytes of a file, which a server may keep in its journal.
+    pub fn has_bytes(&self) -> bool {
+        matches!(self.workload.as_str(), "read" | "write")
+    }
+
     /// The workload of one connection, with what it needs made before.
     pub fn prepare(&self, connection: &mut Connection, number: usize) -> Outcome<Box<dyn Workload>> {
         let name = format!("load-{number}");
@@ -221,13 +229,22 @@ impl Plan {
             }
             "lock" => {
                 let client = Client::new(connection, &name, &self.path, self.creates)?;
-                let first = number << SLOT_BITS;
-                let places = first..first + self.slots;
-                let slots = places.map(|place| locker(connection, &client, place)).collect::<Outcome<_>>()?;
+                let slots = self.places(number).map(|place| locker(connection, &client, place)).collect::<Outcome<_>>()?;
                 Ok(Box::new(LockUnlock { client, slots, pairs: self.pairs }))
+            }
+            "read" | "write" => {
+                let client = Client::new(connection, &name, &self.path, self.creates)?;
+                let writes = self.workload == "write";
+                Ok(Box::new(Blocks::new(connection, &client, self.places(number), self.length, writes)?))
             }
             other => Err(format!("there is no workload {other}")),
         }
+    }
+
+    /// Those of the slots of a connection, among those of all.
+    fn places(&self, number: usize) -> std::ops::Range<usize> {
+        let first = number << SLOT_BITS;
+        first..first + self.slots
     }
 }
 

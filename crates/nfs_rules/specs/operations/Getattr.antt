@@ -3,7 +3,8 @@ use Rattle.std.specs.Prelude.{ℕ, List, Option, Some, None}
 use Rattle.nfs_state.specs.declared.change.Change.TheVariants.{Nothing}
 use Rattle.nfs_rules.specs.declared.decision.Decision.{Decision}
 use Rattle.nfs_state.specs.Changes.{change_alone}
-use Rattle.nfs_state.specs.State.{State, History, change_of, file_of, size_of}
+use Rattle.nfs_state.specs.Files.{change_of, file_of, size_of}
+use Rattle.nfs_state.specs.State.{State, History}
 use Rattle.nfs_tree.specs.declared.attribute.Subject.{Subject}
 use Rattle.nfs_tree.specs.Attributes.{attributes_of}
 use Rattle.nfs_tree.specs.Tree.{is_directory}

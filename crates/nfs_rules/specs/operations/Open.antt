@@ -100,13 +100,13 @@ refused refusal = record { answer = results.Open (Refused refusal); change = Not
 abbrev pub delayed : ℕ → ClientId → Opening → Ruling
 delayed moment client o = record {
   answer = results.Open (Refused refusals.Delay);
-  change = Recalls o.node client o.share moment;
+  change = Recalls o.node (uses.Open client o.share) moment;
 }
 
 -- what an OPEN of the client opens, unless a delegation of another client is in the way (RFC 7530, section 10.4.4)
 abbrev pub unless_lent : State → ℕ → ClientId → Opening → Result Opening Ruling
 unless_lent state moment client o =
-    if list_any (conflicts client (uses.Open o.share)) (delegations_of o.node state.delegations)
+    if list_any (conflicts (uses.Open client o.share)) (delegations_of o.node state.delegations)
     then Err (delayed moment client o)
     else Ok o
 

@@ -79,7 +79,7 @@ fn unless_lent(
 {
     if tables
         .opens
-        .conflicts(opening.node, client, FileUse::Open(opening.share))
+        .conflicts(opening.node, FileUse::Open(client, opening.share))
     {
         return Err(delayed(moment, client, opening));
     }
@@ -93,8 +93,7 @@ fn delayed(moment: Moment, client: ClientId, opening: Opening) -> Ruling
         answer: Opnum::Open.refusal(Refusal::Delay),
         change: Change::Recalls {
             node: opening.node,
-            client,
-            share: opening.share,
+            file_use: FileUse::Open(client, opening.share),
             moment,
         },
     }

@@ -1,7 +1,13 @@
-use Rattle.std.proofs.Common.{refl, rules}
+use Rattle.std.proofs.Common.{length, refl, rules}
 use Rattle.nfs_core.proofs.Entering.{Step-next}
+use Rattle.nfs_core.proofs.FileChanges.{can_change}
 use Rattle.nfs_core.proofs.committing.commit.Goals as goal
 use Rattle.nfs_state.specs.Room.{state_of}
+
+pub commit_entry-requires-clause-changes : goal.commit_entry-requires-clause-changes
+commit_entry-requires-clause-changes c =
+    let store = c.args.held.now.store in
+    can_change (length store.journal.history.entries) (state_of store.tables).files c.requires.next.below c.requires.stored.changes
 
 pub returns-clause-entered : goal.returns-clause-entered
 returns-clause-entered c =

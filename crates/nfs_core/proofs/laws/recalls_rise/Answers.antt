@@ -6,13 +6,13 @@ use Rattle.std.proofs.lemmas.List.Kept.{AllPairs-cons}
 use Rattle.nfs_core.proofs.SafeFiles.{lists_at}
 use Rattle.nfs_core.proofs.laws.recalls_rise.Goals as goal
 use Rattle.nfs_core.specs.Recalls.{is_called_back, recall_for, recall_to, recalls_by}
-use Rattle.nfs_core.specs.declared.recalling.OpenWish.{OpenWish}
 use Rattle.nfs_owners.specs.Registry.{Registry, record_of, record_state}
 use Rattle.nfs_owners.specs.declared.client_record.ClientState.{ClientState}
 use Rattle.nfs_rpc.specs.declared.recall.Recall.{Recall}
 use Rattle.nfs_share.specs.AllOpens.{delegations_of}
 use Rattle.nfs_share.specs.Delegations.{StandInOrder}
 use Rattle.nfs_share.specs.declared.delegation.Delegation.{Delegation}
+use Rattle.nfs_share.specs.declared.delegation.FileUse.{FileUse}
 use Rattle.nfs_state.specs.State.{State}
 use Rattle.nfs_state.specs.declared.change.Change.{Change}
 use Rattle.nfs_state.specs.declared.change.Change.TheVariants as changes
@@ -60,16 +60,15 @@ number_told : (node : ℕ) (d : Delegation) (client : Option ClientState) → If
 number_told node d None = tt
 number_told node d (Some client) = refl
 
-number_kept : (wish : OpenWish) (clients : Registry) (d : Delegation) → IfSome (recall_for wish clients d) (IsOf d.number)
-number_kept wish clients d =
+number_kept : (node : ℕ) (file_use : FileUse) (clients : Registry) (d : Delegation) → IfSome (recall_for node file_use clients d) (IsOf d.number)
+number_kept node file_use clients d =
     let client = record_state (record_of d.client clients) in
-    cond_both (is_called_back wish d) (option_map (recall_to wish.node d) client) None (λ recall. IfSome recall (IsOf d.number))
-    (λ _. number_told wish.node d client) (λ _. tt)
+    cond_both (is_called_back file_use d) (option_map (recall_to node d) client) None (λ recall. IfSome recall (IsOf d.number))
+    (λ _. number_told node d client) (λ _. tt)
 
 rise : (change : Change) (old : State) → AllByRecursion StandInOrder old.delegations → AllPairs IsBefore (recalls_by change old)
-rise (changes.Recalls node client share moment) old h =
-    let wish : OpenWish = record { node = node; client = client; share = share } in
-    all_rise (recall_for wish old.clients) (number_kept wish old.clients) (delegations_of node old.delegations)
+rise (changes.Recalls node file_use moment) old h =
+    all_rise (recall_for node file_use old.clients) (number_kept node file_use old.clients) (delegations_of node old.delegations)
     (lists_at StandInOrder tt node old.delegations h)
 rise change old h = none_rise
 

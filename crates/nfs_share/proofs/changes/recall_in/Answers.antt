@@ -10,11 +10,11 @@ loop-lent-preserved c = record {
       elim c.if-conflicts.branch [
         | then-conflicts w ↦
             w.delegations-is
-            ∙ changes_one_more (conflicts c.args.client c.args.file_use) (with_recall c.args.moment) c.args.delegations.now c.loop-lent.delegations c.loop-lent.lent-index c.lent-item.result w.recall.new.self
+            ∙ changes_one_more (conflicts c.args.file_use) (with_recall c.args.moment) c.args.delegations.now c.loop-lent.delegations c.loop-lent.lent-index c.lent-item.result w.recall.new.self
             (omega arith) (omega arith) c.loop-lent.invariant.delegations (sym c.conflicts.ensures ∙ w.if-conflicts.true) w.recall.ensures
         | else-conflicts w ↦
             w.delegations-is
-            ∙ leaves_one_more (conflicts c.args.client c.args.file_use) (with_recall c.args.moment) c.args.delegations.now c.loop-lent.delegations c.loop-lent.lent-index c.lent-item.result
+            ∙ leaves_one_more (conflicts c.args.file_use) (with_recall c.args.moment) c.args.delegations.now c.loop-lent.delegations c.loop-lent.lent-index c.lent-item.result
             (omega arith) (omega arith) c.loop-lent.invariant.delegations (sym c.conflicts.ensures ∙ w.if-conflicts.false)
       ];
 }

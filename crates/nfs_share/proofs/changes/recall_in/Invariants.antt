@@ -6,5 +6,5 @@ use Rattle.nfs_share.proofs.changes.recall_in.Given as goal
 abbrev pub invariant-loop-lent : goal.invariant-loop-lent
 invariant-loop-lent l = record {
   delegations : l.delegations
-      ≡ with_recalls l.client l.file_use l.moment (take l.lent-index l.initial.delegations) ++ drop l.lent-index l.initial.delegations;
+      ≡ with_recalls l.file_use l.moment (take l.lent-index l.initial.delegations) ++ drop l.lent-index l.initial.delegations;
 }

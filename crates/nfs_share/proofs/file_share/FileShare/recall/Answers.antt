@@ -6,4 +6,4 @@ use Rattle.nfs_share.proofs.file_share.FileShare.recall.Goals as goal
 pub invariant_of-self : goal.invariant_of-self
 invariant_of-self c =
     subst StandInOrder (sym c.recall_each.ensures.items)
-    (recalls_in_order c.args.client c.args.file_use c.args.moment c.self.inside.delegations.items c.self.invariant)
+    (recalls_in_order c.args.file_use c.args.moment c.self.inside.delegations.items c.self.invariant)

@@ -8,7 +8,7 @@ use Rattle.nfs_share.proofs.opens.Opens.recall.Goals as goal
 
 pub returns-then-node-len-clause-delegations : goal.returns-then-node-len-clause-delegations
 returns-then-node-len-clause-delegations c =
-    let change : List Delegation → List Delegation = with_recalls c.args.client c.args.file_use c.args.moment in
+    let change : List Delegation → List Delegation = with_recalls c.args.file_use c.args.moment in
     changed_at (λ f. f.delegations) change c.self.inside.files.items c.args.node c.index_mut.result.now c.recall.new.self (omega (arith, c.if-node-len.true, c.len.ensures)) c.index_mut.ensures.value (ap (λ (f : FileOpens). f.delegations) c.recall.ensures)
     ∙ ap (λ files. with_delegations c.args.node change (delegations_in files)) c.self.view_is
 

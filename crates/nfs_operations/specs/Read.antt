@@ -1,0 +1,25 @@
+-- READ (RFC 7530, section 16.23): its arguments are a stateid, and which bytes of the file are asked for; its result is
+-- the bytes, and whether the file ends with them. No limit is given for the bytes.
+use Rattle.std.proofs.Common.{refl}
+use Rattle.nfs_operations.specs.declared.read.Read.{Read}
+use Rattle.nfs_operations.specs.declared.read.ReadOk.{ReadOk}
+use Rattle.nfs_forms.specs.Answer.{PlainAnswer, plain_answer}
+use Rattle.nfs_forms.specs.Stateid.{stateid}
+use Rattle.xdr.specs.Form.{Form, ◌and◌, of, bytes as opaque_bytes, flag, u32, u64}
+
+-- struct READ4args { stateid4 stateid; offset4 offset; count4 count; };
+unfoldable pub arguments : Form Read
+arguments =
+    of (λ p. record { stateid = p.0; offset = p.1.0; count = p.1.1 })
+    (λ a. (a.stateid, (a.offset, a.count))) (λ p. refl) (λ a. refl)
+    (stateid and u64 and u32)
+
+-- struct READ4resok { bool eof; opaque data<>; };
+unfoldable pub read_ok : Form ReadOk
+read_ok =
+    of (λ p. record { eof = p.0; bytes = p.1 }) (λ a. (a.eof, a.bytes))
+    (λ p. refl) (λ a. refl) (flag and opaque_bytes)
+
+-- union READ4res switch (nfsstat4 status) { case NFS4_OK: READ4resok resok4; default: void; };
+abbrev pub result : Form (PlainAnswer ReadOk)
+result = plain_answer read_ok

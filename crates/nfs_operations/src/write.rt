@@ -1,0 +1,90 @@
+ghost use Rattle.nfs_operations.specs.Write as forms;
+ghost use Rattle.xdr.specs.Reading.{Answers};
+
+use nfs_forms::{Answer, StableHow, Stateid, Verifier};
+use std::alloc::Global;
+use xdr::{Measure, SharedBytes, Wire, WireError, write_four, write_three};
+
+/// The bytes that are put into a file, where, and by which right (RFC 7530, section 16.36).
+pub type Arguments = Write;
+
+/// The arguments of WRITE.
+#[derive(Clone, Debug, PartialEq, Drop)]
+pub struct Write {
+    /// An open, a lock state or a delegation, or a special stateid.
+    pub stateid: Stateid,
+    /// Where the first byte goes.
+    pub offset: u64,
+    /// How much has to be in stable storage before the answer.
+    pub stable: StableHow,
+    pub bytes: SharedBytes,
+}
+
+/// With NFS4_OK, how much was written.
+pub type Outcome = Answer<WriteOk>;
+
+/// What WRITE answers about the bytes.
+#[derive(Clone, Copy, Debug, PartialEq, Eq)]
+pub struct WriteOk {
+    /// How many bytes were written.
+    pub count: u32,
+    /// How much is in stable storage.
+    pub committed: StableHow,
+    /// Another one tells the client that the server restarted, and may have lost what isn't in stable storage.
+    pub verifier: Verifier,
+}
+
+impl Wire for Write {
+    ghost form = { forms.arguments };
+
+    #[tactic(auto, unfolding(crate::specs::Write::arguments))]
+    fn read(alloc: Global, bytes: &[u8]) -> Result<(Write, &[u8]), WireError> {
+        let (stateid, rest) = Stateid::read(alloc, bytes)?;
+        let (offset, rest) = u64::read(alloc, rest)?;
+        let (stable, rest) = StableHow::read(alloc, rest)?;
+        let (bytes, rest) = SharedBytes::read(alloc, rest)?;
+        let arguments = Write {
+            stateid,
+            offset,
+            stable,
+            bytes,
+        };
+        Ok((arguments, rest))
+    }
+
+    #[tactic(auto, unfolding(crate::specs::Write::arguments))]
+    fn write(&self, out: &mut Vec<u8>) -> Result<(), WireError> {
+        write_four(out, &self.stateid, &self.offset, &self.stable, &self.bytes)
+    }
+}
+
+impl Wire for WriteOk {
+    ghost form = { forms.write_ok };
+
+    #[tactic(auto, unfolding(crate::specs::Write::write_ok))]
+    fn read(alloc: Global, bytes: &[u8]) -> Result<(WriteOk, &[u8]), WireError>
+        ensures { Answers (λ x. (x.0, x.1.now)) result (forms.write_ok.at bytes.now) }
+    {
+        let (count, rest) = u32::read(alloc, bytes)?;
+        let (committed, rest) = StableHow::read(alloc, rest)?;
+        let (verifier, rest) = Verifier::read(alloc, rest)?;
+        let answer = WriteOk {
+            count,
+            committed,
+            verifier,
+        };
+        Ok((answer, rest))
+    }
+
+    #[tactic(auto, unfolding(crate::specs::Write::write_ok))]
+    fn write(&self, out: &mut Vec<u8>) -> Result<(), WireError> {
+        write_three(out, &self.count, &self.committed, &self.verifier)
+    }
+}
+
+impl Measure for WriteOk {
+    #[tactic(auto, unfolding(crate::specs::Write::write_ok))]
+    fn written_len(&self) -> usize {
+        self.count.written_len() + self.committed.written_len() + self.verifier.written_len()
+    }
+}

@@ -1,0 +1,29 @@
+use Rattle.std.proofs.Common.{◌≡◌, ◌∙◌, ℕ, Err, Result, Some, ap, refl, sym}
+use Rattle.nfs_rules.specs.Transfers.{file_for}
+use Rattle.nfs_rules.specs.declared.decision.Decision.{Decision}
+use Rattle.nfs_rules.specs.declared.transfer.Transfer.TheVariants.{Read}
+use Rattle.nfs_rules.specs.operations.Read.{reading, rule}
+use Rattle.nfs_rules.proofs.Sequenced.{fails_as}
+use Rattle.nfs_rules.proofs.Transferring.{file_refusal}
+use Rattle.nfs_rules.proofs.operations.read.decide.Goals as goal
+use Rattle.nfs_state.specs.Room.{state_of}
+use Rattle.nfs_state.specs.declared.shortage.Shortage.TheVariants.{Memory}
+use Rattle.nfs_xdr.specs.declared.op.Op.TheVariants as ops
+
+pub returns-in-Err : goal.returns-in-Err
+returns-in-Err c =
+    let journal = c.args.store.now.journal.history in
+    let state = state_of c.args.store.now.tables in
+    let args = c.args.args.now in
+    let is : Err c.in-Err.decision ≡ file_for Read journal state c.args.request.now args.stateid = sym c.in-Err.is ∙ c.file_for.ensures in
+    let refusal = file_refusal Read (ops.Read args) journal state c.args.request.now args.stateid c.in-Err.decision refl is in
+    (ap (λ (r : Result ℕ Decision). Some (reading state args r)) is, refusal.sendable, refusal.within, refusal.place)
+
+pub returns-in_err-answer : goal.returns-in_err-answer
+returns-in_err-answer c =
+    let journal = c.args.store.now.journal.history in
+    let state = state_of c.args.store.now.tables in
+    let request = c.args.request.now in
+    let args = c.args.args.now in
+    fails_as (λ d. d ≡ rule journal state request args) state (ops.Read args) Memory c.from_residual.result c.from_residual.ensures.0 c.from_residual.ensures.1
+    (reading state args (file_for Read journal state request args.stateid), refl)

@@ -1,0 +1,12 @@
+use Rattle.std.proofs.Common.{◌≡◌, drop, take}
+use Rattle.std.specs.List.{AllByRecursion}
+use Rattle.nfs_state.specs.Files.{HasFileRoom, HasRoomIn, files_in}
+use Rattle.nfs_state.proofs.stored_files.reserve_in.Given as goal
+
+-- those visited so far have room, and those that are left have it if all had it
+abbrev pub invariant-loop-file : goal.invariant-loop-file
+invariant-loop-file l = record {
+  same : files_in l.files ≡ files_in l.initial.files;
+  room : AllByRecursion (HasRoomIn l.node l.size) (take l.file-index l.files);
+  ready : HasFileRoom l.node l.size l.initial.files → AllByRecursion (HasRoomIn l.node l.size) (drop l.file-index l.files);
+}
