@@ -24,7 +24,7 @@ const TAKE_LIMIT: usize = 65_536;
 // How many recalls come in one look, where more may wait behind them: as many as the source hands over without a hold.
 const MANY_RECALLS: usize = 1_024;
 
-// For how many clients one round asks at most of whose paths nothing is known.
+// The most clients whose paths one round asks for.
 const PROBE_LIMIT: usize = 64;
 
 /// Calls clients back: recalls their delegations, and tries paths of which nothing is known. It does so in looks, which

@@ -4,7 +4,7 @@ use crate::lines::Lines;
 use crate::{CallbackSource, MarkError};
 use std::alloc::Global;
 
-// Of how many calls under way one round asks at most whether they are still awaited.
+// The most calls of which one round asks whether they are still awaited.
 const CHECK_LIMIT: usize = 64;
 
 /// The calls to all clients, and what becomes of those that are over: they mark the path of their client.

@@ -26,7 +26,7 @@ use Rattle.nfs_state.specs.Stored.{meaning}
 use Rattle.nfs_state.specs.declared.store.Store.{Store}
 use Rattle.nfs_tree.specs.Tree.{node_count}
 
--- no file was changed more often than so many times
+-- no file was changed more than so many times
 abbrev pub HaveFewChanges : ℕ → List FileState → Type 0
 HaveFewChanges number files = AllByRecursion (λ f. f.change ≤ number) files
 

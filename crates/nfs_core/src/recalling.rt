@@ -67,7 +67,8 @@ fn recall_for(
     clients: &Clients,
     lent: &Delegation,
 ) -> Result<Option<Recall>, AllocError>
-    ensures { IfOk result (λ recall. recall ≡ recall_for node file_use clients.now.registry lent.now) }
+    ensures { IfOk result (λ recall.
+        recall ≡ recall_for node file_use clients.now.registry lent.now) }
 {
     if !is_called_back(file_use, lent) {
         return Ok(None);

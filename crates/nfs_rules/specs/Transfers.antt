@@ -33,7 +33,7 @@ abbrev pub opnum_of : Transfer → Opnum
 opnum_of transfers.Read = opnums.Read
 opnum_of transfers.Write = opnums.Write
 
--- the mode that it takes of an open's access, and that an open may deny
+-- the access that it needs of an open, and that an open may deny
 abbrev pub mode_of : Transfer → Modes
 mode_of transfers.Read = modes true false
 mode_of transfers.Write = modes false true

@@ -28,7 +28,7 @@ impl Transfer {
         }
     }
 
-    // The mode that it takes of an open's access, and that an open may deny.
+    // The access that it needs of an open, and that an open may deny.
     fn mode(self) -> Modes
         ensures { result ≡ specs.mode_of self }
     {
@@ -108,7 +108,7 @@ fn file_in(journal: &Journal, filehandle: Option<u32>) -> Result<u32, Refusal>
     }
 }
 
-// The file, unless an open denies it to all others.
+// The file, unless an open denies it, whoever has that open.
 fn unless_denied(tables: &Tables, transfer: Transfer, node: u32) -> Result<u32, Refusal>
     ensures { result ≡ specs.unless_denied transfer (state_of tables.now) node }
 {

@@ -12,7 +12,8 @@ use Rattle.nfs_share.specs.declared.delegation.FileUse.TheVariants as uses
 use Rattle.nfs_share.specs.declared.open_state.OpenState.{OpenState}
 use Rattle.nfs_share.specs.Opens.{is_of_client, share_of}
 
--- What a delegation of a kind is in the way of. Of another client's uses of the file, and of those by a special stateid:
+-- Which uses of a file a delegation of a kind is in the way of: another client's, and those by a special stateid, whoever
+-- sends it.
 --
 --                     open                                    read delegation   write delegation   READ   WRITE
 --   read delegation   where it may write, or denies reading   no                yes                no     yes
@@ -28,13 +29,13 @@ is_in_way kinds.Read (uses.Special modes) = modes.write
 abbrev pub is_lent_to : ClientId → Delegation → Bool
 is_lent_to client d = is_same_client d.client client
 
--- The client that uses the file so has the delegation. A special stateid is no client's.
+-- The delegation is that of the client whose use it is. A special stateid is no client's.
 abbrev pub is_of_user : FileUse → Delegation → Bool
 is_of_user (uses.Open client share) d = is_lent_to client d
 is_of_user (uses.Delegation client kind) d = is_lent_to client d
 is_of_user (uses.Special modes) d = false
 
--- The delegation is in the way of this use of the file. It never is for the client that has it.
+-- The delegation is in the way of this use of the file. It never is in the way of the client that has it.
 abbrev pub conflicts : FileUse → Delegation → Bool
 conflicts file_use d = not (is_of_user file_use d) && is_in_way d.kind file_use
 

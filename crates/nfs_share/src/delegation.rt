@@ -13,14 +13,14 @@ pub enum DelegationKind {
     Write,
 }
 
-/// What is done with a file, or asked to be, and which client does it.
+/// What is done with a file, or asked to be, and by which client, if by one.
 #[derive(Clone, Copy, Debug)]
 pub enum FileUse {
     /// The client opens it for this share.
     Open(ClientId, Share),
     /// The client has a delegation of it.
     Delegation(ClientId, DelegationKind),
-    /// A special stateid reads or writes it, as these modes say. It is no client's (RFC 7530, section 9.1.4.3).
+    /// It is read or written by a special stateid: one of the two modes. That is no client's (RFC 7530, section 9.1.4.3).
     Special(Modes),
 }
 

@@ -131,7 +131,7 @@ with_state_change (changes.Recalls node file_use moment) old = record old {
 with_state_change (changes.Returns node number) old = record old {
   delegations = with_delegations node (without_lent (is_delegation_numbered number)) old.delegations;
 }
--- what comes into the file stands in the entry
+-- nothing here: what comes into the file stands in the entry, and `with_written` puts it there
 with_state_change (changes.Writes node offset) old = old
 with_state_change (changes.MarksPath client path) old =
     record old { clients = with_mark client path old.clients }

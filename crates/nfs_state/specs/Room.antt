@@ -134,7 +134,7 @@ pub record HasGivenNumbers (state : State) : Type 0 where
   pub of_delegations : opens.IsAboveAllLent (state.last_state + 1) state.delegations
 
 -- The entry with this effect can be committed in this state: owners may keep it, the numbers that its change uses are
--- left, and there is a place for an owner that it records.
+-- left and no limit is passed, and there is a place for an owner that it records.
 pub record Fits (entry : Entry) (effect : Effect) (state : State) : Type 0 where
   pub kept : CanBeKept (kept_in entry) effect.owner
   pub numbers : IsWithinLimits (data_in entry) effect.change state

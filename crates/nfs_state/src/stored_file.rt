@@ -117,7 +117,7 @@ fn fill_up(bytes: &mut Vec<u8>, size: usize)
     bytes.resize(size, 0).unwrap();
 }
 
-// Writes the block over as many of the bytes from this offset on.
+// Writes the block over the bytes from this offset on, as many as it has.
 fn put_at(bytes: &mut [u8], offset: usize, block: &[u8])
     requires { offset + length block.now ≤ length bytes.old }
     ensures { bytes.new

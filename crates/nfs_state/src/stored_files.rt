@@ -39,7 +39,8 @@ impl StoredFiles {
 
     /// The file of a node, if the node is a file.
     pub fn find(&self, node: u32) -> Option<&StoredFile>
-        ensures { option_map (λ f. f.file) (option_copied result) ≡ file_of (files_in self.now) node }
+        ensures { option_map (λ f. f.file) (option_copied result)
+            ≡ file_of (files_in self.now) node }
     {
         self.roomy_file(node)
     }

@@ -41,11 +41,12 @@ written journal args node = record {
   effect = change_alone (change_by args node);
 }
 
--- NFS4ERR_FBIG for bytes beyond the limit of a file, after all other refusals
+-- NFS4ERR_FBIG for an end beyond the limit of a file, also of no bytes, after all other refusals
 abbrev pub writing : History → Write → Result ℕ Decision → Decision
 writing journal args (Err decision) = decision
 writing journal args (Ok node) =
-    if nat_lt TEXT_LIMIT (args.offset + length args.bytes) then refused transfers.Write refusals.FBig
+    if nat_lt TEXT_LIMIT (args.offset + length args.bytes)
+    then refused transfers.Write refusals.FBig
     else written journal args node
 
 -- the rule of WRITE; there is always a decision

@@ -43,7 +43,7 @@ fn change_by(args: &Write, node: u32) -> Change
     }
 }
 
-// Whether the bytes would end behind the last that a file may have.
+// Whether the bytes would end beyond the limit of a file.
 fn is_too_long(args: &Write) -> bool
     ensures { result ≡ nat_lt TEXT_LIMIT (args.now.offset + length args.now.bytes) }
 {
