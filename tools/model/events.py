@@ -1,5 +1,5 @@
 """What entries of a journal do about delegations: which they give, and which of them end; and the marks of clients'
-paths, by which clients get any. What stands in the way of an OPEN is told as its reason, by `reasons.py`."""
+paths, by which clients get any. What stands in the way of an operation is told as its reason, by `reasons.py`."""
 from entries import Call, Path, Revoke, delegation_given
 from words import place_words, purpose_of
 
