@@ -2,10 +2,11 @@
 """The model's journals beside their rules; and, if it is given, a built program beside the model.
 
 For each row it makes the journal, which has to be lawful, to be read as it was written, and to be shown in words that
-spell it; and each refusal in it has to be explained (check_reasons.py). With one word of one answer changed it has to be wrong at just that entry, or no journal: each word of the
-journals whose answers are short, and some words of the others, drawn with a fixed seed. Before these come files that
-are no journals, each with the reason, lists of nodes, and entries that can't follow; refusals with their reasons; and
-beginnings of journals, and the tools that show them (check_beginnings.py).
+spell it; and each refusal in it has to be explained (check_reasons.py). With one word of one answer changed it has to
+be wrong at just that entry, or no journal: each word of the journals whose answers are short, and some words of the
+others, drawn with a fixed seed. Before these come files that are no journals, each with the reason, lists of nodes, and
+entries that can't follow; refusals with their reasons; and beginnings of journals, and the tools that show them
+(check_beginnings.py).
 
 A program has to say of each of these files what the model says, and to write the model's file where `once` can carry
 the row."""

@@ -14,8 +14,8 @@ from dataclasses import dataclass, field
 import wire
 from delegations import Delegating
 from ranges import READ_MODE, Ranges, denial, length_of
-from states import (ClientRecord, DOWN, Delegation, FULL, Kept, LockState, NOT_DUE, NOT_LIVE, OpenState, Owner, Refusal, Request,
-                    Result, UNKNOWN, UP, Unchanged, answer, closed_by, conflict, contains, expect_filehandle,
+from states import (ClientRecord, DOWN, Delegation, FULL, Kept, LockState, NOT_DUE, NOT_LIVE, OpenState, Owner, Refusal,
+                    Request, Result, UNKNOWN, UP, Unchanged, answer, closed_by, conflict, contains, expect_filehandle,
                     expect_range, expect_runs, expect_seqid, expect_share, handle_of, is_first_lock,
                     is_lawful_downgrade, is_special, mode_of, next_seqid, next_sequence_id, replay, sequence_id_of,
                     stateid_of)
@@ -25,7 +25,7 @@ from wire import (BOTH, CLAIM_DELEGATE_CUR, CLAIM_DELEGATE_PREV, CLAIM_PREVIOUS,
                   WRITE, u32, u64)
 
 OPERATIONS_LIMIT = 64
-# The bytes that the reply's record has to have left for an operation to be run, READ aside.
+# The bytes that the reply's record has to have left for an operation to be run; and for a READ.
 ANSWER_ROOM = 2048
 READ_ROOM = 67584
 # The most bytes that a READ gives.
