@@ -373,5 +373,5 @@ ruled_for journal state (ops.Read args) request d singles is =
     (each_read (λ e. IsFor journal.epoch state.clients (ops.Read args) e.effect.change) journal state request args (λ refusal. tt) (λ node. tt) (λ node. tt))
 ruled_for journal state (ops.Write args) request d singles is =
     decided_for journal.epoch state.clients (ops.Write args) d _ is
-    (each_write (λ e. IsFor journal.epoch state.clients (ops.Write args) e.effect.change) journal state request args (λ refusal. tt) (λ node. tt) tt (λ node. tt))
+    (each_write (λ e. IsFor journal.epoch state.clients (ops.Write args) e.effect.change) journal state request args (λ refusal. tt) (λ node. tt) tt (λ node short. tt))
 ruled_for journal state op request d singles is = absurd cc

@@ -150,7 +150,7 @@ plain_owner (ops.Read args) journal old request decision is =
     ap (λ (d : Decision). d.effect.owner) (some_equal decision _ is) ∙ each_read P journal old request args (λ refusal. refl) (λ node. refl) (λ node. refl)
 plain_owner (ops.Write args) journal old request decision is =
     let P : Decision → Type 0 = λ d. d.effect.owner ≡ owner_changes.Nothing in
-    ap (λ (d : Decision). d.effect.owner) (some_equal decision _ is) ∙ each_write P journal old request args (λ refusal. refl) (λ node. refl) refl (λ node. refl)
+    ap (λ (d : Decision). d.effect.owner) (some_equal decision _ is) ∙ each_write P journal old request args (λ refusal. refl) (λ node. refl) refl (λ node short. refl)
 plain_owner op journal old request decision is = absurd cc
 
 -- so owners may keep what is decided

@@ -1,5 +1,5 @@
 -- No file was changed more often than the journal has entries.
-use Rattle.std.proofs.Common.{◌≡◌, ℕ, zero, suc, ◌++◌, ◌+◌, ◌<◌, ◌≤◌, ◌-◌, ◌^◌, ◌==◌, Option, Some, None, List, [], ◌∷◌, length, refl, sym, subst, arith, ◌∙◌}
+use Rattle.std.proofs.Common.{◌≡◌, ℕ, zero, suc, ◌++◌, ◌+◌, ◌<◌, ◌≤◌, ◌-◌, ◌^◌, ◌==◌, Option, Some, None, List, [], ◌∷◌, length, refl, sym, ap, subst, arith, ◌∙◌}
 use Rattle.std.specs.Prelude.{if◌then◌else◌}
 use Rattle.std.proofs.lemmas.Bool.{cond_both}
 use Rattle.nfs_core.proofs.SafeLists.{all_map, all_weaken}
@@ -48,13 +48,16 @@ owner_files : (change : OwnerChange) (number : ℕ) (old : State) → (with_owne
 owner_files owner_changes.Nothing number old = refl
 owner_files change number old = refl
 
-few_stepped : (journal : History) (old : State) (entry : Entry) (new : State) (n : ℕ) → Step journal old entry new → HaveFewChanges n old.files → HaveFewChanges (n + 1) new.files
-few_stepped journal old entry new n step h =
+pub files_stepped : (journal : History) (old : State) (entry : Entry) (new : State) (step : Step journal old entry new) → new.files ≡ files_after (data_in entry) step.effect.change old.files
+files_stepped journal old entry new step =
     let number = length journal.entries in
     let mid = with_owner_change step.effect.owner number old in
-    let same = changed_files step.effect.change mid ∙ owner_files step.effect.owner number old in
-    subst (λ (s : State). HaveFewChanges (n + 1) s.files) (sym step.state)
-    (few_after n (data_in entry) step.effect.change (with_state_change step.effect.change mid).files (subst (HaveFewChanges n) (sym same) h))
+    ap (λ (s : State). s.files) step.state
+    ∙ ap (files_after (data_in entry) step.effect.change) (changed_files step.effect.change mid ∙ owner_files step.effect.owner number old)
+
+few_stepped : (journal : History) (old : State) (entry : Entry) (new : State) (n : ℕ) → Step journal old entry new → HaveFewChanges n old.files → HaveFewChanges (n + 1) new.files
+few_stepped journal old entry new n step h =
+    subst (HaveFewChanges (n + 1)) (sym (files_stepped journal old entry new step)) (few_after n (data_in entry) step.effect.change old.files h)
 
 few_led : (journal : History) (old new : State) (entries : List Entry) (n : ℕ) → Leads journal old entries new → HaveFewChanges n old.files → HaveFewChanges (n + length entries) new.files
 few_led journal old new [] n leads h = subst (λ (k : ℕ). HaveFewChanges k new.files) (omega arith) (subst (λ (s : State). HaveFewChanges n s.files) (sym leads) h)

@@ -1,6 +1,7 @@
 pub mod ClientChanges
 pub mod DueDelegations
 pub mod Entering
+pub mod FileBytes
 pub mod FileChanges
 pub mod Journals
 pub mod LiveClients

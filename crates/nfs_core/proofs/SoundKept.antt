@@ -145,7 +145,7 @@ plain_none (ops.Read args) journal state request d is =
     not_kept d _ is (each_read P journal state request args (λ refusal. refl) (λ node. refl) (λ node. refl))
 plain_none (ops.Write args) journal state request d is =
     let P : Decision → Type 0 = λ e. keeps e.effect.owner ≡ false in
-    not_kept d _ is (each_write P journal state request args (λ refusal. refl) (λ node. refl) refl (λ node. refl))
+    not_kept d _ is (each_write P journal state request args (λ refusal. refl) (λ node. refl) refl (λ node short. refl))
 plain_none op journal state request d is = absurd cc
 
 -- what has its entry kept

@@ -9,6 +9,7 @@ use Rattle.nfs_locks.specs.Laws.{AllLocksAreCompatible}
 use Rattle.nfs_locks.specs.Locks.{ByteLocks}
 use Rattle.nfs_rules.specs.Sequences.{counts}
 use Rattle.nfs_state.specs.Entries.{call_of}
+use Rattle.nfs_state.specs.Files.{FileState}
 use Rattle.nfs_state.specs.Owners.{KnownOwner, is_confirmed, owner_of}
 use Rattle.nfs_state.specs.State.{State, History}
 use Rattle.nfs_owners.specs.Registry.{AreRecords, record_of}
@@ -21,6 +22,7 @@ use Rattle.nfs_ranges.specs.declared.limits.TheConstants.{RUN_LIMIT}
 use Rattle.nfs_state.specs.Places.{state_count}
 use Rattle.nfs_state.specs.declared.entry.Call.{Call}
 use Rattle.nfs_state.specs.declared.limits.TheConstants.{STATE_LIMIT}
+use Rattle.nfs_tree.specs.declared.tree.TheConstants.{TEXT_LIMIT}
 use Rattle.nfs_xdr.specs.Names.{is_sequenced}
 use Rattle.nfs_xdr.specs.OpResult.{status_of}
 use Rattle.nfs_share.specs.AllOpens.{delegations_of, opens_of}
@@ -113,7 +115,7 @@ WasGiven last number = (1 ≤ number) × (number ≤ last)
 abbrev pub HasFewRuns : ByteLocks → Type 0
 HasFewRuns l = runs l.modes ≤ RUN_LIMIT
 
--- no limit is exceeded
+-- no limit is exceeded; that of the bytes of a file stands below
 pub record KeepsLimits (state : State) : Type 0 where
   -- opens, lock states and delegations together
   pub states : state_count state ≤ STATE_LIMIT
@@ -121,6 +123,10 @@ pub record KeepsLimits (state : State) : Type 0 where
   -- the numbers that clients were given
   pub clients : state.clients.last_number ≤ CLIENT_LIMIT
   pub runs : EachLock HasFewRuns state
+
+-- no file has more bytes than a file may have
+abbrev pub HaveFewBytes : List FileState → Type 0
+HaveFewBytes files = AllByRecursion (λ f. length f.bytes ≤ TEXT_LIMIT) files
 
 pub record IsSafe (state : State) : Type 0 where
   -- of each two opens of a node by different owners, neither may do what the other denies

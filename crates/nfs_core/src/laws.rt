@@ -1,9 +1,10 @@
 ghost use Rattle.nfs_core.specs.Lawful.{AtMostOneState, Lawful};
 ghost use Rattle.nfs_core.specs.LiveClients.{AreNumbered, AreOfOneRun, CallsFollow, EffectsFollow, EndsFollow, PathsFollow, RevocationsFollow};
 ghost use Rattle.nfs_core.specs.Recalls.{AreOneList, OthersRecallNothing, RecallsBegin, RecallsFollow, RecallsRise};
-ghost use Rattle.nfs_core.specs.Safe.{IsSafe, KeepRequests};
+ghost use Rattle.nfs_core.specs.Safe.{HaveFewBytes, IsSafe, KeepRequests};
 ghost use Rattle.nfs_core.specs.Step.{AtMostOneStateAfter, AtMostOneStep};
 ghost use Rattle.nfs_state.specs.State.{State, History};
+ghost use Rattle.nfs_tree.specs.Tree.{IsTree};
 
 use nfs_locks::locks_stay_compatible;
 use nfs_owners::marks_keep_clients;
@@ -60,7 +61,8 @@ pub fn at_most_one_state()
 }
 
 /// The law that each state which a lawful journal leads to is safe, and that what is kept for each owner is an entry of the
-/// journal: a request that goes by a sequence id, with a status that counts.
+/// journal: a request that goes by a sequence id, with a status that counts. And where the journal is of a tree, no file has
+/// more bytes than a file may have.
 pub fn lawful_is_safe()
     ensures safe { (journal : History) (state : State) → Lawful journal state → IsSafe state }
     ensures kept { (journal : History) (state : State) → Lawful journal state →
@@ -69,6 +71,8 @@ pub fn lawful_is_safe()
         AreNumbered state.clients }
     ensures run { (journal : History) (state : State) → Lawful journal state →
         AreOfOneRun journal state }
+    ensures bytes { (journal : History) (state : State) → IsTree journal.nodes →
+        Lawful journal state → HaveFewBytes state.files }
 {
     opens_stay_compatible();
     locks_stay_compatible();

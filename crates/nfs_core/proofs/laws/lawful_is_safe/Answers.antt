@@ -1,4 +1,5 @@
 use Rattle.nfs_core.proofs.laws.lawful_is_safe.Goals as goal
+use Rattle.nfs_core.proofs.FileBytes.{Lawful-bytes}
 use Rattle.nfs_core.proofs.LiveLaws.{Lawful-numbered, Lawful-run}
 use Rattle.nfs_core.proofs.Safety.{Laws, Lawful-safe}
 use Rattle.nfs_core.proofs.SoundKept.{Lawful-kept}
@@ -34,4 +35,5 @@ returns c =
       kept = Lawful-kept;
       numbered = Lawful-numbered laws;
       run = Lawful-run laws;
+      bytes = Lawful-bytes;
     }
