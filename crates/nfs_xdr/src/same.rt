@@ -118,38 +118,142 @@ impl Same for Open {
     }
 }
 
-macro_rules! same_where_equal {
-    ($($Type:ty),* $(,)?) => {
-        $(impl Same for $Type {
-            fn is_same(&self, other: &$Type) -> bool {
-                self == other
-            }
-        })*
-    };
+// All others are the same where they are equal.
+
+impl Same for u32 {
+    fn is_same(&self, other: &u32) -> bool {
+        self == other
+    }
 }
 
-same_where_equal!(
-    u32,
-    AccessBits,
-    Address,
-    Bitmap,
-    Bytes,
-    Close,
-    Delegreturn,
-    Fattr,
-    FileHandle,
-    LockDenied,
-    Lockt,
-    Locku,
-    OpenConfirm,
-    OpenDowngrade,
-    Read,
-    ReadOk,
-    ReleaseLockowner,
-    Renew,
-    Setclientid,
-    SetclientidConfirm,
-    Stateid,
-    Write,
-    WriteOk,
-);
+impl Same for AccessBits {
+    fn is_same(&self, other: &AccessBits) -> bool {
+        self == other
+    }
+}
+
+impl Same for Address {
+    fn is_same(&self, other: &Address) -> bool {
+        self == other
+    }
+}
+
+impl Same for Bitmap {
+    fn is_same(&self, other: &Bitmap) -> bool {
+        self == other
+    }
+}
+
+impl Same for Bytes {
+    fn is_same(&self, other: &Bytes) -> bool {
+        self == other
+    }
+}
+
+impl Same for Close {
+    fn is_same(&self, other: &Close) -> bool {
+        self == other
+    }
+}
+
+impl Same for Delegreturn {
+    fn is_same(&self, other: &Delegreturn) -> bool {
+        self == other
+    }
+}
+
+impl Same for Fattr {
+    fn is_same(&self, other: &Fattr) -> bool {
+        self == other
+    }
+}
+
+impl Same for FileHandle {
+    fn is_same(&self, other: &FileHandle) -> bool {
+        self == other
+    }
+}
+
+impl Same for LockDenied {
+    fn is_same(&self, other: &LockDenied) -> bool {
+        self == other
+    }
+}
+
+impl Same for Lockt {
+    fn is_same(&self, other: &Lockt) -> bool {
+        self == other
+    }
+}
+
+impl Same for Locku {
+    fn is_same(&self, other: &Locku) -> bool {
+        self == other
+    }
+}
+
+impl Same for OpenConfirm {
+    fn is_same(&self, other: &OpenConfirm) -> bool {
+        self == other
+    }
+}
+
+impl Same for OpenDowngrade {
+    fn is_same(&self, other: &OpenDowngrade) -> bool {
+        self == other
+    }
+}
+
+impl Same for Read {
+    fn is_same(&self, other: &Read) -> bool {
+        self == other
+    }
+}
+
+impl Same for ReadOk {
+    fn is_same(&self, other: &ReadOk) -> bool {
+        self == other
+    }
+}
+
+impl Same for ReleaseLockowner {
+    fn is_same(&self, other: &ReleaseLockowner) -> bool {
+        self == other
+    }
+}
+
+impl Same for Renew {
+    fn is_same(&self, other: &Renew) -> bool {
+        self == other
+    }
+}
+
+impl Same for Setclientid {
+    fn is_same(&self, other: &Setclientid) -> bool {
+        self == other
+    }
+}
+
+impl Same for SetclientidConfirm {
+    fn is_same(&self, other: &SetclientidConfirm) -> bool {
+        self == other
+    }
+}
+
+impl Same for Stateid {
+    fn is_same(&self, other: &Stateid) -> bool {
+        self == other
+    }
+}
+
+impl Same for Write {
+    fn is_same(&self, other: &Write) -> bool {
+        self == other
+    }
+}
+
+impl Same for WriteOk {
+    fn is_same(&self, other: &WriteOk) -> bool {
+        self == other
+    }
+}
