@@ -22,7 +22,7 @@ CLIENTS = 6
 # Clients that are used for a while, each by one kind of operation that renews its lease: by each link, the first of
 # them among its first FADE calls, the next one among twice as many, and so on.
 FADING = {9: "renew", 10: "lockt", 11: "release", 12: "open", 13: "open_confirm", 14: "open_downgrade", 15: "close",
-          16: "first_lock", 17: "next_lock", 18: "locku", 19: "delegreturn"}
+          16: "first_lock", 17: "next_lock", 18: "locku", 19: "delegreturn", 20: "read", 21: "write"}
 FADE = 5
 # How many clients the connection makes that comes alone.
 MADE = max(FADING)
@@ -39,6 +39,10 @@ DOCUMENT = 'policy.callbacks = "assume"\n' + DEFAULT
 DOCUMENT += "".join(f'[[file]]\npath = "{name.decode()}"\n' for name in LENT.values())
 # The bytes that everybody locks; each link has as many of its own above them.
 COMMON = 100
+# Where bytes of files are read and written, and how many at most; a few of those that are read are above them.
+BYTES, MOST_BYTES, MORE_BYTES = 400, 60, 3_000
+# The stateid that stands for no state.
+SPECIAL = bytes(16)
 
 
 @dataclass
@@ -206,7 +210,7 @@ class Link:
             self.open_denying: 1, self.open_downgrade: 2, self.open_confirm: 1, self.close: 0.4, self.again: 1,
             self.renew: 2, self.fading: 5, self.release: 3, self.setclientid: 1, self.setclientid_anew: 0.3,
             self.on_tree: 3, self.getattr: 2, self.guess: 2, self.lock_of_other: 1, self.open_lent: 3, self.call_back: 2,
-            self.claim: 0.5, self.give_back: 0.5}
+            self.claim: 0.5, self.give_back: 0.5, self.read: 3, self.write: 3, self.transfer_lent: 1}
         for _ in range(self.count):
             self.chance.choices(list(makers), makers.values())[0]()
         self.bytes = compounds(self.chunks, self.chance, [None] * 15 + [5])
@@ -291,6 +295,36 @@ class Link:
     def release(self):
         name = self.chance.choice([b"tester", b"nobody", b"new %d.%d" % (self.place, self.chance.randrange(60))])
         self.add(u32(Opnum.RELEASE_LOCKOWNER) + spelled(self.a_client(), name), may_fail=True)
+
+    # Bytes. All write the same ones of a few files, so what a READ gets depends on the others.
+
+    def read_words(self, state):
+        count = self.chance.choice([0, MOST_BYTES, MOST_BYTES, MORE_BYTES])
+        return u32(Opnum.READ) + state + u64(self.chance.randrange(BYTES)) + u32(count)
+
+    def write_words(self, state):
+        block = self.chance.randbytes(self.chance.randrange(MOST_BYTES))
+        return u32(Opnum.WRITE) + state + u64(self.chance.randrange(BYTES)) + u32(self.chance.randrange(3)) + opaque(block)
+
+    def a_stateid(self, one):
+        """Of the open, of its lock, or none of a state."""
+        lock = [stateid(max(one.lock.seqids), one.client, one.lock.number)] if one.lock else []
+        return self.chance.choice([stateid(one.seqid, one.client, one.number), *lock, SPECIAL])
+
+    def read(self):
+        one = self.an_open()
+        self.add(putfh(one.file), self.read_words(self.a_stateid(one)), may_fail=True)
+
+    def write(self):
+        one = self.an_open()
+        self.add(putfh(one.file), self.write_words(self.a_stateid(one)), may_fail=True)
+
+    def transfer_lent(self):
+        """By a delegation that may be gone, or by no state, which may call one back."""
+        client, file, number = self.a_delegation()
+        words = self.chance.choice([self.read_words, self.write_words])
+        state = self.chance.choice([stateid(1, client, number)] * 3 + [SPECIAL])
+        self.add(putfh(file), words(state), may_fail=True)
 
     # Opens.
 
@@ -399,6 +433,8 @@ class Link:
             "open_downgrade": u32(Opnum.OPEN_DOWNGRADE) + state + u32(2, READ, 0),
             "close": u32(Opnum.CLOSE, 2) + state, "locku": u32(Opnum.LOCKU, READ, 2) + state + span(0, 1),
             "delegreturn": u32(Opnum.DELEGRETURN) + state,
+            "read": u32(Opnum.READ) + state + u64(0) + u32(1),
+            "write": u32(Opnum.WRITE) + state + u64(0) + u32(0) + opaque(b""),
             "first_lock": u32(Opnum.LOCK, READ, 0) + span(0, 1) + u32(1, 2) + state + u32(1) + owner,
             "next_lock": u32(Opnum.LOCK, READ, 0) + span(0, 1) + u32(0) + state + u32(2)}[kind]
         self.add(putfh(1), operation, may_fail=True)
