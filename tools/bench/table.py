@@ -13,13 +13,15 @@ NAMES = {"null": "NULL", "getattr": "GETATTR", "renew": "RENEW", "open": "OPEN+C
          "read": "READ 4 KiB", "write": "WRITE 4 KiB"}
 
 # How many times the calls a second of nfs-ganesha are wanted, by connections and calls under way on each.
-OPENS_AND_LOCKS = {(1, 1): 2, (1, 16): 5, (4, 1): 2.4, (4, 16): 6}
+OF_STATES = {(1, 1): 2, (1, 16): 5, (4, 1): 2.4, (4, 16): 6}
 LEAST_RATES = {
     "null": {(1, 1): 1.5, (1, 16): 11, (4, 1): 3, (4, 16): 30},
     "getattr": {(1, 1): 2.2, (1, 16): 8, (4, 1): 2.6, (4, 16): 10},
     "renew": {(1, 1): 1.6, (1, 16): 10, (4, 1): 3, (4, 16): 20},
-    "open": OPENS_AND_LOCKS,
-    "lock": OPENS_AND_LOCKS,
+    "open": OF_STATES,
+    "lock": OF_STATES,
+    "read": OF_STATES,
+    "write": OF_STATES,
 }
 # And which part of its processor time a call may take, by calls under way.
 MOST_PROCESSOR = {"getattr": {1: 0.25, 16: 0.1}}
