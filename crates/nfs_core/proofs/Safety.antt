@@ -108,7 +108,7 @@ holds_after laws number entry effect old ready holds =
       numbered = numbered_after number entry effect old holds.numbered;
       ones = ones_written files changed (ones_changed effect.change mid ready.1 (ones_owned effect.owner number old holds.ones));
       delegations = delegations_written files changed (delegations_changed laws.apart laws.single effect.change mid ready.1
-      (sound_owner laws.opens effect.owner number old ready.0 holds.sound) (delegations_owned laws.apart effect.owner number old holds.delegations));
+          (sound_owner laws.opens effect.owner number old ready.0 holds.sound) (delegations_owned laws.apart effect.owner number old holds.delegations));
       order = order_after number entry effect old holds.numbered holds.order;
       singles = singles_after effect.change mid ready.1 (singles_owned effect.owner number old holds.singles);
       within = limits_written files changed (limits_changed laws.runs effect.change mid ready.1 (limits_owned effect.owner number old ready.0 holds.within));
