@@ -1,6 +1,8 @@
 -- No file has more bytes than a file may have.
-use Rattle.std.proofs.Common.{◌≡◌, ℕ, zero, suc, ◌++◌, ◌+◌, ◌≤◌, ◌-◌, ◌==◌, Option, Some, None, List, [], ◌∷◌, length, take, drop, refl, sym, subst, arith}
+use Rattle.std.proofs.Common.{◌≡◌, ℕ, zero, suc, ◌++◌, ◌+◌, ◌≤◌, ◌-◌, ◌==◌, Option, Some, None, List, [], ◌∷◌, length, take, drop, refl, sym, subst, arith, ◌∙◌}
 use Rattle.std.specs.Prelude.{if◌then◌else◌, option_and_then, replicate, slice_get}
+use Rattle.std.proofs.Math.Dec.{eqb-suc-zero}
+use Rattle.std.proofs.Math.Nat.{min-le_left}
 use Rattle.std.proofs.lemmas.Bool.{cond_both}
 use Rattle.std.proofs.lemmas.List.{length-append, length-drop, length-take}
 use Rattle.nfs_core.proofs.FileChanges.{files_stepped}
@@ -9,7 +11,7 @@ use Rattle.nfs_core.proofs.SoundSequences.{some_equal}
 use Rattle.nfs_core.proofs.Transferring.{each_write}
 use Rattle.nfs_core.specs.Lawful.{Lawful, Leads}
 use Rattle.nfs_core.specs.Safe.{HaveFewBytes}
-use Rattle.nfs_core.specs.Step.{Allows, Step}
+use Rattle.nfs_core.specs.Step.{Allows}
 use Rattle.nfs_rules.specs.declared.decision.Decision.{Decision}
 use Rattle.nfs_rules.specs.operations.{IsRuled}
 use Rattle.nfs_state.specs.Changes.{files_after}
@@ -32,11 +34,15 @@ use Rattle.nfs_xdr.specs.declared.op.Op.TheVariants as ops
 
 -- a WRITE that ends within the limit
 
+few_of_parts : (offset : ℕ) (first block rest bytes : List ℕ) → length first ≤ offset → offset + length block ≤ TEXT_LIMIT → length rest ≡ length bytes - (offset + length block) → length bytes ≤ TEXT_LIMIT
+    → length (first ++ block ++ rest) ≤ TEXT_LIMIT
+few_of_parts offset first block rest bytes before short left few = omega (arith, length-append (first ++ block) rest, length-append first block, before, short, left, few)
+
 few_in : (offset : ℕ) (block bytes : List ℕ) → offset + length block ≤ TEXT_LIMIT → length bytes ≤ TEXT_LIMIT → length (written offset block bytes) ≤ TEXT_LIMIT
 few_in offset block bytes short few =
     let filled = bytes ++ replicate (offset - length bytes) 0 in
-    let rest = drop (offset + length block) bytes in
-    omega (arith, length-append (take offset filled) (block ++ rest), length-append block rest, length-take offset filled, length-drop (offset + length block) bytes, short, few)
+    few_of_parts offset (take offset filled) block (drop (offset + length block) bytes) bytes
+    (subst (λ (n : ℕ). n ≤ offset) (sym (length-take offset filled)) (min-le_left offset (length filled))) short (length-drop (offset + length block) bytes) few
 
 few_written : (node offset : ℕ) (block : List ℕ) (files : List FileState) → offset + length block ≤ TEXT_LIMIT → HaveFewBytes files → HaveFewBytes (with_bytes node offset block files)
 few_written node offset [] files short h = h
@@ -91,9 +97,14 @@ few_among before [] n text fits is = absurd cc
 few_among before (node ∷ nodes) zero text fits is = few_of node.kind text fits.0.text is
 few_among before (node ∷ nodes) (suc n) text fits is = few_among (before ++ node ∷ []) nodes n text fits.1 is
 
+text_at : (nodes : List Node) (n : ℕ) → text_of nodes (suc n) ≡ option_and_then (λ node. text_of_kind node.kind) (slice_get nodes n)
+text_at nodes n =
+    let same : suc n - 1 ≡ n = omega arith in
+    rw (eqb-suc-zero n, same) refl
+
 few_at : (nodes : List Node) (n : ℕ) (text : List ℕ) → IsTree nodes → text_of nodes n ≡ Some text → length text ≤ TEXT_LIMIT
 few_at nodes zero text tree is = absurd cc
-few_at nodes (suc n) text tree is = few_among [] nodes n text tree.each_fits is
+few_at nodes (suc n) text tree is = few_among [] nodes n text tree.each_fits (sym (text_at nodes n) ∙ is)
 
 few_first : (node : ℕ) (text : Option (List ℕ)) → ((t : List ℕ) → text ≡ Some t → length t ≤ TEXT_LIMIT) → HaveFewBytes (initial_file node text)
 few_first node None within = tt
