@@ -52,7 +52,7 @@ pub struct Caller {
 }
 
 // What came of the beginning of a call.
-#[derive(Clone, Copy, Debug, PartialEq, Eq)]
+#[derive(Clone, Copy, PartialEq, Eq)]
 enum Beginning {
     UnderWay,
     // It was over at once.

@@ -8,7 +8,7 @@ use std::alloc::Global;
 use xdr::WireError;
 
 /// What a client is called back for.
-#[derive(Debug, Drop)]
+#[derive(Drop)]
 pub(crate) enum Errand {
     /// To recall a delegation, by a CB_COMPOUND.
     Recall(Recall),

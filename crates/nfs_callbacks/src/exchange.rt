@@ -31,7 +31,7 @@ const TRIES: u32 = 8_192;
 const REFUSALS: [i32; 7] = [4, 11, 12, 23, 24, 99, 105];
 
 /// Why the exchange of a callback didn't begin.
-#[derive(Clone, Copy, Debug, PartialEq, Eq)]
+#[derive(Clone, Copy, PartialEq, Eq)]
 pub(crate) enum BeginError {
     /// The client can't be called at its address.
     Fault,
@@ -40,7 +40,7 @@ pub(crate) enum BeginError {
 }
 
 /// How far an exchange is.
-#[derive(Clone, Copy, Debug, PartialEq, Eq)]
+#[derive(Clone, Copy, PartialEq, Eq)]
 pub(crate) enum Progress {
     /// The reply isn't there yet.
     UnderWay,
@@ -51,7 +51,7 @@ pub(crate) enum Progress {
 }
 
 // How far the bytes of one direction are.
-#[derive(Clone, Copy, Debug, PartialEq, Eq)]
+#[derive(Clone, Copy, PartialEq, Eq)]
 enum Flow {
     // They may go on at once.
     Open,
@@ -64,7 +64,7 @@ enum Flow {
 }
 
 // What the bytes that were read say.
-#[derive(Clone, Copy, Debug, PartialEq, Eq)]
+#[derive(Clone, Copy, PartialEq, Eq)]
 enum Verdict {
     // The first record is this reply.
     Reply(CallbackReply),

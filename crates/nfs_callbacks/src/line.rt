@@ -11,7 +11,7 @@ use std::collections::VecDeque;
 use std::mem;
 
 /// What the line of a client waits for.
-#[derive(Clone, Copy, Debug, PartialEq, Eq)]
+#[derive(Clone, Copy, PartialEq, Eq)]
 pub(crate) enum LineState {
     /// Nothing: no call is to be made.
     Empty,

@@ -4,7 +4,7 @@ use std::alloc::AllocError;
 use thiserror::Error;
 
 /// A live client of whose path nothing is known, and how it is called back.
-#[derive(Debug, Drop)]
+#[derive(Drop)]
 pub struct Probe {
     pub client: u32,
     pub callback: Callback,

@@ -42,7 +42,7 @@ use std::alloc::Global;
 use std::marker::Model;
 
 /// The state of a server (RFC 7530, section 9), and the journal of the changes that led to it.
-#[derive(Debug, Drop)]
+#[derive(Drop)]
 pub struct Core {
     alloc: Global,
     held: Holdings,

@@ -1,7 +1,7 @@
 use nfs_owners::LiveChange;
 
 /// What came of an operation whose entry was made.
-#[derive(Clone, Copy, Debug, PartialEq, Eq)]
+#[derive(Clone, Copy, PartialEq, Eq)]
 pub struct Entered {
     /// The number of the entry.
     pub number: u32,

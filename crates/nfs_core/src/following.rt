@@ -19,7 +19,7 @@ use nfs_state::{Call, Effect, Entry, Expire, Path, Request, Revoke, Shortage, St
 use std::alloc::Global;
 
 /// Why an entry that was handed in wasn't entered.
-#[derive(Clone, Copy, Debug, PartialEq, Eq)]
+#[derive(Clone, Copy, PartialEq, Eq)]
 pub enum FollowError {
     /// The entry may not come next.
     NotNext,

@@ -10,7 +10,7 @@ use std::mem;
 use xdr::Bytes;
 
 /// The recalls that a journal made, of which some were taken, the first ones first.
-#[derive(Debug, Drop)]
+#[derive(Drop)]
 pub(crate) struct PendingRecalls {
     alloc: Global,
     // In the place of one that was taken stands one that takes no memory.

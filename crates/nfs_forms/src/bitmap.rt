@@ -8,7 +8,7 @@ use xdr::{Measure, NO_LIMIT, Wire, WireError, read_few, write_many};
 
 /// A set of attributes (bitmap4): bit b is bit (b mod 32) of word (b / 32), rounded down. Contracts see the list of the
 /// words, so bitmaps that differ only in the number of zero words at the end are different values.
-#[derive(Debug, Drop)]
+#[derive(Drop)]
 pub struct Bitmap {
     words: SmallVec<u32, 2>,
 }

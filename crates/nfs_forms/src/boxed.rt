@@ -5,7 +5,7 @@ use std::marker::Model;
 use xdr::{Wire, WireError};
 
 /// A value in memory of its own, for what is large and seldom there. Contracts see the value.
-#[derive(Debug, Drop)]
+#[derive(Drop)]
 pub struct Boxed<T> {
     inner: Box<T>,
 }

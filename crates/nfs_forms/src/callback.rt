@@ -4,7 +4,7 @@ use std::alloc::Global;
 use xdr::{Bytes, Measure, Wire, WireError, write_three, write_two};
 
 /// Where a client receives callbacks: a transport and an address on it (clientaddr4; RFC 7530, section 2.2).
-#[derive(Clone, Debug, PartialEq, Drop)]
+#[derive(Clone, PartialEq, Drop)]
 pub struct Address {
     /// The transport's name, r_netid, such as `tcp`.
     pub netid: Bytes,
@@ -13,7 +13,7 @@ pub struct Address {
 }
 
 /// How the server calls a client back (cb_client4, and the callback_ident that follows it).
-#[derive(Clone, Debug, PartialEq, Drop)]
+#[derive(Clone, PartialEq, Drop)]
 pub struct Callback {
     /// The RPC program of the callbacks.
     pub program: u32,

@@ -5,7 +5,7 @@ use std::alloc::Global;
 use xdr::{Measure, Wire, WireError, read_flag, read_u64, write_three};
 
 /// The change attribute of a directory before and after an operation (change_info4; RFC 7530, section 2.2.6).
-#[derive(Clone, Copy, Debug, PartialEq, Eq)]
+#[derive(Clone, Copy, PartialEq, Eq)]
 pub struct ChangeInfo {
     /// Whether nothing else changed the directory between the two.
     pub atomic: bool,

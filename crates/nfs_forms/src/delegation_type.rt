@@ -5,7 +5,7 @@ use std::alloc::Global;
 use xdr::{Wire, WireError, read_u32, write_u32};
 
 /// Which delegation an open is given, if any (open_delegation_type4; RFC 7530, section 16.16).
-#[derive(Clone, Copy, Debug, PartialEq, Eq)]
+#[derive(Clone, Copy, PartialEq, Eq)]
 pub enum DelegationType {
     None = 0,
     Read = 1,

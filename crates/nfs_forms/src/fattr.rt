@@ -6,7 +6,7 @@ use xdr::{Bytes, Measure, Wire, WireError, write_two};
 
 /// Attributes of a file (fattr4; RFC 7530, section 5): which ones are given, and their values, each in its own form,
 /// one after the other in increasing order of the attributes' numbers.
-#[derive(Clone, Debug, PartialEq, Drop)]
+#[derive(Clone, PartialEq, Drop)]
 pub struct Fattr {
     pub mask: Bitmap,
     pub values: Bytes,

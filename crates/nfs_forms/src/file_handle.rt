@@ -12,7 +12,7 @@ use xdr::{Measure, Wire, WireError, padding_of, read_opaque, write_opaque};
 pub const FILE_HANDLE_LIMIT: usize = 128;
 
 /// A filehandle (nfs_fh4): up to 128 bytes that only the server interprets. Contracts see the bytes.
-#[derive(Debug, Drop)]
+#[derive(Drop)]
 pub struct FileHandle {
     bytes: SmallVec<u8, 16>,
 }

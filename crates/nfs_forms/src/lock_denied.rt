@@ -5,7 +5,7 @@ use std::alloc::Global;
 use xdr::{Measure, Wire, WireError, write_four};
 
 /// The lock of another owner for which a lock is denied (LOCK4denied; RFC 7530, section 16.10).
-#[derive(Clone, Debug, PartialEq, Drop)]
+#[derive(Clone, PartialEq, Drop)]
 pub struct LockDenied {
     /// The first byte of the stretch that the owner holds.
     pub offset: u64,

@@ -6,7 +6,7 @@ use xdr::{Measure, Opaque, Wire, WireError, write_two};
 
 /// Who locks bytes of files at a client, such as one of its processes (lock_owner4; RFC 7530, section 9.1.5). Its name
 /// has nothing to do with those of open owners.
-#[derive(Clone, Debug, PartialEq, Drop)]
+#[derive(Clone, PartialEq, Drop)]
 pub struct LockOwner {
     pub client: ClientId,
     /// The name that the client gave it.

@@ -6,7 +6,7 @@ use xdr::{Measure, Wire, WireError, read_u32, write_u32};
 
 /// Whether bytes are locked for reading or for writing, and whether the client waits for the lock (nfs_lock_type4; RFC
 /// 7530, section 16.10).
-#[derive(Clone, Copy, Debug, PartialEq, Eq)]
+#[derive(Clone, Copy, PartialEq, Eq)]
 pub enum LockType {
     Read = 1,
     Write = 2,

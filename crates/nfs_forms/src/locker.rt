@@ -7,7 +7,7 @@ use std::alloc::Global;
 use xdr::{Wire, WireError, write_four, write_two};
 
 /// Whose lock LOCK asks for (locker4; RFC 7530, section 16.10).
-#[derive(Clone, Debug, PartialEq, Drop)]
+#[derive(Clone, PartialEq, Drop)]
 pub enum Locker {
     /// An owner that gets a lock state for an open (new_lock_owner is TRUE).
     New(NewLocker),
@@ -16,7 +16,7 @@ pub enum Locker {
 }
 
 /// A lock owner, and the open that its lock state is to belong to (open_to_lock_owner4).
-#[derive(Clone, Debug, PartialEq, Drop)]
+#[derive(Clone, PartialEq, Drop)]
 pub struct NewLocker {
     /// The place of the request among those of the open's owner.
     pub open_seqid: u32,
@@ -27,7 +27,7 @@ pub struct NewLocker {
 }
 
 /// A lock state, which names the lock owner and the open (exist_lock_owner4).
-#[derive(Clone, Copy, Debug, PartialEq, Eq)]
+#[derive(Clone, Copy, PartialEq, Eq)]
 pub struct KnownLocker {
     pub lock_stateid: Stateid,
     /// The place of the request among those of the lock owner.

@@ -20,7 +20,7 @@ const LIMIT_SIZE: u32 = 1;
 const FILE_LIMIT: u32 = 65_536;
 
 /// The delegation that an open is given, with its stateid (open_delegation4; RFC 7530, section 16.16).
-#[derive(Clone, Copy, Debug, PartialEq, Eq)]
+#[derive(Clone, Copy, PartialEq, Eq)]
 pub enum OpenDelegation {
     None,
     Read(Stateid),

@@ -8,7 +8,7 @@ use xdr::{Measure, Opaque, Wire, WireError, write_two};
 pub const OWNER_NAME_LIMIT: u32 = 1024;
 
 /// Who opens files at a client, such as one of its processes (open_owner4; RFC 7530, section 9.1.5).
-#[derive(Clone, Debug, PartialEq, Drop)]
+#[derive(Clone, PartialEq, Drop)]
 pub struct OpenOwner {
     pub client: ClientId,
     /// The name that the client gave it.

@@ -1,7 +1,7 @@
 ghost use Rattle.std.specs.Prelude.{◌≡◌};
 
 /// Who sends a call: the flavor of its RPC credential, and under AUTH_SYS the uid (RFC 5531, section 8.2).
-#[derive(Clone, Copy, Debug)]
+#[derive(Clone, Copy)]
 pub enum Principal {
     /// AUTH_NONE.
     AuthNone,

@@ -6,7 +6,7 @@ use xdr::{Measure, Wire, WireError, read_u32, write_u32};
 
 /// How much of what is written is to be, or is, in stable storage when the server answers (stable_how4; RFC 7530,
 /// section 16.36).
-#[derive(Clone, Copy, Debug, PartialEq, Eq)]
+#[derive(Clone, Copy, PartialEq, Eq)]
 pub enum StableHow {
     /// As much as the server likes.
     Unstable = 0,

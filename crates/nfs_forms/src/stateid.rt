@@ -9,7 +9,7 @@ use xdr::{Measure, Wire, WireError, write_three};
 
 /// The server's name for a state, such as an open (stateid4; RFC 7530, section 9.1.4). The 12 bytes after `seqid`,
 /// which the RFC calls `other`, are the epoch, the client's number and the state's number.
-#[derive(Clone, Copy, Debug, PartialEq, Eq)]
+#[derive(Clone, Copy, PartialEq, Eq)]
 pub struct Stateid {
     /// How often the state has changed, from 1.
     pub seqid: u32,

@@ -7,7 +7,7 @@ use std::alloc::Global;
 use xdr::{Wire, WireError, read_u32, write_u32};
 
 /// A status without further data, whatever the operation (nfsstat4), with its number on the wire.
-#[derive(Clone, Copy, Debug, PartialEq, Eq)]
+#[derive(Clone, Copy, PartialEq, Eq)]
 pub enum Refusal {
     NoEnt = 2,
     Access = 13,
@@ -49,7 +49,7 @@ impl Refusal {
 
 /// The status of an operation or of a COMPOUND (nfsstat4). Statuses with which some operation returns data are separate
 /// from refusals, so that a refusal can't be one of them.
-#[derive(Clone, Copy, Debug, PartialEq, Eq)]
+#[derive(Clone, Copy, PartialEq, Eq)]
 pub enum Status {
     /// NFS4_OK.
     Ok,

@@ -5,7 +5,7 @@ use std::alloc::Global;
 use xdr::{Measure, Wire, WireError, read_fixed};
 
 /// Eight bytes that distinguish one start of a client, or of the server, from another (verifier4).
-#[derive(Clone, Copy, Debug, PartialEq, Eq)]
+#[derive(Clone, Copy, PartialEq, Eq)]
 pub struct Verifier(pub [u8; 8]);
 
 impl Wire for Verifier {

@@ -12,7 +12,7 @@ use std::alloc::Global;
 use xdr::{Sequence, Wire, WireError, write_many, write_three};
 
 /// What the file of a journal has.
-#[derive(Debug, Drop)]
+#[derive(Drop)]
 pub struct File {
     pub opening: Opening,
     /// The nodes beside the root, in the order of their numbers.

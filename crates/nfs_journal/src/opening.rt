@@ -14,7 +14,7 @@ const FIRST_LETTERS: u32 = 0x4e46_534a;
 const LAST_LETTERS: u32 = 0x524e_3031;
 
 /// What a server began with, beside its tree.
-#[derive(Clone, Copy, Debug)]
+#[derive(Clone, Copy)]
 pub struct Opening {
     /// The number of the server's run.
     pub epoch: u32,

@@ -1,7 +1,7 @@
 use nfs_state::Moment;
 
 /// A client's lease, as a look shows it.
-#[derive(Clone, Copy, Debug)]
+#[derive(Clone, Copy)]
 pub enum LeaseState {
     /// It was never opened.
     Vacant,

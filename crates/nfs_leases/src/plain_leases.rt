@@ -11,7 +11,7 @@ use std::alloc::{AllocError, Global};
 use std::marker::Model;
 
 /// A book of leases that is a plain list, with a place for each number of a client. Nobody else renews in it.
-#[derive(Debug, Drop)]
+#[derive(Drop)]
 pub struct PlainLeases {
     lease: u32,
     leases: Vec<LeaseState>,

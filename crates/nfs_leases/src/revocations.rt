@@ -1,5 +1,5 @@
 /// What came of the delegations that were due.
-#[derive(Clone, Copy, Debug)]
+#[derive(Clone, Copy)]
 pub(crate) struct Revocations {
     /// How many were revoked.
     pub(crate) count: u32,

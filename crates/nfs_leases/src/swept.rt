@@ -4,7 +4,7 @@ ghost use Rattle.nfs_leases.specs.Visit.{total, with_case};
 use crate::visit_case::VisitCase;
 
 /// How many clients a sweep treated in which way, and how many delegations it revoked.
-#[derive(Clone, Copy, Debug, PartialEq, Eq)]
+#[derive(Clone, Copy, PartialEq, Eq)]
 pub struct Swept {
     /// Those whose leases were closed, and that were removed.
     pub expired: u32,

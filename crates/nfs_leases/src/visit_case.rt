@@ -1,5 +1,5 @@
 /// How a sweep treated one client.
-#[derive(Clone, Copy, Debug)]
+#[derive(Clone, Copy)]
 pub(crate) enum VisitCase {
     /// The lease was closed, and the client removed.
     Expired,

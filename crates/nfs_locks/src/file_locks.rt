@@ -17,7 +17,7 @@ use std::alloc::{AllocError, Global};
 use std::marker::Model;
 
 /// The lock states of a file, in the order in which they began.
-#[derive(Debug, Drop)]
+#[derive(Drop)]
 pub(crate) struct FileLocks {
     states: Vec<LockState>,
     // ranges that are free and have room, for the next lock state

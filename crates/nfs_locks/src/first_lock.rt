@@ -2,7 +2,7 @@ use nfs_forms::LockOwner;
 use nfs_ranges::Piece;
 
 /// A lock owner's first lock of a file.
-#[derive(Debug, Drop)]
+#[derive(Drop)]
 pub struct FirstLock {
     pub owner: LockOwner,
     /// The number of the open that it comes under.

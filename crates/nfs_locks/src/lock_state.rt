@@ -3,7 +3,7 @@ use nfs_forms::{ClientId, LockOwner, Stateid};
 use nfs_ranges::{Piece, Ranges, first_change_has_place};
 
 /// What one lock owner holds of a file (RFC 7530, section 9.1.4).
-#[derive(Debug, Drop)]
+#[derive(Drop)]
 pub struct LockState {
     pub owner: LockOwner,
     /// The number of the open under which the owner's first lock of the file came.

@@ -17,13 +17,13 @@ use std::marker::Model;
 
 /// The lock states of all files, by the numbers of their nodes. A node that there isn't has no lock states, and a change
 /// of its lock states changes nothing.
-#[derive(Debug, Drop)]
+#[derive(Drop)]
 pub struct Locks {
     files: Vec<FileLocks>,
 }
 
 /// A lock state, and the node of its file.
-#[derive(Clone, Copy, Debug)]
+#[derive(Clone, Copy)]
 pub struct LockFound<'a> {
     pub node: u32,
     pub state: &'a LockState,

@@ -10,7 +10,7 @@ use nfs_ranges::{Mode, Range};
 
 /// The lock that is in the way of another one: the bytes that its owner holds in one mode round the first byte where it
 /// is.
-#[derive(Clone, Copy, Debug)]
+#[derive(Clone, Copy)]
 pub struct Report<'a> {
     pub range: Range,
     pub mode: Mode,
@@ -18,7 +18,7 @@ pub struct Report<'a> {
 }
 
 /// A report, and the first byte that is refused.
-#[derive(Clone, Copy, Debug)]
+#[derive(Clone, Copy)]
 pub(crate) struct Meeting<'a> {
     pub byte: u64,
     pub report: Report<'a>,

@@ -11,7 +11,7 @@ pub type Arguments = u32;
 pub type Outcome = Answer<AccessBits>;
 
 /// What ACCESS answers about the access rights that the client asked about.
-#[derive(Clone, Copy, Debug, PartialEq, Eq)]
+#[derive(Clone, Copy, PartialEq, Eq)]
 pub struct AccessBits {
     /// The rights that the server can check.
     pub supported: u32,

@@ -9,7 +9,7 @@ use xdr::{Wire, WireError, write_two};
 pub type Arguments = Close;
 
 /// The arguments of CLOSE.
-#[derive(Clone, Copy, Debug, PartialEq, Eq)]
+#[derive(Clone, Copy, PartialEq, Eq)]
 pub struct Close {
     /// The place of the request among those of its owner.
     pub seqid: u32,

@@ -9,7 +9,7 @@ use xdr::{Wire, WireError};
 pub type Arguments = Delegreturn;
 
 /// The arguments of DELEGRETURN.
-#[derive(Clone, Copy, Debug, PartialEq, Eq)]
+#[derive(Clone, Copy, PartialEq, Eq)]
 pub struct Delegreturn {
     pub stateid: Stateid,
 }

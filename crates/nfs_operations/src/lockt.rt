@@ -8,7 +8,7 @@ use xdr::{Wire, WireError, write_four};
 pub type Arguments = Lockt;
 
 /// The arguments of LOCKT.
-#[derive(Clone, Debug, PartialEq, Drop)]
+#[derive(Clone, PartialEq, Drop)]
 pub struct Lockt {
     pub locktype: LockType,
     /// The first byte.

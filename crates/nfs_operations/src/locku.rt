@@ -9,7 +9,7 @@ use xdr::{Wire, WireError, write_five};
 pub type Arguments = Locku;
 
 /// The arguments of LOCKU.
-#[derive(Clone, Copy, Debug, PartialEq, Eq)]
+#[derive(Clone, Copy, PartialEq, Eq)]
 pub struct Locku {
     /// Any: bytes are given up however they are locked.
     pub locktype: LockType,

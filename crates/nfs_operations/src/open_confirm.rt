@@ -9,7 +9,7 @@ use xdr::{Wire, WireError, write_two};
 pub type Arguments = OpenConfirm;
 
 /// The arguments of OPEN_CONFIRM.
-#[derive(Clone, Copy, Debug, PartialEq, Eq)]
+#[derive(Clone, Copy, PartialEq, Eq)]
 pub struct OpenConfirm {
     pub stateid: Stateid,
     /// The place of the request among those of its owner.

@@ -9,7 +9,7 @@ use xdr::{Wire, WireError, write_four};
 pub type Arguments = OpenDowngrade;
 
 /// The arguments of OPEN_DOWNGRADE.
-#[derive(Clone, Copy, Debug, PartialEq, Eq)]
+#[derive(Clone, Copy, PartialEq, Eq)]
 pub struct OpenDowngrade {
     pub stateid: Stateid,
     /// The place of the request among those of its owner.

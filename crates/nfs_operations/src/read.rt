@@ -9,7 +9,7 @@ use xdr::{Measure, SharedBytes, Wire, WireError, write_three, write_two};
 pub type Arguments = Read;
 
 /// The arguments of READ.
-#[derive(Clone, Copy, Debug, PartialEq, Eq)]
+#[derive(Clone, Copy, PartialEq, Eq)]
 pub struct Read {
     /// An open, a lock state or a delegation, or a special stateid.
     pub stateid: Stateid,
@@ -23,7 +23,7 @@ pub struct Read {
 pub type Outcome = Answer<ReadOk>;
 
 /// What READ answers about the bytes of a file.
-#[derive(Clone, Debug, PartialEq, Drop)]
+#[derive(Clone, PartialEq, Drop)]
 pub struct ReadOk {
     /// Whether the file ends with the last of the bytes, or before the first one.
     pub eof: bool,

@@ -8,7 +8,7 @@ use xdr::{Wire, WireError};
 pub type Arguments = ReleaseLockowner;
 
 /// The arguments of RELEASE_LOCKOWNER.
-#[derive(Clone, Debug, PartialEq, Drop)]
+#[derive(Clone, PartialEq, Drop)]
 pub struct ReleaseLockowner {
     pub owner: LockOwner,
 }

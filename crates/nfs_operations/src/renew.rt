@@ -8,7 +8,7 @@ use xdr::{Wire, WireError};
 pub type Arguments = Renew;
 
 /// The arguments of RENEW.
-#[derive(Clone, Copy, Debug, PartialEq, Eq)]
+#[derive(Clone, Copy, PartialEq, Eq)]
 pub struct Renew {
     pub client: ClientId,
 }

@@ -12,7 +12,7 @@ pub const ID_LIMIT: u32 = 1024;
 pub type Arguments = Setclientid;
 
 /// The arguments of SETCLIENTID.
-#[derive(Clone, Debug, PartialEq, Drop)]
+#[derive(Clone, PartialEq, Drop)]
 pub struct Setclientid {
     /// Identifies one start of the client: it changes when the client restarts.
     pub verifier: Verifier,

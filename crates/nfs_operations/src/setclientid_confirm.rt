@@ -9,7 +9,7 @@ use xdr::{Measure, Wire, WireError, write_two};
 pub type Arguments = SetclientidConfirm;
 
 /// The arguments of SETCLIENTID_CONFIRM, which SETCLIENTID also returns.
-#[derive(Clone, Copy, Debug, PartialEq, Eq)]
+#[derive(Clone, Copy, PartialEq, Eq)]
 pub struct SetclientidConfirm {
     pub client: ClientId,
     /// The value by which the client confirms the clientid.

@@ -9,7 +9,7 @@ use xdr::{Measure, SharedBytes, Wire, WireError, write_four, write_three};
 pub type Arguments = Write;
 
 /// The arguments of WRITE.
-#[derive(Clone, Debug, PartialEq, Drop)]
+#[derive(Clone, PartialEq, Drop)]
 pub struct Write {
     /// An open, a lock state or a delegation, or a special stateid.
     pub stateid: Stateid,
@@ -24,7 +24,7 @@ pub struct Write {
 pub type Outcome = Answer<WriteOk>;
 
 /// What WRITE answers about the bytes.
-#[derive(Clone, Copy, Debug, PartialEq, Eq)]
+#[derive(Clone, Copy, PartialEq, Eq)]
 pub struct WriteOk {
     /// How many bytes were written.
     pub count: u32,

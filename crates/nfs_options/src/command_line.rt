@@ -11,7 +11,7 @@ use std::alloc::Global;
 use std::convert::AsStr;
 
 /// What the words of the command line ask the program to do.
-#[derive(Clone, Copy, Debug, PartialEq, Eq)]
+#[derive(Clone, Copy, PartialEq, Eq)]
 pub enum Subcommand<'a> {
     /// Serve standard input to its end.
     Once(OnceOptions<'a>),

@@ -9,7 +9,7 @@ use clap::error::ErrorKind;
 use std::alloc::{AllocError, Global};
 
 /// Why the words of the command line don't ask for anything that the program can do.
-#[derive(Debug, Drop)]
+#[derive(Drop)]
 pub enum Declined {
     /// They ask for help. This is its text, to be printed on standard output.
     Help(String),

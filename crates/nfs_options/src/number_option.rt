@@ -9,7 +9,7 @@ use nfs_core::{LEASE_MAX, LEASE_MIN};
 use std::alloc::{AllocError, Global};
 
 /// An option whose value is a number, written in decimal digits without a sign.
-#[derive(Clone, Copy, Debug)]
+#[derive(Clone, Copy)]
 pub(crate) struct NumberOption {
     pub(crate) name: &'static str,
     /// The name of the value in the help text.

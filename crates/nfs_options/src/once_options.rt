@@ -9,7 +9,7 @@ use clap::ArgMatches;
 use std::alloc::Global;
 
 /// The options of `once`.
-#[derive(Clone, Copy, Debug, PartialEq, Eq)]
+#[derive(Clone, Copy, PartialEq, Eq)]
 pub struct OnceOptions<'a> {
     /// The file that describes the tree of files to serve, if there is one.
     pub tree: Option<&'a str>,

@@ -10,7 +10,7 @@ use clap::ArgMatches;
 use std::alloc::Global;
 
 /// The options of `serve`.
-#[derive(Clone, Copy, Debug, PartialEq, Eq)]
+#[derive(Clone, Copy, PartialEq, Eq)]
 pub struct ServeOptions<'a> {
     /// The address to listen on, as it is written.
     pub listen: &'a str,

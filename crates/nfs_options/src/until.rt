@@ -9,7 +9,7 @@ use clap::error::ErrorKind;
 use std::alloc::Global;
 
 /// Until when a run of `serve` goes on that doesn't end with a number of connections.
-#[derive(Clone, Copy, Debug, PartialEq, Eq)]
+#[derive(Clone, Copy, PartialEq, Eq)]
 pub enum Until {
     /// Until standard input ends.
     InputEnds,

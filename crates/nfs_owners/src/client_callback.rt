@@ -10,7 +10,7 @@ use std::marker::Model;
 pub const ADDRESS_LIMIT: usize = 128;
 
 /// How a client is called back, as its record stores it: both parts of the address are within the limit.
-#[derive(Debug, Drop)]
+#[derive(Drop)]
 pub struct ClientCallback {
     callback: Callback,
 }

@@ -5,7 +5,7 @@ use nfs_xdr::{ClientId, Principal, Verifier};
 use xdr::Opaque;
 
 /// What the server stores of a SETCLIENTID, written { v, x, c, l, s } in RFC 7530, section 16.33.5.
-#[derive(Debug, Drop)]
+#[derive(Drop)]
 pub struct ClientRecord {
     /// The name that the client gave itself (x).
     pub id: Opaque<ID_LIMIT>,
@@ -13,7 +13,7 @@ pub struct ClientRecord {
 }
 
 /// What a client's record has besides the client's name.
-#[derive(Clone, Debug, Drop)]
+#[derive(Clone, Drop)]
 pub struct ClientState {
     /// The principal that sent the SETCLIENTID.
     pub principal: Principal,
@@ -30,7 +30,7 @@ pub struct ClientState {
 }
 
 /// What is known about the path to a client's callbacks.
-#[derive(Clone, Copy, Debug, PartialEq, Eq)]
+#[derive(Clone, Copy, PartialEq, Eq)]
 pub enum PathMark {
     /// Nothing is known yet.
     Unknown,

@@ -5,7 +5,7 @@ use crate::ClientState;
 use nfs_operations::setclientid::ID_LIMIT;
 
 /// A client's record, lent: its id, which is at most as long as that of a record, and what else it has.
-#[derive(Clone, Copy, Debug)]
+#[derive(Clone, Copy)]
 pub struct ClientRef<'a> {
     pub id: &'a [u8],
     pub state: &'a ClientState,

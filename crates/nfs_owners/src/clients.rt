@@ -19,7 +19,7 @@ use std::marker::Model;
 /// The clients' confirmed and unconfirmed records, each in the order in which they were added, and the numbers that were
 /// given out last. An id has at most one record of each kind, and a client number is that of one id. SETCLIENTID and
 /// SETCLIENTID_CONFIRM are decided first (`set`, `confirm`); after `make_room` the change takes no memory.
-#[derive(Debug, Drop)]
+#[derive(Drop)]
 pub struct Clients {
     confirmed: Vec<ClientRecord>,
     unconfirmed: Vec<ClientRecord>,

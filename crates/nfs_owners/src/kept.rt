@@ -4,7 +4,7 @@ ghost use Rattle.nfs_owners.specs.Kept.{IsVerdict, closes, is_close, next_seqid,
 use nfs_xdr::{Answer, ClientId, Op, OpResult};
 
 /// The request that is kept for an owner, with its sequence id, and the answer to it (RFC 7530, section 9.1.8).
-#[derive(Debug, Drop)]
+#[derive(Drop)]
 pub struct Kept {
     pub seqid: u32,
     pub request: KeptRequest,
@@ -13,7 +13,7 @@ pub struct Kept {
 
 /// What a request and its retransmission have in common: the operation with its arguments, and the current
 /// filehandle.
-#[derive(Debug, Drop)]
+#[derive(Drop)]
 pub struct KeptRequest {
     pub op: Op,
     /// The node of the current filehandle, if there is one.
@@ -21,7 +21,7 @@ pub struct KeptRequest {
 }
 
 /// The verdict on a request, given the one that is kept for its owner (RFC 7530, section 9.1.7).
-#[derive(Clone, Copy, Debug)]
+#[derive(Clone, Copy)]
 pub enum Verdict<'a> {
     /// It is the owner's next request.
     New,

@@ -1,5 +1,5 @@
 /// Who comes to be live by a change, or is live no longer. Clients are told by their numbers.
-#[derive(Clone, Copy, Debug, PartialEq, Eq)]
+#[derive(Clone, Copy, PartialEq, Eq)]
 pub enum LiveChange {
     /// Nobody came or went.
     Same,

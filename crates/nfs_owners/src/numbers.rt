@@ -5,7 +5,7 @@ use std::marker::Model;
 
 /// The numbers of states (RFC 7530, section 9.1.4). They go up from 1, and none is given twice. Contracts see the one
 /// that was given last, or 0.
-#[derive(Debug, Drop)]
+#[derive(Drop)]
 pub struct Numbers {
     last: u32,
 }

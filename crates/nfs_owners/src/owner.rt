@@ -6,14 +6,14 @@ use crate::{Kept, OwnerRef, StateOwner};
 use nfs_xdr::ClientId;
 
 /// An owner that the server knows (RFC 7530, section 9.1.5).
-#[derive(Debug, Drop)]
+#[derive(Drop)]
 pub struct Owner {
     pub name: StateOwner,
     pub state: OwnerState,
 }
 
 /// What the server keeps for an owner: its kept request is the last one that counted.
-#[derive(Debug, Drop)]
+#[derive(Drop)]
 pub struct OwnerState {
     /// Whether an OPEN_CONFIRM has confirmed the owner, which is an open owner then.
     pub confirmed: bool,
@@ -26,7 +26,7 @@ pub struct OwnerState {
 }
 
 /// What the server knows of an owner (RFC 7530, section 9.1.11).
-#[derive(Clone, Copy, Debug, PartialEq, Eq)]
+#[derive(Clone, Copy, PartialEq, Eq)]
 pub enum OwnerStanding {
     /// Nothing.
     Unknown,

@@ -8,7 +8,7 @@ use std::alloc::{AllocError, Global};
 
 /// An owner's kind, client and name, lent: by these an owner is looked for without a copy of its name, which is at most
 /// as long as that of an owner.
-#[derive(Clone, Copy, Debug)]
+#[derive(Clone, Copy)]
 pub struct OwnerRef<'a> {
     pub kind: OwnerKind,
     pub client: ClientId,

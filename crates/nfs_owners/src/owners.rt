@@ -17,7 +17,7 @@ use std::marker::Model;
 
 /// The owners that the server knows, in the order in which they were recorded: at most `OWNER_LIMIT`, no two with one
 /// name.
-#[derive(Debug, Drop)]
+#[derive(Drop)]
 pub struct Owners {
     owners: Vec<Owner>,
 }

@@ -6,14 +6,14 @@ use nfs_forms::{ClientId, LockOwner, OWNER_NAME_LIMIT, OpenOwner};
 use xdr::Opaque;
 
 /// The name spaces of owners, each of its own.
-#[derive(Clone, Copy, Debug, PartialEq, Eq)]
+#[derive(Clone, Copy, PartialEq, Eq)]
 pub enum OwnerKind {
     Open,
     Lock,
 }
 
 /// Who goes by sequence ids at a client: an open owner or a lock owner (RFC 7530, section 9.1.5).
-#[derive(Debug, Drop)]
+#[derive(Drop)]
 pub struct StateOwner {
     pub kind: OwnerKind,
     pub client: ClientId,

@@ -22,7 +22,7 @@ pub(crate) struct ReachedLimits {
 }
 
 /// How far a run is from a limit.
-#[derive(Clone, Copy, Debug, PartialEq, Eq)]
+#[derive(Clone, Copy, PartialEq, Eq)]
 pub(crate) enum Reach {
     Below,
     /// It has reached it, which wasn't told yet.

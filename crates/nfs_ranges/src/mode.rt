@@ -2,7 +2,7 @@ ghost use Rattle.std.specs.Prelude.{◌≡◌};
 ghost use Rattle.nfs_ranges.specs.Modes.{conflicts, is_same};
 
 /// What a lock is for: to read bytes while others may read them, or to write them alone (RFC 7530, section 16.10).
-#[derive(Clone, Copy, Debug, PartialEq, Eq)]
+#[derive(Clone, Copy, PartialEq, Eq)]
 pub enum Mode {
     /// Others may read the bytes.
     Read,

@@ -13,7 +13,7 @@ use std::alloc::Global;
 use std::marker::Model;
 
 /// The bytes of a file that one lock owner holds, each in the mode of the last change that had it.
-#[derive(Debug, Drop)]
+#[derive(Drop)]
 pub struct Ranges {
     pieces: Vec<Piece>,
     // how many runs the pieces make

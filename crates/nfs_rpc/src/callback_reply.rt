@@ -14,7 +14,7 @@ use nfs_xdr::Status;
 use xdr::{NO_LIMIT, WireError, read_constant, read_opaque, read_u32};
 
 /// What a client says to a callback.
-#[derive(Clone, Copy, Debug, PartialEq, Eq)]
+#[derive(Clone, Copy, PartialEq, Eq)]
 pub enum CallbackReply {
     /// The call was carried out: SUCCESS, and for a CB_COMPOUND also status OK.
     Accepted,

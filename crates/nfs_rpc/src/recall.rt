@@ -8,7 +8,7 @@ use nfs_xdr::{Callback, FILE_HANDLE_LIMIT, FileHandle, Principal, Stateid};
 use xdr::{WireError, write_five, write_three, write_u32};
 
 /// The recall of a delegation (RFC 7530, section 10.4.4): which one, and how its client is called back.
-#[derive(Clone, Debug, Drop)]
+#[derive(Clone, Drop)]
 pub struct Recall {
     /// How the client is called back.
     pub callback: Callback,

@@ -45,7 +45,7 @@ pub const ACCEPTED_LEN: usize = 24;
 pub const SHORT_REPLY_LEN: usize = 32;
 
 /// The result of a COMPOUND.
-#[derive(Debug, Drop)]
+#[derive(Drop)]
 pub struct CompoundReply {
     pub status: Status,
     /// The tag of the call.
@@ -54,7 +54,7 @@ pub struct CompoundReply {
 }
 
 /// The reply to a call.
-#[derive(Debug, Drop)]
+#[derive(Drop)]
 pub enum Reply {
     /// SUCCESS, the reply to NULL.
     Null,

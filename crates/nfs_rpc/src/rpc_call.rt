@@ -25,7 +25,7 @@ pub const PROC_NULL: u32 = 0;
 pub const PROC_COMPOUND: u32 = 1;
 
 /// What a record asks of the server.
-#[derive(Debug, Drop)]
+#[derive(Drop)]
 pub enum RpcCall {
     /// Nothing: the record gets no reply.
     Silent,

@@ -2,7 +2,7 @@ use nfs_state::Effect;
 use nfs_xdr::OpResult;
 
 /// How an operation is answered, and what its entry does to the state.
-#[derive(Debug, Drop)]
+#[derive(Drop)]
 pub struct Decision {
     pub answer: OpResult,
     pub effect: Effect,

@@ -4,7 +4,7 @@ ghost use Rattle.nfs_rules.specs.Stateids.{any_open, any_state, confirmed_open, 
 use nfs_xdr::ClientId;
 
 /// The kinds of state that an operation works on.
-#[derive(Clone, Copy, Debug)]
+#[derive(Clone, Copy)]
 pub struct Kinds {
     pub opens: bool,
     pub locks: bool,
@@ -12,7 +12,7 @@ pub struct Kinds {
 }
 
 /// What an operation demands of the state that its stateid names.
-#[derive(Clone, Copy, Debug)]
+#[derive(Clone, Copy)]
 pub struct Demand {
     /// The node of the current filehandle, whose file has to be the state's.
     pub node: u32,

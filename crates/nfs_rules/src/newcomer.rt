@@ -11,7 +11,7 @@ use nfs_state::{Journal, Tables};
 use nfs_xdr::Op;
 
 /// The lock owner that a request introduces (RFC 7530, sections 9.1.7 and 16.10.5).
-#[derive(Clone, Copy, Debug)]
+#[derive(Clone, Copy)]
 pub(crate) enum Newcomer<'a> {
     /// There is none, or the request isn't for its account: it is of another client than the owner of the stateid, or
     /// it is known and its sequence id isn't the next one.

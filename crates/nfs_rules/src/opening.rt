@@ -1,7 +1,7 @@
 use nfs_share::Share;
 
 /// What an OPEN opens, and for which share.
-#[derive(Clone, Copy, Debug)]
+#[derive(Clone, Copy)]
 pub struct Opening {
     pub node: u32,
     pub share: Share,

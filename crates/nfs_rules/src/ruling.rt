@@ -5,7 +5,7 @@ use nfs_state::Change;
 use nfs_xdr::{OpResult, Opnum, Refusal};
 
 /// The answer of a sequenced operation's own rule, and what it changes.
-#[derive(Debug, Drop)]
+#[derive(Drop)]
 pub struct Ruling {
     pub answer: OpResult,
     pub change: Change,

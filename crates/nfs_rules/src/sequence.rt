@@ -18,14 +18,14 @@ use nfs_xdr::{Op, OpResult, OpenOwner, Refusal, Stateid};
 use std::alloc::AllocError;
 
 /// Whose sequence id a request goes by, with that of the request, or why it goes by none.
-#[derive(Clone, Copy, Debug)]
+#[derive(Clone, Copy)]
 pub(crate) enum Requester<'a> {
     Refused(Refusal),
     Owner(OwnerRef<'a>, u32),
 }
 
 /// Whether a request is answered without its own rule, or goes on to it, as one of this owner's.
-#[derive(Debug, Drop)]
+#[derive(Drop)]
 pub(crate) enum SequenceStep<'a> {
     Answered(OpResult),
     GoesOn(Passage, OwnerRef<'a>),

@@ -18,7 +18,7 @@ use nfs_state::Tables;
 use nfs_xdr::{ClientId, OpenOwner, Refusal, Stateid};
 
 /// A state that a stateid names, as it was found.
-#[derive(Clone, Copy, Debug)]
+#[derive(Clone, Copy)]
 pub(crate) enum Found<'a> {
     AnOpen(OpenFound<'a>),
     ALock(LockFound<'a>),
@@ -26,7 +26,7 @@ pub(crate) enum Found<'a> {
 }
 
 /// A delegation, and the node of its file.
-#[derive(Clone, Copy, Debug)]
+#[derive(Clone, Copy)]
 pub(crate) struct FoundDelegation<'a> {
     pub node: u32,
     pub state: &'a Delegation,

@@ -12,7 +12,7 @@ use nfs_state::{Change, Effect, Journal, Moment, Request, Store, Tables};
 use nfs_xdr::{Opnum, Refusal, Stateid};
 
 /// What is done with the bytes of a file, where a stateid allows it.
-#[derive(Clone, Copy, Debug, PartialEq, Eq)]
+#[derive(Clone, Copy, PartialEq, Eq)]
 pub enum Transfer {
     Read,
     Write,

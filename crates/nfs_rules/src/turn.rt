@@ -3,7 +3,7 @@ use crate::stateids::Found;
 use nfs_xdr::Refusal;
 
 /// How a request came to the own rule of its operation, and with what.
-#[derive(Clone, Copy, Debug)]
+#[derive(Clone, Copy)]
 pub(crate) struct Turn<'a> {
     /// The node of the current filehandle.
     pub node: u32,

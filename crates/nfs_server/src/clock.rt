@@ -12,7 +12,7 @@ pub trait Clock {
 }
 
 /// A clock that always shows the same moment.
-#[derive(Clone, Copy, Debug)]
+#[derive(Clone, Copy)]
 pub struct Stopped {
     moment: Moment,
 }

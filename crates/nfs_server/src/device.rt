@@ -51,7 +51,7 @@ pub trait Sink {
 }
 
 /// A device of std that counts its failed calls.
-#[derive(Debug, Drop)]
+#[derive(Drop)]
 pub struct Counted<D> {
     device: D,
     failures: u64,

@@ -10,7 +10,7 @@ use std::alloc::Global;
 use std::marker::Model;
 
 /// A call that waits for its answer, with the record that it was read from.
-#[derive(Debug, Drop)]
+#[derive(Drop)]
 pub(crate) struct PendingCall {
     message: Vec<u8>,
     call: RpcCall,

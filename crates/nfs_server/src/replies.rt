@@ -36,7 +36,7 @@ const REPLY_LEN: usize = RECORD_LIMIT + HEADER_LEN;
 
 /// Calls that wait for their answers, replies that wait to be written together, and a list for the results of the next
 /// COMPOUND.
-#[derive(Debug, Drop)]
+#[derive(Drop)]
 pub(crate) struct Replies {
     alloc: Global,
     pending: VecDeque<PendingCall>,

@@ -1,7 +1,7 @@
 use crate::{DeviceFailed, Duplex, Sink, Source};
 
 /// A source and a sink as one device.
-#[derive(Debug, Drop)]
+#[derive(Drop)]
 pub struct Sides<R, W> {
     pub source: R,
     pub sink: W,

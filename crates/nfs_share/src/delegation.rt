@@ -14,7 +14,7 @@ pub enum DelegationKind {
 }
 
 /// What is done with a file, or asked to be, and by which client, if by one.
-#[derive(Clone, Copy, Debug)]
+#[derive(Clone, Copy)]
 pub enum FileUse {
     /// The client opens it for this share.
     Open(ClientId, Share),

@@ -15,7 +15,7 @@ use std::marker::Model;
 /// The opens of a file, each of which keeps others out by its share reservation (RFC 7530, section 9.9), and its
 /// delegations, of each of which other clients have to wait for the return (section 10.4). A second OPEN of an owner
 /// joins the open that the owner has.
-#[derive(Debug, Drop)]
+#[derive(Drop)]
 pub struct FileShare {
     opens: Vec<OpenState>,
     delegations: Vec<Delegation>,

@@ -2,7 +2,7 @@ ghost use Rattle.std.specs.Prelude.{◌≡◌};
 
 /// Reading and writing: neither, one or both. An OPEN names so what it may do itself (share_access), and what it denies
 /// to others (share_deny; RFC 7530, section 9.9).
-#[derive(Clone, Copy, Debug, PartialEq, Eq, Default)]
+#[derive(Clone, Copy, PartialEq, Eq, Default)]
 pub struct Modes {
     pub read: bool,
     pub write: bool,

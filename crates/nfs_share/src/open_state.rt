@@ -2,7 +2,7 @@ use crate::{Share, Shares};
 use nfs_forms::{ClientId, OpenOwner, Stateid};
 
 /// An open of a file: all that one owner has opened the file for (RFC 7530, section 9.10).
-#[derive(Debug, Drop)]
+#[derive(Drop)]
 pub struct OpenState {
     pub owner: OpenOwner,
     /// The shares of the OPENs that made it.

@@ -13,20 +13,20 @@ use std::marker::Model;
 
 /// The opens and the delegations of all files, by the numbers of their nodes. A node that there isn't has none, and a
 /// change of those changes nothing.
-#[derive(Debug, Drop)]
+#[derive(Drop)]
 pub struct Opens {
     files: Vec<FileShare>,
 }
 
 /// An open, and the node of its file.
-#[derive(Clone, Copy, Debug)]
+#[derive(Clone, Copy)]
 pub struct OpenFound<'a> {
     pub node: u32,
     pub state: &'a OpenState,
 }
 
 /// A delegation, and the node of its file.
-#[derive(Clone, Copy, Debug)]
+#[derive(Clone, Copy)]
 pub struct DelegationFound {
     pub node: u32,
     pub state: Delegation,

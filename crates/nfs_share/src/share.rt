@@ -3,7 +3,7 @@ ghost use Rattle.std.specs.Prelude.{◌≡◌};
 use crate::Modes;
 
 /// The share reservation of an OPEN: what it may do itself, and what it denies to others (RFC 7530, section 9.9).
-#[derive(Clone, Copy, Debug, PartialEq, Eq, Default)]
+#[derive(Clone, Copy, PartialEq, Eq, Default)]
 pub struct Share {
     pub access: Modes,
     pub deny: Modes,

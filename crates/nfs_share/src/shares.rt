@@ -12,7 +12,7 @@ pub const SHARE_COUNT: usize = 16;
 
 /// The shares of the OPENs that make up one open, in the order in which they came, each once. Contracts see the list of
 /// them.
-#[derive(Debug, Drop)]
+#[derive(Drop)]
 pub struct Shares {
     pairs: ArrayVec<Share, SHARE_COUNT>,
 }

@@ -6,7 +6,7 @@ use nfs_share::{DelegationKind, FileUse, Share};
 use nfs_xdr::{ClientId, OpenOwner};
 
 /// What an entry changes in the state, besides what its entry means for an owner.
-#[derive(Debug, Drop)]
+#[derive(Drop)]
 pub enum Change {
     Nothing,
     /// The clients' records. A client that is replaced loses its owners, its opens, its lock states and its

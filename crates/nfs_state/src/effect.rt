@@ -6,7 +6,7 @@ use crate::{Change, OwnerChange};
 use nfs_owners::LiveChange;
 
 /// What an entry of the journal does to the state: first what it means for the owners, and then the change.
-#[derive(Debug, Drop)]
+#[derive(Drop)]
 pub struct Effect {
     pub owner: OwnerChange,
     pub change: Change,

@@ -10,7 +10,7 @@ use nfs_xdr::{Names, Op, OpResult};
 use std::alloc::AllocError;
 
 /// One event that the journal records.
-#[derive(Debug, Drop)]
+#[derive(Drop)]
 pub enum Entry {
     /// An operation that was answered.
     Call(Call),
@@ -23,14 +23,14 @@ pub enum Entry {
 }
 
 /// A request and its answer.
-#[derive(Debug, Drop)]
+#[derive(Drop)]
 pub struct Call {
     pub request: Request,
     pub answer: OpResult,
 }
 
 /// The end of a client: its lease had run out (RFC 7530, section 9.6).
-#[derive(Debug, Drop)]
+#[derive(Drop)]
 pub struct Expire {
     /// The client's number.
     pub client: u32,
@@ -41,7 +41,7 @@ pub struct Expire {
 }
 
 /// The end of a delegation that was called back and wasn't given back within a lease (RFC 7530, section 10.4.6).
-#[derive(Debug, Drop)]
+#[derive(Drop)]
 pub struct Revoke {
     /// The number in the delegation's stateid.
     pub number: u32,
@@ -50,7 +50,7 @@ pub struct Revoke {
 }
 
 /// Whether callbacks reach a client, as far as is known (RFC 7530, section 10.2).
-#[derive(Debug, Drop)]
+#[derive(Drop)]
 pub struct Path {
     /// The client's number.
     pub client: u32,

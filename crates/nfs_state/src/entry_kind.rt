@@ -23,7 +23,7 @@ macro_rules! kind_of_number {
 }
 
 /// The kinds of entries, each with its number in a journal's file.
-#[derive(Clone, Copy, Debug, PartialEq, Eq)]
+#[derive(Clone, Copy, PartialEq, Eq)]
 pub enum EntryKind {
     Call = 1,
     Expire = 2,

@@ -13,7 +13,7 @@ pub const LEASE_MIN: u32 = 1;
 pub const LEASE_MAX: u32 = 86_400;
 
 /// What the server was started with, and the journal's entries in order, numbered from 0.
-#[derive(Debug, Drop)]
+#[derive(Drop)]
 pub struct Journal {
     tree: Tree,
     epoch: u32,

@@ -2,7 +2,7 @@ use nfs_forms::OpenOwner;
 use nfs_owners::StateOwner;
 
 /// What an entry of the journal means for the owners (RFC 7530, section 9.1.7).
-#[derive(Debug, Drop)]
+#[derive(Drop)]
 pub enum OwnerChange {
     Nothing,
     /// This owner, which is known, keeps the entry's request and answer.

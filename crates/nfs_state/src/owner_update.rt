@@ -8,7 +8,7 @@ use nfs_owners::{Kept, OwnerKind, StateOwner};
 use std::alloc::AllocError;
 
 /// What an entry means for the owners, with a copy of the request and the answer for each that keeps them.
-#[derive(Debug, Drop)]
+#[derive(Drop)]
 pub(crate) enum OwnerUpdate {
     Nothing,
     /// This owner keeps the request and the answer, and is recorded if it isn't known.
@@ -22,7 +22,7 @@ pub(crate) enum OwnerUpdate {
 }
 
 /// An owner, and what it keeps.
-#[derive(Debug, Drop)]
+#[derive(Drop)]
 pub(crate) struct Keeping {
     pub owner: StateOwner,
     pub kept: Kept,

@@ -6,7 +6,7 @@ use nfs_xdr::{Op, Principal};
 use std::alloc::AllocError;
 
 /// A request for an operation on the state: who sent it, when, and with which current filehandle.
-#[derive(Debug, Drop)]
+#[derive(Drop)]
 pub struct Request {
     pub moment: Moment,
     pub principal: Principal,

@@ -4,7 +4,7 @@ use nfs_owners::OwnersError;
 use std::alloc::AllocError;
 
 /// Why a request is answered NFS4ERR_RESOURCE and changes nothing.
-#[derive(Clone, Copy, Debug, PartialEq, Eq)]
+#[derive(Clone, Copy, PartialEq, Eq)]
 pub enum Shortage {
     /// A limit would be exceeded.
     Limit,

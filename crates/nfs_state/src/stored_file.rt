@@ -8,7 +8,7 @@ use std::cmp::min;
 use std::marker::Model;
 
 /// A file as it is now (RFC 7530, section 5.8.1). Contracts also see how many bytes it can have without taking memory.
-#[derive(Debug, Drop)]
+#[derive(Drop)]
 pub struct StoredFile {
     node: u32,
     bytes: Vec<u8>,

@@ -9,7 +9,7 @@ use std::alloc::{AllocError, Global};
 use std::marker::Model;
 
 /// The files as they are now, in the order of their nodes' numbers.
-#[derive(Debug, Drop)]
+#[derive(Drop)]
 pub struct StoredFiles {
     files: Vec<StoredFile>,
 }

@@ -14,7 +14,7 @@ use nfs_xdr::{ClientId, OpenOwner};
 use std::alloc::{AllocError, Global};
 
 /// What the server stores.
-#[derive(Debug, Drop)]
+#[derive(Drop)]
 pub struct Tables {
     pub clients: Clients,
     pub owners: Owners,

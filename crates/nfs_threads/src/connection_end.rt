@@ -1,7 +1,7 @@
 use nfs_server::ServeError;
 
 /// How a connection ended.
-#[derive(Clone, Copy, Debug)]
+#[derive(Clone, Copy)]
 pub struct ConnectionEnd {
     /// The number of bytes after the last whole record, or the error with which the connection ended.
     pub result: Result<usize, ServeError>,

@@ -1,7 +1,7 @@
 use std::net::SocketAddr;
 
 /// Who is at the other end of a connection.
-#[derive(Clone, Copy, Debug)]
+#[derive(Clone, Copy)]
 pub struct Peer {
     /// The connection's number, from 1 on, in the order in which they came.
     pub number: u64,

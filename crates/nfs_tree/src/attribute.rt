@@ -8,7 +8,7 @@ use std::alloc::{AllocError, Global};
 use xdr::{Bytes, NO_LIMIT, WireError, write_flag, write_opaque, write_u32, write_u64};
 
 /// The attributes that the server supports (RFC 7530, section 5), each with its number.
-#[derive(Clone, Copy, Debug, PartialEq, Eq)]
+#[derive(Clone, Copy, PartialEq, Eq)]
 pub enum Attribute {
     SupportedAttrs = 0,
     Type = 1,
@@ -57,7 +57,7 @@ const REGULAR_FILE: u32 = 1;
 const DIRECTORY: u32 = 2;
 
 /// What the attributes of a node are computed from.
-#[derive(Clone, Copy, Debug)]
+#[derive(Clone, Copy)]
 pub struct Subject {
     pub node: u32,
     pub is_directory: bool,

@@ -11,14 +11,14 @@ use toml::{Table, Value};
 use xdr::{Bytes, Sequence};
 
 /// An array in a document: that of the directories, or that of the files.
-#[derive(Clone, Copy, Debug)]
+#[derive(Clone, Copy)]
 pub enum Listing {
     Directories,
     Files,
 }
 
 /// What a document contains: its entries, first those of directories, and its policy.
-#[derive(Debug, Drop)]
+#[derive(Drop)]
 pub struct Document {
     pub entries: Sequence<TreeEntry>,
     pub policy: Policy,

@@ -7,7 +7,7 @@ use nfs_xdr::{Claim, Op};
 
 /// The nodes of the current and the saved filehandle (RFC 7530, section 15.2). Each is absent until an operation of the
 /// COMPOUND sets it.
-#[derive(Clone, Copy, Debug)]
+#[derive(Clone, Copy)]
 pub struct Filehandles {
     pub current: Option<u32>,
     pub saved: Option<u32>,

@@ -11,7 +11,7 @@ use std::alloc::Global;
 use xdr::{Bytes, Wire, WireError, read_opaque, write_opaque, write_two};
 
 /// Whether a node is a directory or a file.
-#[derive(Clone, Debug, Drop)]
+#[derive(Clone, Drop)]
 pub enum NodeKind {
     Directory,
     /// A file, with the text that it has when the server starts.
@@ -19,7 +19,7 @@ pub enum NodeKind {
 }
 
 /// A node other than the root.
-#[derive(Clone, Debug, Drop)]
+#[derive(Clone, Drop)]
 pub struct Node {
     /// The number of the directory that contains it; the root has number 0.
     pub parent: u32,
@@ -28,7 +28,7 @@ pub struct Node {
 }
 
 /// An entry of a document: the tree has a node of this kind at the end of this path.
-#[derive(Debug, Drop)]
+#[derive(Drop)]
 pub struct TreeEntry {
     /// Names starting below the root, joined by `/`.
     pub path: Bytes,

@@ -5,7 +5,7 @@ use std::alloc::Global;
 use xdr::{Wire, WireError, read_u32, write_two, write_u32};
 
 /// Which delegations the server gives.
-#[derive(Clone, Copy, Debug, PartialEq, Eq)]
+#[derive(Clone, Copy, PartialEq, Eq)]
 pub enum Delegations {
     None,
     /// Only read delegations.
@@ -14,7 +14,7 @@ pub enum Delegations {
 }
 
 /// What the server assumes about the path to a client's callbacks before it has used the path.
-#[derive(Clone, Copy, Debug, PartialEq, Eq)]
+#[derive(Clone, Copy, PartialEq, Eq)]
 pub enum Callbacks {
     /// Nothing: it tests the path first.
     Probe,
@@ -23,7 +23,7 @@ pub enum Callbacks {
 }
 
 /// The choices that a document makes for the server.
-#[derive(Clone, Copy, Debug, PartialEq, Eq)]
+#[derive(Clone, Copy, PartialEq, Eq)]
 pub struct Policy {
     pub delegations: Delegations,
     pub callbacks: Callbacks,

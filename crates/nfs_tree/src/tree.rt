@@ -24,7 +24,7 @@ pub const TEXT_LIMIT: usize = 65_536;
 pub const HANDLE_LEN: usize = 8;
 
 /// A tree of directories and files. Its root is a directory, with number 0; the other nodes are numbered from 1 on.
-#[derive(Debug, Drop)]
+#[derive(Drop)]
 pub struct Tree {
     pub(crate) nodes: Vec<Node>,
     pub(crate) policy: Policy,

@@ -13,7 +13,7 @@ use xdr::{Bytes, NO_LIMIT, Sequence, WireError, read_opaque, read_u32, write_thr
 pub const OPERATION_LIMIT: u32 = 64;
 
 /// The arguments of a COMPOUND (RFC 7530, section 15.2).
-#[derive(Debug, Drop)]
+#[derive(Drop)]
 pub struct Compound {
     /// The client's label, which the reply repeats.
     pub tag: Bytes,
@@ -21,7 +21,7 @@ pub struct Compound {
 }
 
 /// What a COMPOUND asks for.
-#[derive(Debug, Drop)]
+#[derive(Drop)]
 pub enum CompoundRequest {
     /// A minor version other than 0.
     MinorVersion(u32),

@@ -8,7 +8,7 @@ use nfs_forms::{ClientId, Locker, OpenOwner, Stateid};
 
 /// What the arguments of an operation name of the state. By an open owner or a stateid the owner is found that the
 /// request comes from, and by whose sequence id it goes.
-#[derive(Clone, Copy, Debug)]
+#[derive(Clone, Copy)]
 pub enum Names<'a> {
     /// No owner, no state, and no client whose lease is renewed: SETCLIENTID and SETCLIENTID_CONFIRM renew none (RFC
     /// 7530, section 9.5).

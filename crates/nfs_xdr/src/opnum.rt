@@ -47,7 +47,7 @@ macro_rules! each_operation {
 pub(crate) use each_operation;
 
 /// The operations of NFSv4.0 that this server doesn't implement, with their numbers.
-#[derive(Clone, Copy, Debug, PartialEq, Eq)]
+#[derive(Clone, Copy, PartialEq, Eq)]
 pub enum Unsupported {
     Commit = 5,
     Create = 6,
@@ -75,7 +75,7 @@ impl Unsupported {
 }
 
 /// The operations of NFSv4.0 (nfs_opnum4).
-#[derive(Clone, Copy, Debug, PartialEq, Eq)]
+#[derive(Clone, Copy, PartialEq, Eq)]
 pub enum Opnum {
     Access,
     Close,
@@ -106,7 +106,7 @@ pub enum Opnum {
 }
 
 /// What an operation works on.
-#[derive(Clone, Copy, Debug, PartialEq, Eq)]
+#[derive(Clone, Copy, PartialEq, Eq)]
 pub enum Class {
     /// Only the tree of files and the filehandles.
     OnTree,

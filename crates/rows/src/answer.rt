@@ -7,7 +7,7 @@ use nfs_rpc::write_recall_call;
 use std::alloc::{AllocError, Global};
 
 /// The bytes of an answer: numbers with the highest byte first, and bytes behind their length.
-#[derive(Debug, Drop)]
+#[derive(Drop)]
 pub(crate) struct Answer {
     alloc: Global,
     bytes: Vec<u8>,

@@ -8,7 +8,7 @@ use nfs_core::{LEASE_MAX, LEASE_MIN};
 use std::io::Read;
 
 /// What the input begins with.
-#[derive(Debug, Drop)]
+#[derive(Drop)]
 pub(crate) struct Head {
     pub(crate) way: Way,
     /// Seconds.

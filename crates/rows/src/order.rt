@@ -25,7 +25,7 @@ pub(crate) enum Order {
 }
 
 /// Whether callbacks reach the client with this number.
-#[derive(Clone, Copy, Debug)]
+#[derive(Clone, Copy)]
 pub(crate) struct Mark {
     pub(crate) client: u32,
     pub(crate) is_up: bool,

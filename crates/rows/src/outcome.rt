@@ -4,7 +4,7 @@ use nfs_server::ServeError;
 use std::alloc::AllocError;
 
 /// What came of a connection.
-#[derive(Debug, Drop)]
+#[derive(Drop)]
 pub(crate) struct ConnectionOutcome {
     pub(crate) result: Result<usize, ServeError>,
     pub(crate) replies: Vec<u8>,

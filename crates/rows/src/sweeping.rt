@@ -7,7 +7,7 @@ use std::sync::atomic::{AtomicBool, Ordering};
 use std::thread;
 
 /// How many sweeps there were, and how many clients they removed.
-#[derive(Clone, Copy, Debug)]
+#[derive(Clone, Copy)]
 pub(crate) struct Sweeps {
     pub(crate) count: u32,
     pub(crate) expired: u32,

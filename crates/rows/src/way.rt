@@ -1,5 +1,5 @@
 /// How connections are served.
-#[derive(Clone, Copy, Debug, PartialEq, Eq)]
+#[derive(Clone, Copy, PartialEq, Eq)]
 pub(crate) enum Way {
     /// One after the other, with a core of their own.
     Alone,

@@ -4,7 +4,7 @@ use std::io::{self, Read};
 use std::thread;
 
 /// Gives its bytes in order, in pieces, before each of which other threads are let go on.
-#[derive(Debug, Drop)]
+#[derive(Drop)]
 pub(crate) struct Yielding<'a> {
     rest: &'a [u8],
     /// The most bytes that a read gives, but for one, which it gives at least.

@@ -4,7 +4,7 @@ use nfs_leases::{Closing, LeaseBook, LeaseState, PlainLeases, Renewal};
 use nfs_state::Moment;
 
 /// A book that is a plain list, where after each call somebody else renews the client's lease, at this moment.
-#[derive(Debug, Drop)]
+#[derive(Drop)]
 pub struct Renewing {
     pub leases: PlainLeases,
     pub moment: Moment,

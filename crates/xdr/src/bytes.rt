@@ -9,7 +9,7 @@ pub const NO_LIMIT: u32 = u32::MAX;
 
 /// Owned bytes (opaque<>), which can be written if there are at most `NO_LIMIT` of them. Contracts see the list of them.
 /// Up to 16 that are copied take no memory of the allocator, which is enough for most names.
-#[derive(Debug, Drop)]
+#[derive(Drop)]
 pub struct Bytes {
     items: SmallVec<u8, 16>,
 }

@@ -5,7 +5,7 @@ use std::alloc::{AllocError, Global};
 use std::marker::Model;
 
 /// Owned bytes of which there are at most `LIMIT` (opaque<LIMIT>). Contracts see the list of them.
-#[derive(Debug, Drop)]
+#[derive(Drop)]
 pub struct Opaque<const LIMIT: u32> {
     items: Vec<u8>,
 }

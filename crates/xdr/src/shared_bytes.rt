@@ -6,7 +6,7 @@ use std::sync::ArcSlice;
 
 /// Owned bytes (opaque<>) that their clones share, so that a clone takes no memory, however many they are. They can be
 /// written if there are at most `NO_LIMIT` of them. Contracts see the list of them.
-#[derive(Debug, Drop)]
+#[derive(Drop)]
 pub struct SharedBytes {
     items: ArcSlice<u8>,
 }

@@ -2,7 +2,7 @@ use crate::{ClientRecord, LiveChange};
 use nfs_xdr::ClientId;
 
 /// What a call changes in the clients' records.
-#[derive(Debug, Drop)]
+#[derive(Drop)]
 pub enum ClientChange {
     Nothing,
     /// Adds this unconfirmed record, with the next client number and the next confirm value.

@@ -8,7 +8,7 @@ use nfs_state::{Change, Effect, Expire, Store, is_over};
 use nfs_xdr::ClientId;
 
 /// Why a client isn't removed.
-#[derive(Clone, Copy, Debug, PartialEq, Eq)]
+#[derive(Clone, Copy, PartialEq, Eq)]
 pub enum NotExpired {
     /// The client has no confirmed record.
     NotLive,

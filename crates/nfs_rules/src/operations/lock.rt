@@ -32,7 +32,7 @@ use nfs_xdr::{Answer, Op, OpResult, Opnum, Refusal};
 
 /// For whom bytes of a node's file are to be held and in which mode, under which open, and the lock state that they are
 /// added to, if there is one.
-#[derive(Clone, Copy, Debug)]
+#[derive(Clone, Copy)]
 pub(crate) struct Locking<'a> {
     pub node: u32,
     pub owner: &'a LockOwner,
