@@ -1,7 +1,6 @@
 //! Values with the words that they are encoded as.
 
 use std::alloc::{AllocError, Global};
-use std::cmp::PartialEq;
 use std::test::Fail;
 use xdr::{Wire, WireError};
 
@@ -14,17 +13,16 @@ fn bytes_of(alloc: Global, words: &[u32]) -> Result<Vec<u8>, AllocError> {
     Ok(bytes)
 }
 
-/// Whether the value is encoded as these words, and they are read as the value.
-pub fn is_encoded_as<T: Wire + PartialEq>(
-    alloc: Global,
-    value: &T,
-    words: &[u32],
-) -> Result<bool, Fail> {
+/// Whether the value is encoded as these words, and they are read as a value that is encoded so, too.
+pub fn is_encoded_as<T: Wire>(alloc: Global, value: &T, words: &[u32]) -> Result<bool, Fail> {
     let bytes = bytes_of(alloc, words)?;
     let mut written = Vec::new(alloc);
     value.write(&mut written)?;
-    let (again, rest) = T::read(alloc, bytes.as_slice())?;
-    Ok(written.as_slice() == bytes.as_slice() && again == *value && rest.is_empty())
+    let (value_read, rest) = T::read(alloc, bytes.as_slice())?;
+    let mut written_again = Vec::new(alloc);
+    value_read.write(&mut written_again)?;
+    let is_same = written == bytes && written_again == bytes;
+    Ok(is_same && rest.is_empty())
 }
 
 /// Whether these words can't be read, because they aren't such a value.

@@ -7,7 +7,7 @@ use std::alloc::Global;
 use xdr::{Bytes, Wire, WireError, read_u32, write_three, write_two, write_u32};
 
 /// Which file OPEN opens, and what the client bases this on (open_claim4; RFC 7530, section 16.16).
-#[derive(Clone, PartialEq, Drop)]
+#[derive(Clone, Drop)]
 pub enum Claim {
     /// The file with this name in the current directory.
     Null(Bytes),

@@ -7,7 +7,7 @@ use std::alloc::Global;
 use xdr::{Wire, WireError, read_u32, write_two, write_u32};
 
 /// How OPEN creates a file (createhow4; RFC 7530, section 16.16).
-#[derive(Clone, PartialEq, Drop)]
+#[derive(Clone, Drop)]
 pub enum CreateHow {
     /// With these attributes. A file that is there already is opened.
     Unchecked(Fattr),

@@ -7,7 +7,7 @@ use std::alloc::Global;
 use xdr::{Wire, WireError, write_four, write_two};
 
 /// Whose lock LOCK asks for (locker4; RFC 7530, section 16.10).
-#[derive(Clone, PartialEq, Drop)]
+#[derive(Clone, Drop)]
 pub enum Locker {
     /// An owner that gets a lock state for an open (new_lock_owner is TRUE).
     New(NewLocker),

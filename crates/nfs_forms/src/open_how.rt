@@ -7,7 +7,7 @@ use std::alloc::Global;
 use xdr::{Wire, WireError, read_u32, write_two, write_u32};
 
 /// Whether OPEN creates a file, and how (openflag4; RFC 7530, section 16.16).
-#[derive(Clone, PartialEq, Drop)]
+#[derive(Clone, Drop)]
 pub enum OpenHow {
     Nocreate,
     Create(Boxed<CreateHow>),

@@ -9,7 +9,7 @@ use xdr::{Wire, WireError, write_five};
 pub type Arguments = Lock;
 
 /// The arguments of LOCK.
-#[derive(Clone, PartialEq, Drop)]
+#[derive(Clone, Drop)]
 pub struct Lock {
     pub locktype: LockType,
     /// Whether the client had the lock before the server restarted.

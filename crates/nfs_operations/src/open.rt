@@ -9,7 +9,7 @@ use xdr::{Measure, Wire, WireError, write_five, write_four, write_two};
 pub type Arguments = Open;
 
 /// The arguments of OPEN.
-#[derive(Clone, PartialEq, Drop)]
+#[derive(Clone, Drop)]
 pub struct Open {
     /// The place of the request among those of its owner.
     pub seqid: u32,
@@ -40,7 +40,7 @@ impl Open {
 pub type Outcome = Answer<OpenOk>;
 
 /// What OPEN answers about an open.
-#[derive(Clone, PartialEq, Drop)]
+#[derive(Clone, Drop)]
 pub struct OpenOk {
     pub stateid: Stateid,
     /// How the directory changed.

@@ -9,7 +9,7 @@ use std::alloc::{AllocError, Global};
 use xdr::{WireError, read_u32};
 
 /// An entry in the list of a COMPOUND: an operation to run, or an entry that ends the list because it can't be run.
-#[derive(Clone, PartialEq, Drop)]
+#[derive(Clone, Drop)]
 pub enum ArgOp {
     Run(Op),
     /// The arguments of this operation can't be read. It is `Opnum::Illegal` if even the operation's number can't.

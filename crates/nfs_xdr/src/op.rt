@@ -51,7 +51,7 @@ macro_rules! write_op_of {
 }
 
 /// An operation of a COMPOUND that this server implements, with its arguments (nfs_argop4).
-#[derive(Clone, PartialEq, Drop)]
+#[derive(Clone, Drop)]
 pub enum Op {
     Access(of::access::Arguments),
     Close(of::close::Arguments),

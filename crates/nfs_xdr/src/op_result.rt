@@ -103,7 +103,7 @@ macro_rules! copy_of_result {
 }
 
 /// The result of an operation (nfs_resop4).
-#[derive(PartialEq, Drop)]
+#[derive(Drop)]
 pub enum OpResult {
     Access(of::access::Outcome),
     Close(of::close::Outcome),
