@@ -17,7 +17,7 @@ use std::time::Clock as Sleeper;
 
 // How many links were served to their end, with a receipt each; in how many a read failed; and how many entries the
 // journal has.
-#[derive(Clone, Copy, PartialEq, Eq)]
+#[derive(Clone, Copy, Debug, PartialEq, Eq)]
 struct Outcome {
     served: u32,
     read_failures: u32,
@@ -115,21 +115,25 @@ fn count<N: Naming>(all: &Vec<WorkerEnd<N>>) -> (u32, u32) {
 #[test]
 fn two_links_at_once(rt: HostRuntime) {
     let outcome = serve_links(&rt, rt.alloc(), 2);
-    let wanted = Outcome {
-        served: 2,
-        read_failures: 0,
-        entries: 2,
-    };
-    assert!(&rt; outcome == Some(wanted));
+    assert_eq!(&rt;
+        outcome,
+        Some(Outcome {
+            served: 2,
+            read_failures: 0,
+            entries: 2
+        })
+    );
 }
 
 #[test]
 fn eight_links_at_once(rt: HostRuntime) {
     let outcome = serve_links(&rt, rt.alloc(), 8);
-    let wanted = Outcome {
-        served: 8,
-        read_failures: 0,
-        entries: 8,
-    };
-    assert!(&rt; outcome == Some(wanted));
+    assert_eq!(&rt;
+        outcome,
+        Some(Outcome {
+            served: 8,
+            read_failures: 0,
+            entries: 8
+        })
+    );
 }

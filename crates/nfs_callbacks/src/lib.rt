@@ -12,6 +12,3 @@ mod source;
 
 pub use caller::Caller;
 pub use source::{CallbackSource, MarkError, Probe};
-
-#[cfg(test)]
-mod tests;

@@ -8,6 +8,7 @@ ghost use Rattle.nfs_core.specs.Server.{AreAlike, server_of};
 ghost use Rattle.nfs_state.specs.Entries.{IsSendable, entry_of};
 ghost use Rattle.nfs_state.specs.Room.{state_of};
 ghost use Rattle.nfs_state.specs.Store.{OwnersAgree};
+ghost use Rattle.nfs_state.specs.declared.entry.Entry.TheVariants as entries;
 
 use crate::Entered;
 use crate::committing::commit;
@@ -39,8 +40,13 @@ pub(crate) fn enter(
     ensures room { OnErr result (held.old.store.journal.room ≤ held.new.store.journal.room) }
 {
     at_most_one_decision();
-    let decision = decide_next(alloc, &held.store, &request)?;
-    enter_decided(alloc, held, request, decision)
+    match decide_next(alloc, &held.store, &request) {
+        Ok(decision) => enter_decided(alloc, held, request, decision),
+        Err(shortage) => {
+            drop(request);
+            Err(shortage)
+        }
+    }
 }
 
 // Enters the request with the answer that was decided.
@@ -61,9 +67,42 @@ fn enter_decided(
     ensures same { OnErr result (AreAlike (server_of held.old) (server_of held.new)) }
     ensures room { OnErr result (held.old.store.journal.room ≤ held.new.store.journal.room) }
 {
-    let answer = copy_of_answer(&decision.answer)?;
-    let live = decision.effect.live();
-    let call = Call { request, answer };
-    let number = commit(alloc, held, Entry::Call(call), decision.effect)?;
-    Ok((decision.answer, Entered { number, live }))
+    match copy_of_answer(&decision.answer) {
+        Ok(answer) => enter_call(alloc, held, Call { request, answer }, decision),
+        Err(_) => {
+            drop(request);
+            drop(decision);
+            Err(Shortage::Memory)
+        }
+    }
+}
+
+// Enters the call, which was answered as it was decided.
+fn enter_call(
+    alloc: Global,
+    held: &mut Holdings,
+    call: Call,
+    decision: Decision,
+) -> Result<(OpResult, Entered), Shortage>
+    requires next { IsNext held.old.store.journal.history (state_of held.old.store.tables)
+        (entries.Call call) decision.effect }
+    requires answer { decision.answer ≡ call.answer }
+    requires stored { StoreAgrees held.old.store }
+    ensures answer { IfOk result (λ r. r.0 ≡ decision.answer) }
+    ensures entered { IfOk result (λ r. IsEntered (server_of held.old) (server_of held.new)
+        (entries.Call call) r.1) }
+    ensures kept { OwnersAgree held.new.store }
+    ensures memory { IfErr result (λ e. e ≡ Shortage.Memory) }
+    ensures same { OnErr result (AreAlike (server_of held.old) (server_of held.new)) }
+    ensures room { OnErr result (held.old.store.journal.room ≤ held.new.store.journal.room) }
+{
+    let Decision { answer, effect } = decision;
+    let live = effect.live();
+    match commit(alloc, held, Entry::Call(call), effect) {
+        Ok(number) => Ok((answer, Entered { number, live })),
+        Err(shortage) => {
+            drop(answer);
+            Err(shortage)
+        }
+    }
 }

@@ -45,6 +45,7 @@ pub(crate) fn decide_expiry(held: &Holdings, expire: &Expire) -> Result<Effect, 
 {
     let effect = nfs_rules::expire(&held.store, expire)?;
     if held.store.journal.is_full() {
+        drop(effect);
         return Err(CoreError::Full);
     }
     Ok(effect)

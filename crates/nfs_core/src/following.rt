@@ -56,8 +56,13 @@ pub(crate) fn follow(alloc: Global, held: &mut Holdings, entry: Entry) -> Result
     ensures same { OnErr result (AreAlike (server_of held.old) (server_of held.new)) }
     ensures room { OnErr result (held.old.store.journal.room ≤ held.new.store.journal.room) }
 {
-    let effect = effect_of(alloc, held, &entry)?;
-    Ok(commit(alloc, held, entry, effect)?)
+    match effect_of(alloc, held, &entry) {
+        Ok(effect) => Ok(commit(alloc, held, entry, effect)?),
+        Err(refused) => {
+            drop(entry);
+            Err(refused)
+        }
+    }
 }
 
 // The effect of the entry, if it may come next.
@@ -93,11 +98,15 @@ fn effect_of_call(alloc: Global, held: &Holdings, call: &Call) -> Result<Effect,
     if !call.request.can_be_asked(held.store.journal.tree().len()) {
         return Err(FollowError::NotNext);
     }
-    let decision = decide_next(alloc, &held.store, &call.request)?;
-    if !decision.answer.is_same(&call.answer) {
-        return Err(FollowError::NotNext);
+    let Decision { answer, effect } = decide_next(alloc, &held.store, &call.request)?;
+    let is_same = answer.is_same(&call.answer);
+    drop(answer);
+    if is_same {
+        Ok(effect)
+    } else {
+        drop(effect);
+        Err(FollowError::NotNext)
     }
-    Ok(decision.effect)
 }
 
 // The effect of the client's end, if it may come next.

@@ -48,6 +48,7 @@ pub(crate) fn decide_path_mark(held: &Holdings, path: &Path) -> Result<Effect, C
         return Err(CoreError::NotLive);
     };
     if held.store.journal.is_full() {
+        drop(effect);
         return Err(CoreError::Full);
     }
     Ok(effect)

@@ -1,9 +1,9 @@
-ghost use Rattle.std.specs.Prelude.{◌≡◌, ◌<◌, ◌≤◌, IfErr, IfOk, IsOk, OnErr, OnOk, length};
+ghost use Rattle.std.specs.Prelude.{◌≡◌, ◌<◌, ◌≤◌, IfErr, IfOk, IsOk, None, OnErr, OnOk, length};
 ghost use Rattle.nfs_state.specs.Changes.{after};
-ghost use Rattle.nfs_state.specs.Entries.{with_entry};
+ghost use Rattle.nfs_state.specs.Entries.{data_in, with_entry};
 ghost use Rattle.nfs_state.specs.Files.{CanChange};
 ghost use Rattle.nfs_state.specs.Kept.{Agrees, kept_in, owners_after, update_by};
-ghost use Rattle.nfs_state.specs.Room.{Fits, HasGivenNumbers, TakesNoMemory, state_of, stored_of};
+ghost use Rattle.nfs_state.specs.Room.{Fits, HasGivenNumbers, HasOwnerRoom, HasRoom, TakesNoMemory, state_of, stored_of};
 ghost use Rattle.nfs_state.specs.State.{History};
 ghost use Rattle.nfs_state.specs.Store.{HoldTheSame, OwnersAgree};
 
@@ -43,21 +43,84 @@ pub fn commit_entry(
     ensures same { OnErr result (HoldTheSame store.old store.new) }
     ensures room { OnErr result (store.old.journal.room ≤ store.new.journal.room) }
 {
-    store.journal.entries.reserve(1)?;
-    let number = store.journal.entries.len() as u32;
-    make_changes(alloc, &mut store.tables, &entry, effect, number)?;
-    Ok(push_entry(&mut store.journal.entries, entry))
+    match make_ready(alloc, store, &entry, &effect) {
+        Ok(()) => enter_ready(store, entry, effect),
+        Err(shortage) => {
+            drop(entry);
+            drop(effect);
+            Err(shortage)
+        }
+    }
 }
 
-// Makes room for the effect of the entry, which gets this number, and then makes its changes, if there are any.
-fn make_changes(
+// Makes room for the entry and for its effect. Fails for want of memory alone, and never where there is room already.
+fn make_ready(
     alloc: Global,
+    store: &mut Store,
+    entry: &Entry,
+    effect: &Effect,
+) -> Result<(), Shortage>
+    requires fits { Fits entry.now effect.now (state_of store.old.tables) }
+    ensures same { HoldTheSame store.old store.new }
+    ensures grows { store.old.journal.room ≤ store.new.journal.room }
+    ensures room { OnOk result (0 < store.new.journal.room) }
+    ensures tables_room { OnOk result (HasRoom (data_in entry.now) effect.now.change store.new.tables
+        × HasOwnerRoom effect.now.owner store.new.tables) }
+    ensures ready { 0 < store.old.journal.room
+        → HasOwnerRoom effect.now.owner store.old.tables
+        → HasRoom (data_in entry.now) effect.now.change store.old.tables → IsOk result }
+    ensures memory { IfErr result (λ e. e ≡ Shortage.Memory) }
+{
+    store.journal.entries.reserve(1)?;
+    let block = entry.written();
+    store
+        .tables
+        .make_room(alloc, &effect.change, &effect.owner, block)
+}
+
+// Makes the changes of the entry, for which there is room, and adds it to the journal. Memory may be wanted for what is
+// kept for an owner alone, and nothing is changed without it.
+fn enter_ready(store: &mut Store, entry: Entry, effect: Effect) -> Result<u32, Shortage>
+    requires below { length store.old.journal.history.entries < JOURNAL_LIMIT }
+    requires fits { Fits entry effect (state_of store.old.tables) }
+    requires room { 0 < store.old.journal.room }
+    requires tables_room { HasRoom (data_in entry) effect.change store.old.tables
+        × HasOwnerRoom effect.owner store.old.tables }
+    requires given { HasGivenNumbers (state_of store.old.tables) }
+    requires changes { CanChange (state_of store.old.tables).files }
+    requires kept { OwnersAgree store.old }
+    ensures number { IfOk result (λ n. n ≡ length store.old.journal.history.entries) }
+    ensures entry { OnOk result
+        (store.new.journal.history ≡ with_entry entry store.old.journal.history) }
+    ensures state { OnOk result (state_of store.new.tables
+        ≡ after (length store.old.journal.history.entries) entry effect
+        (state_of store.old.tables)) }
+    ensures kept { OnOk result (OwnersAgree store.new) }
+    ensures memory { IfErr result (λ e. e ≡ Shortage.Memory) }
+    ensures ready { kept_in entry ≡ None → IsOk result }
+    ensures same { OnErr result (HoldTheSame store.old store.new) }
+    ensures grows { OnErr result (store.old.journal.room ≤ store.new.journal.room) }
+{
+    let number = store.journal.entries.len() as u32;
+    match make_changes(&mut store.tables, &entry, effect, number) {
+        Ok(()) => Ok(push_entry(&mut store.journal.entries, entry)),
+        Err(shortage) => {
+            drop(entry);
+            Err(shortage)
+        }
+    }
+}
+
+// Makes the changes of the entry, which gets this number, for which there is room.
+fn make_changes(
     tables: &mut Tables,
     entry: &Entry,
     effect: Effect,
     number: u32,
 ) -> Result<(), Shortage>
     requires fits { Fits entry.now effect (state_of tables.old) }
+    requires room { HasRoom (data_in entry.now) effect.change tables.old
+        × HasOwnerRoom effect.owner tables.old }
     requires given { HasGivenNumbers (state_of tables.old) }
     requires changes { CanChange (state_of tables.old).files }
     ensures state { OnOk result (state_of tables.new
@@ -66,16 +129,18 @@ fn make_changes(
         (update_by effect.owner (kept_in entry.now)) number tables.old.owners.owners)
         → Agrees journal tables.new.owners.owners) }
     ensures memory { IfErr result (λ e. e ≡ Shortage.Memory) }
-    ensures ready { TakesNoMemory entry.now effect tables.old → IsOk result }
+    ensures ready { kept_in entry.now ≡ None → IsOk result }
     ensures same { OnErr result (stored_of tables.new ≡ stored_of tables.old) }
 {
-    if effect.is_nothing() {
-        return Ok(());
+    match OwnerUpdate::of(effect.owner, entry) {
+        Ok(update) => {
+            tables.commit_owner(update, number);
+            tables.commit(effect.change, entry.written());
+            Ok(())
+        }
+        Err(_) => {
+            drop(effect.change);
+            Err(Shortage::Memory)
+        }
     }
-    let block = entry.written();
-    tables.make_room(alloc, &effect.change, &effect.owner, block)?;
-    let update = OwnerUpdate::of(effect.owner, entry)?;
-    tables.commit_owner(update, number);
-    tables.commit(effect.change, block);
-    Ok(())
 }

@@ -15,7 +15,7 @@ use std::{io, thread};
 
 // How many clients got the replies that are expected, how many connections were served to their end with a receipt each,
 // and how many entries the journal has.
-#[derive(Clone, Copy, PartialEq, Eq)]
+#[derive(Clone, Copy, Debug, PartialEq, Eq)]
 struct Outcome {
     answered: u32,
     served: u32,
@@ -90,11 +90,13 @@ fn two_connections(rt: HostRuntime) -> io::Result<()> {
     let first = connect(&rt, &listener)?;
     let second = connect(&rt, &listener)?;
     let outcome = serve_two(&rt, rt.alloc(), &listener, (&first, &second));
-    let wanted = Outcome {
-        answered: 2,
-        served: 2,
-        entries: 2,
-    };
-    assert!(&rt; outcome == Some(wanted));
+    assert_eq!(&rt;
+        outcome,
+        Some(Outcome {
+            answered: 2,
+            served: 2,
+            entries: 2
+        })
+    );
     Ok(())
 }

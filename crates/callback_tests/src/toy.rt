@@ -1,4 +1,4 @@
-use crate::{CallbackSource, MarkError, Probe};
+use nfs_callbacks::{CallbackSource, MarkError, Probe};
 use nfs_rpc::Recall;
 use nfs_xdr::{Address, Callback, ClientId, FileHandle, Principal, Stateid};
 use std::alloc::{AllocError, Global};
@@ -7,21 +7,21 @@ use xdr::Bytes;
 
 /// A state with the recalls that it was given, and at most one client of whose path nothing is known.
 #[derive(Drop)]
-pub(super) struct Toy {
-    pub(super) recalls: VecDeque<Recall>,
-    pub(super) unknown: Option<Probe>,
+pub(crate) struct Toy {
+    pub(crate) recalls: VecDeque<Recall>,
+    pub(crate) unknown: Option<Probe>,
     /// Whether the delegations are still their clients'.
-    pub(super) is_held: bool,
+    pub(crate) is_held: bool,
     /// What marks fail with.
-    pub(super) refusal: Option<MarkError>,
+    pub(crate) refusal: Option<MarkError>,
     /// The marks that were made: the client, and whether its path is up.
-    pub(super) marks: Vec<(u32, bool)>,
+    pub(crate) marks: Vec<(u32, bool)>,
     /// The first and the last of the delegations that it was asked about last, whose numbers follow each other.
-    pub(super) asked: Option<(u32, u32)>,
+    pub(crate) asked: Option<(u32, u32)>,
 }
 
 impl Toy {
-    pub(super) fn new(alloc: Global) -> Result<Toy, AllocError> {
+    pub(crate) fn new(alloc: Global) -> Result<Toy, AllocError> {
         Ok(Toy {
             recalls: VecDeque::new(alloc),
             unknown: None,
@@ -33,7 +33,7 @@ impl Toy {
     }
 
     /// A recall of a client's delegation, which is told at this universal address.
-    pub(super) fn recall(
+    pub(crate) fn recall(
         &mut self,
         alloc: Global,
         client: u32,
@@ -58,7 +58,7 @@ impl Toy {
     }
 }
 
-pub(super) fn callback_at(alloc: Global, addr: &str) -> Result<Callback, AllocError> {
+pub(crate) fn callback_at(alloc: Global, addr: &str) -> Result<Callback, AllocError> {
     let address = Address {
         netid: Bytes::copy_of(alloc, b"tcp")?,
         addr: Bytes::copy_of(alloc, addr.as_bytes())?,

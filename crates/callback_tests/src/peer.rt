@@ -1,6 +1,6 @@
-use super::toy::Toy;
-use crate::Caller;
+use crate::toy::Toy;
 use byteorder::{BigEndian, ByteOrder};
+use nfs_callbacks::Caller;
 use std::io;
 use std::io::{Read, Write};
 use std::net::{TcpListener, TcpStream};
@@ -15,26 +15,26 @@ const NUMBER_PLACE: usize = 76;
 const NULL_LEN: usize = 44;
 
 /// A reply that accepts a recall, without its xid: SUCCESS; status OK, no tag, and one result, that of CB_RECALL, OK.
-pub(super) const ACCEPTED: [u8; 40] = [
+pub(crate) const ACCEPTED: [u8; 40] = [
     0, 0, 0, 1, 0, 0, 0, 0, 0, 0, 0, 0, 0, 0, 0, 0, 0, 0, 0, 0, 0, 0, 0, 0, 0, 0, 0, 0, 0, 0, 0, 1,
     0, 0, 0, 4, 0, 0, 0, 0,
 ];
 
 /// A reply that accepts a CB_NULL.
-pub(super) const NULL_ACCEPTED: [u8; 20] = [
+pub(crate) const NULL_ACCEPTED: [u8; 20] = [
     0, 0, 0, 1, 0, 0, 0, 0, 0, 0, 0, 0, 0, 0, 0, 0, 0, 0, 0, 0,
 ];
 
 /// A client that is called back, and who calls it.
 #[derive(Drop)]
-pub(super) struct Peer {
-    pub(super) listener: TcpListener,
-    pub(super) caller: Caller,
-    pub(super) toy: Toy,
+pub(crate) struct Peer {
+    pub(crate) listener: TcpListener,
+    pub(crate) caller: Caller,
+    pub(crate) toy: Toy,
 }
 
 impl Peer {
-    pub(super) fn new(rt: &HostRuntime) -> io::Result<Peer> {
+    pub(crate) fn new(rt: &HostRuntime) -> io::Result<Peer> {
         let listener = TcpListener::bind(rt, "127.0.0.1:0")?;
         listener.set_nonblocking(true)?;
         Ok(Peer {
@@ -45,31 +45,31 @@ impl Peer {
     }
 
     /// The universal address of its listener.
-    pub(super) fn address(&self, rt: &HostRuntime) -> io::Result<String> {
+    pub(crate) fn address(&self, rt: &HostRuntime) -> io::Result<String> {
         let port = self.listener.local_addr()?.port();
         let (high, low) = (port / 256, port % 256);
         Ok(format!(in rt.alloc(); "127.0.0.1.{high}.{low}")?)
     }
 
     /// Listens elsewhere.
-    pub(super) fn close(&mut self, rt: &HostRuntime) -> io::Result<()> {
+    pub(crate) fn close(&mut self, rt: &HostRuntime) -> io::Result<()> {
         self.listener = TcpListener::bind(rt, "127.0.0.1:0")?;
         Ok(())
     }
 
     /// Has the caller look once.
-    pub(super) fn look(&mut self, rt: &HostRuntime) {
+    pub(crate) fn look(&mut self, rt: &HostRuntime) {
         self.caller
             .look(rt, &mut self.toy, Duration::from_millis(10));
     }
 
     /// Has the caller look once without a wait, so that it is time for a round.
-    pub(super) fn round(&mut self, rt: &HostRuntime) {
+    pub(crate) fn round(&mut self, rt: &HostRuntime) {
         self.caller.look(rt, &mut self.toy, Duration::ZERO);
     }
 
     /// The next connection, if there is one, once the call was sent.
-    pub(super) fn accept(&mut self, rt: &HostRuntime) -> io::Result<TcpStream> {
+    pub(crate) fn accept(&mut self, rt: &HostRuntime) -> io::Result<TcpStream> {
         self.look(rt);
         let (stream, _) = self.listener.accept()?;
         stream.set_nonblocking(false)?;
@@ -80,7 +80,7 @@ impl Peer {
 }
 
 /// Reads a recall: its xid, and the number of its delegation.
-pub(super) fn read_recall(mut stream: &TcpStream) -> io::Result<(u32, u32)> {
+pub(crate) fn read_recall(mut stream: &TcpStream) -> io::Result<(u32, u32)> {
     let mut call = [0u8; RECALL_LEN];
     stream.read_exact(&mut call)?;
     let xid = BigEndian::read_u32(&call[4..]);
@@ -88,14 +88,14 @@ pub(super) fn read_recall(mut stream: &TcpStream) -> io::Result<(u32, u32)> {
 }
 
 /// Reads a CB_NULL: its xid.
-pub(super) fn read_null(mut stream: &TcpStream) -> io::Result<u32> {
+pub(crate) fn read_null(mut stream: &TcpStream) -> io::Result<u32> {
     let mut call = [0u8; NULL_LEN];
     stream.read_exact(&mut call)?;
     Ok(BigEndian::read_u32(&call[4..]))
 }
 
 /// Writes a reply in one fragment, with this xid before the rest.
-pub(super) fn write_reply(mut stream: &TcpStream, xid: u32, rest: &[u8]) -> io::Result<()> {
+pub(crate) fn write_reply(mut stream: &TcpStream, xid: u32, rest: &[u8]) -> io::Result<()> {
     let mut head = [0u8; 8];
     let len = u32::try_from(rest.len()).unwrap_or(0).saturating_add(4);
     BigEndian::write_u32(&mut head, len | 0x8000_0000);

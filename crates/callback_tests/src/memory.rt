@@ -1,4 +1,4 @@
-use super::peer::Peer;
+use crate::peer::Peer;
 use std::io;
 
 /// A recall for which memory is refused stays in hand, and goes out before those that came behind it.
@@ -13,7 +13,7 @@ fn recall_in_hand(rt: HostRuntime) -> io::Result<()> {
     peer.round(&rt);
     let (asked, count) = (peer.toy.asked, peer.toy.marks.len());
     drop(peer);
-    assert_eq!(&rt; (asked, count), (Some((11u32, 13u32)), 3));
+    assert!(&rt; asked == Some((11u32, 13u32)) && count == 3);
     Ok(())
 }
 

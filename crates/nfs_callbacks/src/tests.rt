@@ -1,4 +1,0 @@
-mod calls;
-mod memory;
-mod peer;
-mod toy;
