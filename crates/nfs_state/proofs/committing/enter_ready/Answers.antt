@@ -3,11 +3,11 @@ use Rattle.nfs_state.specs.Kept.{Agrees, kept_in, owners_after, update_by}
 use Rattle.nfs_state.specs.State.{History}
 use Rattle.nfs_state.specs.declared.store.Store.{Store}
 use Rattle.nfs_state.proofs.KeptOwners.{Agrees-changed}
-use Rattle.nfs_state.proofs.committing.commit_entry.Goals as goal
+use Rattle.nfs_state.proofs.committing.enter_ready.Goals as goal
 
-pub returns-clause-kept : goal.returns-clause-kept
-returns-clause-kept c =
+pub returns-in-Ok-clause-kept : goal.returns-in-Ok-clause-kept
+returns-in-Ok-clause-kept c =
     let update = update_by c.args.effect.owner (kept_in c.args.entry) in
     let after = c.make_changes.new.tables.owners.owners in
     let keeps : Store → Type 0 = λ store. (journal : History) → Agrees journal (owners_after update c.len-number.result store.tables.owners.owners) → Agrees journal after in
-    Agrees-changed c.args.store.now.journal.history _ c.args.entry c.args.effect.owner c.len-number.result c.args.store.now.tables.owners.owners after (subst keeps c.store.view_is c.in_ok-make_changes.ensures.kept) (search rules) (search rules) c.requires.fits.kept c.requires.kept
+    Agrees-changed c.args.store.now.journal.history _ c.args.entry c.args.effect.owner c.len-number.result c.args.store.now.tables.owners.owners after (subst keeps c.store.view_is c.in-Ok.ensures.kept) (search rules) (search rules) c.requires.fits.kept c.requires.kept
