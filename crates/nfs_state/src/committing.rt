@@ -132,6 +132,10 @@ fn make_changes(
     ensures ready { kept_in entry.now ≡ None → IsOk result }
     ensures same { OnErr result (stored_of tables.new ≡ stored_of tables.old) }
 {
+    if effect.is_nothing() {
+        drop(effect);
+        return Ok(());
+    }
     match OwnerUpdate::of(effect.owner, entry) {
         Ok(update) => {
             tables.commit_owner(update, number);

@@ -1,4 +1,4 @@
-ghost use Rattle.std.specs.Prelude.{◌≡◌};
+ghost use Rattle.std.specs.Prelude.{◌≡◌, ◌↔◌, IsTrue};
 ghost use Rattle.nfs_state.specs.Changes.{change_alone};
 ghost use Rattle.nfs_state.specs.LiveChange.{live_change_of};
 
@@ -21,6 +21,19 @@ impl Effect {
             owner: OwnerChange::Nothing,
             change,
         }
+    }
+
+    /// Whether it changes nothing.
+    pub(crate) fn is_nothing(&self) -> bool
+        ensures { IsTrue result ↔ (self.now ≡ change_alone Change.Nothing) }
+    {
+        matches!(
+            self,
+            Effect {
+                owner: OwnerChange::Nothing,
+                change: Change::Nothing,
+            }
+        )
     }
 
     /// Who comes to be live by the effect, or is live no longer.

@@ -1,14 +1,24 @@
 use Rattle.std.proofs.Common.{◌∙◌, ℕ, List, ap, sym, subst}
 use Rattle.nfs_state.specs.Kept.{Agrees, kept_in, owners_after, update_by}
-use Rattle.nfs_state.specs.Changes.{after, with_owner_change, with_state_change, with_written}
+use Rattle.nfs_state.specs.Changes.{after, with_state_change, with_written}
 use Rattle.nfs_state.specs.Entries.{data_in}
 use Rattle.nfs_state.specs.Files.{CanChange}
-use Rattle.nfs_state.specs.Room.{HasGivenNumbers, HasOwnerPlace, HasUpdateRoom, IsWithinLimits, state_of}
+use Rattle.nfs_state.specs.Room.{HasGivenNumbers, HasUpdateRoom, IsWithinLimits, state_of}
 use Rattle.nfs_state.specs.State.{State}
-use Rattle.nfs_state.specs.Stored.{Stored, meaning}
 use Rattle.nfs_state.specs.declared.effect.Effect.{Effect}
 use Rattle.nfs_state.proofs.OwnerRoom.{given_after, limits_after, nothing_kept, owners_changed, same_files, update_room_by}
 use Rattle.nfs_state.proofs.committing.make_changes.Goals as goal
+
+-- an entry that changes nothing leaves the state as it is
+pub returns-then-is_nothing-clause-state : goal.returns-then-is_nothing-clause-state
+returns-then-is_nothing-clause-state c =
+    sym (ap (λ (e : Effect). after c.args.number c.args.entry.now e (state_of c.args.tables.now)) (c.is_nothing.ensures.0 c.if-is_nothing.true))
+
+pub returns-then-is_nothing-clause-kept : goal.returns-then-is_nothing-clause-kept
+returns-then-is_nothing-clause-kept c = λ journal agrees.
+    let owners = c.args.tables.now.owners.owners in
+    let nothing = ap (λ (e : Effect). owners_after (update_by e.owner (kept_in c.args.entry.now)) c.args.number owners) (c.is_nothing.ensures.0 c.if-is_nothing.true) in
+    subst (Agrees journal) (nothing ∙ nothing_kept (kept_in c.args.entry.now) c.args.number owners) agrees
 
 pub commit_owner-requires : goal.commit_owner-requires
 commit_owner-requires c =
@@ -21,7 +31,7 @@ commit-requires-clause-numbers c =
     let roomy = c.args.tables.now in
     let place = c.requires.fits.place in
     let changed = owners_changed c.in-Ok.update effect.owner (kept_in c.args.entry.now) c.args.number (state_of roomy) (state_of c.commit_owner.new.self) c.in-Ok.ensures.update c.requires.fits.kept c.commit_owner.ensures.state c.commit_owner.ensures.nothing place in
-    subst (λ (b : List ℕ). IsWithinLimits b effect.change (state_of c.commit_owner.new.self)) (sym c.written-block.ensures)
+    subst (λ (b : List ℕ). IsWithinLimits b effect.change (state_of c.commit_owner.new.self)) (sym c.written.ensures)
     (subst (IsWithinLimits (data_in c.args.entry.now) effect.change) (sym changed)
     (limits_after (data_in c.args.entry.now) effect.change effect.owner c.args.number (state_of c.args.tables.now) c.requires.fits.numbers))
 
@@ -48,7 +58,7 @@ returns-in-Ok-clause-state c =
     let place = c.requires.fits.place in
     let changed = owners_changed c.in-Ok.update effect.owner (kept_in c.args.entry.now) c.args.number (state_of roomy) (state_of c.commit_owner.new.self) c.in-Ok.ensures.update c.requires.fits.kept c.commit_owner.ensures.state c.commit_owner.ensures.nothing place in
     c.commit.ensures.state
-    ∙ (λ i. with_written (c.written-block.ensures i) effect.change (with_state_change effect.change (changed i)))
+    ∙ (λ i. with_written (c.written.ensures i) effect.change (with_state_change effect.change (changed i)))
 
 pub returns-in-Ok-clause-kept : goal.returns-in-Ok-clause-kept
 returns-in-Ok-clause-kept c = λ journal agrees.
