@@ -90,7 +90,7 @@ fn enter_call(
     requires stored { StoreAgrees held.old.store }
     ensures answer { IfOk result (λ r. r.0 ≡ decision.answer) }
     ensures entered { IfOk result (λ r. IsEntered (server_of held.old) (server_of held.new)
-        (entries.Call call) r.1) }
+        (entry_of call.request r.0) r.1) }
     ensures kept { OwnersAgree held.new.store }
     ensures memory { IfErr result (λ e. e ≡ Shortage.Memory) }
     ensures same { OnErr result (AreAlike (server_of held.old) (server_of held.new)) }

@@ -9,9 +9,9 @@ commit_entry-requires-clause-changes c =
     let store = c.args.held.now.store in
     can_change (length store.journal.history.entries) (state_of store.tables).files c.requires.next.below c.requires.stored.changes
 
-pub returns-clause-entered : goal.returns-clause-entered
-returns-clause-entered c =
+pub returns-in_ok-number-in-Ok-clause-entered : goal.returns-in_ok-number-in-Ok-clause-entered
+returns-in_ok-number-in-Ok-clause-entered c =
     let store = c.args.held.now.store in
-    let entered = c.in_ok-number.ensures in
+    let entered = c.in_ok-number-in-Ok.ensures in
     let step = Step-next store.journal.history (state_of store.tables) _ c.args.entry c.args.effect c.requires.next entered.state in
     ((entered.number, entered.entry, step, search rules), refl)
