@@ -111,14 +111,19 @@ fn decision_of(
     ensures { IfOk result (λ d. d ≡ decision_of passage (owner_seen name.entry)
         (newcomer_seen newcomer.entry) ruling) }
 {
-    let owner = owner_change_of(alloc, passage, name, newcomer, ruling.answer.status())?;
-    Ok(Decision {
-        answer: ruling.answer,
-        effect: Effect {
-            owner,
-            change: ruling.change,
-        },
-    })
+    match owner_change_of(alloc, passage, name, newcomer, ruling.answer.status()) {
+        Ok(owner) => Ok(Decision {
+            answer: ruling.answer,
+            effect: Effect {
+                owner,
+                change: ruling.change,
+            },
+        }),
+        Err(refused) => {
+            drop(ruling);
+            Err(refused)
+        }
+    }
 }
 
 // What an answer with this status means for the owner of the request, and for the lock owner that it introduces.
