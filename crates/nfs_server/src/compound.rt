@@ -212,10 +212,13 @@ fn answer_one<S: Service>(
     };
     let opnum = op.opnum();
     if size + opnum.room() > RECORD_LIMIT {
+        drop(op);
         return opnum.refusal(Refusal::Resource);
     }
     if op.is_on_tree() {
-        return handles.run(context.tree, &op);
+        let answer = handles.run(context.tree, &op);
+        drop(op);
+        return answer;
     }
     ask(service, context, handles, op)
 }

@@ -211,7 +211,9 @@ fn answer_with_room(
     let client = renewed_client(&request.op, leased.core.journal().epoch());
     leased.renew(client, request.moment);
     if places.reserve(1).is_err() {
-        return (request.op.opnum().refusal(Refusal::Resource), None);
+        let opnum = request.op.opnum();
+        drop(request);
+        return (opnum.refusal(Refusal::Resource), None);
     }
     leased.call(request)
 }
