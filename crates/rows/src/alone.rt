@@ -30,15 +30,13 @@ pub(crate) fn serve_alone<I: Read + Drop, O: Write + Drop>(
     let alloc = session.alloc;
     let lent = Lent::new(alloc, core)?;
     let mut server = Alone { alloc, tree, lent };
-    for _ in 0..u64::MAX {
-        let Some(order) = session.next_order()? else {
-            break;
-        };
-        let mut answer = Answer::new(alloc);
-        server.follow(order, &mut answer)?;
-        session.tell(&answer)?;
+    match server.direct(session) {
+        Ok(()) => Ok(server.into_core()),
+        Err(failure) => {
+            drop(server);
+            Err(failure)
+        }
     }
-    Ok(server.into_core())
 }
 
 // A server that serves one connection after the other, each to its end.
@@ -51,6 +49,22 @@ struct Alone<'a> {
 }
 
 impl Alone<'_> {
+    // Does what it is told until the input ends.
+    fn direct<I: Read + Drop, O: Write + Drop>(
+        &mut self,
+        session: &mut Session<I, O>,
+    ) -> Result<(), Failure> {
+        for _ in 0..u64::MAX {
+            let Some(order) = session.next_order()? else {
+                break;
+            };
+            let mut answer = Answer::new(self.alloc);
+            self.follow(order, &mut answer)?;
+            session.tell(&answer)?;
+        }
+        Ok(())
+    }
+
     // Does this, and appends what came of it.
     fn follow(&mut self, order: Order, answer: &mut Answer) -> Result<(), Failure> {
         match order {

@@ -29,8 +29,9 @@ use crate::head::Head;
 use crate::session::Session;
 use crate::together::serve_together;
 use crate::way::Way;
-use nfs_core::Core;
+use nfs_core::{Core, Journal};
 use nfs_tree::{Tree, TreeError};
+use std::io::{Read, Write};
 use std::process::ExitCode;
 use std::sync::Wait;
 use std::thread::Threads;
@@ -52,20 +53,38 @@ fn rows<R: Threads + Wait + Sync>(rt: &HostRuntime, threads: &R) -> Result<(), F
     let alloc = rt.alloc();
     let mut session = Session::new(alloc, rt.stdin(), rt.stdout())?;
     let head = Head::read(&mut session.input)?;
-    let tree = match Tree::from_toml(alloc, head.document.as_str()) {
-        Ok(tree) => tree,
-        Err(TreeError::Memory) => return Err(Failure::Memory),
-        Err(refused) => return session.tell_word(refused.number()),
-    };
+    match Tree::from_toml(alloc, head.document.as_str()) {
+        Ok(tree) => serve(threads, &mut session, &head, &tree),
+        Err(TreeError::Memory) => Err(Failure::Memory),
+        Err(refused) => session.tell_word(refused.number()),
+    }
+}
+
+// Tells that the tree is one, serves it as the head says, and tells the journal.
+fn serve<R: Threads + Wait + Sync, I: Read + Drop, O: Write + Drop>(
+    threads: &R,
+    session: &mut Session<I, O>,
+    head: &Head,
+    tree: &Tree,
+) -> Result<(), Failure> {
     session.tell_word(0)?;
-    let Ok(core) = Core::new(alloc, &tree, head.lease, head.epoch, tree.policy()) else {
+    let Ok(core) = Core::new(session.alloc, tree, head.lease, head.epoch, tree.policy()) else {
         return Err(Failure::Memory);
     };
     let core = match head.way {
-        Way::Alone => serve_alone(&mut session, &tree, core)?,
-        Way::Together => serve_together(threads, &mut session, &tree, core, head.seats)?,
+        Way::Alone => serve_alone(session, tree, core)?,
+        Way::Together => serve_together(threads, session, tree, core, head.seats)?,
     };
-    let mut answer = Answer::new(alloc);
-    answer.put_journal(core.journal())?;
+    let told = tell_journal(session, core.journal());
+    drop(core);
+    told
+}
+
+fn tell_journal<I: Read + Drop, O: Write + Drop>(
+    session: &mut Session<I, O>,
+    journal: &Journal,
+) -> Result<(), Failure> {
+    let mut answer = Answer::new(session.alloc);
+    answer.put_journal(journal)?;
     session.tell(&answer)
 }

@@ -47,8 +47,13 @@ pub(crate) fn serve_together<R: Threads + Wait + Sync, I: Read + Drop, O: Write 
     requires empty { core.journal.entries ≡ [] }
     requires nobody { (number : ℕ) → IsFalse (is_live number core.stored.clients) }
 {
-    let opened = Opened::new(session.alloc, seats)?;
-    run::<Brand, R, I, O>(rt, session, opened, core, tree)
+    match Opened::new(session.alloc, seats) {
+        Ok(opened) => run::<Brand, R, I, O>(rt, session, opened, core, tree),
+        Err(_) => {
+            drop(core);
+            Err(Failure::Memory)
+        }
+    }
 }
 
 // The same for a run of this name.
@@ -62,10 +67,25 @@ fn run<N: Naming + Send + Sync, R: Threads + Wait + Sync, I: Read + Drop, O: Wri
     requires beginning { CanBegin N.run N.start opened core }
     requires nodes { core.journal.nodes ≡ tree.now.nodes }
 {
-    let alloc = session.alloc;
-    let Ok(parts) = Shared::<N>::new(alloc, opened, core) else {
-        return Err(Failure::Memory);
-    };
+    match Shared::<N>::new(session.alloc, opened, core) {
+        Ok(parts) => run_parts(rt, session, parts, tree),
+        Err(core) => {
+            drop(core);
+            Err(Failure::Memory)
+        }
+    }
+}
+
+// The same over a state that is shared.
+fn run_parts<N: Naming + Send + Sync, R: Threads + Wait + Sync, I: Read + Drop, O: Write + Drop>(
+    rt: &R,
+    session: &mut Session<I, O>,
+    parts: SharedParts<N>,
+    tree: &Tree,
+) -> Result<Core, Failure>
+    requires nodes { N.start.nodes ≡ tree.now.nodes }
+    requires fresh { AreFresh N.run.workers parts.seats.items }
+{
     let SharedParts {
         shared,
         seats,
@@ -74,14 +94,18 @@ fn run<N: Naming + Send + Sync, R: Threads + Wait + Sync, I: Read + Drop, O: Wri
     } = parts;
     let workers = Workers {
         rt,
-        alloc,
+        alloc: session.alloc,
         shared: &shared,
         tree,
     };
     let server = Together::new(workers, seats, sweeper, sender);
-    let (back, sweeper, sender) = server.direct(session)?.close()?;
-    let (core, _) = back.end(shared, sweeper, sender);
-    Ok(core)
+    match server.serve_to_end(session) {
+        Ok((back, sweeper, sender)) => Ok(back.end(shared, sweeper, sender).0),
+        Err(failure) => {
+            drop(shared);
+            Err(failure)
+        }
+    }
 }
 
 // A server that serves each connection in a thread and at a seat of its own.
@@ -130,6 +154,16 @@ impl<'a, N: Naming + Send + Sync, R: Threads + Wait + Sync> Together<'a, N, R> {
         }
     }
 
+    // Does what it is told until the input ends, and hands in the seats.
+    fn serve_to_end<I: Read + Drop, O: Write + Drop>(
+        self,
+        session: &mut Session<I, O>,
+    ) -> Result<(SeatsBack<N>, Sweeper<N>, Sender<N>), Failure>
+        ensures { IfOk result (λ r. length r.0.seats ≡ N.run.workers) }
+    {
+        Ok(self.direct(session)?.close()?)
+    }
+
     // Hands in the seats that are left.
     fn close(self) -> Result<(SeatsBack<N>, Sweeper<N>, Sender<N>), AllocError>
         ensures { IfOk result (λ r. length r.0.seats ≡ N.run.workers) }
@@ -152,57 +186,77 @@ impl<'a, N: Naming + Send + Sync, R: Threads + Wait + Sync> Together<'a, N, R> {
     ) -> Result<Together<'a, N, R>, Failure> {
         let mut server = self;
         for _ in 0..u64::MAX {
-            let Some(order) = session.next_order()? else {
-                break;
-            };
-            let mut answer = Answer::new(session.alloc);
-            server = server.follow(order, &mut answer)?;
-            session.tell(&answer)?;
+            match session.next_order() {
+                Ok(Some(order)) => server = server.follow(order, session)?,
+                Ok(None) => break,
+                Err(failure) => {
+                    drop(server);
+                    return Err(failure);
+                }
+            }
         }
         Ok(server)
     }
 
-    // Does this, appends what came of it, and gives the server back.
-    fn follow(self, order: Order, answer: &mut Answer) -> Result<Together<'a, N, R>, Failure> {
-        match order {
-            Order::Serve(batch) => {
-                let (outcome, server) = self.serve(batch)?;
-                outcome.put(answer)?;
-                Ok(server)
+    // Does this, tells what came of it, and gives the server back.
+    fn follow<I: Read + Drop, O: Write + Drop>(
+        self,
+        order: Order,
+        session: &mut Session<I, O>,
+    ) -> Result<Together<'a, N, R>, Failure> {
+        let mut answer = Answer::new(session.alloc);
+        let (server, put) = match order {
+            Order::Serve(batch) => self.serve(batch, &mut answer)?,
+            order => self.look(order, &mut answer),
+        };
+        server.unless_failed(put.and_then(|()| session.tell(&answer)))
+    }
+
+    // The server, or the failure.
+    fn unless_failed(self, put: Result<(), Failure>) -> Result<Together<'a, N, R>, Failure> {
+        match put {
+            Ok(()) => Ok(self),
+            Err(failure) => {
+                drop(self);
+                Err(failure)
             }
-            Order::Sweep(now) => {
-                let mut server = self;
-                answer.put_swept(server.sweep(now))?;
-                Ok(server)
-            }
-            Order::Mark(mark) => {
-                let mut server = self;
-                answer.put_marked(server.mark(mark))?;
-                Ok(server)
-            }
-            Order::Take(xid) => {
-                let mut server = self;
-                answer.put_recall(xid, server.take())?;
-                Ok(server)
-            }
-            Order::Probe(after) => {
-                let found = self.workers.shared.probe(self.workers.rt, after)?;
-                answer.put_client(found.as_ref())?;
-                Ok(self)
-            }
-            Order::Pending => {
-                let hold = self.workers.shared.hold(self.workers.rt);
-                let count = hold.waiting();
-                drop(hold);
-                answer.put_count(count)?;
-                Ok(self)
-            }
-            // No call of the shared state revokes alone: its sweeps do.
-            Order::Revoke(_) => Err(Failure::Input),
         }
     }
 
-    fn serve(self, batch: Batch) -> Result<(BatchOutcome, Together<'a, N, R>), Failure> {
+    // Does this, unless it is to serve, and appends what came of it.
+    fn look(self, order: Order, answer: &mut Answer) -> (Together<'a, N, R>, Result<(), Failure>) {
+        let mut server = self;
+        let put = server.put(order, answer);
+        (server, put)
+    }
+
+    fn put(&mut self, order: Order, answer: &mut Answer) -> Result<(), Failure> {
+        match order {
+            Order::Sweep(now) => answer.put_swept(self.sweep(now))?,
+            Order::Mark(mark) => answer.put_marked(self.mark(mark))?,
+            Order::Take(xid) => answer.put_recall(xid, self.take())?,
+            Order::Probe(after) => {
+                let found = self.workers.shared.probe(self.workers.rt, after)?;
+                answer.put_client(found.as_ref())?;
+            }
+            Order::Pending => answer.put_count(self.waiting())?,
+            // No call of the shared state revokes alone: its sweeps do. And who serves has the server by value.
+            Order::Revoke(_) | Order::Serve(_) => return Err(Failure::Input),
+        }
+        Ok(())
+    }
+
+    fn serve(
+        self,
+        batch: Batch,
+        answer: &mut Answer,
+    ) -> Result<(Together<'a, N, R>, Result<(), Failure>), Failure> {
+        let (outcome, server) = self.serve_batch(batch)?;
+        let put = outcome.put(answer).map_err(Failure::from);
+        Ok((server, put))
+    }
+
+    fn serve_batch(self, batch: Batch) -> Result<(BatchOutcome, Together<'a, N, R>), Failure> {
         let Batch {
             start,
             pace,
@@ -244,6 +298,14 @@ impl<'a, N: Naming + Send + Sync, R: Threads + Wait + Sync> Together<'a, N, R> {
         self.workers
             .shared
             .mark_path(self.workers.rt, &mut self.sender, client, is_up)
+    }
+
+    // How many recalls wait.
+    fn waiting(&self) -> usize {
+        let hold = self.workers.shared.hold(self.workers.rt);
+        let count = hold.waiting();
+        drop(hold);
+        count
     }
 
     fn take(&mut self) -> Option<Recall> {

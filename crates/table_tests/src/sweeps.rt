@@ -91,7 +91,8 @@ fn come<B: LeaseBook>(rt: &impl Abort, leased: &mut LeasedCore<B>, introduction:
         panic!(rt; "no client");
     };
     let confirmation = answer_to(leased, &Op::SetclientidConfirm(args));
-    assert!(rt; confirmation == OpResult::SetclientidConfirm(Answer::Done(())));
+    let wanted = OpResult::SetclientidConfirm(Answer::Done(()));
+    assert!(rt; confirmation.is_same(&wanted));
 }
 
 /// The client's lease is renewed after the look, and so the client stays. Without room for its end it isn't asked to

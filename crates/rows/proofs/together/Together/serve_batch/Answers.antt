@@ -3,7 +3,7 @@ use Rattle.nfs_shared.specs.Seats.{SeatView}
 use Rattle.rows.proofs.Handing.{fresh_front, unused_of_fresh}
 use Rattle.rows.proofs.ManyLinks.{none_lost, still_fresh}
 use Rattle.rows.specs.Places.{AreFreshFrom}
-use Rattle.rows.proofs.together.Together.serve.Goals as goal
+use Rattle.rows.proofs.together.Together.serve_batch.Goals as goal
 
 pub serve_links-requires-clause-unused : goal.serve_links-requires-clause-unused
 serve_links-requires-clause-unused g c κs within =
