@@ -40,25 +40,31 @@ pub(crate) fn serve_ongoing<
 {
     let alloc = rt.alloc();
     let Ok(names) = part_names(alloc, options.journal) else {
+        drop(core);
         return report(rt, Fault::NoMemory);
     };
     let mut journal = journal_file(rt, options.journal);
     let Ok(mut buffer) = file_buffer(alloc, &journal) else {
+        drop(core);
         return report(rt, Fault::NoMemory);
     };
     let beginning = beginning_of(rt, &names, core.journal());
     listening.tell(rt, tree, options);
     let reporter = Reporter::new(&threads, rt.stderr(), beginning);
     let Ok(door) = open_door(rt, threads, options, listening.listener) else {
+        drop(core);
         let _ = reporter.end(None);
         return report(rt, Fault::NoMemory);
     };
     match serve_through(alloc, &threads, &door, &reporter, core, tree) {
         Ok(run) => {
             tell_no_connection(rt, options, &run);
-            end_ongoing_run(&mut buffer, &run, reporter, &mut journal)
+            let status = end_ongoing_run(&mut buffer, &run, reporter, &mut journal);
+            drop(run);
+            status
         }
-        Err(_) => {
+        Err(core) => {
+            drop(core);
             let _ = reporter.end(None);
             report(rt, Fault::NoMemory)
         }

@@ -34,16 +34,36 @@ pub(crate) fn serve<
         Ok(tree) => tree,
         Err(fault) => return report(rt, fault),
     };
-    let Ok(core) = core_of(rt.alloc(), &tree, options.lease, options.epoch) else {
-        return report(rt, Fault::NoMemory);
-    };
-    let listening = match Listening::at(rt, options.listen) {
-        Ok(listening) => listening,
-        Err(fault) => return report(rt, fault),
-    };
-    match options.until {
-        None => serve_connections(rt, &threads, options, &listening, core, &tree),
-        Some(_) => serve_ongoing(rt, threads, options, listening, core, &tree),
+    match core_of(rt.alloc(), &tree, options.lease, options.epoch) {
+        Ok(core) => serve_core(rt, threads, options, core, &tree),
+        Err(_) => report(rt, Fault::NoMemory),
+    }
+}
+
+// Serves this core at the address that the options name.
+fn serve_core<
+    R: Threads
+        + Wait
+        + Clock
+        + Net<Listener = TcpListener, Stream = TcpStream>
+        + Copy
+        + Send
+        + Sync
+        + 'static,
+>(rt: &HostRuntime, threads: R, options: &ServeOptions<'_>, core: Core, tree: &Tree) -> u8
+    requires empty { core.journal.entries ≡ [] }
+    requires nobody { (number : ℕ) → IsFalse (is_live number core.stored.clients) }
+    requires nodes { core.journal.nodes ≡ tree.now.nodes }
+{
+    match Listening::at(rt, options.listen) {
+        Ok(listening) => match options.until {
+            None => serve_connections(rt, &threads, options, &listening, core, tree),
+            Some(_) => serve_ongoing(rt, threads, options, listening, core, tree),
+        },
+        Err(fault) => {
+            drop(core);
+            report(rt, fault)
+        }
     }
 }
 
@@ -66,13 +86,20 @@ fn serve_connections<
     let alloc = rt.alloc();
     let mut journal = journal_file(rt, options.journal);
     let Ok(mut buffer) = file_buffer(alloc, &journal) else {
+        drop(core);
         return report(rt, Fault::NoMemory);
     };
     let listener = &listening.listener;
-    let served = serve_on(alloc, threads, listener, core, tree, options.connections);
-    let Ok(run) = served else {
-        return report(rt, Fault::NoMemory);
-    };
-    let mut errors = rt.stderr();
-    end_run(&mut buffer, &run, &mut errors, &mut journal)
+    match serve_on(alloc, threads, listener, core, tree, options.connections) {
+        Ok(run) => {
+            let mut errors = rt.stderr();
+            let status = end_run(&mut buffer, &run, &mut errors, &mut journal);
+            drop(run);
+            status
+        }
+        Err(core) => {
+            drop(core);
+            report(rt, Fault::NoMemory)
+        }
+    }
 }
