@@ -15,50 +15,56 @@ Verdict = namedtuple("Verdict", "kind text more", defaults=(None,))
 Fault = namedtuple("Fault", "path line column name text")
 
 # The kinds of errors in written answers, each with the words that tell it; the first that fits counts.
-GONE, AFTER, OPEN, TYPE = "gone", "after", "open", "type"
+AFTER, GONE, LIMIT, OPEN, TYPE = "after another", "gone", "limit", "open", "type"
 KINDS = [
-    (AFTER, r"declarations? that depends? on `|was not admitted|rests on"),
-    (GONE, r"is not in scope|has no field|has no `[^`]*` that can be named|is no name|has no constructor|no such "),
-    (OPEN, r"`(omega|grind|search|cc|simp|lia|decide)[^`]*`: (the goal does not follow|no proof|`grind` found no proof)"
-           r"|`grind` found no proof|the goal fails"),
-    (TYPE, r"the two (types|sides) (first )?differ|expected type|but this has type"),
+    # It rests on what was refused, and says no more.
+    (AFTER, r"^\d+ declarations? that depends? on "),
+    # It names a goal, a place or a field that isn't there.
+    (GONE, r"^record \S+ has no field |has no \S+ that can be named from here|is not in scope"),
+    # A tactic gave up, and values that break the goal aren't known.
+    (LIMIT, r"(?s)stopped at its own limit(?!.*the goal fails)"),
+    # A tactic doesn't prove the goal.
+    (OPEN, r"^`\w+`: the goal does not follow |^`\w+`: no proof of |^`\w+` found no proof|the goal fails"),
+    # It proves something else than is wanted.
+    (TYPE, r"the two types (first |only )?differ |^expected type "),
 ]
 
 FUNCTION = re.compile(r"fn (\S+): (proved|not proved|no proof|could not tell)\b(.*)")
-OPENED = re.compile(r"note: \S+?:\d+:\d+: (?:it|.*) is not proved that .*\(`([^`]+)`\)(.*)")
+OPENED = re.compile(r"note: \S+?:\d+:\d+: it is not proved that .*\(`([^`]+)`\)(.*)")
 FAULT = re.compile(r"(?:\./)?(\S+?):(\d+):(\d+): error(\[[\w-]+\])?: (?:`([^`]*)`: )?(.*)")
 VALUES = re.compile(r"note: `([^`]+)` of proofs/(\S+)/Answers\.antt may be false: the known facts allow (.*)")
 ASKED = re.compile(r"help: `Goals` has no `(no-such-goal-\d+)`; rattle asks for (.*?)(?:;|$)")
 
 
 class Said:
-    """What is said of one function."""
+    """What is said of one function: the goals that aren't proved, each with the values that break it, as far as they
+    are told; and what is wrong in its written answers."""
 
     def __init__(self):
-        self.word, self.callees, self.open, self.values, self.faults = None, [], [], {}, []
+        self.word, self.callees, self.open, self.faults = None, [], {}, []
 
 
 class Report:
-    """What one check says, by function."""
+    """What one check says: of each function, in general, and of the goals that were asked for."""
 
     def __init__(self, status, text, crate):
         self.status, self.text, self.crate = status, text, crate
-        self.functions, self.faults, self.asked, self.compiler = {}, [], {}, []
-        waiting = []
-        lines = text.split("\n")
+        self.functions, self.asked, self.compiler = {}, {}, []
+        self.is_told = status in (0, 1) and bool(re.search("(?m)^only=[0-9]+ ", text))
+        # The notes on a function's goals stand before its line.
+        goals, lines = {}, text.split("\n")
         for number, line in enumerate(lines):
-            if found := FUNCTION.match(line):
-                self.add_function(*found.groups(), waiting)
-                waiting = []
-            elif found := OPENED.match(line):
-                waiting.append(found[1])
+            if found := OPENED.match(line):
+                goals[found[1]] = "values break it" if "allow values" in found[2] else ""
+            elif found := FUNCTION.match(line):
+                self.add_function(*found.groups(), goals)
+                goals = {}
             elif found := VALUES.match(line):
-                self.of(path_name(found[2])).values[found[1]] = found[3].partition(": help: ")[0]
+                self.of(path_name(found[2])).open[found[1]] = found[3].partition(": help: ")[0]
             elif found := ASKED.match(line):
                 self.asked[found[1]] = set(re.findall("`([^`]+)`", found[2]))
             elif found := FAULT.match(line):
                 self.add_fault(found, lines[number + 1:])
-        self.is_told = status in (0, 1) and bool(re.search("(?m)^only=[0-9]+ ", text))
 
     def of(self, function):
         return self.functions.setdefault(function, Said())
@@ -66,12 +72,12 @@ class Report:
     def name(self, symbol):
         return symbol.removeprefix(f"{self.crate}::")
 
-    def add_function(self, symbol, word, more, waiting):
+    def add_function(self, symbol, word, more, goals):
         said = self.of(self.name(symbol))
-        called, _, unproved = more.partition("it calls ")[::-1] if "it calls " in more else ("", "", more)
+        reason, _, called = more.partition("it calls ")
         said.word, said.callees = word, [self.name(it) for it in re.findall("`([^`]+)`", called)]
-        named = re.findall("`([^`]+)`", unproved.partition("did not prove")[2])
-        said.open = list(dict.fromkeys(waiting + named))
+        named = re.findall("`([^`]+)`", reason.partition("did not prove")[2])
+        said.open = dict.fromkeys(named, "") | goals
 
     def add_fault(self, found, behind):
         path, line, column, code, name, text = found.groups()
@@ -80,12 +86,11 @@ class Report:
                 break
             text += "\n" + more
         fault = Fault(path, int(line), int(column), name or "", text)
+        of = re.fullmatch(r"proofs/(.+)/(?:Answers|Invariants|Proof)\.antt", path)
         if code:
             self.compiler.append(fault)
-        elif of := re.fullmatch(r"proofs/(.+)/(?:Answers|Invariants|Proof)\.antt", path):
+        elif of:
             self.of(path_name(of[1])).faults.append(fault)
-        else:
-            self.faults.append(fault)
 
 
 def path_name(path):
@@ -102,10 +107,10 @@ def kind_of(fault):
     return next((kind for kind, words in KINDS if re.search(words, fault.text)), None)
 
 
-def clause_of(goal):
-    """What a goal says, without the place at which it is to be shown: a clause of the contract, where it is one."""
-    found = re.match(r"(returns|invariant_of|.*-preserved$)", goal)
-    return (found[1], goal.partition("-clause-")[2]) if found else None
+def is_clause(goal):
+    """Whether the goal is a clause of the contract, an invariant of a type or of a loop, and not what a call or an
+    operation needs."""
+    return bool(re.match("(returns|invariant_of)", goal)) or goal.endswith("-preserved")
 
 
 def callees_with_edits(function, report, edited):
@@ -129,57 +134,60 @@ def callees_with_edits(function, report, edited):
 
 
 def judge(edit, report, edited, written, names=None, is_mended=False):
-    """What a check makes of the edit. `edited` are the functions with edits in it, `written` the names in the function's
-    written answers, and `names` those of all its goals without the edit, where they were asked for."""
+    """What a check makes of the edit. `edited` are the functions with edits in it, `written` the names in the
+    function's written answers, and `names` those of all its goals without the edit, where they were asked for."""
     said = [report.functions[part] for part in parts_of(edit.function, report)]
     words = {it.word for it in said} - {None}
     if not words:
         return Verdict(UNSURE, "the check has no line for its function")
     if words == {"proved"}:
-        more = ", once its written answers are handed to `grind` as facts: it means the same" if is_mended else ""
+        more = ", where its written answers go to `grind` as facts: it means the same" if is_mended else ""
         return Verdict(MISSED, f"`{edit.function}` is proved with it{more}")
     if "could not tell" in words:
         return Verdict(UNSURE, "the prover could not tell")
     blame, others = callees_with_edits(edit.function, report, edited)
     if blame:
         return Verdict(CALLEE, f"it calls {listed(blame)}, which has an edit", blame)
-    goals = [goal for it in said for goal in it.open]
+    goals = {goal: values for it in said for goal, values in it.open.items()}
     faults = [fault for it in said for fault in it.faults]
-    values = {goal: text for it in said for goal, text in it.values.items()}
-    found = [fault for fault in faults if kind_of(fault) == OPEN]
-    if found:
-        return Verdict(REFUSED, told_fault(found[0]))
-    return (judge_goals(goals, faults, values, written, names)
-            or judge_faults(faults, goals, others, is_mended))
+    return (judge_answers(faults, is_mended) or judge_goals(goals, faults, written, names)
+            or judge_rest(goals, faults, others, is_mended))
 
 
-def judge_goals(goals, faults, values, written, names):
-    """By the goals that the prover's search did not prove."""
-    if not goals:
-        return None
-    known = [goal for goal in goals if goal in (names or ()) or goal in written]
-    # Where no written answer broke, the clause counts wherever it is to be shown.
+def judge_answers(faults, is_mended):
+    """By written answers whose tactics don't prove their goals. Where a tactic was put in, its limits say nothing."""
+    counted = (OPEN,) if is_mended else (OPEN, LIMIT)
+    return next((Verdict(REFUSED, told_fault(fault)) for fault in faults if kind_of(fault) in counted), None)
+
+
+def judge_goals(goals, faults, written, names):
+    """By the goals that the prover's search doesn't prove."""
+    known = [goal for goal in goals if goal in written or goal in (names or ())]
+    # Where no written answer broke, a clause of the contract counts wherever it is to be shown.
     if not faults:
-        known += [goal for goal in goals if clause_of(goal) and goal not in known]
-    if not known:
-        return Verdict(ASK, "") if names is None else None
-    goal = next((goal for goal in known if goal in values), known[0])
-    return Verdict(REFUSED, f"`{goal}` isn't proved" + (f": {values[goal][:160]}" if goal in values else ""))
+        known += [goal for goal in goals if is_clause(goal) and goal not in known]
+    if known:
+        # Best one of which values are known.
+        goal = max(known, key=lambda goal: len(goals[goal]))
+        return Verdict(REFUSED, f"`{goal}` isn't proved" + (f": {goals[goal][:160]}" if goals[goal] else ""))
+    return Verdict(ASK, "") if goals and names is None else None
 
 
-def judge_faults(faults, goals, others, is_mended):
-    """By what is wrong with the written answers, where nothing else refuses the edit."""
+def judge_rest(goals, faults, others, is_mended):
+    """Where no goal that the function has without the edit too is told as not proved."""
     kinds = {kind_of(fault): fault for fault in reversed(faults)}
+    if is_mended and kinds:
+        return Verdict(SHAPE, f"{told_fault(faults[0])}; tried as a fact it doesn't decide")
     if None in kinds:
         return Verdict(UNSURE, f"these words aren't known: {told_fault(kinds[None])}")
     if GONE in kinds:
         return Verdict(SHAPE, told_fault(kinds[GONE]))
     if TYPE in kinds:
-        return Verdict(SHAPE if is_mended else MEND, told_fault(kinds[TYPE]), faults)
-    if others:
-        return Verdict(UNSURE, f"it calls {listed(others)}, which has no edit and isn't proved")
+        return Verdict(MEND, "", faults)
     if goals:
         return Verdict(SHAPE, f"only goals that it doesn't have without the edit: {listed(goals)}")
+    if others:
+        return Verdict(UNSURE, f"it calls {listed(others)}, which has no edit and isn't proved")
     return Verdict(UNSURE, "no reason is told")
 
 
@@ -207,15 +215,18 @@ def answers_path(folder, function):
 
 
 def mend(folder, function, faults):
-    """In a copy of the crate, has each written answer whose type is wrong tried as a fact. From where the type is wrong
-    on, the term goes to `grind`, with all that it proves; where that is no whole term, the answer is left out."""
+    """In a copy of the crate, has each term of the function's written answers whose type is wrong tried as a fact, from
+    which `grind` may prove what is wanted there."""
     path = answers_path(folder, function)
     with open(path, encoding="utf-8") as source:
-        lines = source.read().split("\n")
+        text = source.read()
+    lines = text.split("\n")
+    # From the last one on, so that the places of those before stay.
     for fault in sorted(faults, key=lambda fault: (fault.line, fault.column), reverse=True):
-        if kind_of(fault) == TYPE and path.endswith(fault.path):
-            lines = mended(lines, fault)
-    text = "\n".join(lines)
+        if kind_of(fault) == TYPE and path.endswith(f"/{fault.path}"):
+            begin = sum(len(line) + 1 for line in lines[:fault.line - 1]) + fault.column - 1
+            end = end_of_term(text, begin)
+            text = f"{text[:begin]}(grind (arith, common_steps, ({text[begin:end]}))){text[end:]}"
     for module, name in (("Common", "arith"), ("lemmas.Grind", "common_steps")):
         if not re.search(rf"(?m)^use Rattle\.std\.proofs\.{module}\.{{[^}}]*\b{name}\b", text):
             text = f"use Rattle.std.proofs.{module}.{{{name}}}\n{text}"
@@ -223,21 +234,18 @@ def mend(folder, function, faults):
         out.write(text)
 
 
-def mended(lines, fault):
-    """The lines with one answer handed to `grind`, or without it."""
-    first = fault.line - 1
-    last = first + 1
-    while last < len(lines) and (lines[last].startswith(" ") or not lines[last]):
-        last += 1
-    term = "\n".join([lines[first][fault.column - 1:], *lines[first + 1:last]]).rstrip()
-    if all(term.count(opens) == term.count(ends) for opens, ends in ("()", "[]", "{}")):
-        head = lines[first][:fault.column - 1]
-        # What stands below keeps its lines.
-        return [*lines[:first], *f"{head}grind (arith, common_steps, ({term}))".split("\n"), "", *lines[last:]]
-    begin = first
-    while begin and not re.match(rf"(pub )?{re.escape(fault.name)} :", lines[begin]):
-        begin -= 1
-    return [*lines[:begin], *lines[last:]]
+def end_of_term(text, begin):
+    """Where the term ends that begins there: as an argument of a function with its own brackets or its name, and else
+    with the brackets or the part of a list that it stands in, or with the declaration."""
+    is_argument = bool(re.search(r"[\w)\]}] *(\n +)?$", text[:begin])) and not re.search(r"\bin\s*$", text[:begin])
+    depth, at = 0, begin
+    for at in range(begin, len(text)):
+        sign = text[at]
+        if depth == 0 and (sign in ")]},|" or sign == "\n" and re.match(r"\n+(\S|$)", text[at:])
+                           or re.match(r"\sin\s", text[at:]) or is_argument and at > begin and sign.isspace()):
+            return at
+        depth += (sign in "([{") - (sign in ")]}")
+    return len(text.rstrip())
 
 
 def ask_for_goals(folder, function, crate, number):

@@ -31,7 +31,7 @@ def read_edit(path, folder, crate):
 
 
 def changes_of(text, folder):
-    """The lines that the edit changes. A later pair of lines `old:` and `new:` applies to what the earlier ones made."""
+    """The lines that the edit changes. A later pair of `old:` and `new:` applies to what the earlier ones made."""
     path, old, before, after = None, None, {}, {}
     for line in text.split("\n"):
         if line.startswith("file: "):
